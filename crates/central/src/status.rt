@@ -1,0 +1,22 @@
+//! The statuses of the program.
+ghost use Rattle.std.specs.Prelude.{◌≡◌, OnOk, OnErr, if◌then◌else◌};
+
+use replay::fault::ReplayFault;
+
+/// 0 where a replay came to its end, 2 after a fault.
+pub fn of_replay(answer: &Result<(), ReplayFault>) -> u8
+    ensures ok { OnOk answer.now (result ≡ 0) }
+    ensures fault { OnErr answer.now (result ≡ 2) }
+{
+    match answer {
+        Ok(()) => 0,
+        Err(_) => 2,
+    }
+}
+
+/// 1 for a command line that can't be read, 0 for one that asks for help.
+pub fn of_usage(is_error: bool) -> u8
+    ensures { result ≡ (if is_error then 1 else 0) }
+{
+    if is_error { 1 } else { 0 }
+}

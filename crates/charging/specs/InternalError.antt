@@ -1,0 +1,8 @@
+-- The answer to a request that the records have no room or no place for.
+use Rattle.std.specs.Prelude.{None}
+use Rattle.ocpp_types.specs.declared.error_code.ErrorCode.TheVariants.{InternalError}
+use Rattle.registry.specs.declared.decision.Decision.{Decision}
+use Rattle.registry.specs.declared.decision.Reply.TheVariants.{Error}
+
+abbrev pub internal_error : Decision
+internal_error = record { reply = Error InternalError; change = None }

@@ -1,0 +1,6 @@
+pub mod InternalError
+pub mod Numbers
+pub mod Readings
+pub mod Start
+pub mod Stop
+pub mod MeterValues

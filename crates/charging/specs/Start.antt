@@ -1,0 +1,64 @@
+-- How a StartTransaction is answered, and what it changes.
+use Rattle.std.specs.Prelude.{ℕ, ◌+◌, nat_le, List, if◌then◌else◌, Option, Some, None}
+use Rattle.ocpp_types.specs.TagKey.{key_of}
+use Rattle.ocpp_types.specs.declared.authorization_status.AuthorizationStatus.{AuthorizationStatus}
+use Rattle.ocpp_types.specs.declared.id_tag_info.IdTagInfo.{IdTagInfo}
+use Rattle.ocpp_payload.specs.declared.conf.Conf.TheVariants as conf
+use Rattle.ocpp_payload.specs.declared.request.StartTransaction.{StartTransaction}
+use Rattle.hub_rows.specs.declared.change.Edit.TheVariants.{TxStarted}
+use Rattle.hub_rows.specs.declared.station_row.Registration.{Registration}
+use Rattle.hub_rows.specs.declared.tx_row.Start.{Start}
+use Rattle.hub_rows.specs.declared.tx_row.StartKey.{StartKey}
+use Rattle.hub_rows.specs.Lookups.{Lookups}
+use Rattle.hub_rows.specs.Transactions.{last_of_all}
+use Rattle.id_tags.specs.Judge.{judge_rule}
+use Rattle.id_tags.specs.declared.judge.Purpose.TheVariants as purpose
+use Rattle.registry.specs.declared.decision.Decision.{Decision}
+use Rattle.registry.specs.declared.decision.Reply.TheVariants.{Conf}
+use Rattle.charging.specs.InternalError.{internal_error}
+
+-- what tells the start from others of the station
+abbrev pub start_key : StartTransaction → StartKey
+start_key r = record { connector = r.connector_id; key = key_of r.id_tag; meter_start = r.meter_start; at = r.timestamp }
+
+-- the start as it is kept, by how its tag is judged
+abbrev pub start_of : StartTransaction → StartKey → ℕ → AuthorizationStatus → Start
+start_of r id m status = record { id = id; tag = r.id_tag; reservation = r.reservation_id; status = status; begun = m }
+
+-- a start that has number n; its own transaction is no other use of its tag
+abbrev pub repeated : List ℕ → StartKey → ℕ → Lookups → ℕ → Decision
+repeated station id m l n = record {
+  reply = Conf (conf.StartTransaction (judge_rule m id.key (purpose.Start (Some (record { station = station; number = n }))) l) n);
+  change = None;
+}
+
+-- transaction n begins
+abbrev pub begun : List ℕ → StartTransaction → StartKey → ℕ → IdTagInfo → ℕ → Decision
+begun station r id m info n = record {
+  reply = Conf (conf.StartTransaction info n);
+  change = Some (TxStarted station n (start_of r id m info.status));
+}
+
+-- behind the last number that was given
+abbrev pub begun_after : List ℕ → StartTransaction → StartKey → ℕ → Lookups → ℕ → Decision
+begun_after station r id m l last =
+    if nat_le last_of_all last then internal_error else begun station r id m (judge_rule m id.key (purpose.Start None) l) (last + 1)
+
+abbrev pub new_start : List ℕ → StartTransaction → StartKey → ℕ → Lookups → Decision
+new_start station r id m l = begun_after station r id m l (l.last_numbers station).transaction
+
+-- by the number that it has
+abbrev pub if_new : List ℕ → StartTransaction → StartKey → ℕ → Lookups → Option ℕ → Decision
+if_new station r id m l None = new_start station r id m l
+if_new station r id m l (Some n) = repeated station id m l n
+
+abbrev pub found_start : List ℕ → StartTransaction → StartKey → ℕ → Lookups → Decision
+found_start station r id m l = if_new station r id m l (l.same_start station id)
+
+-- by how the station is registered
+abbrev pub start_from : List ℕ → StartTransaction → ℕ → Lookups → Option Registration → Decision
+start_from station r m l None = internal_error
+start_from station r m l (Some found) = found_start station r (start_key r) m l
+
+abbrev pub start_rule : List ℕ → StartTransaction → ℕ → Lookups → Decision
+start_rule station r m l = start_from station r m l (l.registration station)

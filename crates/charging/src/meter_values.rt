@@ -1,0 +1,67 @@
+//! Readings of a connector's meter (OCPP 1.6, section 4.7; docs/RULES.md, Readings).
+ghost use Rattle.std.specs.Prelude.{◌≡◌, ◌≤◌, IfOk, IfErr};
+ghost use Rattle.hub_rows.specs.Failures.{Rose};
+ghost use Rattle.hub_rows.specs.Lookups.{lookups_at};
+ghost use Rattle.charging.specs.MeterValues.{meter_values_rule, added};
+
+use crate::internal_error::internal_error;
+use crate::numbers::has_room;
+use crate::readings::readings_of;
+use hub_rows::change::Edit;
+use hub_rows::reading_row::Reading;
+use hub_rows::store::{Store, StoreFault};
+use ocpp_payload::conf::Conf;
+use ocpp_payload::request::MeterValues;
+use ocpp_types::listed::Listed;
+use ocpp_types::text::Text;
+use registry::decision::{Decision, Reply};
+use std::alloc::Global;
+
+/// The readings of a MeterValues are kept, numbered from the one behind the station's last on. A
+/// station that isn't registered gets InternalError, and so does one that has no numbers left for
+/// all of them.
+pub fn on_meter_values<S: Store>(
+    alloc: Global,
+    store: &mut S,
+    op: &str,
+    station: &str,
+    request: MeterValues,
+) -> Result<Decision, StoreFault>
+    ensures was_clean { S.clean store.new → S.clean store.old }
+    ensures decision { S.clean store.new → IfOk result (λ d. d
+        ≡ meter_values_rule station.now request (lookups_at op.now (S.rows store.old))) }
+    ensures rows { S.clean store.new → S.rows store.new ≡ S.rows store.old }
+    ensures failed { IfErr result (λ fault. fault ≡ StoreFault.Failed
+        → Rose (S.failures store.old) (S.failures store.new)) }
+    ensures count { S.failures store.old ≤ S.failures store.new }
+{
+    if store.station(op, station)?.is_none() {
+        return Ok(internal_error());
+    }
+    let last = store.last_numbers(op, station)?.reading;
+    let station = Text::copy_of(alloc, station)?;
+    let readings = readings_of(
+        alloc,
+        request.connector_id,
+        request.transaction_id,
+        request.meter_value,
+    )?;
+    Ok(added(station, last, readings))
+}
+
+fn added(station: Text, last: u32, readings: Listed<Reading>) -> Decision
+    ensures { result ≡ added station last readings }
+{
+    if !has_room(last, readings.as_slice().len()) {
+        return internal_error();
+    }
+    let change = Edit::ReadingsAdded {
+        station,
+        first: last + 1,
+        readings,
+    };
+    Decision {
+        reply: Reply::Conf(Conf::MeterValues),
+        change: Some(change),
+    }
+}

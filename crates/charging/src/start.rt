@@ -1,0 +1,192 @@
+//! Transactions that begin (OCPP 1.6, section 4.8; docs/RULES.md, Transactions).
+ghost use Rattle.std.specs.Prelude.{◌≡◌, ◌≤◌, IfOk, IfErr};
+ghost use Rattle.hub_rows.specs.Failures.{Rose};
+ghost use Rattle.hub_rows.specs.Lookups.{lookups_at};
+ghost use Rattle.charging.specs.Start.{start_rule, start_key, start_of, repeated, new_start, found_start, begun};
+
+use crate::internal_error::internal_error;
+use crate::numbers::LAST_NUMBER;
+use hub_rows::change::Edit;
+use hub_rows::store::{Store, StoreFault};
+use hub_rows::tx_row::{Start, StartKey, TxKey};
+use id_tags::judge::{Purpose, judge};
+use ocpp_payload::conf::Conf;
+use ocpp_payload::request::StartTransaction;
+use ocpp_types::authorization_status::AuthorizationStatus;
+use ocpp_types::id_tag_info::IdTagInfo;
+use ocpp_types::memory::Mem;
+use ocpp_types::moment::Moment;
+use ocpp_types::tag_key::TagKey;
+use ocpp_types::text::Text;
+use registry::decision::{Decision, Reply};
+use std::alloc::Global;
+
+/// A start begins a transaction, numbered from the one behind the station's last on, and is
+/// answered with that number and the judgement of its tag. The transaction begins whatever the
+/// judgement is. A start that the station sends again is answered with the number that it has, and
+/// changes nothing. A station that isn't registered gets InternalError, and so does one that has no
+/// number left.
+pub fn on_start<S: Store>(
+    alloc: Global,
+    store: &mut S,
+    op: &str,
+    station: &str,
+    request: StartTransaction,
+    moment: Moment,
+) -> Result<Decision, StoreFault>
+    ensures was_clean { S.clean store.new → S.clean store.old }
+    ensures decision { S.clean store.new → IfOk result (λ d. d
+        ≡ start_rule station.now request moment (lookups_at op.now (S.rows store.old))) }
+    ensures rows { S.clean store.new → S.rows store.new ≡ S.rows store.old }
+    ensures failed { IfErr result (λ fault. fault ≡ StoreFault.Failed
+        → Rose (S.failures store.old) (S.failures store.new)) }
+    ensures count { S.failures store.old ≤ S.failures store.new }
+{
+    if store.station(op, station)?.is_none() {
+        return Ok(internal_error());
+    }
+    let id = start_key(alloc, &request)?;
+    found_start(alloc, store, op, station, request, id, moment)
+}
+
+/// What tells a start from others of its station.
+fn start_key(alloc: Global, request: &StartTransaction) -> Mem<StartKey>
+    ensures { IfOk result (λ k. k ≡ start_key request.now) }
+{
+    Ok(StartKey {
+        connector: request.connector_id,
+        key: TagKey::of(alloc, request.id_tag.as_str())?,
+        meter_start: request.meter_start,
+        at: request.timestamp,
+    })
+}
+
+/// A start of a station that is registered: one that has a number, or a new one.
+fn found_start<S: Store>(
+    alloc: Global,
+    store: &mut S,
+    op: &str,
+    station: &str,
+    request: StartTransaction,
+    id: StartKey,
+    moment: Moment,
+) -> Result<Decision, StoreFault>
+    ensures was_clean { S.clean store.new → S.clean store.old }
+    ensures decision { S.clean store.new → IfOk result (λ d. d
+        ≡ found_start station.now request id moment (lookups_at op.now (S.rows store.old))) }
+    ensures rows { S.clean store.new → S.rows store.new ≡ S.rows store.old }
+    ensures failed { IfErr result (λ fault. fault ≡ StoreFault.Failed
+        → Rose (S.failures store.old) (S.failures store.new)) }
+    ensures count { S.failures store.old ≤ S.failures store.new }
+{
+    match store.same_start(op, station, &id)? {
+        None => new_start(alloc, store, op, station, request, id, moment),
+        Some(number) => repeated(alloc, store, op, station, &id, moment, number),
+    }
+}
+
+/// The answer to a start that has a number.
+fn repeated<S: Store>(
+    alloc: Global,
+    store: &mut S,
+    op: &str,
+    station: &str,
+    id: &StartKey,
+    moment: Moment,
+    number: u32,
+) -> Result<Decision, StoreFault>
+    ensures was_clean { S.clean store.new → S.clean store.old }
+    ensures decision { S.clean store.new → IfOk result (λ d. d
+        ≡ repeated station.now id.now moment (lookups_at op.now (S.rows store.old)) number) }
+    ensures rows { S.clean store.new → S.rows store.new ≡ S.rows store.old }
+    ensures failed { IfErr result (λ fault. fault ≡ StoreFault.Failed
+        → Rose (S.failures store.old) (S.failures store.new)) }
+    ensures count { S.failures store.old ≤ S.failures store.new }
+{
+    let station = Text::copy_of(alloc, station)?;
+    let own = TxKey { station, number };
+    let purpose = Purpose::Start { except: Some(own) };
+    let id_tag_info = judge(store, op, &id.key, moment, &purpose)?;
+    let reply = Conf::StartTransaction {
+        id_tag_info,
+        transaction_id: number,
+    };
+    Ok(Decision {
+        reply: Reply::Conf(reply),
+        change: None,
+    })
+}
+
+/// A new start, whose number is the one behind the station's last.
+fn new_start<S: Store>(
+    alloc: Global,
+    store: &mut S,
+    op: &str,
+    station: &str,
+    request: StartTransaction,
+    id: StartKey,
+    moment: Moment,
+) -> Result<Decision, StoreFault>
+    ensures was_clean { S.clean store.new → S.clean store.old }
+    ensures decision { S.clean store.new → IfOk result (λ d. d
+        ≡ new_start station.now request id moment (lookups_at op.now (S.rows store.old))) }
+    ensures rows { S.clean store.new → S.rows store.new ≡ S.rows store.old }
+    ensures failed { IfErr result (λ fault. fault ≡ StoreFault.Failed
+        → Rose (S.failures store.old) (S.failures store.new)) }
+    ensures count { S.failures store.old ≤ S.failures store.new }
+{
+    let last = store.last_numbers(op, station)?.transaction;
+    if last >= LAST_NUMBER {
+        return Ok(internal_error());
+    }
+    let purpose = Purpose::Start { except: None };
+    let id_tag_info = judge(store, op, &id.key, moment, &purpose)?;
+    let station = Text::copy_of(alloc, station)?;
+    let number = last + 1;
+    Ok(begun(station, request, id, moment, id_tag_info, number))
+}
+
+/// The transaction of that number begins.
+fn begun(
+    station: Text,
+    request: StartTransaction,
+    id: StartKey,
+    moment: Moment,
+    id_tag_info: IdTagInfo,
+    number: u32,
+) -> Decision
+    ensures { result ≡ begun station request id moment id_tag_info number }
+{
+    let start = start_of(request, id, moment, id_tag_info.status);
+    let change = Edit::TxStarted {
+        station,
+        number,
+        start,
+    };
+    let reply = Conf::StartTransaction {
+        id_tag_info,
+        transaction_id: number,
+    };
+    Decision {
+        reply: Reply::Conf(reply),
+        change: Some(change),
+    }
+}
+
+/// The start as it is kept.
+fn start_of(
+    request: StartTransaction,
+    id: StartKey,
+    moment: Moment,
+    status: AuthorizationStatus,
+) -> Start
+    ensures { result ≡ start_of request id moment status }
+{
+    Start {
+        id,
+        tag: request.id_tag,
+        reservation: request.reservation_id,
+        status,
+        begun: moment,
+    }
+}

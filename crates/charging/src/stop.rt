@@ -1,0 +1,180 @@
+//! Transactions that end (OCPP 1.6, section 4.10; docs/RULES.md, Stops).
+ghost use Rattle.std.specs.Prelude.{◌≡◌, ◌≤◌, IfOk, IfErr};
+ghost use Rattle.hub_rows.specs.Failures.{Rose};
+ghost use Rattle.hub_rows.specs.Lookups.{lookups_at};
+ghost use Rattle.charging.specs.Stop.{stop_rule, info_of, stop_change, if_open, ended, stopped, stop_of, number_of};
+
+use crate::numbers::has_room;
+use crate::readings::readings_of;
+use hub_rows::change::Edit;
+use hub_rows::reading_row::Reading;
+use hub_rows::store::{Store, StoreFault};
+use hub_rows::tx_row::{Stop, TxState};
+use id_tags::judge::{Purpose, judge};
+use ocpp_payload::conf::Conf;
+use ocpp_payload::readings::MeterValue;
+use ocpp_payload::request::StopTransaction;
+use ocpp_types::id_tag_info::IdTagInfo;
+use ocpp_types::listed::Listed;
+use ocpp_types::memory::Mem;
+use ocpp_types::moment::Moment;
+use ocpp_types::tag_key::TagKey;
+use ocpp_types::text::Text;
+use registry::decision::{Decision, Reply};
+use std::alloc::Global;
+
+/// A stop ends the open transaction that it names, and keeps the readings that were sent with it,
+/// numbered from the one behind the station's last on. Where no numbers are left for all of them,
+/// the stop is kept without readings. A stop of any other transaction changes nothing. It is
+/// answered in either case, with the judgement of its tag if one was sent.
+pub fn on_stop<S: Store>(
+    alloc: Global,
+    store: &mut S,
+    op: &str,
+    station: &str,
+    request: StopTransaction,
+    moment: Moment,
+) -> Result<Decision, StoreFault>
+    ensures was_clean { S.clean store.new → S.clean store.old }
+    ensures decision { S.clean store.new → IfOk result (λ d. d
+        ≡ stop_rule station.now request moment (lookups_at op.now (S.rows store.old))) }
+    ensures rows { S.clean store.new → S.rows store.new ≡ S.rows store.old }
+    ensures failed { IfErr result (λ fault. fault ≡ StoreFault.Failed
+        → Rose (S.failures store.old) (S.failures store.new)) }
+    ensures count { S.failures store.old ≤ S.failures store.new }
+{
+    let id_tag_info = info_of(alloc, store, op, &request.id_tag, moment)?;
+    let change = stop_change(alloc, store, op, station, request, moment)?;
+    let reply = Conf::StopTransaction { id_tag_info };
+    Ok(Decision {
+        reply: Reply::Conf(reply),
+        change,
+    })
+}
+
+/// The judgement of the tag that was sent with a stop.
+fn info_of<S: Store>(
+    alloc: Global,
+    store: &mut S,
+    op: &str,
+    tag: &Option<Text>,
+    moment: Moment,
+) -> Result<Option<IdTagInfo>, StoreFault>
+    ensures was_clean { S.clean store.new → S.clean store.old }
+    ensures judged { S.clean store.new → IfOk result (λ i. i
+        ≡ info_of tag.now moment (lookups_at op.now (S.rows store.old))) }
+    ensures rows { S.clean store.new → S.rows store.new ≡ S.rows store.old }
+    ensures failed { IfErr result (λ fault. fault ≡ StoreFault.Failed
+        → Rose (S.failures store.old) (S.failures store.new)) }
+    ensures count { S.failures store.old ≤ S.failures store.new }
+{
+    match tag {
+        None => Ok(None),
+        Some(tag) => {
+            let key = TagKey::of(alloc, tag.as_str())?;
+            let info = judge(store, op, &key, moment, &Purpose::Authorize)?;
+            Ok(Some(info))
+        }
+    }
+}
+
+/// The end of the transaction that a stop names, if it is open.
+fn stop_change<S: Store>(
+    alloc: Global,
+    store: &mut S,
+    op: &str,
+    station: &str,
+    request: StopTransaction,
+    moment: Moment,
+) -> Result<Option<Edit>, StoreFault>
+    ensures was_clean { S.clean store.new → S.clean store.old }
+    ensures change { S.clean store.new → IfOk result (λ c. c
+        ≡ stop_change station.now request moment (lookups_at op.now (S.rows store.old))) }
+    ensures rows { S.clean store.new → S.rows store.new ≡ S.rows store.old }
+    ensures failed { IfErr result (λ fault. fault ≡ StoreFault.Failed
+        → Rose (S.failures store.old) (S.failures store.new)) }
+    ensures count { S.failures store.old ≤ S.failures store.new }
+{
+    let Some(number) = number_of(request.transaction_id) else {
+        return Ok(None);
+    };
+    let tx = store.tx(op, station, number)?;
+    let Some(
+        TxState {
+            connector,
+            is_open: true,
+        },
+    ) = tx
+    else {
+        return Ok(None);
+    };
+    let last = store.last_numbers(op, station)?.reading;
+    let station = Text::copy_of(alloc, station)?;
+    let change = ended(alloc, station, request, moment, number, connector, last)?;
+    Ok(Some(change))
+}
+
+/// The number that the id of a transaction names. A negative one names none.
+fn number_of(id: i32) -> Option<u32>
+    ensures { result ≡ number_of id }
+{
+    u32::try_from(id).ok()
+}
+
+/// The end of a transaction on that connector.
+fn ended(
+    alloc: Global,
+    station: Text,
+    request: StopTransaction,
+    moment: Moment,
+    number: u32,
+    connector: u8,
+    last: u32,
+) -> Mem<Edit>
+    ensures { IfOk result (λ e. e ≡ ended station request moment number connector last) }
+{
+    let transaction = Some(request.transaction_id);
+    let (stop, values) = parts_of(request, moment);
+    let readings = readings_of(alloc, connector, transaction, values)?;
+    Ok(stopped(alloc, station, number, stop, last, readings))
+}
+
+/// A stop as it is kept, and what was sent with it.
+fn parts_of(request: StopTransaction, moment: Moment) -> (Stop, Listed<MeterValue>)
+    ensures { result ≡ (stop_of request moment, request.transaction_data) }
+{
+    let stop = Stop {
+        meter_stop: request.meter_stop,
+        at: request.timestamp,
+        reason: request.reason,
+        tag: request.id_tag,
+        moment,
+    };
+    (stop, request.transaction_data)
+}
+
+/// The change that keeps a stop and its readings, unless no numbers are left for all of them.
+fn stopped(
+    alloc: Global,
+    station: Text,
+    number: u32,
+    stop: Stop,
+    last: u32,
+    readings: Listed<Reading>,
+) -> Edit
+    ensures { result ≡ stopped station number stop last readings }
+{
+    let has_room = has_room(last, readings.as_slice().len());
+    let (first, readings) = if has_room {
+        (last + 1, readings)
+    } else {
+        (0, Listed::new(alloc))
+    };
+    Edit::TxStopped {
+        station,
+        number,
+        stop,
+        first,
+        readings,
+    }
+}

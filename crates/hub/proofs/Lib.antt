@@ -1,0 +1,6 @@
+pub mod ConfLaws
+pub mod Steps
+pub mod Fitting
+pub mod Committing
+pub mod Isolation
+pub mod Runs

@@ -1,0 +1,18 @@
+use Rattle.std.proofs.Common.{◌≡◌, IfOk, subst, sym}
+use Rattle.hub_rows.specs.Lookups.{Lookups, lookups_at}
+use Rattle.hub_rows.specs.Rows.{Rows}
+use Rattle.charging.specs.Start.{start_rule}
+use Rattle.hub.specs.Table.{decision}
+use Rattle.hub.specs.Vendors.{Answers, answer_of}
+use Rattle.hub.proofs.frames.decide.Goals as goal
+
+pub returns-in-StartTransaction-clause-decision : goal.returns-in-StartTransaction-clause-decision
+returns-in-StartTransaction-clause-decision g c =
+    let rows : Rows = g.S.Store.rows c.args.book.now.store in
+    let answers : Answers = answer_of g.V.VendorHandler.name g.V.VendorHandler.gives c.args.book.now.vendors.items in
+    let result = c.on_start_transaction.result in
+    let start = c.in-StartTransaction.request in
+    let m = c.args.moment in
+    λ clean. subst (λ r. IfOk result (λ d. d ≡ decision answers m c.args.station.now r (lookups_at c.args.op.now rows))) (sym c.in-StartTransaction.is)
+    (subst (λ st. IfOk result (λ d. d ≡ start_rule st start m (lookups_at c.args.op.now rows))) c.as_str-station.ensures
+    (subst (λ o. IfOk result (λ d. d ≡ start_rule c.as_str-station.result.now start m (lookups_at o rows))) c.as_str-op.ensures (c.on_start_transaction.ensures.decision clean)))

@@ -1,0 +1,71 @@
+use Rattle.std.proofs.Common.{◌≡◌, ◌∙◌, ◌++◌, ◌+◌, take, ap, sym, arith}
+use Rattle.hub.specs.Said.{outputs_of}
+use Rattle.hub.specs.Hub.{world, setting}
+use Rattle.hub.specs.Table.{Setting}
+use Rattle.hub.specs.View.{view}
+use Rattle.hub.specs.WellFormed.{WellFormed}
+use Rattle.hub.specs.World.{World, run_outputs, world_run}
+use Rattle.hub.proofs.Isolation.{run_outputs-own, world_run-own}
+use Rattle.hub.proofs.Runs.{outputs_go_on, world_goes_on}
+use Rattle.hub.proofs.hub.Hub.run.Goals as goal
+
+pub returns-in-Err-clause-isolated_outputs : goal.returns-in-Err-clause-isolated_outputs
+returns-in-Err-clause-isolated_outputs g c = λ clean a.
+    let st : Setting = setting g.V.VendorHandler.name g.V.VendorHandler.gives c.args.self.now in
+    let w : World = world g.S.Store.rows c.args.self.now in
+    let inv = c.loop-event.invariant in
+    let before = c.in-Err.ensures.was_clean clean in
+    let good : WellFormed w = record { rows = g.met.S.Store.well_formed c.args.self.now.book.store (inv.was_clean before); slots = c.args.self.now.slots.sorted } in
+    ap (outputs_of a) (c.in-Err.ensures.err_told ∙ inv.outputs before ∙ ap (λ n. run_outputs st w (take n c.args.events.now)) (sym inv.at))
+    ∙ run_outputs-own st a w (take c.loop-event.taken c.args.events.now) good
+
+pub returns-in-Err-clause-isolated_view : goal.returns-in-Err-clause-isolated_view
+returns-in-Err-clause-isolated_view g c = λ clean a.
+    let st : Setting = setting g.V.VendorHandler.name g.V.VendorHandler.gives c.args.self.now in
+    let w : World = world g.S.Store.rows c.args.self.now in
+    let inv = c.loop-event.invariant in
+    let before = c.in-Err.ensures.was_clean clean in
+    let good : WellFormed w = record { rows = g.met.S.Store.well_formed c.args.self.now.book.store (inv.was_clean before); slots = c.args.self.now.slots.sorted } in
+    ap (view a) (c.in-Err.ensures.err_world clean ∙ inv.world before ∙ ap (λ n. world_run st w (take n c.args.events.now)) (sym inv.at))
+    ∙ world_run-own st a w (take c.loop-event.taken c.args.events.now) good
+
+pub returns-clause-isolated_outputs : goal.returns-clause-isolated_outputs
+returns-clause-isolated_outputs g c = λ clean a.
+    let st : Setting = setting g.V.VendorHandler.name g.V.VendorHandler.gives c.args.self.now in
+    let w : World = world g.S.Store.rows c.args.self.now in
+    let inv = c.loop-event.invariant in
+    let good : WellFormed w = record { rows = g.met.S.Store.well_formed c.args.self.now.book.store (inv.was_clean clean); slots = c.args.self.now.slots.sorted } in
+    ap (outputs_of a) (inv.outputs clean ∙ ap (λ n. run_outputs st w (take n c.args.events.now)) (sym inv.at))
+    ∙ run_outputs-own st a w (take c.loop-event.taken c.args.events.now) good
+
+pub returns-clause-isolated_view : goal.returns-clause-isolated_view
+returns-clause-isolated_view g c = λ clean a.
+    let st : Setting = setting g.V.VendorHandler.name g.V.VendorHandler.gives c.args.self.now in
+    let w : World = world g.S.Store.rows c.args.self.now in
+    let inv = c.loop-event.invariant in
+    let good : WellFormed w = record { rows = g.met.S.Store.well_formed c.args.self.now.book.store (inv.was_clean clean); slots = c.args.self.now.slots.sorted } in
+    ap (view a) (inv.world clean ∙ ap (λ n. world_run st w (take n c.args.events.now)) (sym inv.at))
+    ∙ world_run-own st a w (take c.loop-event.taken c.args.events.now) good
+
+pub loop-event-preserved : goal.loop-event-preserved
+loop-event-preserved g c =
+    let st : Setting = setting g.V.VendorHandler.name g.V.VendorHandler.gives c.args.self.now in
+    let w : World = world g.S.Store.rows c.args.self.now in
+    let at = c.loop-event in
+    let inv = c.loop-event.invariant in
+    let i = c.loop-event.event-index in
+    let es = c.args.events.now in
+    let mine : Setting = setting g.V.VendorHandler.name g.V.VendorHandler.gives at.self in
+    record {
+      at = ap (λ n. n + 1) inv.at;
+      was_clean = λ clean. inv.was_clean (c.in-Ok.ensures.was_clean clean);
+      outputs = λ clean. let before = c.in-Ok.ensures.was_clean clean in
+          outputs_go_on st w es i c.event-item.result at.outs.items c.take.new.told.items mine (world g.S.Store.rows at.self) c.loop-event-test.true c.event-item.is inv.setting (inv.world before) (inv.outputs before) (c.in-Ok.ensures.told clean);
+      world = λ clean. let before = c.in-Ok.ensures.was_clean clean in
+          world_goes_on st w es i c.event-item.result (world g.S.Store.rows c.take.new.self) mine (world g.S.Store.rows at.self) c.loop-event-test.true c.event-item.is inv.setting (inv.world before) (c.in-Ok.ensures.world clean);
+      setting = c.in-Ok.ensures.setting ∙ inv.setting;
+      count = omega (arith, c.in-Ok.ensures.count);
+    }
+
+pub returns-in-Err-clause-setting : goal.returns-in-Err-clause-setting
+returns-in-Err-clause-setting g c = c.in-Err.ensures.setting ∙ c.loop-event.invariant.setting

@@ -1,0 +1,8 @@
+use Rattle.std.proofs.Common.{◌≡◌, drop}
+use Rattle.hub.specs.Vendors.{text, answer_of}
+use Rattle.hub.proofs.vendor.ask.Given as goal
+
+abbrev pub invariant-loop-handler : goal.invariant-loop-handler
+invariant-loop-handler g l =
+    answer_of g.V.VendorHandler.name g.V.VendorHandler.gives (drop l.handler-index l.vendors) l.vendor (text l.message) (text l.content)
+    ≡ answer_of g.V.VendorHandler.name g.V.VendorHandler.gives l.vendors l.vendor (text l.message) (text l.content)

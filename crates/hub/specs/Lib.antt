@@ -1,0 +1,16 @@
+pub mod Vendors
+pub mod Echo
+pub mod Transfer
+pub mod Authorized
+pub mod Fault
+pub mod Slots
+pub mod Said
+pub mod Listing
+pub mod Table
+pub mod World
+pub mod Planned
+pub mod View
+pub mod WellFormed
+pub mod Operators
+pub mod Committed
+pub mod Hub

@@ -1,0 +1,14 @@
+-- How vendors' messages are answered: nothing changes.
+use Rattle.std.specs.Prelude.{None}
+use Rattle.ocpp_payload.specs.declared.conf.Conf.TheVariants as conf
+use Rattle.ocpp_payload.specs.declared.request.DataTransfer.{DataTransfer}
+use Rattle.registry.specs.declared.decision.Decision.{Decision}
+use Rattle.registry.specs.declared.decision.Reply.TheVariants.{Conf}
+use Rattle.hub.specs.declared.vendor.VendorAnswer.{VendorAnswer}
+use Rattle.hub.specs.Vendors.{Answers}
+
+abbrev pub transferred : VendorAnswer → Decision
+transferred a = record { reply = Conf (conf.DataTransfer a.status a.content); change = None }
+
+abbrev pub transfer_rule : Answers → DataTransfer → Decision
+transfer_rule answers r = transferred (answers r.vendor_id r.message_id r.content)

@@ -1,0 +1,25 @@
+-- What vendors' messages are answered.
+use Rattle.std.specs.Prelude.{ℕ, List, [], ◌∷◌, Option, Some, None, if◌then◌else◌}
+use Rattle.std.specs.Borrow.{Bor}
+use Rattle.std.specs.Str.{bytes_eq}
+use Rattle.ocpp_types.specs.declared.data_transfer_status.DataTransferStatus.TheVariants.{UnknownVendorId}
+use Rattle.hub.specs.declared.vendor.VendorAnswer.{VendorAnswer}
+
+-- the text behind a reference, if there is one
+abbrev pub text : Option (Bor (List ℕ)) → Option (List ℕ)
+text None = None
+text (Some b) = Some b.now
+
+-- the answers to a vendor's messages, by vendor, message and content
+abbrev pub Answers : Type 0
+Answers = List ℕ → Option (List ℕ) → Option (List ℕ) → VendorAnswer
+
+-- nobody answers for the vendor
+abbrev pub unknown_vendor : VendorAnswer
+unknown_vendor = record { status = UnknownVendorId; content = None }
+
+-- the first handler of the vendor answers
+abbrev pub answer_of : {H : Type 0} → (H → List ℕ) → (H → Option (List ℕ) → Option (List ℕ) → VendorAnswer) → List H → Answers
+answer_of name gives [] vendor message content = unknown_vendor
+answer_of name gives (h ∷ hs) vendor message content =
+    if bytes_eq (name h) vendor then gives h message content else answer_of name gives hs vendor message content

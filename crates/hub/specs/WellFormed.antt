@@ -1,0 +1,10 @@
+-- A world whose lists are in the order of their keys.
+use Rattle.std.specs.List.Sorted.{IsStrictlySortedBy}
+use Rattle.hub_rows.specs.Keyed.{by_key}
+use Rattle.hub_rows.specs.Rows.{WellFormedRows}
+use Rattle.hub.specs.Slots.{slot_key}
+use Rattle.hub.specs.World.{World}
+
+pub record WellFormed (w : World) : Type 0 where
+  pub rows : WellFormedRows w.rows
+  pub slots : IsStrictlySortedBy (by_key slot_key) w.slots

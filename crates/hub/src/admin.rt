@@ -1,0 +1,45 @@
+//! The requests of an operator (docs/RULES.md, Commands).
+ghost use Rattle.std.specs.Prelude.{◌≡◌, ◌≤◌, IfOk, IfErr};
+ghost use Rattle.hub_rows.specs.Failures.{Rose};
+ghost use Rattle.hub_rows.specs.Lookups.{lookups_at};
+ghost use Rattle.hub.specs.Table.{admin_rule};
+
+use crate::event::Admin;
+use hub_rows::change::Edit;
+use hub_rows::store::{Store, StoreFault};
+use id_tags::plan::{plan_drop, plan_put};
+use ocpp_types::refusal::Refusal;
+use registry::policy_set::plan_policy;
+use registry::station_added::plan_add;
+use std::alloc::Global;
+
+/// The edit that an operator's request asks for, or the refusal of its rule.
+pub fn decide_admin<S: Store>(
+    alloc: Global,
+    store: &mut S,
+    op: &str,
+    admin: &Admin,
+) -> Result<Result<Edit, Refusal>, StoreFault>
+    ensures was_clean { S.clean store.new → S.clean store.old }
+    ensures decision { S.clean store.new → IfOk result (λ p. p
+        ≡ admin_rule admin.now (lookups_at op.now (S.rows store.old))) }
+    ensures rows { S.clean store.new → S.rows store.new ≡ S.rows store.old }
+    ensures failed { IfErr result (λ fault. fault ≡ StoreFault.Failed
+        → Rose (S.failures store.old) (S.failures store.new)) }
+    ensures count { S.failures store.old ≤ S.failures store.new }
+{
+    match admin {
+        Admin::StationAdd {
+            station,
+            policy,
+            interval,
+        } => plan_add(alloc, store, op, station.as_str(), *policy, *interval),
+        Admin::StationPolicy {
+            station,
+            policy,
+            interval,
+        } => plan_policy(alloc, store, op, station.as_str(), *policy, *interval),
+        Admin::TagPut { tag } => Ok(plan_put(alloc, tag)?),
+        Admin::TagDrop { tag } => plan_drop(alloc, store, op, tag.as_str()),
+    }
+}

@@ -1,0 +1,317 @@
+//! The rules of every action, over a store and the handlers of vendors.
+ghost use Rattle.std.specs.Prelude.{◌≡◌, ◌≤◌, ℕ, IfOk, IfErr};
+ghost use Rattle.hub_rows.specs.Failures.{Rose};
+ghost use Rattle.hub_rows.specs.Lookups.{lookups_at};
+ghost use Rattle.hub_rows.specs.Rows.{Rows};
+ghost use Rattle.hub_rows.specs.declared.store.StoreFault.TheVariants as store_fault;
+ghost use Rattle.registry.specs.Boot.{boot_rule, heartbeat_rule};
+ghost use Rattle.registry.specs.Status.{status_rule};
+ghost use Rattle.charging.specs.MeterValues.{meter_values_rule};
+ghost use Rattle.charging.specs.Start.{start_rule};
+ghost use Rattle.charging.specs.Stop.{stop_rule};
+ghost use Rattle.hub.specs.Authorized.{authorize_rule};
+ghost use Rattle.hub.specs.Transfer.{transfer_rule};
+ghost use Rattle.hub.specs.Vendors.{Answers, answer_of};
+
+use crate::vendor::{VendorHandler, ask, lent};
+use charging::meter_values::on_meter_values;
+use charging::start::on_start;
+use charging::stop::on_stop;
+use hub_rows::store::{Store, StoreFault};
+use id_tags::judge::{Purpose, judge};
+use ocpp_payload::conf::Conf;
+use ocpp_payload::request::{
+    Authorize, DataTransfer, MeterValues, StartTransaction, StatusNotification, StopTransaction,
+};
+use ocpp_types::boot_notification::BootNotification;
+use ocpp_types::moment::Moment;
+use ocpp_types::tag_key::TagKey;
+use registry::boot::{on_boot, on_heartbeat};
+use registry::decision::{Decision, Reply};
+use registry::status::on_status;
+use std::alloc::Global;
+
+/// Decides the calls of stations, one for each action: the reply, and a change of the records of
+/// the station's operator, which is for the caller to make. A decision leaves the records.
+pub trait CoreHandler {
+    /// The rows that it decides by.
+    ghost rows: { Self → Rows };
+
+    /// How often reading them has failed.
+    ghost failures: { Self → ℕ };
+
+    /// Whether they are read as they were written.
+    ghost clean: { Self → Type 0 };
+
+    /// What vendors' messages are answered.
+    ghost answers: { Self → Answers };
+
+    /// A question for an id tag (OCPP 1.6, section 4.1).
+    fn on_authorize(
+        &mut self,
+        alloc: Global,
+        op: &str,
+        station: &str,
+        request: Authorize,
+        moment: Moment,
+    ) -> Result<Decision, StoreFault>
+        ensures was_clean { clean self.new → clean self.old }
+        ensures decision { clean self.new → IfOk result (λ d. d
+            ≡ authorize_rule request moment (lookups_at op.now (rows self.old))) }
+        ensures rows { clean self.new → rows self.new ≡ rows self.old }
+        ensures failed { IfErr result (λ fault. fault ≡ store_fault.Failed
+            → Rose (failures self.old) (failures self.new)) }
+        ensures count { failures self.old ≤ failures self.new }
+        ensures answers { answers self.new ≡ answers self.old };
+
+    /// A boot (OCPP 1.6, section 4.2).
+    fn on_boot_notification(
+        &mut self,
+        alloc: Global,
+        op: &str,
+        station: &str,
+        request: BootNotification,
+        moment: Moment,
+    ) -> Result<Decision, StoreFault>
+        ensures was_clean { clean self.new → clean self.old }
+        ensures decision { clean self.new → IfOk result (λ d. d
+            ≡ boot_rule station.now request moment (lookups_at op.now (rows self.old))) }
+        ensures rows { clean self.new → rows self.new ≡ rows self.old }
+        ensures failed { IfErr result (λ fault. fault ≡ store_fault.Failed
+            → Rose (failures self.old) (failures self.new)) }
+        ensures count { failures self.old ≤ failures self.new }
+        ensures answers { answers self.new ≡ answers self.old };
+
+    /// A vendor's message (OCPP 1.6, section 4.3).
+    fn on_data_transfer(
+        &mut self,
+        alloc: Global,
+        op: &str,
+        station: &str,
+        request: DataTransfer,
+        moment: Moment,
+    ) -> Result<Decision, StoreFault>
+        ensures was_clean { clean self.new → clean self.old }
+        ensures decision { IfOk result (λ d. d ≡ transfer_rule (answers self.old) request) }
+        ensures rows { clean self.new → rows self.new ≡ rows self.old }
+        ensures failed { IfErr result (λ fault. fault ≡ store_fault.Failed
+            → Rose (failures self.old) (failures self.new)) }
+        ensures count { failures self.old ≤ failures self.new }
+        ensures answers { answers self.new ≡ answers self.old };
+
+    /// A heartbeat (OCPP 1.6, section 4.6).
+    fn on_heartbeat(
+        &mut self,
+        alloc: Global,
+        op: &str,
+        station: &str,
+        moment: Moment,
+    ) -> Result<Decision, StoreFault>
+        ensures was_clean { clean self.new → clean self.old }
+        ensures decision { IfOk result (λ d. d ≡ heartbeat_rule moment) }
+        ensures rows { clean self.new → rows self.new ≡ rows self.old }
+        ensures failed { IfErr result (λ fault. fault ≡ store_fault.Failed
+            → Rose (failures self.old) (failures self.new)) }
+        ensures count { failures self.old ≤ failures self.new }
+        ensures answers { answers self.new ≡ answers self.old };
+
+    /// Readings of a meter (OCPP 1.6, section 4.7).
+    fn on_meter_values(
+        &mut self,
+        alloc: Global,
+        op: &str,
+        station: &str,
+        request: MeterValues,
+        moment: Moment,
+    ) -> Result<Decision, StoreFault>
+        ensures was_clean { clean self.new → clean self.old }
+        ensures decision { clean self.new → IfOk result (λ d. d
+            ≡ meter_values_rule station.now request (lookups_at op.now (rows self.old))) }
+        ensures rows { clean self.new → rows self.new ≡ rows self.old }
+        ensures failed { IfErr result (λ fault. fault ≡ store_fault.Failed
+            → Rose (failures self.old) (failures self.new)) }
+        ensures count { failures self.old ≤ failures self.new }
+        ensures answers { answers self.new ≡ answers self.old };
+
+    /// A transaction has begun (OCPP 1.6, section 4.8).
+    fn on_start_transaction(
+        &mut self,
+        alloc: Global,
+        op: &str,
+        station: &str,
+        request: StartTransaction,
+        moment: Moment,
+    ) -> Result<Decision, StoreFault>
+        ensures was_clean { clean self.new → clean self.old }
+        ensures decision { clean self.new → IfOk result (λ d. d
+            ≡ start_rule station.now request moment (lookups_at op.now (rows self.old))) }
+        ensures rows { clean self.new → rows self.new ≡ rows self.old }
+        ensures failed { IfErr result (λ fault. fault ≡ store_fault.Failed
+            → Rose (failures self.old) (failures self.new)) }
+        ensures count { failures self.old ≤ failures self.new }
+        ensures answers { answers self.new ≡ answers self.old };
+
+    /// A report on a connector (OCPP 1.6, section 4.9).
+    fn on_status_notification(
+        &mut self,
+        alloc: Global,
+        op: &str,
+        station: &str,
+        request: StatusNotification,
+        moment: Moment,
+    ) -> Result<Decision, StoreFault>
+        ensures was_clean { clean self.new → clean self.old }
+        ensures decision { clean self.new → IfOk result (λ d. d
+            ≡ status_rule station.now request moment (lookups_at op.now (rows self.old))) }
+        ensures rows { clean self.new → rows self.new ≡ rows self.old }
+        ensures failed { IfErr result (λ fault. fault ≡ store_fault.Failed
+            → Rose (failures self.old) (failures self.new)) }
+        ensures count { failures self.old ≤ failures self.new }
+        ensures answers { answers self.new ≡ answers self.old };
+
+    /// A transaction has ended (OCPP 1.6, section 4.10).
+    fn on_stop_transaction(
+        &mut self,
+        alloc: Global,
+        op: &str,
+        station: &str,
+        request: StopTransaction,
+        moment: Moment,
+    ) -> Result<Decision, StoreFault>
+        ensures was_clean { clean self.new → clean self.old }
+        ensures decision { clean self.new → IfOk result (λ d. d
+            ≡ stop_rule station.now request moment (lookups_at op.now (rows self.old))) }
+        ensures rows { clean self.new → rows self.new ≡ rows self.old }
+        ensures failed { IfErr result (λ fault. fault ≡ store_fault.Failed
+            → Rose (failures self.old) (failures self.new)) }
+        ensures count { failures self.old ≤ failures self.new }
+        ensures answers { answers self.new ≡ answers self.old };
+}
+
+/// A store and the handlers of vendors' messages.
+#[derive(Drop)]
+pub struct Book<S, V> {
+    pub store: S,
+    pub vendors: Vec<V>,
+}
+
+impl<S, V> Book<S, V> {
+    /// The rules over that store and those handlers. It takes no memory.
+    pub fn new(store: S, vendors: Vec<V>) -> Book<S, V>
+        ensures store { result.store ≡ store }
+        ensures vendors { result.vendors.items ≡ vendors.items }
+    {
+        Book { store, vendors }
+    }
+}
+
+impl<S: Store, V: VendorHandler> CoreHandler for Book<S, V> {
+    ghost rows = { λ b. S.rows b.store };
+
+    ghost failures = { λ b. S.failures b.store };
+
+    ghost clean = { λ b. S.clean b.store };
+
+    ghost answers = { λ b. answer_of V.name V.gives b.vendors.items };
+
+    fn on_authorize(
+        &mut self,
+        alloc: Global,
+        op: &str,
+        _station: &str,
+        request: Authorize,
+        moment: Moment,
+    ) -> Result<Decision, StoreFault> {
+        let key = TagKey::of(alloc, request.id_tag.as_str())?;
+        let id_tag_info = judge(&mut self.store, op, &key, moment, &Purpose::Authorize)?;
+        Ok(Decision {
+            reply: Reply::Conf(Conf::Authorize { id_tag_info }),
+            change: None,
+        })
+    }
+
+    fn on_boot_notification(
+        &mut self,
+        alloc: Global,
+        op: &str,
+        station: &str,
+        request: BootNotification,
+        moment: Moment,
+    ) -> Result<Decision, StoreFault> {
+        on_boot(alloc, &mut self.store, op, station, request, moment)
+    }
+
+    fn on_data_transfer(
+        &mut self,
+        _alloc: Global,
+        _op: &str,
+        _station: &str,
+        request: DataTransfer,
+        _moment: Moment,
+    ) -> Result<Decision, StoreFault> {
+        let message = lent(&request.message_id);
+        let content = lent(&request.content);
+        let answer = ask(&self.vendors, request.vendor_id.as_str(), message, content)?;
+        Ok(Decision {
+            reply: Reply::Conf(Conf::DataTransfer {
+                status: answer.status,
+                content: answer.content,
+            }),
+            change: None,
+        })
+    }
+
+    fn on_heartbeat(
+        &mut self,
+        _alloc: Global,
+        _op: &str,
+        _station: &str,
+        moment: Moment,
+    ) -> Result<Decision, StoreFault> {
+        Ok(on_heartbeat(moment))
+    }
+
+    fn on_status_notification(
+        &mut self,
+        alloc: Global,
+        op: &str,
+        station: &str,
+        request: StatusNotification,
+        moment: Moment,
+    ) -> Result<Decision, StoreFault> {
+        on_status(alloc, &mut self.store, op, station, request, moment)
+    }
+
+    fn on_meter_values(
+        &mut self,
+        alloc: Global,
+        op: &str,
+        station: &str,
+        request: MeterValues,
+        _moment: Moment,
+    ) -> Result<Decision, StoreFault> {
+        on_meter_values(alloc, &mut self.store, op, station, request)
+    }
+
+    fn on_start_transaction(
+        &mut self,
+        alloc: Global,
+        op: &str,
+        station: &str,
+        request: StartTransaction,
+        moment: Moment,
+    ) -> Result<Decision, StoreFault> {
+        on_start(alloc, &mut self.store, op, station, request, moment)
+    }
+
+    fn on_stop_transaction(
+        &mut self,
+        alloc: Global,
+        op: &str,
+        station: &str,
+        request: StopTransaction,
+        moment: Moment,
+    ) -> Result<Decision, StoreFault> {
+        on_stop(alloc, &mut self.store, op, station, request, moment)
+    }
+}

@@ -1,0 +1,51 @@
+//! A vendor's handler that sends back what it gets.
+ghost use Rattle.std.specs.Prelude.{◌≡◌, IfOk};
+ghost use Rattle.hub.specs.Vendors.{text};
+
+use crate::vendor::{VendorAnswer, VendorHandler};
+use ocpp_types::data_transfer_status::DataTransferStatus;
+use ocpp_types::memory::Mem;
+use ocpp_types::text::Text;
+use std::alloc::Global;
+
+/// Answers the messages of `org.example.echo`: one without a `messageId`, or with `echo`, is
+/// accepted and its content comes back, any other is unknown.
+#[derive(Drop)]
+pub struct Echo {
+    pub alloc: Global,
+}
+
+impl VendorHandler for Echo {
+    ghost use Rattle.std.specs.Prelude.{codes};
+    ghost use Rattle.hub.specs.Echo.{echo};
+
+    ghost name = { λ _. codes "org.example.echo" };
+
+    ghost gives = { λ _ message content. echo message content };
+
+    fn vendor(&self) -> &str {
+        "org.example.echo"
+    }
+
+    fn answer(&self, message: Option<&str>, content: Option<&str>) -> Mem<VendorAnswer> {
+        match message {
+            None | Some("echo") => Ok(VendorAnswer {
+                status: DataTransferStatus::Accepted,
+                content: copied(self.alloc, content)?,
+            }),
+            Some(_) => Ok(VendorAnswer {
+                status: DataTransferStatus::UnknownMessageId,
+                content: None,
+            }),
+        }
+    }
+}
+
+fn copied(alloc: Global, content: Option<&str>) -> Mem<Option<Text>>
+    ensures { IfOk result (λ copy. copy ≡ text content.entry) }
+{
+    match content {
+        Some(content) => Ok(Some(Text::copy_of(alloc, content)?)),
+        None => Ok(None),
+    }
+}

@@ -1,0 +1,72 @@
+//! What the hub is handed.
+
+use hub_rows::tag_row::Tag;
+use ocpp_types::moment::Moment;
+use ocpp_types::policy::Policy;
+use ocpp_types::text::Text;
+
+/// One event, of one operator. Each carries its moment; moments need not grow.
+#[derive(Debug, Drop)]
+pub struct Event {
+    pub op: Text,
+    pub moment: Moment,
+    pub what: What,
+}
+
+/// What happens at an operator.
+#[derive(Debug, Drop)]
+pub enum What {
+    /// A station has connected.
+    Connect { station: Text },
+    /// A station's connection has ended.
+    Disconnect { station: Text },
+    /// A station has sent a text.
+    Frame { station: Text, text: Text },
+    /// The operator edits its records.
+    Admin(Admin),
+    /// The operator asks for a list of its records.
+    List(Listing),
+}
+
+/// A list of an operator's records.
+#[derive(Debug, Drop)]
+pub enum Listing {
+    Stations,
+    Tags,
+    Connectors {
+        station: Text,
+    },
+    Transactions {
+        station: Text,
+    },
+    /// All readings of a station, or those that were sent with the number of a transaction.
+    Readings {
+        station: Text,
+        transaction: Option<u64>,
+    },
+}
+
+/// An operator's edit of its records.
+#[derive(Debug, Drop)]
+pub enum Admin {
+    /// A new station, with its policy and its heartbeat interval in seconds.
+    StationAdd {
+        station: Text,
+        policy: Policy,
+        interval: u64,
+    },
+    /// An id tag, in place of the one with its key.
+    TagPut {
+        tag: Tag,
+    },
+    /// The id tag of that text's key is dropped.
+    TagDrop {
+        tag: Text,
+    },
+    /// What a station's next boot is answered, and its heartbeat interval in seconds.
+    StationPolicy {
+        station: Text,
+        policy: Policy,
+        interval: u64,
+    },
+}

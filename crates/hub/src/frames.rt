@@ -1,0 +1,197 @@
+//! What a connected station sends (docs/RULES.md, Order of checks).
+ghost use Rattle.std.specs.Prelude.{◌≡◌, ◌≢◌, ◌≤◌, IfOk, IfErr};
+ghost use Rattle.serde_json.specs.Data.{Data};
+ghost use Rattle.ocpp_frame.specs.Frame.{frame};
+ghost use Rattle.hub_rows.specs.Failures.{Rose};
+ghost use Rattle.hub_rows.specs.Lookups.{lookups_at};
+ghost use Rattle.hub.specs.Planned.{IsPlanned};
+ghost use Rattle.hub.specs.Table.{frame_plan, call_plan, state_plan, decision};
+ghost use Rattle.hub.specs.Vendors.{answer_of};
+ghost use Rattle.ocpp_payload.specs.ActionClass.{action_class};
+
+use crate::book::{Book, CoreHandler};
+use crate::fault::Fault;
+use crate::plan::{answer_call, nothing, refuse_call};
+use crate::planned::Planned;
+use crate::vendor::VendorHandler;
+use hub_rows::store::{Store, StoreFault};
+use ocpp_frame::frame::Frame;
+use ocpp_frame::payload::Payload;
+use ocpp_frame::read::read_frame;
+use ocpp_payload::action::Action;
+use ocpp_payload::action_class::{ActionClass, action_class};
+use ocpp_payload::read_request::read_request;
+use ocpp_payload::request::Request;
+use ocpp_types::error_code::ErrorCode;
+use ocpp_types::moment::Moment;
+use ocpp_types::text::Text;
+use registry::allowed::is_allowed;
+use registry::decision::Decision;
+use std::alloc::Global;
+
+/// The plan for a text of a connected station, by the frame that it is.
+pub fn plan_text<S: Store, V: VendorHandler>(
+    alloc: Global,
+    book: &mut Book<S, V>,
+    op: &Text,
+    station: &Text,
+    moment: Moment,
+    text: &Text,
+) -> Result<Planned, Fault>
+    ensures was_clean { S.clean book.new.store → S.clean book.old.store }
+    ensures planned { S.clean book.new.store → IfOk result (λ p. IsPlanned p op.now
+        (frame_plan (answer_of V.name V.gives book.old.vendors.items) moment station.now (frame text.now) (lookups_at op.now (S.rows book.old.store)))) }
+    ensures rows { S.clean book.new.store → S.rows book.new.store ≡ S.rows book.old.store }
+    ensures failed { IfErr result (λ f. f ≡ Fault.Store
+        → Rose (S.failures book.old.store) (S.failures book.new.store)) }
+    ensures hosted { IfErr result (λ f. f ≢ Fault.NoSuchOperator) }
+    ensures count { S.failures book.old.store ≤ S.failures book.new.store }
+    ensures answers { answer_of V.name V.gives book.new.vendors.items ≡ answer_of V.name V.gives book.old.vendors.items }
+{
+    match read_frame(alloc, text.as_str())? {
+        Frame::Call {
+            id,
+            action,
+            payload,
+        } => {
+            let class = action_class(action.as_str());
+            plan_call(alloc, book, op, station, moment, &id, class, &payload)
+        }
+        Frame::Broken { id } => Ok(refuse_call(
+            alloc,
+            op,
+            station,
+            &id,
+            ErrorCode::FormationViolation,
+            "",
+        )?),
+        Frame::CallResult { .. } | Frame::CallError { .. } | Frame::Ignored => {
+            Ok(nothing(alloc, op))
+        }
+    }
+}
+
+/// The plan for a call, by what its action stands for.
+fn plan_call<S: Store, V: VendorHandler>(
+    alloc: Global,
+    book: &mut Book<S, V>,
+    op: &Text,
+    station: &Text,
+    moment: Moment,
+    id: &Text,
+    class: ActionClass,
+    payload: &Payload,
+) -> Result<Planned, Fault>
+    ensures was_clean { S.clean book.new.store → S.clean book.old.store }
+    ensures planned { S.clean book.new.store → IfOk result (λ p. IsPlanned p op.now
+        (call_plan (answer_of V.name V.gives book.old.vendors.items) moment station.now id.now class payload.now (lookups_at op.now (S.rows book.old.store)))) }
+    ensures rows { S.clean book.new.store → S.rows book.new.store ≡ S.rows book.old.store }
+    ensures failed { IfErr result (λ f. f ≡ Fault.Store
+        → Rose (S.failures book.old.store) (S.failures book.new.store)) }
+    ensures hosted { IfErr result (λ f. f ≢ Fault.NoSuchOperator) }
+    ensures count { S.failures book.old.store ≤ S.failures book.new.store }
+    ensures answers { answer_of V.name V.gives book.new.vendors.items ≡ answer_of V.name V.gives book.old.vendors.items }
+{
+    match class {
+        ActionClass::Known(action) => {
+            plan_known(alloc, book, op, station, moment, id, action, payload)
+        }
+        ActionClass::NotSupported => Ok(refuse_call(
+            alloc,
+            op,
+            station,
+            id,
+            ErrorCode::NotSupported,
+            "",
+        )?),
+        ActionClass::NotImplemented => Ok(refuse_call(
+            alloc,
+            op,
+            station,
+            id,
+            ErrorCode::NotImplemented,
+            "",
+        )?),
+    }
+}
+
+/// The plan for a call of a supported action: first the station's state, then the payload.
+fn plan_known<S: Store, V: VendorHandler>(
+    alloc: Global,
+    book: &mut Book<S, V>,
+    op: &Text,
+    station: &Text,
+    moment: Moment,
+    id: &Text,
+    action: Action,
+    payload: &Payload,
+) -> Result<Planned, Fault>
+    ensures was_clean { S.clean book.new.store → S.clean book.old.store }
+    ensures planned { S.clean book.new.store → IfOk result (λ p. IsPlanned p op.now
+        (state_plan (answer_of V.name V.gives book.old.vendors.items) moment station.now id.now action payload.now
+        ((lookups_at op.now (S.rows book.old.store)).registration station.now) (lookups_at op.now (S.rows book.old.store)))) }
+    ensures rows { S.clean book.new.store → S.rows book.new.store ≡ S.rows book.old.store }
+    ensures failed { IfErr result (λ f. f ≡ Fault.Store
+        → Rose (S.failures book.old.store) (S.failures book.new.store)) }
+    ensures hosted { IfErr result (λ f. f ≢ Fault.NoSuchOperator) }
+    ensures count { S.failures book.old.store ≤ S.failures book.new.store }
+    ensures answers { answer_of V.name V.gives book.new.vendors.items ≡ answer_of V.name V.gives book.old.vendors.items }
+{
+    let Some(registration) = book.store.station(op.as_str(), station.as_str())? else {
+        return Ok(refuse_call(alloc, op, station, id, ErrorCode::InternalError, "")?);
+    };
+    if !is_allowed(registration.state, action) {
+        return Ok(refuse_call(alloc, op, station, id, ErrorCode::SecurityError, "")?);
+    }
+    match read_request(alloc, action, payload.as_value())? {
+        Ok(request) => {
+            let decision = decide(alloc, book, op, station, moment, request)?;
+            Ok(answer_call(alloc, op, station, id, decision)?)
+        }
+        Err(fault) => Ok(refuse_call(alloc, op, station, id, fault.code, fault.field.as_str())?),
+    }
+}
+
+/// The decision of the rule of each request.
+fn decide<S: Store, V: VendorHandler>(
+    alloc: Global,
+    book: &mut Book<S, V>,
+    op: &Text,
+    station: &Text,
+    moment: Moment,
+    request: Request,
+) -> Result<Decision, StoreFault>
+    ensures was_clean { S.clean book.new.store → S.clean book.old.store }
+    ensures decision { S.clean book.new.store → IfOk result (λ d. d
+        ≡ decision (answer_of V.name V.gives book.old.vendors.items) moment station.now request (lookups_at op.now (S.rows book.old.store))) }
+    ensures rows { S.clean book.new.store → S.rows book.new.store ≡ S.rows book.old.store }
+    ensures failed { IfErr result (λ f. f ≡ StoreFault.Failed
+        → Rose (S.failures book.old.store) (S.failures book.new.store)) }
+    ensures count { S.failures book.old.store ≤ S.failures book.new.store }
+    ensures answers { answer_of V.name V.gives book.new.vendors.items ≡ answer_of V.name V.gives book.old.vendors.items }
+{
+    let op = op.as_str();
+    let station = station.as_str();
+    match request {
+        Request::Authorize(request) => book.on_authorize(alloc, op, station, request, moment),
+        Request::BootNotification(request) => {
+            book.on_boot_notification(alloc, op, station, request, moment)
+        }
+        Request::DataTransfer(request) => {
+            book.on_data_transfer(alloc, op, station, request, moment)
+        }
+        Request::Heartbeat => book.on_heartbeat(alloc, op, station, moment),
+        Request::MeterValues(request) => {
+            book.on_meter_values(alloc, op, station, request, moment)
+        }
+        Request::StartTransaction(request) => {
+            book.on_start_transaction(alloc, op, station, request, moment)
+        }
+        Request::StatusNotification(request) => {
+            book.on_status_notification(alloc, op, station, request, moment)
+        }
+        Request::StopTransaction(request) => {
+            book.on_stop_transaction(alloc, op, station, request, moment)
+        }
+    }
+}

@@ -1,0 +1,196 @@
+//! The hub: one event is one step.
+ghost use Rattle.std.specs.Prelude.{◌≡◌, ◌↔◌, ◌<◌, ◌≤◌, ◌++◌, ℕ, List, [], ◌∷◌, length, take, slice_index_or, true, false, IsOk, IfOk, IfErr, IfNone, IfSome, OnOk, OnErr};
+ghost use Rattle.hub_rows.specs.Failures.{Rose};
+ghost use Rattle.hub.specs.Operators.{are_operators};
+
+use crate::book::Book;
+use crate::commit::{append_ready, commit};
+use crate::event::Event;
+use crate::fault::Fault;
+use crate::operators::{are_operators, is_hosted};
+use crate::out::Out;
+use crate::plan_event::plan_event;
+use crate::planned::Planned;
+use crate::slots::Slots;
+use crate::vendor::VendorHandler;
+use hub_rows::store::Store;
+use ocpp_types::text::Text;
+use std::alloc::Global;
+use thiserror::Error;
+
+/// Records and connections of all hosted operators.
+///
+/// A contract sees it through two words: `world` (the rows of its store and the connected
+/// stations) and `setting` (the hosted operators and the answers to vendors' messages).
+#[derive(Drop)]
+pub struct Hub<S, V> {
+    alloc: Global,
+    book: Book<S, V>,
+    hosted: Vec<Text>,
+    slots: Slots,
+}
+
+/// These operators can't be hosted: there is none, one comes twice, or a name isn't of 1 to 32
+/// ASCII letters, digits, `-` and `_`.
+#[derive(Clone, Copy, Debug, PartialEq, Eq, Drop, Error)]
+#[error("BadOperators")]
+pub struct BadOperators;
+
+impl<S: Store + Drop, V: VendorHandler> Hub<S, V> {
+    ghost use Rattle.hub_rows.specs.Rows.{Rows};
+    ghost use Rattle.hub.specs.Hub.{world, setting, setting_of, is_taken};
+    ghost use Rattle.hub.specs.Said.{outputs_of};
+    ghost use Rattle.hub.specs.World.{world_outputs, world_step, run_outputs, world_run};
+    ghost use Rattle.hub.specs.View.{view, seen, operator_run_outputs, operator_run};
+    ghost use Rattle.hub.specs.declared.event.Event.{Event};
+
+    /// A hub over a store, with no station connected. It takes no memory. Where the operators
+    /// can't be hosted the store and the handlers are dropped.
+    #[tactic(auto, unfolding(crate::specs::Hub::setting, crate::specs::Hub::setting_of))]
+    pub fn new(
+        alloc: Global,
+        store: S,
+        operators: Vec<Text>,
+        vendors: Vec<V>,
+    ) -> Result<Hub<S, V>, BadOperators>
+        ensures succeeds { IsOk result ↔ (are_operators operators.items ≡ true) }
+        ensures world { IfOk result (λ h. world S.rows h ≡ record { rows = S.rows store; slots = [] }) }
+        ensures setting { IfOk result (λ h. setting V.name V.gives h ≡ setting_of V.name V.gives operators.items vendors.items) }
+        ensures clean { IfOk result (λ h. h.book.store ≡ store) }
+    {
+        if !are_operators(&operators) {
+            return Err(BadOperators);
+        }
+        Ok(Hub {
+            alloc,
+            book: Book::new(store, vendors),
+            hosted: operators,
+            slots: Slots::new(alloc),
+        })
+    }
+
+    /// The hosted operators.
+    #[tactic(auto, unfolding(crate::specs::Hub::setting, crate::specs::Hub::setting_of))]
+    pub fn hosted(&self) -> &[Text]
+        ensures { result.now ≡ (setting V.name V.gives self.now).hosted }
+    {
+        &self.hosted
+    }
+
+    /// Takes one event and gives its outputs. An event that ends in a fault has changed nothing,
+    /// and may be handed again.
+    ///
+    /// The clauses `outputs` and `world` say that the step is that of the written table over the
+    /// records and connections of all operators. The clauses `isolated_outputs` and
+    /// `isolated_view` are the isolation theorem for one event: to each operator, the outputs and
+    /// what it has afterwards are what its own machine gives for what it was shown.
+    pub fn handle(&mut self, event: &Event) -> Result<Vec<Out>, Fault>
+        ensures was_clean { S.clean self.new.book.store → S.clean self.old.book.store }
+        ensures outputs { S.clean self.new.book.store → IfOk result (λ outs. outs.items
+            ≡ world_outputs (setting V.name V.gives self.old) (world S.rows self.old) event.now) }
+        ensures world { S.clean self.new.book.store → OnOk result (world S.rows self.new
+            ≡ world_step (setting V.name V.gives self.old) (world S.rows self.old) event.now) }
+        ensures isolated_outputs { S.clean self.new.book.store → IfOk result (λ outs. (a : List ℕ)
+            → outputs_of a outs.items ≡ operator_run_outputs (setting V.name V.gives self.old) a
+            (view a (world S.rows self.old)) (seen (setting V.name V.gives self.old) a (world S.rows self.old) (event.now ∷ []))) }
+        ensures isolated_view { S.clean self.new.book.store → OnOk result ((a : List ℕ)
+            → view a (world S.rows self.new) ≡ operator_run (setting V.name V.gives self.old) a
+            (view a (world S.rows self.old)) (seen (setting V.name V.gives self.old) a (world S.rows self.old) (event.now ∷ []))) }
+        ensures fault { S.clean self.new.book.store
+            → OnErr result (world S.rows self.new ≡ world S.rows self.old) }
+        ensures setting { setting V.name V.gives self.new ≡ setting V.name V.gives self.old }
+        ensures taken { OnOk result (is_taken (setting V.name V.gives self.old) event.now ≡ true) }
+        ensures not_hosted { IfErr result (λ f. f ≡ Fault.NoSuchOperator
+            → is_taken (setting V.name V.gives self.old) event.now ≡ false) }
+        ensures store_failed { IfErr result (λ f. f ≡ Fault.Store
+            → Rose (S.failures self.old.book.store) (S.failures self.new.book.store)) }
+        ensures count { S.failures self.old.book.store ≤ S.failures self.new.book.store }
+    {
+        let mut outs = Vec::new(self.alloc);
+        self.take(event, &mut outs)?;
+        Ok(outs)
+    }
+
+    /// Takes events until the first fault: the outputs of those taken, how many were taken, and
+    /// the fault, if there was one. Nothing of the event that met it has happened.
+    ///
+    /// The clauses `isolated_outputs` and `isolated_view` are the isolation theorem: to each
+    /// operator, the outputs and what it has afterwards are what its own machine gives for what
+    /// it was shown of the events taken.
+    pub fn run(&mut self, events: &[Event]) -> (Vec<Out>, usize, Option<Fault>)
+        ensures was_clean { S.clean self.new.book.store → S.clean self.old.book.store }
+        ensures outputs { S.clean self.new.book.store → result.0.items
+            ≡ run_outputs (setting V.name V.gives self.old) (world S.rows self.old) (take result.1 events.now) }
+        ensures world { S.clean self.new.book.store → world S.rows self.new
+            ≡ world_run (setting V.name V.gives self.old) (world S.rows self.old) (take result.1 events.now) }
+        ensures isolated_outputs { S.clean self.new.book.store → (a : List ℕ)
+            → outputs_of a result.0.items ≡ operator_run_outputs (setting V.name V.gives self.old) a
+            (view a (world S.rows self.old)) (seen (setting V.name V.gives self.old) a (world S.rows self.old) (take result.1 events.now)) }
+        ensures isolated_view { S.clean self.new.book.store → (a : List ℕ)
+            → view a (world S.rows self.new) ≡ operator_run (setting V.name V.gives self.old) a
+            (view a (world S.rows self.old)) (seen (setting V.name V.gives self.old) a (world S.rows self.old) (take result.1 events.now)) }
+        ensures setting { setting V.name V.gives self.new ≡ setting V.name V.gives self.old }
+        ensures all { IfNone result.2 (result.1 ≡ length events.now) }
+        ensures fault { IfSome result.2 (λ _. result.1 < length events.now) }
+        ensures not_hosted { IfSome result.2 (λ f. f ≡ Fault.NoSuchOperator
+            → (e : Event) → is_taken (setting V.name V.gives self.old) (slice_index_or events.now result.1 e) ≡ false) }
+        ensures store_failed { IfSome result.2 (λ f. f ≡ Fault.Store
+            → Rose (S.failures self.old.book.store) (S.failures self.new.book.store)) }
+        ensures count { S.failures self.old.book.store ≤ S.failures self.new.book.store }
+    {
+        let mut outs = Vec::new(self.alloc);
+        let mut taken = 0;
+        for event in events {
+            match self.take(event, &mut outs) {
+                Ok(()) => {
+                    taken += 1;
+                }
+                Err(fault) => return (outs, taken, Some(fault)),
+            }
+        }
+        (outs, taken, None)
+    }
+
+    /// Takes one event, and adds its outputs to those told. Room for all that grows is made before
+    /// the one change of the store.
+    #[tactic(auto, unfolding(crate::specs::Hub::setting, crate::specs::Hub::setting_of))]
+    fn take(&mut self, event: &Event, told: &mut Vec<Out>) -> Result<(), Fault>
+        ensures was_clean { S.clean self.new.book.store → S.clean self.old.book.store }
+        ensures told { S.clean self.new.book.store → OnOk result (told.new.items ≡ told.old.items
+            ++ world_outputs (setting V.name V.gives self.old) (world S.rows self.old) event.now) }
+        ensures world { S.clean self.new.book.store → OnOk result (world S.rows self.new
+            ≡ world_step (setting V.name V.gives self.old) (world S.rows self.old) event.now) }
+        ensures err_told { OnErr result (told.new.items ≡ told.old.items) }
+        ensures err_world { S.clean self.new.book.store
+            → OnErr result (world S.rows self.new ≡ world S.rows self.old) }
+        ensures setting { setting V.name V.gives self.new ≡ setting V.name V.gives self.old }
+        ensures taken { OnOk result (is_taken (setting V.name V.gives self.old) event.now ≡ true) }
+        ensures not_taken { IfErr result (λ f. f ≡ Fault.NoSuchOperator
+            → is_taken (setting V.name V.gives self.old) event.now ≡ false) }
+        ensures failed { IfErr result (λ f. f ≡ Fault.Store
+            → Rose (S.failures self.old.book.store) (S.failures self.new.book.store)) }
+        ensures count { S.failures self.old.book.store ≤ S.failures self.new.book.store }
+    {
+        let op = &event.op;
+        if !is_hosted(&self.hosted, op.as_str()) {
+            return Err(Fault::NoSuchOperator);
+        }
+        let planned = plan_event(
+            self.alloc,
+            &mut self.book,
+            &self.slots,
+            op,
+            event.moment,
+            &event.what,
+        )?;
+        told.reserve(planned.outs.len())?;
+        let Planned {
+            mut outs,
+            edit,
+            step,
+        } = planned;
+        commit(&mut self.book.store, &mut self.slots, op, edit, step)?;
+        append_ready(told, &mut outs);
+        Ok(())
+    }
+}

@@ -1,0 +1,25 @@
+//! The hub: events of stations and operators to outputs, over a store.
+#![tactic(auto)]
+
+pub mod admin;
+pub mod book;
+pub mod commit;
+pub mod echo;
+pub mod event;
+pub mod fault;
+pub mod frames;
+pub mod hub;
+pub mod list;
+pub mod operators;
+pub mod out;
+pub mod plan;
+pub mod plan_event;
+pub mod planned;
+pub mod row;
+pub mod slot;
+pub mod slots;
+#[cfg(test)]
+mod tests;
+pub mod vendor;
+#[cfg(test)]
+mod vendor_tests;

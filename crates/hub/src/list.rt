@@ -1,0 +1,103 @@
+//! Listings of an operator's records (docs/RULES.md, Commands).
+ghost use Rattle.std.specs.Prelude.{◌≡◌, ◌≤◌, ◌++◌, map, Ok, Err, IfOk, IfErr, OnOk};
+ghost use Rattle.hub_rows.specs.Failures.{Rose};
+ghost use Rattle.hub_rows.specs.Lookups.{lookups_at};
+ghost use Rattle.hub.specs.Listing.{rows_rule};
+ghost use Rattle.hub.specs.Planned.{IsPlanned};
+ghost use Rattle.hub.specs.Said.{said_to, Shown};
+ghost use Rattle.hub.specs.Table.{list_plan};
+
+use crate::event::Listing;
+use crate::out::Out;
+use crate::plan::edit;
+use crate::planned::Planned;
+use crate::row::Shown;
+use hub_rows::store::{Store, StoreFault};
+use ocpp_types::listed::Listed;
+use ocpp_types::memory::Mem;
+use ocpp_types::refusal::Refusal;
+use ocpp_types::text::Text;
+use std::alloc::Global;
+
+/// The plan for a listing: its rows, in the order of their keys, and then that it is taken.
+pub fn plan_list<S: Store>(
+    alloc: Global,
+    store: &mut S,
+    op: &Text,
+    listing: &Listing,
+) -> Result<Planned, StoreFault>
+    ensures was_clean { S.clean store.new → S.clean store.old }
+    ensures planned { S.clean store.new → IfOk result (λ p. IsPlanned p op.now
+        (list_plan (rows_rule listing.now (lookups_at op.now (S.rows store.old))))) }
+    ensures rows { S.clean store.new → S.rows store.new ≡ S.rows store.old }
+    ensures failed { IfErr result (λ fault. fault ≡ StoreFault.Failed
+        → Rose (S.failures store.old) (S.failures store.new)) }
+    ensures count { S.failures store.old ≤ S.failures store.new }
+{
+    match listing {
+        Listing::Stations => {
+            let rows = store.stations(op.as_str())?;
+            Ok(list(alloc, op, rows)?)
+        }
+        Listing::Tags => {
+            let rows = store.tags(op.as_str())?;
+            Ok(list(alloc, op, rows)?)
+        }
+        Listing::Connectors { station } => {
+            if store.station(op.as_str(), station.as_str())?.is_none() {
+                return Ok(no_station(alloc, op)?);
+            }
+            let rows = store.connectors(op.as_str(), station.as_str())?;
+            Ok(list(alloc, op, rows)?)
+        }
+        Listing::Transactions { station } => {
+            if store.station(op.as_str(), station.as_str())?.is_none() {
+                return Ok(no_station(alloc, op)?);
+            }
+            let rows = store.txs(op.as_str(), station.as_str())?;
+            Ok(list(alloc, op, rows)?)
+        }
+        Listing::Readings {
+            station,
+            transaction,
+        } => {
+            if store.station(op.as_str(), station.as_str())?.is_none() {
+                return Ok(no_station(alloc, op)?);
+            }
+            let rows = store.readings(op.as_str(), station.as_str(), *transaction)?;
+            Ok(list(alloc, op, rows)?)
+        }
+    }
+}
+
+fn no_station(alloc: Global, op: &Text) -> Mem<Planned>
+    ensures { IfOk result (λ p. IsPlanned p op.now (list_plan (Err Refusal.NoSuchStation))) }
+{
+    edit(alloc, op, Err(Refusal::NoSuchStation))
+}
+
+/// The plan that shows rows.
+fn list<R: Shown>(alloc: Global, op: &Text, rows: Listed<R>) -> Mem<Planned>
+    ensures { IfOk result (λ p. IsPlanned p op.now (list_plan (Ok (map R.as_row rows)))) }
+{
+    let mut outs = Vec::new(alloc);
+    show(&mut outs, op, rows)?;
+    outs.push(Out::Accepted { op: op.clone()? })?;
+    Ok(Planned {
+        outs,
+        edit: None,
+        step: None,
+    })
+}
+
+fn show<R: Shown>(outs: &mut Vec<Out>, op: &Text, rows: Listed<R>) -> Mem<()>
+    ensures { OnOk result (outs.new.items ≡ outs.old.items ++ map (said_to op.now) (map Shown (map R.as_row rows))) }
+{
+    for row in rows.into_vec() {
+        outs.push(Out::Row {
+            op: op.clone()?,
+            row: row.into_row(),
+        })?;
+    }
+    Ok(())
+}

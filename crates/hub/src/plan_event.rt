@@ -1,0 +1,67 @@
+//! The plan for an event: the store is asked, nothing is changed.
+ghost use Rattle.std.specs.Prelude.{◌≡◌, ◌≢◌, ◌≤◌, ℕ, List, IfOk, IfErr};
+ghost use Rattle.hub_rows.specs.Failures.{Rose};
+ghost use Rattle.hub.specs.Planned.{IsPlanned};
+ghost use Rattle.hub.specs.Hub.{setting_of};
+ghost use Rattle.hub.specs.Table.{plan};
+ghost use Rattle.hub.specs.Vendors.{answer_of};
+ghost use Rattle.hub.specs.World.{facts_at};
+
+use crate::admin::decide_admin;
+use crate::book::Book;
+use crate::event::What;
+use crate::fault::Fault;
+use crate::frames::plan_text;
+use crate::list::plan_list;
+use crate::plan::{connect, disconnect, edit, turned};
+use crate::planned::Planned;
+use crate::slots::Slots;
+use crate::vendor::VendorHandler;
+use hub_rows::store::Store;
+use ocpp_types::moment::Moment;
+use ocpp_types::text::Text;
+use std::alloc::Global;
+
+/// The plan for an event of an operator, whatever else the hub's setting is.
+#[tactic(auto, unfolding(crate::specs::Hub::setting_of))]
+pub fn plan_event<S: Store, V: VendorHandler>(
+    alloc: Global,
+    book: &mut Book<S, V>,
+    slots: &Slots,
+    op: &Text,
+    moment: Moment,
+    what: &What,
+) -> Result<Planned, Fault>
+    ensures was_clean { S.clean book.new.store → S.clean book.old.store }
+    ensures planned { (hosted : List (List ℕ)) → S.clean book.new.store → IfOk result (λ p. IsPlanned p op.now
+        (plan (setting_of V.name V.gives hosted book.old.vendors.items) moment what.now
+        (facts_at op.now (record { rows = S.rows book.old.store; slots = slots.now.list.items })))) }
+    ensures rows { S.clean book.new.store → S.rows book.new.store ≡ S.rows book.old.store }
+    ensures failed { IfErr result (λ f. f ≡ Fault.Store
+        → Rose (S.failures book.old.store) (S.failures book.new.store)) }
+    ensures hosted { IfErr result (λ f. f ≢ Fault.NoSuchOperator) }
+    ensures count { S.failures book.old.store ≤ S.failures book.new.store }
+    ensures answers { answer_of V.name V.gives book.new.vendors.items ≡ answer_of V.name V.gives book.old.vendors.items }
+{
+    match what {
+        What::Connect { station } => {
+            let registration = book.store.station(op.as_str(), station.as_str())?;
+            Ok(connect(alloc, op, station, registration)?)
+        }
+        What::Disconnect { station } => {
+            let is_connected = slots.is_connected(op.as_str(), station.as_str());
+            Ok(disconnect(alloc, op, station, is_connected)?)
+        }
+        What::Frame { station, text } => {
+            if !slots.is_connected(op.as_str(), station.as_str()) {
+                return Ok(turned(alloc, op, station)?);
+            }
+            plan_text(alloc, book, op, station, moment, text)
+        }
+        What::Admin(admin) => {
+            let plan = decide_admin(alloc, &mut book.store, op.as_str(), admin)?;
+            Ok(edit(alloc, op, plan)?)
+        }
+        What::List(listing) => Ok(plan_list(alloc, &mut book.store, op, listing)?),
+    }
+}

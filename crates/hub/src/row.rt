@@ -1,0 +1,69 @@
+//! Rows of listings.
+ghost use Rattle.std.specs.Prelude.{◌≡◌};
+ghost use Rattle.hub.specs.declared.row.Row.{Row};
+ghost use Rattle.hub.specs.declared.row.Row.TheVariants as shown;
+
+use hub_rows::connector_row::ConnectorRow;
+use hub_rows::reading_row::ReadingRow;
+use hub_rows::station_row::StationRow;
+use hub_rows::tag_row::TagRow;
+use hub_rows::tx_row::TxRow;
+
+/// A row of a listing.
+#[derive(Debug, Drop)]
+pub enum Row {
+    Station(StationRow),
+    Tag(TagRow),
+    Connector(ConnectorRow),
+    Transaction(TxRow),
+    Reading(ReadingRow),
+}
+
+/// A record that listings show.
+pub trait Shown: Drop {
+    /// It as a row.
+    ghost as_row: { Self → Row };
+
+    fn into_row(self) -> Row
+        ensures { result ≡ as_row self };
+}
+
+impl Shown for StationRow {
+    ghost as_row = { shown.Station };
+
+    fn into_row(self) -> Row {
+        Row::Station(self)
+    }
+}
+
+impl Shown for TagRow {
+    ghost as_row = { shown.Tag };
+
+    fn into_row(self) -> Row {
+        Row::Tag(self)
+    }
+}
+
+impl Shown for ConnectorRow {
+    ghost as_row = { shown.Connector };
+
+    fn into_row(self) -> Row {
+        Row::Connector(self)
+    }
+}
+
+impl Shown for TxRow {
+    ghost as_row = { shown.Transaction };
+
+    fn into_row(self) -> Row {
+        Row::Transaction(self)
+    }
+}
+
+impl Shown for ReadingRow {
+    ghost as_row = { shown.Reading };
+
+    fn into_row(self) -> Row {
+        Row::Reading(self)
+    }
+}

@@ -1,0 +1,39 @@
+//! One connected station.
+
+use hub_rows::named_row::NamedRow;
+use hub_rows::ordered::Keyed;
+use ocpp_types::text::Text;
+use std::cmp::Ordering;
+
+/// A station that is connected.
+#[derive(Debug, Drop)]
+pub struct Slot {
+    pub op: Text,
+    pub station: Text,
+}
+
+impl Keyed for Slot {
+    ghost use Rattle.hub.specs.Slots.{slot_key};
+
+    ghost key = { slot_key };
+
+    fn compare(&self, other: &Slot) -> Ordering {
+        self.op
+            .cmp(&other.op)
+            .then(self.station.cmp(&other.station))
+    }
+}
+
+impl NamedRow for Slot {
+    ghost op = { λ s. s.op };
+
+    ghost name = { λ s. s.station };
+
+    fn op(&self) -> &str {
+        self.op.as_str()
+    }
+
+    fn name(&self) -> &str {
+        self.station.as_str()
+    }
+}

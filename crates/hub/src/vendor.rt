@@ -1,0 +1,87 @@
+//! Messages of vendors (OCPP 1.6, section 4.3; docs/RULES.md, Vendor messages).
+ghost use Rattle.std.specs.Prelude.{◌≡◌, ℕ, List, Option, IfOk};
+ghost use Rattle.std.specs.Str.{bytes_eq};
+ghost use Rattle.hub.specs.Vendors.{text, answer_of};
+
+use ocpp_types::data_transfer_status::DataTransferStatus;
+use ocpp_types::memory::Mem;
+use ocpp_types::text::Text;
+
+/// What a vendor's message is answered (OCPP 1.6, DataTransfer.conf).
+#[derive(Debug, PartialEq, Eq, Drop)]
+pub struct VendorAnswer {
+    pub status: DataTransferStatus,
+    /// The member `data`.
+    pub content: Option<Text>,
+}
+
+/// Answers the messages of one vendor. An answer is a function of the message alone: nothing is
+/// kept from one to the next, so no operator can learn of another through it.
+pub trait VendorHandler: Drop {
+    ghost use Rattle.hub.specs.declared.vendor.VendorAnswer.{VendorAnswer};
+
+    /// The vendor.
+    ghost name: { Self → List ℕ };
+
+    /// The answer to a message of that name and content.
+    ghost gives: { Self → Option (List ℕ) → Option (List ℕ) → VendorAnswer };
+
+    /// The vendor whose messages it answers, a `vendorId`.
+    fn vendor(&self) -> &str
+        ensures { result.now ≡ name self.now };
+
+    /// Answers a message by its `messageId` and its `data`, which may be missing.
+    fn answer(&self, message: Option<&str>, content: Option<&str>) -> Mem<VendorAnswer>
+        ensures { IfOk result (λ a. a ≡ gives self.now (text message.entry) (text content.entry)) };
+}
+
+impl VendorHandler for Box<dyn VendorHandler> {
+    ghost name = { λ b. (VendorHandler-box b).name b.value };
+
+    ghost gives = { λ b. (VendorHandler-box b).gives b.value };
+
+    fn vendor(&self) -> &str {
+        (**self).vendor()
+    }
+
+    fn answer(&self, message: Option<&str>, content: Option<&str>) -> Mem<VendorAnswer> {
+        (**self).answer(message, content)
+    }
+}
+
+fn is_of<V: VendorHandler>(handler: &V, vendor: &str) -> bool
+    ensures { result ≡ bytes_eq (V.name handler.now) vendor.now }
+{
+    handler.vendor() == vendor
+}
+
+/// The answer of the first handler of the vendor, or UnknownVendorId with no content.
+#[tactic(auto, using(crate::proofs::Steps::drop_here))]
+pub fn ask<V: VendorHandler>(
+    vendors: &[V],
+    vendor: &str,
+    message: Option<&str>,
+    content: Option<&str>,
+) -> Mem<VendorAnswer>
+    ensures { IfOk result (λ a. a ≡ answer_of V.name V.gives vendors.now vendor.now (text message.entry) (text content.entry)) }
+{
+    for handler in vendors {
+        if is_of(handler, vendor) {
+            return handler.answer(message, content);
+        }
+    }
+    Ok(VendorAnswer {
+        status: DataTransferStatus::UnknownVendorId,
+        content: None,
+    })
+}
+
+/// A text that may be missing, lent.
+pub fn lent(given: &Option<Text>) -> Option<&str>
+    ensures { text result ≡ given.now }
+{
+    match given {
+        None => None,
+        Some(text) => Some(text.as_str()),
+    }
+}

@@ -1,0 +1,5 @@
+pub mod Steps
+pub mod ListLaws
+pub mod PlaceLaws
+pub mod OwnLaws
+pub mod NameLaws

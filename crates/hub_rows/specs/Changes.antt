@@ -1,0 +1,91 @@
+-- What a change does to the rows of all operators.
+use Rattle.std.specs.Prelude.{◌≡◌, ℕ, List, length, Option, Some, None, IsSome, true}
+use Rattle.std.specs.Str.{bytes_eq}
+use Rattle.ocpp_types.specs.declared.policy.Policy.{Policy}
+use Rattle.ocpp_types.specs.declared.state.State.{State}
+use Rattle.ocpp_types.specs.declared.state.State.TheVariants.{Fresh}
+use Rattle.hub_rows.specs.declared.station_row.Boot.{Boot}
+use Rattle.hub_rows.specs.declared.station_row.StationRow.{StationRow}
+use Rattle.hub_rows.specs.declared.connector_row.ConnectorReport.{ConnectorReport}
+use Rattle.hub_rows.specs.declared.connector_row.ConnectorRow.{ConnectorRow}
+use Rattle.hub_rows.specs.declared.tag_row.Tag.{Tag}
+use Rattle.hub_rows.specs.declared.tag_row.TagRow.{TagRow}
+use Rattle.hub_rows.specs.declared.tx_row.TxRow.{TxRow}
+use Rattle.hub_rows.specs.declared.tx_row.TxState.{TxState}
+use Rattle.hub_rows.specs.declared.tx_row.Start.{Start}
+use Rattle.hub_rows.specs.declared.tx_row.Stop.{Stop}
+use Rattle.hub_rows.specs.declared.reading_row.Reading.{Reading}
+use Rattle.hub_rows.specs.declared.reading_row.ReadingRow.{ReadingRow}
+use Rattle.hub_rows.specs.declared.change.Change.{Change}
+use Rattle.hub_rows.specs.declared.change.Edit.{Edit}
+use Rattle.hub_rows.specs.declared.change.Edit.TheVariants.{StationAdded, BootSeen, PolicySet, ConnectorSeen, TagPut, TagDropped, TxStarted, TxStopped, ReadingsAdded}
+use Rattle.hub_rows.specs.Keyed.{put, put_all, by_key, changed, without}
+use Rattle.hub_rows.specs.Rows.{Rows, station_key, connector_key, tag_key, tx_key, reading_key, registration_at}
+use Rattle.hub_rows.specs.Transactions.{is_tx, tx_in, reading_rows, last_numbers_in, AreNext}
+
+-- a station that is new
+abbrev pub new_station : List ℕ → List ℕ → Policy → ℕ → StationRow
+new_station b station policy interval = record { op = b; station = station; policy = policy; interval = interval; state = Fresh; boot = None }
+
+-- a station that has booted
+abbrev pub booted : Boot → State → StationRow → StationRow
+booted boot state r = record r { state = state; boot = Some boot }
+
+-- a station whose next boot is answered otherwise
+abbrev pub with_policy : Policy → ℕ → StationRow → StationRow
+with_policy policy interval r = record r { policy = policy; interval = interval }
+
+-- a connector, as it was reported
+abbrev pub reported : List ℕ → List ℕ → ℕ → ConnectorReport → ConnectorRow
+reported b station connector report = record { op = b; station = station; connector = connector; report = report }
+
+-- a tag of an operator
+abbrev pub tag_row : List ℕ → List ℕ → Tag → TagRow
+tag_row b key tag = record { op = b; key = key; tag = tag }
+
+-- a transaction that has begun
+abbrev pub tx_row : List ℕ → List ℕ → ℕ → Start → TxRow
+tx_row b station number start = record { op = b; station = station; number = number; start = start; stop = None }
+
+-- a transaction that has ended
+abbrev pub stopped : Stop → TxRow → TxRow
+stopped stop r = record r { stop = Some stop }
+
+-- readings of a station behind those of its rows
+abbrev pub with_readings : List ℕ → List ℕ → ℕ → List Reading → List ReadingRow → List ReadingRow
+with_readings b station first readings rows = put_all (by_key reading_key) (reading_rows b station first readings) rows
+
+-- an edit of the rows of operator b
+abbrev pub edit : List ℕ → Edit → Rows → Rows
+edit b (StationAdded station policy interval) rows = record rows { stations = put (by_key station_key) (new_station b station policy interval) rows.stations }
+edit b (BootSeen station boot state) rows = record rows { stations = changed (λ r. r.op) b (λ r. bytes_eq r.station station) (booted boot state) rows.stations }
+edit b (PolicySet station policy interval) rows = record rows { stations = changed (λ r. r.op) b (λ r. bytes_eq r.station station) (with_policy policy interval) rows.stations }
+edit b (ConnectorSeen station connector report) rows = record rows { connectors = put (by_key connector_key) (reported b station connector report) rows.connectors }
+edit b (TagPut key tag) rows = record rows { tags = put (by_key tag_key) (tag_row b key tag) rows.tags }
+edit b (TagDropped key) rows = record rows { tags = without (λ r. r.op) b (λ r. bytes_eq r.key key) rows.tags }
+edit b (TxStarted station number start) rows = record rows { transactions = put (by_key tx_key) (tx_row b station number start) rows.transactions }
+edit b (TxStopped station number stop first readings) rows = record rows { transactions = changed (λ r. r.op) b (is_tx station number) (stopped stop) rows.transactions; readings = with_readings b station first readings rows.readings }
+edit b (ReadingsAdded station first readings) rows = record rows { readings = with_readings b station first readings rows.readings }
+
+abbrev pub edited : Change → Rows → Rows
+edited change = edit change.op change.edit
+
+abbrev pub IsOpen : Option TxState → Type 0
+IsOpen None = ⊥
+IsOpen (Some t) = t.is_open ≡ true
+
+-- an edit that the rows allow: a new station isn't there, one that is edited or has the row is,
+-- a transaction that is stopped is open, and new numbers follow the last
+abbrev pub EditFits : List ℕ → Edit → Rows → Type 0
+EditFits b (StationAdded station policy interval) rows = registration_at b station rows ≡ None
+EditFits b (BootSeen station boot state) rows = IsSome (registration_at b station rows)
+EditFits b (PolicySet station policy interval) rows = IsSome (registration_at b station rows)
+EditFits b (ConnectorSeen station connector report) rows = IsSome (registration_at b station rows)
+EditFits b (TagPut key tag) rows = Unit {0}
+EditFits b (TagDropped key) rows = Unit {0}
+EditFits b (TxStarted station number start) rows = IsSome (registration_at b station rows) × AreNext (last_numbers_in b station rows.transactions rows.readings).transaction number 1
+EditFits b (TxStopped station number stop first readings) rows = IsOpen (tx_in b station number rows.transactions) × AreNext (last_numbers_in b station rows.transactions rows.readings).reading first (length readings)
+EditFits b (ReadingsAdded station first readings) rows = IsSome (registration_at b station rows) × AreNext (last_numbers_in b station rows.transactions rows.readings).reading first (length readings)
+
+abbrev pub Fits : Change → Rows → Type 0
+Fits change = EditFits change.op change.edit

@@ -1,0 +1,9 @@
+pub mod Keyed
+pub mod Places
+pub mod Failures
+pub mod Rows
+pub mod Tags
+pub mod Transactions
+pub mod Changes
+pub mod Own
+pub mod Lookups

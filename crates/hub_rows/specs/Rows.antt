@@ -1,0 +1,77 @@
+-- The rows of all operators, and how they are looked up.
+use Rattle.std.specs.Prelude.{ℕ, List, [], ◌∷◌, Option}
+use Rattle.std.specs.List.Sorted.{IsStrictlySortedBy}
+use Rattle.std.specs.Option.{option_map}
+use Rattle.std.specs.Str.{bytes_eq}
+use Rattle.hub_rows.specs.declared.station_row.StationRow.{StationRow}
+use Rattle.hub_rows.specs.declared.station_row.Registration.{Registration}
+use Rattle.hub_rows.specs.declared.connector_row.ConnectorRow.{ConnectorRow}
+use Rattle.hub_rows.specs.declared.tag_row.TagRow.{TagRow}
+use Rattle.hub_rows.specs.declared.tx_row.TxRow.{TxRow}
+use Rattle.hub_rows.specs.declared.reading_row.ReadingRow.{ReadingRow}
+use Rattle.hub_rows.specs.Keyed.{by_key, found}
+
+-- the lists of rows
+pub record Rows : Type 0 where
+  pub stations : List StationRow
+  pub connectors : List ConnectorRow
+  pub tags : List TagRow
+  pub transactions : List TxRow
+  pub readings : List ReadingRow
+
+-- no rows
+abbrev pub no_rows : Rows
+no_rows = record { stations = []; connectors = []; tags = []; transactions = []; readings = [] }
+
+-- what tells an operator's rows of a kind apart, and the key
+abbrev pub station_rest : StationRow → List (List ℕ)
+station_rest r = r.station ∷ []
+
+abbrev pub station_key : StationRow → List (List ℕ)
+station_key r = r.op ∷ station_rest r
+
+abbrev pub connector_rest : ConnectorRow → List (List ℕ)
+connector_rest r = r.station ∷ (r.connector ∷ []) ∷ []
+
+abbrev pub connector_key : ConnectorRow → List (List ℕ)
+connector_key r = r.op ∷ connector_rest r
+
+abbrev pub tag_rest : TagRow → List (List ℕ)
+tag_rest r = r.key ∷ []
+
+abbrev pub tag_key : TagRow → List (List ℕ)
+tag_key r = r.op ∷ tag_rest r
+
+abbrev pub tx_rest : TxRow → List (List ℕ)
+tx_rest r = r.station ∷ (r.number ∷ []) ∷ []
+
+abbrev pub tx_key : TxRow → List (List ℕ)
+tx_key r = r.op ∷ tx_rest r
+
+abbrev pub reading_rest : ReadingRow → List (List ℕ)
+reading_rest r = r.station ∷ (r.number ∷ []) ∷ []
+
+abbrev pub reading_key : ReadingRow → List (List ℕ)
+reading_key r = r.op ∷ reading_rest r
+
+-- each list is in the order of its keys, each key once
+pub record WellFormedRows (rows : Rows) : Type 0 where
+  pub stations : IsStrictlySortedBy (by_key station_key) rows.stations
+  pub connectors : IsStrictlySortedBy (by_key connector_key) rows.connectors
+  pub tags : IsStrictlySortedBy (by_key tag_key) rows.tags
+  pub transactions : IsStrictlySortedBy (by_key tx_key) rows.transactions
+  pub readings : IsStrictlySortedBy (by_key reading_key) rows.readings
+
+abbrev pub registration_of : StationRow → Registration
+registration_of r = record { policy = r.policy; interval = r.interval; state = r.state }
+
+-- the station of an operator, among stations of all
+abbrev pub station_in : List ℕ → List ℕ → List StationRow → Option StationRow
+station_in b station stations = found (λ r. r.op) b (λ r. bytes_eq r.station station) stations
+
+-- how it is registered
+abbrev pub registration_in : List ℕ → List ℕ → List StationRow → Option Registration
+registration_in b station stations = option_map registration_of (station_in b station stations)
+
+abbrev pub registration_at : List ℕ → List ℕ → Rows → Option Registration
+registration_at b station rows = registration_in b station rows.stations

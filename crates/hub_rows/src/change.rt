@@ -1,0 +1,77 @@
+//! Changes of records.
+
+use crate::connector_row::ConnectorReport;
+use crate::reading_row::Reading;
+use crate::station_row::Boot;
+use crate::tag_row::Tag;
+use crate::tx_row::{Start, Stop};
+use ocpp_types::listed::Listed;
+use ocpp_types::policy::Policy;
+use ocpp_types::state::State;
+use ocpp_types::tag_key::TagKey;
+use ocpp_types::text::Text;
+
+/// A change of one operator's records, which a store makes whole or not at all.
+#[derive(Debug, Drop)]
+pub struct Change {
+    pub op: Text,
+    pub edit: Edit,
+}
+
+/// What changes.
+#[derive(Debug, Drop)]
+pub enum Edit {
+    /// A new station, which is Fresh.
+    StationAdded {
+        station: Text,
+        policy: Policy,
+        interval: u32,
+    },
+    /// A boot of a station, in place of the one before, and the state that it leads to.
+    BootSeen {
+        station: Text,
+        boot: Boot,
+        state: State,
+    },
+    /// What a station's next boot is answered.
+    PolicySet {
+        station: Text,
+        policy: Policy,
+        interval: u32,
+    },
+    /// A report on a connector, in place of the one before.
+    ConnectorSeen {
+        station: Text,
+        connector: u8,
+        report: ConnectorReport,
+    },
+    /// An id tag, in place of the one with its key.
+    TagPut {
+        key: TagKey,
+        tag: Tag,
+    },
+    /// The id tag of that key is gone.
+    TagDropped {
+        key: TagKey,
+    },
+    /// A new transaction.
+    TxStarted {
+        station: Text,
+        number: u32,
+        start: Start,
+    },
+    /// The stop of an open transaction, and the readings that came with it, numbered from `first`.
+    TxStopped {
+        station: Text,
+        number: u32,
+        stop: Stop,
+        first: u32,
+        readings: Listed<Reading>,
+    },
+    /// New readings of a station, numbered from `first`.
+    ReadingsAdded {
+        station: Text,
+        first: u32,
+        readings: Listed<Reading>,
+    },
+}

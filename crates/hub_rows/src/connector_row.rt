@@ -1,0 +1,74 @@
+//! The record of a connector.
+ghost use Rattle.std.specs.Prelude.{◌≡◌};
+
+use crate::ordered::Keyed;
+use ocpp_types::charge_point_error_code::ChargePointErrorCode;
+use ocpp_types::charge_point_status::ChargePointStatus;
+use ocpp_types::text::{Text, copied};
+use std::alloc::AllocError;
+use std::cmp::Ordering;
+
+/// A connector of a station, as the station reported it last. Its key is `op`, `station` and
+/// `connector`.
+#[derive(Debug, Drop)]
+pub struct ConnectorRow {
+    /// The operator that hosts the station.
+    pub op: Text,
+    pub station: Text,
+    /// 0 is the station itself.
+    pub connector: u8,
+    pub report: ConnectorReport,
+}
+
+/// What a station reports of a connector (OCPP 1.6, StatusNotification.req).
+#[derive(Debug, PartialEq, Eq, Drop)]
+pub struct ConnectorReport {
+    pub status: ChargePointStatus,
+    pub error_code: ChargePointErrorCode,
+    /// When the station says that it was so, or else when it came: milliseconds since 1970.
+    pub at: i64,
+    pub info: Option<Text>,
+    pub vendor_id: Option<Text>,
+    pub vendor_error_code: Option<Text>,
+}
+
+impl Clone for ConnectorReport {
+    ghost is_clone = { λ report copy. copy ≡ report };
+
+    fn clone(&self) -> Result<ConnectorReport, AllocError> {
+        Ok(ConnectorReport {
+            status: self.status,
+            error_code: self.error_code,
+            at: self.at,
+            info: copied(&self.info)?,
+            vendor_id: copied(&self.vendor_id)?,
+            vendor_error_code: copied(&self.vendor_error_code)?,
+        })
+    }
+}
+
+impl Clone for ConnectorRow {
+    ghost is_clone = { λ row copy. copy ≡ row };
+
+    fn clone(&self) -> Result<ConnectorRow, AllocError> {
+        Ok(ConnectorRow {
+            op: self.op.clone()?,
+            station: self.station.clone()?,
+            connector: self.connector,
+            report: self.report.clone()?,
+        })
+    }
+}
+
+impl Keyed for ConnectorRow {
+    ghost use Rattle.hub_rows.specs.Rows.{connector_key};
+
+    ghost key = { connector_key };
+
+    fn compare(&self, other: &ConnectorRow) -> Ordering {
+        self.op
+            .cmp(&other.op)
+            .then(self.station.cmp(&other.station))
+            .then(self.connector.cmp(&other.connector))
+    }
+}

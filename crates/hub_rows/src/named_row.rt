@@ -1,0 +1,50 @@
+//! Rows whose key is their operator and one name: found, and taken out.
+ghost use Rattle.std.specs.Prelude.{◌≡◌, ℕ, List, [], ◌∷◌, option_map};
+ghost use Rattle.std.specs.List.Sorted.{IsStrictlySortedBy};
+ghost use Rattle.std.specs.Str.{bytes_eq};
+ghost use Rattle.hub_rows.specs.Keyed.{by_key, found, without, pair_key};
+ghost use Rattle.hub_rows.specs.Places.{IsPlace};
+
+/// A row whose key is its operator and one name.
+pub trait NamedRow: Drop {
+    ghost op: { Self → List ℕ };
+
+    ghost name: { Self → List ℕ };
+
+    /// The operator.
+    fn op(&self) -> &str
+        ensures { result.now ≡ op self.now };
+
+    /// What tells the operator's rows apart.
+    fn name(&self) -> &str
+        ensures { result.now ≡ name self.now };
+}
+
+/// The index of a row, or else the index that it would go to, by a binary search.
+pub fn place_of_name<R: NamedRow>(rows: &[R], op: &str, name: &str) -> Result<usize, usize>
+    requires { IsStrictlySortedBy (by_key (pair_key R.op R.name)) rows.now }
+    ensures { IsPlace (pair_key R.op R.name) (op.now ∷ name.now ∷ []) rows.now result }
+{
+    rows.binary_search_by(|row| row.op().cmp(op).then(row.name().cmp(name)))
+}
+
+/// The row of an operator and a name.
+pub fn row_of<'a, R: NamedRow>(rows: &'a [R], op: &str, name: &str) -> Option<&'a R>
+    requires { IsStrictlySortedBy (by_key (pair_key R.op R.name)) rows.now }
+    ensures { option_map (λ r. r.now) result ≡ found R.op op.now (λ r. bytes_eq (R.name r) name.now) rows.now }
+{
+    match place_of_name(rows, op, name) {
+        Ok(place) => Some(&rows[place]),
+        Err(_) => None,
+    }
+}
+
+/// Takes the row of an operator and a name out, if it is there.
+pub fn remove_row<R: NamedRow>(rows: &mut Vec<R>, op: &str, name: &str)
+    requires { IsStrictlySortedBy (by_key (pair_key R.op R.name)) rows.old.items }
+    ensures { rows.new.items ≡ without R.op op.now (λ r. bytes_eq (R.name r) name.now) rows.old.items }
+{
+    if let Ok(place) = place_of_name(rows, op, name) {
+        let _removed = rows.remove(place);
+    }
+}

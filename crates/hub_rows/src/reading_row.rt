@@ -1,0 +1,88 @@
+//! The record of a meter reading.
+ghost use Rattle.std.specs.Prelude.{◌≡◌};
+
+use crate::ordered::Keyed;
+use ocpp_types::location::Location;
+use ocpp_types::measurand::Measurand;
+use ocpp_types::phase::Phase;
+use ocpp_types::reading_context::ReadingContext;
+use ocpp_types::text::Text;
+use ocpp_types::unit_of_measure::UnitOfMeasure;
+use ocpp_types::value_format::ValueFormat;
+use std::alloc::AllocError;
+use std::cmp::Ordering;
+
+/// A meter reading of a station. Its key is `op`, `station` and `number`.
+#[derive(Debug, Drop)]
+pub struct ReadingRow {
+    /// The operator that hosts the station.
+    pub op: Text,
+    pub station: Text,
+    /// 1 to 2147483647, counted by station.
+    pub number: u32,
+    pub reading: Reading,
+}
+
+/// What a meter showed (OCPP 1.6, section 7.43, SampledValue).
+#[derive(Debug, Drop)]
+pub struct Reading {
+    /// 0 is the station's main meter.
+    pub connector: u8,
+    /// The transaction as it was sent, whether or not there is one of that number.
+    pub transaction: Option<i32>,
+    /// When the station says that it was so: milliseconds since 1970.
+    pub at: i64,
+    pub context: ReadingContext,
+    pub format: ValueFormat,
+    pub measurand: Measurand,
+    pub phase: Option<Phase>,
+    pub location: Location,
+    pub unit: Option<UnitOfMeasure>,
+    /// The value as it was sent.
+    pub text: Text,
+}
+
+impl Clone for Reading {
+    ghost is_clone = { λ reading copy. copy ≡ reading };
+
+    fn clone(&self) -> Result<Reading, AllocError> {
+        Ok(Reading {
+            connector: self.connector,
+            transaction: self.transaction,
+            at: self.at,
+            context: self.context,
+            format: self.format,
+            measurand: self.measurand,
+            phase: self.phase,
+            location: self.location,
+            unit: self.unit,
+            text: self.text.clone()?,
+        })
+    }
+}
+
+impl Clone for ReadingRow {
+    ghost is_clone = { λ row copy. copy ≡ row };
+
+    fn clone(&self) -> Result<ReadingRow, AllocError> {
+        Ok(ReadingRow {
+            op: self.op.clone()?,
+            station: self.station.clone()?,
+            number: self.number,
+            reading: self.reading.clone()?,
+        })
+    }
+}
+
+impl Keyed for ReadingRow {
+    ghost use Rattle.hub_rows.specs.Rows.{reading_key};
+
+    ghost key = { reading_key };
+
+    fn compare(&self, other: &ReadingRow) -> Ordering {
+        self.op
+            .cmp(&other.op)
+            .then(self.station.cmp(&other.station))
+            .then(self.number.cmp(&other.number))
+    }
+}

@@ -1,0 +1,120 @@
+//! The record of a station.
+ghost use Rattle.std.specs.Prelude.{◌≡◌};
+
+use crate::named_row::NamedRow;
+use crate::ordered::Keyed;
+use ocpp_types::boot_notification::BootNotification;
+use ocpp_types::moment::Moment;
+use ocpp_types::policy::Policy;
+use ocpp_types::state::State;
+use ocpp_types::text::Text;
+use std::alloc::AllocError;
+use std::cmp::Ordering;
+
+/// A station of an operator. Its key is `op` and `station`.
+#[derive(Debug, Drop)]
+pub struct StationRow {
+    /// The operator that hosts it.
+    pub op: Text,
+    /// Its identity, 1 to 48 characters from `!` to `~`.
+    pub station: Text,
+    /// What its next boot is answered.
+    pub policy: Policy,
+    /// The heartbeat interval in seconds, 0 to 86400.
+    pub interval: u32,
+    /// What its last boot was answered, Fresh before the first.
+    pub state: State,
+    /// Its last boot.
+    pub boot: Option<Boot>,
+}
+
+/// What a station told of itself when it booted.
+#[derive(Debug, PartialEq, Eq, Drop)]
+pub struct Boot {
+    pub texts: BootNotification,
+    pub moment: Moment,
+}
+
+impl Clone for Boot {
+    ghost is_clone = { λ boot copy. copy ≡ boot };
+
+    fn clone(&self) -> Result<Boot, AllocError> {
+        Ok(Boot {
+            texts: self.texts.clone()?,
+            moment: self.moment,
+        })
+    }
+}
+
+/// How a station is registered: the part of its record that rules ask for.
+#[derive(Clone, Copy, Debug, PartialEq, Eq)]
+pub struct Registration {
+    pub policy: Policy,
+    pub interval: u32,
+    pub state: State,
+}
+
+impl StationRow {
+    ghost use Rattle.hub_rows.specs.Rows.{registration_of};
+
+    /// How it is registered.
+    pub fn registration(&self) -> Registration
+        ensures { result ≡ registration_of self.now }
+    {
+        Registration {
+            policy: self.policy,
+            interval: self.interval,
+            state: self.state,
+        }
+    }
+}
+
+impl Clone for StationRow {
+    ghost is_clone = { λ row copy. copy ≡ row };
+
+    fn clone(&self) -> Result<StationRow, AllocError> {
+        let boot = match &self.boot {
+            Some(boot) => Some(boot.clone()?),
+            None => None,
+        };
+        let Registration {
+            policy,
+            interval,
+            state,
+        } = self.registration();
+        Ok(StationRow {
+            op: self.op.clone()?,
+            station: self.station.clone()?,
+            policy,
+            interval,
+            state,
+            boot,
+        })
+    }
+}
+
+impl Keyed for StationRow {
+    ghost use Rattle.hub_rows.specs.Rows.{station_key};
+
+    ghost key = { station_key };
+
+    fn compare(&self, other: &StationRow) -> Ordering {
+        self.op
+            .cmp(&other.op)
+            .then(self.station.cmp(&other.station))
+    }
+}
+
+impl NamedRow for StationRow {
+    ghost op = { λ r. r.op };
+
+    ghost name = { λ r. r.station };
+
+    fn op(&self) -> &str {
+        self.op.as_str()
+    }
+
+    fn name(&self) -> &str {
+        self.station.as_str()
+    }
+}

@@ -1,0 +1,184 @@
+//! The record of a transaction.
+ghost use Rattle.std.specs.Prelude.{◌≡◌};
+
+use crate::ordered::Keyed;
+use ocpp_types::authorization_status::AuthorizationStatus;
+use ocpp_types::moment::Moment;
+use ocpp_types::reason::Reason;
+use ocpp_types::tag_key::TagKey;
+use ocpp_types::text::{Text, copied};
+use std::alloc::AllocError;
+use std::cmp::Ordering;
+
+/// A transaction of a station. Its key is `op`, `station` and `number`.
+#[derive(Debug, Drop)]
+pub struct TxRow {
+    /// The operator that hosts the station.
+    pub op: Text,
+    pub station: Text,
+    /// 1 to 2147483647, counted by station.
+    pub number: u32,
+    pub start: Start,
+    /// It is open while there is none.
+    pub stop: Option<Stop>,
+}
+
+/// What tells the starts of a station apart. A station that has missed the answer to a start sends
+/// the same again (OCPP 1.6, section 3.7.1).
+#[derive(Debug, Drop)]
+pub struct StartKey {
+    pub connector: u8,
+    pub key: TagKey,
+    /// In Wh.
+    pub meter_start: i64,
+    /// When the station says that it began: milliseconds since 1970.
+    pub at: i64,
+}
+
+/// How a transaction began (OCPP 1.6, StartTransaction.req).
+#[derive(Debug, Drop)]
+pub struct Start {
+    pub id: StartKey,
+    /// The tag as it was sent.
+    pub tag: Text,
+    pub reservation: Option<i32>,
+    /// How the tag was judged.
+    pub status: AuthorizationStatus,
+    /// When the start came.
+    pub begun: Moment,
+}
+
+/// How a transaction ended (OCPP 1.6, StopTransaction.req).
+#[derive(Debug, Drop)]
+pub struct Stop {
+    /// In Wh.
+    pub meter_stop: i64,
+    /// When the station says that it ended: milliseconds since 1970.
+    pub at: i64,
+    pub reason: Reason,
+    /// The tag as it was sent.
+    pub tag: Option<Text>,
+    /// When the stop came.
+    pub moment: Moment,
+}
+
+/// What tells the transactions of an operator apart.
+#[derive(Debug, Drop)]
+pub struct TxKey {
+    pub station: Text,
+    pub number: u32,
+}
+
+/// The part of a transaction's record that rules ask for.
+#[derive(Clone, Copy, Debug, PartialEq, Eq)]
+pub struct TxState {
+    pub connector: u8,
+    pub is_open: bool,
+}
+
+/// The last numbers of a station's records, 0 where it has none.
+#[derive(Clone, Copy, Debug, PartialEq, Eq)]
+pub struct LastNumbers {
+    pub transaction: u32,
+    pub reading: u32,
+}
+
+impl TxRow {
+    ghost use Rattle.hub_rows.specs.Transactions.{is_open, counts, state_of};
+
+    /// Whether it hasn't been stopped.
+    pub fn is_open(&self) -> bool
+        ensures { result ≡ is_open self.now }
+    {
+        self.stop.is_none()
+    }
+
+    /// Whether it is open and began Accepted, so that its tag is in use.
+    pub fn counts(&self) -> bool
+        ensures { result ≡ counts self.now }
+    {
+        self.is_open() && matches!(self.start.status, AuthorizationStatus::Accepted)
+    }
+
+    /// What rules ask of it.
+    pub fn state(&self) -> TxState
+        ensures { result ≡ state_of self.now }
+    {
+        TxState {
+            connector: self.start.id.connector,
+            is_open: self.is_open(),
+        }
+    }
+}
+
+impl Clone for StartKey {
+    ghost is_clone = { λ id copy. copy ≡ id };
+
+    fn clone(&self) -> Result<StartKey, AllocError> {
+        Ok(StartKey {
+            connector: self.connector,
+            key: self.key.clone()?,
+            meter_start: self.meter_start,
+            at: self.at,
+        })
+    }
+}
+
+impl Clone for Start {
+    ghost is_clone = { λ start copy. copy ≡ start };
+
+    fn clone(&self) -> Result<Start, AllocError> {
+        Ok(Start {
+            id: self.id.clone()?,
+            tag: self.tag.clone()?,
+            reservation: self.reservation,
+            status: self.status,
+            begun: self.begun,
+        })
+    }
+}
+
+impl Clone for Stop {
+    ghost is_clone = { λ stop copy. copy ≡ stop };
+
+    fn clone(&self) -> Result<Stop, AllocError> {
+        Ok(Stop {
+            meter_stop: self.meter_stop,
+            at: self.at,
+            reason: self.reason,
+            tag: copied(&self.tag)?,
+            moment: self.moment,
+        })
+    }
+}
+
+impl Clone for TxRow {
+    ghost is_clone = { λ row copy. copy ≡ row };
+
+    fn clone(&self) -> Result<TxRow, AllocError> {
+        let stop = match &self.stop {
+            Some(stop) => Some(stop.clone()?),
+            None => None,
+        };
+        Ok(TxRow {
+            op: self.op.clone()?,
+            station: self.station.clone()?,
+            number: self.number,
+            start: self.start.clone()?,
+            stop,
+        })
+    }
+}
+
+impl Keyed for TxRow {
+    ghost use Rattle.hub_rows.specs.Rows.{tx_key};
+
+    ghost key = { tx_key };
+
+    fn compare(&self, other: &TxRow) -> Ordering {
+        self.op
+            .cmp(&other.op)
+            .then(self.station.cmp(&other.station))
+            .then(self.number.cmp(&other.number))
+    }
+}

@@ -1,0 +1,38 @@
+-- How an id tag is judged.
+use Rattle.std.specs.Prelude.{ℕ, nat_le, List, Bool, false, if◌then◌else◌, Option, Some, None}
+use Rattle.ocpp_types.specs.declared.authorization_status.AuthorizationStatus.{AuthorizationStatus}
+use Rattle.ocpp_types.specs.declared.authorization_status.AuthorizationStatus.TheVariants.{Accepted, Blocked, Expired, Invalid, ConcurrentTx}
+use Rattle.ocpp_types.specs.declared.id_tag_info.IdTagInfo.{IdTagInfo}
+use Rattle.hub_rows.specs.declared.tag_row.Tag.{Tag}
+use Rattle.hub_rows.specs.Lookups.{Lookups}
+use Rattle.id_tags.specs.declared.judge.Purpose.{Purpose}
+use Rattle.id_tags.specs.declared.judge.Purpose.TheVariants.{Authorize, Start}
+
+-- the operator's own tag, or else one that was granted to it
+abbrev pub first_of : Option Tag → Option Tag → Option Tag
+first_of (Some own) granted = Some own
+first_of None granted = granted
+
+-- the tag of a key that counts; no tags are granted yet
+abbrev pub found_tag : List ℕ → Lookups → Option Tag
+found_tag key l = first_of (l.own_tag key) None
+
+-- whether a moment is at the expiry or past it
+abbrev pub is_past : ℕ → Option ℕ → Bool
+is_past m None = false
+is_past m (Some expiry) = nat_le expiry m
+
+-- whether the tag of a key is in use, as far as the purpose asks
+abbrev pub is_in_use : Purpose → List ℕ → Lookups → Bool
+is_in_use Authorize key l = false
+is_in_use (Start except) key l = l.is_used key except
+
+abbrev pub status_of : ℕ → Bool → Tag → AuthorizationStatus
+status_of m used t = if t.blocked then Blocked else (if is_past m t.expiry then Expired else (if used then ConcurrentTx else Accepted))
+
+abbrev pub judged : ℕ → Bool → Option Tag → IdTagInfo
+judged m used None = record { expiry_date = None; parent_id_tag = None; status = Invalid }
+judged m used (Some t) = record { expiry_date = t.expiry; parent_id_tag = t.parent; status = status_of m used t }
+
+abbrev pub judge_rule : ℕ → List ℕ → Purpose → Lookups → IdTagInfo
+judge_rule m key purpose l = judged m (is_in_use purpose key l) (found_tag key l)

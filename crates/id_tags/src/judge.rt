@@ -1,0 +1,124 @@
+//! Judgement of id tags (OCPP 1.6, sections 4.1 and 7.2; docs/RULES.md, Tag keys and judgement).
+ghost use Rattle.std.specs.Prelude.{◌≡◌, ◌≤◌, IfOk, IfErr};
+ghost use Rattle.hub_rows.specs.Failures.{Rose};
+ghost use Rattle.hub_rows.specs.Lookups.{lookups_at};
+ghost use Rattle.id_tags.specs.Judge.{found_tag, is_in_use, judged, judge_rule, status_of, is_past};
+
+use hub_rows::store::{Store, StoreFault};
+use hub_rows::tag_row::Tag;
+use hub_rows::tx_row::TxKey;
+use ocpp_types::authorization_status::AuthorizationStatus;
+use ocpp_types::id_tag_info::IdTagInfo;
+use ocpp_types::moment::Moment;
+use ocpp_types::tag_key::TagKey;
+
+/// What a tag is judged for.
+#[derive(Debug, Drop)]
+pub enum Purpose {
+    /// To be told of, in an Authorize or with a stop.
+    Authorize,
+    /// To begin a transaction. The one that is left out is no other use of the tag.
+    Start { except: Option<TxKey> },
+}
+
+/// The tag of a key that counts for an operator, `None` where there is none.
+pub fn find_tag<S: Store>(store: &mut S, op: &str, key: &TagKey) -> Result<Option<Tag>, StoreFault>
+    ensures was_clean { S.clean store.new → S.clean store.old }
+    ensures found { S.clean store.new → IfOk result (λ t. t
+        ≡ found_tag key.now (lookups_at op.now (S.rows store.old))) }
+    ensures rows { S.clean store.new → S.rows store.new ≡ S.rows store.old }
+    ensures failed { IfErr result (λ fault. fault ≡ StoreFault.Failed
+        → Rose (S.failures store.old) (S.failures store.new)) }
+    ensures count { S.failures store.old ≤ S.failures store.new }
+{
+    store.own_tag(op, key)
+}
+
+/// Judges the tag of a key at a moment: Invalid where there is none, Blocked where it or its
+/// parent is blocked, Expired from its expiry on, ConcurrentTx where it is to begin a transaction
+/// while it is in use by another, and else Accepted. Unless it is Invalid, its expiry and its
+/// parent are told with it.
+pub fn judge<S: Store>(
+    store: &mut S,
+    op: &str,
+    key: &TagKey,
+    moment: Moment,
+    purpose: &Purpose,
+) -> Result<IdTagInfo, StoreFault>
+    ensures was_clean { S.clean store.new → S.clean store.old }
+    ensures judged { S.clean store.new → IfOk result (λ i. i
+        ≡ judge_rule moment key.now purpose.now (lookups_at op.now (S.rows store.old))) }
+    ensures rows { S.clean store.new → S.rows store.new ≡ S.rows store.old }
+    ensures failed { IfErr result (λ fault. fault ≡ StoreFault.Failed
+        → Rose (S.failures store.old) (S.failures store.new)) }
+    ensures count { S.failures store.old ≤ S.failures store.new }
+{
+    let used = is_in_use(store, op, key, purpose)?;
+    let found = find_tag(store, op, key)?;
+    Ok(judged(moment, used, found))
+}
+
+/// Whether the tag of a key is in use as far as the purpose asks.
+fn is_in_use<S: Store>(
+    store: &mut S,
+    op: &str,
+    key: &TagKey,
+    purpose: &Purpose,
+) -> Result<bool, StoreFault>
+    ensures was_clean { S.clean store.new → S.clean store.old }
+    ensures found { S.clean store.new → IfOk result (λ u. u
+        ≡ is_in_use purpose.now key.now (lookups_at op.now (S.rows store.old))) }
+    ensures rows { S.clean store.new → S.rows store.new ≡ S.rows store.old }
+    ensures failed { IfErr result (λ fault. fault ≡ StoreFault.Failed
+        → Rose (S.failures store.old) (S.failures store.new)) }
+    ensures count { S.failures store.old ≤ S.failures store.new }
+{
+    match purpose {
+        Purpose::Authorize => Ok(false),
+        Purpose::Start { except } => store.is_used(op, key, except),
+    }
+}
+
+fn judged(moment: Moment, used: bool, found: Option<Tag>) -> IdTagInfo
+    ensures { result ≡ judged moment used found }
+{
+    match found {
+        None => IdTagInfo {
+            expiry_date: None,
+            parent_id_tag: None,
+            status: AuthorizationStatus::Invalid,
+        },
+        Some(tag) => {
+            let status = status_of(moment, used, &tag);
+            IdTagInfo {
+                expiry_date: tag.expiry,
+                parent_id_tag: tag.parent,
+                status,
+            }
+        }
+    }
+}
+
+fn status_of(moment: Moment, used: bool, tag: &Tag) -> AuthorizationStatus
+    ensures { result ≡ status_of moment used tag.now }
+{
+    if tag.blocked {
+        return AuthorizationStatus::Blocked;
+    }
+    if is_past(moment, tag.expiry) {
+        return AuthorizationStatus::Expired;
+    }
+    if used {
+        return AuthorizationStatus::ConcurrentTx;
+    }
+    AuthorizationStatus::Accepted
+}
+
+fn is_past(moment: Moment, expiry: Option<Moment>) -> bool
+    ensures { result ≡ is_past moment expiry }
+{
+    match expiry {
+        None => false,
+        Some(expiry) => expiry.seconds() <= moment.seconds(),
+    }
+}

@@ -1,0 +1,72 @@
+//! Tags put and dropped by operators (docs/RULES.md, Tag keys and judgement).
+ghost use Rattle.std.specs.Prelude.{◌≡◌, ◌≤◌, IfOk, IfErr};
+ghost use Rattle.hub_rows.specs.Failures.{Rose};
+ghost use Rattle.hub_rows.specs.Lookups.{lookups_at};
+ghost use Rattle.id_tags.specs.Plan.{put_rule, drop_rule, is_tag, is_parent};
+
+use hub_rows::change::Edit;
+use hub_rows::store::{Store, StoreFault};
+use hub_rows::tag_row::Tag;
+use ocpp_types::field_name::FieldName;
+use ocpp_types::memory::Mem;
+use ocpp_types::refusal::Refusal;
+use ocpp_types::tag_key::TagKey;
+use ocpp_types::text::{Text, count_characters};
+use std::alloc::Global;
+
+/// The greatest number of characters of a tag that is put, and of its parent.
+pub const MAX_TAG: usize = 20;
+
+/// The edit that puts a tag in place of the one with its key, or the first refusal that applies:
+/// BadField `tag`, BadField `parent` for one that isn't of 1 to 20 characters.
+pub fn plan_put(alloc: Global, tag: &Tag) -> Mem<Result<Edit, Refusal>>
+    ensures { IfOk result (λ p. p ≡ put_rule tag.now) }
+{
+    if !is_tag(tag.text.as_str()) {
+        return Ok(Err(Refusal::BadField(FieldName::new("tag"))));
+    }
+    if !is_parent(&tag.parent) {
+        return Ok(Err(Refusal::BadField(FieldName::new("parent"))));
+    }
+    Ok(Ok(Edit::TagPut {
+        key: TagKey::of(alloc, tag.text.as_str())?,
+        tag: tag.clone()?,
+    }))
+}
+
+/// The edit that drops a tag, or NoSuchTag.
+pub fn plan_drop<S: Store>(
+    alloc: Global,
+    store: &mut S,
+    op: &str,
+    tag: &str,
+) -> Result<Result<Edit, Refusal>, StoreFault>
+    ensures was_clean { S.clean store.new → S.clean store.old }
+    ensures plan { S.clean store.new → IfOk result (λ p. p
+        ≡ drop_rule tag.now (lookups_at op.now (S.rows store.old))) }
+    ensures rows { S.clean store.new → S.rows store.new ≡ S.rows store.old }
+    ensures failed { IfErr result (λ fault. fault ≡ StoreFault.Failed
+        → Rose (S.failures store.old) (S.failures store.new)) }
+    ensures count { S.failures store.old ≤ S.failures store.new }
+{
+    let key = TagKey::of(alloc, tag)?;
+    if store.own_tag(op, &key)?.is_none() {
+        return Ok(Err(Refusal::NoSuchTag));
+    }
+    Ok(Ok(Edit::TagDropped { key }))
+}
+
+fn is_tag(text: &str) -> bool
+    ensures { result ≡ is_tag text.now }
+{
+    !text.is_empty() && count_characters(text) <= MAX_TAG
+}
+
+fn is_parent(parent: &Option<Text>) -> bool
+    ensures { result ≡ is_parent parent.now }
+{
+    match parent {
+        Some(parent) => is_tag(parent.as_str()),
+        None => true,
+    }
+}

@@ -1,0 +1,3 @@
+pub mod StoredData
+pub mod Frame
+pub mod Written

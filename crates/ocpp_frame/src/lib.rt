@@ -1,0 +1,9 @@
+//! The frames of OCPP-J: calls, results and errors, read from text and written to it.
+#![tactic(auto)]
+
+pub mod frame;
+pub mod payload;
+pub mod read;
+#[cfg(test)]
+mod tests;
+pub mod write;

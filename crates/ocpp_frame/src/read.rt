@@ -1,0 +1,150 @@
+//! Frames from text.
+ghost use Rattle.std.specs.Prelude.{◌≡◌, ◌+◌, ◌<◌, ◌≤◌, ◌⊎◌, List, ◌∷◌, length, IfOk, IfNone, IfSome};
+ghost use Rattle.serde_json.specs.Find.{as_str};
+ghost use Rattle.serde_json.specs.View.{view, items_view};
+ghost use Rattle.ocpp_frame.specs.Frame.{frame, frame_of, frame_of_items, call, call_result, call_error, payload_of, description_of, call_with, error_with};
+ghost use Rattle.serde_json.specs.declared.value.Value.{Value};
+
+use crate::frame::Frame;
+use crate::payload::Payload;
+use ocpp_types::memory::{Mem, NoMemory};
+use ocpp_types::text::{Text, count_characters};
+use serde_json::{Category, Map, Value};
+use std::alloc::Global;
+
+/// The greatest number of characters of a call's id (OCPP-J 1.6, section 4.1.4).
+pub const MAX_ID: usize = 36;
+
+/// The frame that a text is (OCPP-J 1.6, section 4.2; docs/RULES.md, Frames). Every text is
+/// one: what `serde_json` doesn't read, or what isn't formed as a message, is `Ignored`, and a
+/// call with an id that isn't formed as a call is `Broken`.
+pub fn read_frame(alloc: Global, text: &str) -> Mem<Frame>
+    ensures { IfOk result (λ f. f ≡ frame text.now) }
+{
+    match Value::from_str(alloc, text) {
+        Ok(value) => Ok(frame_of(alloc, value)),
+        Err(error) => match error.classify() {
+            Category::Memory => Err(NoMemory),
+            _ => Ok(Frame::Ignored),
+        },
+    }
+}
+
+fn frame_of(alloc: Global, value: Value) -> Frame
+    ensures { result ≡ frame_of (view value) }
+{
+    match value {
+        Value::Array(items) => frame_of_items(alloc, items),
+        _ => Frame::Ignored,
+    }
+}
+
+fn frame_of_items(alloc: Global, mut items: Vec<Value>) -> Frame
+    ensures { result ≡ frame_of_items (items_view items.items) }
+{
+    if items.len() < 2 {
+        return Frame::Ignored;
+    }
+    let kind = items.remove(0);
+    let Value::String(id) = items.remove(0) else {
+        return Frame::Ignored;
+    };
+    match kind.as_u64() {
+        Some(2) => call(alloc, Text::from(id), items),
+        Some(3) => call_result(alloc, Text::from(id), items),
+        Some(4) => call_error(alloc, Text::from(id), items),
+        _ => Frame::Ignored,
+    }
+}
+
+fn call(alloc: Global, id: Text, rest: Vec<Value>) -> Frame
+    ensures { result ≡ call id (items_view rest.items) }
+{
+    match two_of(rest, 2) {
+        Some((action, payload)) => call_with(alloc, id, action, payload),
+        None => Frame::Broken { id },
+    }
+}
+
+fn call_with(alloc: Global, id: Text, action: Value, payload: Value) -> Frame
+    ensures { result ≡ call_with id (as_str (view action)) (payload_of (view payload)) }
+{
+    let (Value::String(action), Some(payload)) = (action, payload_of(alloc, payload)) else {
+        return Frame::Broken { id };
+    };
+    if count_characters(id.as_str()) > MAX_ID {
+        return Frame::Broken { id };
+    }
+    Frame::Call {
+        id,
+        action: Text::from(action),
+        payload,
+    }
+}
+
+fn call_result(alloc: Global, id: Text, mut rest: Vec<Value>) -> Frame
+    ensures { result ≡ call_result id (items_view rest.items) }
+{
+    if rest.len() != 1 {
+        return Frame::Ignored;
+    }
+    match payload_of(alloc, rest.remove(0)) {
+        Some(payload) => Frame::CallResult { id, payload },
+        None => Frame::Ignored,
+    }
+}
+
+fn call_error(alloc: Global, id: Text, rest: Vec<Value>) -> Frame
+    ensures { result ≡ call_error id (items_view rest.items) }
+{
+    match two_of(rest, 3) {
+        Some((code, description)) => error_with(alloc, id, code, description),
+        None => Frame::Ignored,
+    }
+}
+
+fn error_with(alloc: Global, id: Text, code: Value, description: Value) -> Frame
+    ensures { result ≡ error_with id (as_str (view code)) (description_of (view description)) }
+{
+    match (code, description_of(alloc, description)) {
+        (Value::String(code), Some(description)) => Frame::CallError {
+            id,
+            code: Text::from(code),
+            description,
+        },
+        _ => Frame::Ignored,
+    }
+}
+
+// The first two of two to `most` items.
+fn two_of(mut items: Vec<Value>, most: usize) -> Option<(Value, Value)>
+    ensures none { IfNone result ((length items.items < 2) ⊎ (most < length items.items)) }
+    ensures some { IfSome result (λ two. (rest : List Value)
+        × (items.items ≡ two.0 ∷ two.1 ∷ rest) × (length rest + 2 ≤ most)) }
+{
+    if items.len() < 2 || most < items.len() {
+        return None;
+    }
+    let first = items.remove(0);
+    Some((first, items.remove(0)))
+}
+
+fn payload_of(alloc: Global, value: Value) -> Option<Payload>
+    ensures { result ≡ payload_of (view value) }
+{
+    match value {
+        Value::Null => Some(Payload::from(Value::Object(Map::new(alloc)))),
+        Value::Object(members) => Some(Payload::from(Value::Object(members))),
+        _ => None,
+    }
+}
+
+fn description_of(alloc: Global, value: Value) -> Option<Text>
+    ensures { result ≡ description_of (view value) }
+{
+    match value {
+        Value::Null => Some(Text::from(String::new(alloc))),
+        Value::String(text) => Some(Text::from(text)),
+        _ => None,
+    }
+}

@@ -1,0 +1,10 @@
+pub mod Action
+pub mod ActionClass
+pub mod Conf
+pub mod Fields
+pub mod Gives
+pub mod Kind
+pub mod Objects
+pub mod Readings
+pub mod Request
+pub mod Boot

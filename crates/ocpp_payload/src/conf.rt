@@ -1,0 +1,38 @@
+//! What a station is answered.
+
+use ocpp_types::data_transfer_status::DataTransferStatus;
+use ocpp_types::id_tag_info::IdTagInfo;
+use ocpp_types::moment::Moment;
+use ocpp_types::policy::Policy;
+use ocpp_types::text::Text;
+
+/// The answer to a station's request (OCPP 1.6, section 6).
+#[derive(Debug, PartialEq, Eq, Drop)]
+pub enum Conf {
+    Authorize {
+        id_tag_info: IdTagInfo,
+    },
+    BootNotification {
+        current_time: Moment,
+        /// Seconds between heartbeats, or before the next boot where the status isn't Accepted.
+        interval: u32,
+        status: Policy,
+    },
+    DataTransfer {
+        status: DataTransferStatus,
+        /// The member `data`.
+        content: Option<Text>,
+    },
+    Heartbeat {
+        current_time: Moment,
+    },
+    MeterValues,
+    StartTransaction {
+        id_tag_info: IdTagInfo,
+        transaction_id: u32,
+    },
+    StatusNotification,
+    StopTransaction {
+        id_tag_info: Option<IdTagInfo>,
+    },
+}

@@ -1,0 +1,84 @@
+//! Readings of a meter, as a station sends them.
+ghost use Rattle.std.specs.Prelude.{◌≡◌};
+ghost use Rattle.serde_json.specs.View.{view};
+ghost use Rattle.ocpp_payload.specs.Gives.{Gives};
+
+use crate::fault::ReadError;
+use crate::fields::{optional, required, with_default};
+use crate::kind::{AnyText, NameOf, Time};
+use crate::objects::{Readable, SomeOf};
+use ocpp_types::listed::Listed;
+use ocpp_types::location::Location;
+use ocpp_types::measurand::Measurand;
+use ocpp_types::phase::Phase;
+use ocpp_types::reading_context::ReadingContext;
+use ocpp_types::text::Text;
+use ocpp_types::unit_of_measure::UnitOfMeasure;
+use ocpp_types::value_format::ValueFormat;
+use serde_json::Value;
+use std::alloc::Global;
+
+/// One reading (OCPP 1.6, type SampledValue). What a station left out has the standard's default,
+/// but the unit, which stays out.
+#[derive(Debug, Drop)]
+pub struct SampledValue {
+    pub value: Text,
+    pub context: ReadingContext,
+    pub format: ValueFormat,
+    pub measurand: Measurand,
+    pub phase: Option<Phase>,
+    pub location: Location,
+    pub unit: Option<UnitOfMeasure>,
+}
+
+impl Readable for SampledValue {
+    ghost use Rattle.ocpp_payload.specs.Readings.{sampled_value};
+
+    ghost reads_as = { sampled_value };
+
+    fn read_from(alloc: Global, object: &Value) -> Result<SampledValue, ReadError> {
+        Ok(SampledValue {
+            value: required(alloc, object, "value", AnyText)?,
+            context: with_default(
+                alloc,
+                object,
+                "context",
+                NameOf::new(),
+                ReadingContext::SamplePeriodic,
+            )?,
+            format: with_default(alloc, object, "format", NameOf::new(), ValueFormat::Raw)?,
+            measurand: with_default(
+                alloc,
+                object,
+                "measurand",
+                NameOf::new(),
+                Measurand::EnergyActiveImportRegister,
+            )?,
+            phase: optional(alloc, object, "phase", NameOf::new())?,
+            location: with_default(alloc, object, "location", NameOf::new(), Location::Outlet)?,
+            unit: optional(alloc, object, "unit", NameOf::new())?,
+        })
+    }
+}
+
+/// The readings of one time (OCPP 1.6, type MeterValue).
+#[derive(Debug, Drop)]
+pub struct MeterValue {
+    /// Milliseconds since 1970.
+    pub timestamp: i64,
+    /// One or more.
+    pub sampled_value: Listed<SampledValue>,
+}
+
+impl Readable for MeterValue {
+    ghost use Rattle.ocpp_payload.specs.Readings.{meter_value};
+
+    ghost reads_as = { meter_value };
+
+    fn read_from(alloc: Global, object: &Value) -> Result<MeterValue, ReadError> {
+        Ok(MeterValue {
+            timestamp: required(alloc, object, "timestamp", Time)?,
+            sampled_value: required(alloc, object, "sampledValue", SomeOf::new())?,
+        })
+    }
+}

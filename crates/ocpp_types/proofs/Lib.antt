@@ -1,0 +1,3 @@
+pub mod PrintedTime
+pub mod Sign
+pub mod TextOfTime

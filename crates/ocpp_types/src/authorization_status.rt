@@ -1,0 +1,47 @@
+//! How a central system judges an id tag.
+
+use crate::named::Named;
+
+/// The judgement of an id tag (OCPP 1.6, type AuthorizationStatus).
+#[derive(Clone, Copy, Debug, PartialEq, Eq)]
+pub enum AuthorizationStatus {
+    /// The tag may charge.
+    Accepted,
+    /// The tag, or its parent, is blocked.
+    Blocked,
+    /// The tag is past its expiry.
+    Expired,
+    /// The tag is unknown.
+    Invalid,
+    /// The tag charges elsewhere already.
+    ConcurrentTx,
+}
+
+impl Named for AuthorizationStatus {
+    ghost use Rattle.ocpp_types.specs.AuthorizationStatus.{authorization_status_name, authorization_statuses};
+
+    ghost name_of = { authorization_status_name };
+
+    ghost names = { authorization_statuses };
+
+    fn of(name: &str) -> Option<AuthorizationStatus> {
+        match name {
+            "Accepted" => Some(AuthorizationStatus::Accepted),
+            "Blocked" => Some(AuthorizationStatus::Blocked),
+            "Expired" => Some(AuthorizationStatus::Expired),
+            "Invalid" => Some(AuthorizationStatus::Invalid),
+            "ConcurrentTx" => Some(AuthorizationStatus::ConcurrentTx),
+            _ => None,
+        }
+    }
+
+    fn name(&self) -> &'static str {
+        match self {
+            AuthorizationStatus::Accepted => "Accepted",
+            AuthorizationStatus::Blocked => "Blocked",
+            AuthorizationStatus::Expired => "Expired",
+            AuthorizationStatus::Invalid => "Invalid",
+            AuthorizationStatus::ConcurrentTx => "ConcurrentTx",
+        }
+    }
+}

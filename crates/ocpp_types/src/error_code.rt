@@ -1,0 +1,67 @@
+//! The codes of errors that answer calls.
+
+use crate::named::Named;
+
+/// Why a call is answered with an error (OCPP-J 1.6, section 4.2.3, which spells Occurence so).
+#[derive(Clone, Copy, Debug, PartialEq, Eq, PartialOrd, Ord, Hash)]
+pub enum ErrorCode {
+    /// The action is unknown.
+    NotImplemented,
+    /// The action is known and not supported.
+    NotSupported,
+    /// The call could not be answered as the standard has it.
+    InternalError,
+    /// The payload is incomplete.
+    ProtocolError,
+    /// The call is not allowed in the state of its sender.
+    SecurityError,
+    /// The call is not formed as one.
+    FormationViolation,
+    /// A member is past its length, its range or its enumeration.
+    PropertyConstraintViolation,
+    /// A member that is required is missing.
+    OccurenceConstraintViolation,
+    /// A member has another JSON type, or is no readable time.
+    TypeConstraintViolation,
+    /// Any other error.
+    GenericError,
+}
+
+impl Named for ErrorCode {
+    ghost use Rattle.ocpp_types.specs.ErrorCode.{error_code_name, error_codes};
+
+    ghost name_of = { error_code_name };
+
+    ghost names = { error_codes };
+
+    fn of(name: &str) -> Option<ErrorCode> {
+        match name {
+            "NotImplemented" => Some(ErrorCode::NotImplemented),
+            "NotSupported" => Some(ErrorCode::NotSupported),
+            "InternalError" => Some(ErrorCode::InternalError),
+            "ProtocolError" => Some(ErrorCode::ProtocolError),
+            "SecurityError" => Some(ErrorCode::SecurityError),
+            "FormationViolation" => Some(ErrorCode::FormationViolation),
+            "PropertyConstraintViolation" => Some(ErrorCode::PropertyConstraintViolation),
+            "OccurenceConstraintViolation" => Some(ErrorCode::OccurenceConstraintViolation),
+            "TypeConstraintViolation" => Some(ErrorCode::TypeConstraintViolation),
+            "GenericError" => Some(ErrorCode::GenericError),
+            _ => None,
+        }
+    }
+
+    fn name(&self) -> &'static str {
+        match self {
+            ErrorCode::NotImplemented => "NotImplemented",
+            ErrorCode::NotSupported => "NotSupported",
+            ErrorCode::InternalError => "InternalError",
+            ErrorCode::ProtocolError => "ProtocolError",
+            ErrorCode::SecurityError => "SecurityError",
+            ErrorCode::FormationViolation => "FormationViolation",
+            ErrorCode::PropertyConstraintViolation => "PropertyConstraintViolation",
+            ErrorCode::OccurenceConstraintViolation => "OccurenceConstraintViolation",
+            ErrorCode::TypeConstraintViolation => "TypeConstraintViolation",
+            ErrorCode::GenericError => "GenericError",
+        }
+    }
+}

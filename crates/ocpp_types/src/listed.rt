@@ -1,0 +1,67 @@
+//! Lists that contracts see as their items.
+ghost use Rattle.std.specs.Prelude.{◌≡◌, [], ◌∷◌, ◌++◌, OnOk, OnErr};
+
+use crate::memory::Mem;
+use std::alloc::Global;
+use std::marker::Model;
+
+/// A list. A contract sees it as its items, in order.
+#[derive(Debug, Drop)]
+pub struct Listed<T> {
+    listed: Vec<T>,
+}
+
+impl<T> Model for Listed<T> {
+    ghost use Rattle.std.specs.Prelude.{List};
+
+    ghost Value = { List T };
+
+    ghost view = { λ l. l.listed.items };
+}
+
+impl<T> Listed<T> {
+    /// The empty list, which takes no memory yet.
+    pub fn new(alloc: Global) -> Listed<T>
+        ensures { result ≡ [] }
+    {
+        Listed {
+            listed: Vec::new(alloc),
+        }
+    }
+
+    /// The items, lent.
+    pub fn as_slice(&self) -> &[T]
+        ensures { result.now ≡ self.now }
+    {
+        self.listed.as_slice()
+    }
+
+    /// The items as a `Vec`, which takes no memory.
+    pub fn into_vec(self) -> Vec<T>
+        ensures { result.items ≡ self }
+    {
+        self.listed
+    }
+}
+
+impl<T: Drop> Listed<T> {
+    /// Adds an item at the end. Without memory for it the list stays as it was.
+    pub fn push(&mut self, item: T) -> Mem<()>
+        ensures ok { OnOk result (self.new ≡ self.old ++ item ∷ []) }
+        ensures err { OnErr result (self.new ≡ self.old) }
+    {
+        self.listed.push(item)?;
+        Ok(())
+    }
+}
+
+/// Takes no memory.
+impl<T> From<Vec<T>> for Listed<T> {
+    ghost from_gives = { λ items list. list ≡ items.items };
+
+    fn from(items: Vec<T>) -> Listed<T>
+        ensures { result ≡ items.items }
+    {
+        Listed { listed: items }
+    }
+}

@@ -1,0 +1,24 @@
+//! The one error of what needs memory and nothing else.
+
+use std::alloc::{AllocError, AllocFailed};
+use thiserror::Error;
+
+/// The allocator refused memory. The call that answers this has changed nothing.
+#[derive(Clone, Copy, Debug, PartialEq, Eq, Drop, Error)]
+#[error("out of memory")]
+pub struct NoMemory;
+
+/// The result of a call that fails for want of memory alone.
+pub type Mem<T> = Result<T, NoMemory>;
+
+impl From<AllocError> for NoMemory {
+    fn from(_refused: AllocError) -> NoMemory {
+        NoMemory
+    }
+}
+
+impl<T: Drop> From<AllocFailed<T>> for NoMemory {
+    fn from(_refused: AllocFailed<T>) -> NoMemory {
+        NoMemory
+    }
+}

@@ -1,0 +1,5 @@
+pub mod Allowed
+pub mod Boot
+pub mod PolicySet
+pub mod StationAdded
+pub mod Status

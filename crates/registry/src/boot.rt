@@ -1,0 +1,96 @@
+//! Boots and heartbeats (OCPP 1.6, sections 4.2 and 4.6; docs/RULES.md, Boots and policies).
+ghost use Rattle.std.specs.Prelude.{◌≡◌, ◌≤◌, IfOk, IfErr};
+ghost use Rattle.hub_rows.specs.Failures.{Rose};
+ghost use Rattle.hub_rows.specs.Lookups.{lookups_at};
+ghost use Rattle.registry.specs.Boot.{boot_rule, boot_of, heartbeat_rule, state_after};
+
+use crate::decision::{Decision, Reply};
+use hub_rows::change::Edit;
+use hub_rows::station_row::{Boot, Registration};
+use hub_rows::store::{Store, StoreFault};
+use ocpp_payload::conf::Conf;
+use ocpp_types::boot_notification::BootNotification;
+use ocpp_types::error_code::ErrorCode;
+use ocpp_types::memory::Mem;
+use ocpp_types::moment::Moment;
+use ocpp_types::policy::Policy;
+use ocpp_types::state::State;
+use ocpp_types::text::Text;
+use std::alloc::Global;
+
+/// A boot of a station is answered with the moment, the station's interval and its policy, which
+/// is its state from then on. Its texts take the place of those of the boot before. A station
+/// that isn't registered gets InternalError.
+pub fn on_boot<S: Store>(
+    alloc: Global,
+    store: &mut S,
+    op: &str,
+    station: &str,
+    texts: BootNotification,
+    moment: Moment,
+) -> Result<Decision, StoreFault>
+    ensures was_clean { S.clean store.new → S.clean store.old }
+    ensures decision { S.clean store.new → IfOk result (λ d. d
+        ≡ boot_rule station.now texts moment (lookups_at op.now (S.rows store.old))) }
+    ensures rows { S.clean store.new → S.rows store.new ≡ S.rows store.old }
+    ensures failed { IfErr result (λ fault. fault ≡ StoreFault.Failed
+        → Rose (S.failures store.old) (S.failures store.new)) }
+    ensures count { S.failures store.old ≤ S.failures store.new }
+{
+    let registration = store.station(op, station)?;
+    Ok(boot_of(alloc, station, texts, moment, registration)?)
+}
+
+fn boot_of(
+    alloc: Global,
+    station: &str,
+    texts: BootNotification,
+    moment: Moment,
+    registration: Option<Registration>,
+) -> Mem<Decision>
+    ensures { IfOk result (λ d. d ≡ boot_of station.now texts moment registration) }
+{
+    let Some(registration) = registration else {
+        return Ok(Decision {
+            reply: Reply::Error(ErrorCode::InternalError),
+            change: None,
+        });
+    };
+    let station = Text::copy_of(alloc, station)?;
+    let reply = Conf::BootNotification {
+        current_time: moment,
+        interval: registration.interval,
+        status: registration.policy,
+    };
+    let change = Edit::BootSeen {
+        station,
+        boot: Boot { texts, moment },
+        state: state_after(registration.policy),
+    };
+    Ok(Decision {
+        reply: Reply::Conf(reply),
+        change: Some(change),
+    })
+}
+
+fn state_after(policy: Policy) -> State
+    ensures { result ≡ state_after policy }
+{
+    match policy {
+        Policy::Accepted => State::Accepted,
+        Policy::Pending => State::Pending,
+        Policy::Rejected => State::Rejected,
+    }
+}
+
+/// A heartbeat is answered with the moment, and changes nothing.
+pub fn on_heartbeat(moment: Moment) -> Decision
+    ensures { result ≡ heartbeat_rule moment }
+{
+    Decision {
+        reply: Reply::Conf(Conf::Heartbeat {
+            current_time: moment,
+        }),
+        change: None,
+    }
+}

@@ -1,0 +1,22 @@
+//! What a rule decides.
+
+use hub_rows::change::Edit;
+use ocpp_payload::conf::Conf;
+use ocpp_types::error_code::ErrorCode;
+
+/// What a station's request is answered, and what it changes.
+#[derive(Debug, Drop)]
+pub struct Decision {
+    pub reply: Reply,
+    /// A change of the records of the station's operator.
+    pub change: Option<Edit>,
+}
+
+/// The answer to a request.
+#[derive(Debug, Drop)]
+pub enum Reply {
+    /// The answer of the action.
+    Conf(Conf),
+    /// An error, with no description and no details.
+    Error(ErrorCode),
+}

@@ -1,0 +1,76 @@
+//! Policies of stations (docs/RULES.md, Boots and policies).
+ghost use Rattle.std.specs.Prelude.{◌≡◌, ◌≤◌, IfOk, IfErr};
+ghost use Rattle.hub_rows.specs.Failures.{Rose};
+ghost use Rattle.hub_rows.specs.Lookups.{lookups_at};
+ghost use Rattle.registry.specs.PolicySet.{is_kept_from, is_rejected, policy_rule};
+
+use crate::station_added::MAX_INTERVAL;
+use hub_rows::change::Edit;
+use hub_rows::store::{Store, StoreFault};
+use ocpp_types::field_name::FieldName;
+use ocpp_types::policy::Policy;
+use ocpp_types::refusal::Refusal;
+use ocpp_types::text::Text;
+use std::alloc::Global;
+
+/// The edit that sets what a station's next boot is answered, or the first refusal that applies:
+/// NoSuchStation, BadField `interval` past 86400 seconds, HasOpenTransactions where the policy is
+/// Rejected and a transaction of the station is open. The station's state stays as it is.
+pub fn plan_policy<S: Store>(
+    alloc: Global,
+    store: &mut S,
+    op: &str,
+    station: &str,
+    policy: Policy,
+    interval: u64,
+) -> Result<Result<Edit, Refusal>, StoreFault>
+    ensures was_clean { S.clean store.new → S.clean store.old }
+    ensures plan { S.clean store.new → IfOk result (λ p. p
+        ≡ policy_rule station.now policy interval (lookups_at op.now (S.rows store.old))) }
+    ensures rows { S.clean store.new → S.rows store.new ≡ S.rows store.old }
+    ensures failed { IfErr result (λ fault. fault ≡ StoreFault.Failed
+        → Rose (S.failures store.old) (S.failures store.new)) }
+    ensures count { S.failures store.old ≤ S.failures store.new }
+{
+    if store.station(op, station)?.is_none() {
+        return Ok(Err(Refusal::NoSuchStation));
+    }
+    if interval > MAX_INTERVAL as u64 {
+        return Ok(Err(Refusal::BadField(FieldName::new("interval"))));
+    }
+    if is_kept_from(store, op, station, policy)? {
+        return Ok(Err(Refusal::HasOpenTransactions));
+    }
+    Ok(Ok(Edit::PolicySet {
+        station: Text::copy_of(alloc, station)?,
+        policy,
+        interval: interval as u32,
+    }))
+}
+
+/// Whether an open transaction of a station keeps it from that policy.
+fn is_kept_from<S: Store>(
+    store: &mut S,
+    op: &str,
+    station: &str,
+    policy: Policy,
+) -> Result<bool, StoreFault>
+    ensures was_clean { S.clean store.new → S.clean store.old }
+    ensures found { S.clean store.new → IfOk result (λ k. k
+        ≡ is_kept_from station.now policy (lookups_at op.now (S.rows store.old))) }
+    ensures rows { S.clean store.new → S.rows store.new ≡ S.rows store.old }
+    ensures failed { IfErr result (λ fault. fault ≡ StoreFault.Failed
+        → Rose (S.failures store.old) (S.failures store.new)) }
+    ensures count { S.failures store.old ≤ S.failures store.new }
+{
+    if is_rejected(policy) {
+        return store.has_open(op, station);
+    }
+    Ok(false)
+}
+
+fn is_rejected(policy: Policy) -> bool
+    ensures { result ≡ is_rejected policy }
+{
+    matches!(policy, Policy::Rejected)
+}

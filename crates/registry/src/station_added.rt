@@ -1,0 +1,72 @@
+//! New stations (docs/RULES.md, Boots and policies).
+ghost use Rattle.std.specs.Prelude.{◌≡◌, ◌≤◌, ◌&&◌, nat_le, IfOk, IfErr};
+ghost use Rattle.std.specs.List.{list_all};
+ghost use Rattle.hub_rows.specs.Failures.{Rose};
+ghost use Rattle.hub_rows.specs.Lookups.{lookups_at};
+ghost use Rattle.registry.specs.StationAdded.{add_rule, is_station_name};
+
+use hub_rows::change::Edit;
+use hub_rows::store::{Store, StoreFault};
+use ocpp_types::field_name::FieldName;
+use ocpp_types::policy::Policy;
+use ocpp_types::refusal::Refusal;
+use ocpp_types::text::Text;
+use std::alloc::Global;
+
+/// The greatest interval in seconds.
+pub const MAX_INTERVAL: u32 = 86400;
+
+/// The greatest number of characters of a station's name.
+pub const MAX_STATION: usize = 48;
+
+/// The edit that adds a station, or the first refusal that applies: BadField `station` for a name
+/// that isn't 1 to 48 characters from `!` to `~`, BadField `interval` past 86400 seconds, and
+/// StationExists.
+pub fn plan_add<S: Store>(
+    alloc: Global,
+    store: &mut S,
+    op: &str,
+    station: &str,
+    policy: Policy,
+    interval: u64,
+) -> Result<Result<Edit, Refusal>, StoreFault>
+    ensures was_clean { S.clean store.new → S.clean store.old }
+    ensures plan { S.clean store.new → IfOk result (λ p. p
+        ≡ add_rule station.now policy interval (lookups_at op.now (S.rows store.old))) }
+    ensures rows { S.clean store.new → S.rows store.new ≡ S.rows store.old }
+    ensures failed { IfErr result (λ fault. fault ≡ StoreFault.Failed
+        → Rose (S.failures store.old) (S.failures store.new)) }
+    ensures count { S.failures store.old ≤ S.failures store.new }
+{
+    if !is_station_name(station) {
+        return Ok(Err(Refusal::BadField(FieldName::new("station"))));
+    }
+    if interval > MAX_INTERVAL as u64 {
+        return Ok(Err(Refusal::BadField(FieldName::new("interval"))));
+    }
+    if store.station(op, station)?.is_some() {
+        return Ok(Err(Refusal::StationExists));
+    }
+    Ok(Ok(Edit::StationAdded {
+        station: Text::copy_of(alloc, station)?,
+        policy,
+        interval: interval as u32,
+    }))
+}
+
+/// Whether a text can be the name of a station.
+fn is_station_name(text: &str) -> bool
+    ensures { result ≡ is_station_name text.now }
+{
+    let bytes = text.as_bytes();
+    if bytes.len() < 1 || MAX_STATION < bytes.len() {
+        return false;
+    }
+    are_visible(bytes)
+}
+
+fn are_visible(bytes: &[u8]) -> bool
+    ensures { result ≡ list_all (λ c. nat_le 33 c && nat_le c 126) bytes.now }
+{
+    bytes.iter().all(|byte| b'!' <= *byte && *byte <= b'~')
+}

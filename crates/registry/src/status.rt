@@ -1,0 +1,66 @@
+//! Reports on connectors (OCPP 1.6, section 4.9; docs/RULES.md, Connectors).
+ghost use Rattle.std.specs.Prelude.{◌≡◌, ◌≤◌, IfOk, IfErr};
+ghost use Rattle.hub_rows.specs.Failures.{Rose};
+ghost use Rattle.hub_rows.specs.Lookups.{lookups_at};
+ghost use Rattle.registry.specs.Status.{status_rule, report_of};
+
+use crate::decision::{Decision, Reply};
+use hub_rows::change::Edit;
+use hub_rows::connector_row::ConnectorReport;
+use hub_rows::store::{Store, StoreFault};
+use ocpp_payload::conf::Conf;
+use ocpp_payload::request::StatusNotification;
+use ocpp_types::error_code::ErrorCode;
+use ocpp_types::moment::Moment;
+use ocpp_types::text::Text;
+use std::alloc::Global;
+
+/// A report on a connector takes the place of the one before. It is of the time that was sent
+/// with it, or else of the moment. A station that isn't registered gets InternalError.
+pub fn on_status<S: Store>(
+    alloc: Global,
+    store: &mut S,
+    op: &str,
+    station: &str,
+    request: StatusNotification,
+    moment: Moment,
+) -> Result<Decision, StoreFault>
+    ensures was_clean { S.clean store.new → S.clean store.old }
+    ensures decision { S.clean store.new → IfOk result (λ d. d
+        ≡ status_rule station.now request moment (lookups_at op.now (S.rows store.old))) }
+    ensures rows { S.clean store.new → S.rows store.new ≡ S.rows store.old }
+    ensures failed { IfErr result (λ fault. fault ≡ StoreFault.Failed
+        → Rose (S.failures store.old) (S.failures store.new)) }
+    ensures count { S.failures store.old ≤ S.failures store.new }
+{
+    if store.station(op, station)?.is_none() {
+        return Ok(Decision {
+            reply: Reply::Error(ErrorCode::InternalError),
+            change: None,
+        });
+    }
+    let connector = request.connector_id;
+    let change = Edit::ConnectorSeen {
+        station: Text::copy_of(alloc, station)?,
+        connector,
+        report: report_of(request, moment),
+    };
+    Ok(Decision {
+        reply: Reply::Conf(Conf::StatusNotification),
+        change: Some(change),
+    })
+}
+
+/// What a request reports.
+fn report_of(request: StatusNotification, moment: Moment) -> ConnectorReport
+    ensures { result ≡ report_of request moment }
+{
+    ConnectorReport {
+        status: request.status,
+        error_code: request.error_code,
+        at: request.timestamp.unwrap_or(moment.seconds() as i64 * 1000),
+        info: request.info,
+        vendor_id: request.vendor_id,
+        vendor_error_code: request.vendor_error_code,
+    }
+}

@@ -1,0 +1,109 @@
+//! The answers to lines.
+ghost use Rattle.std.specs.Prelude.{◌≡◌, ◌+◌, ◌++◌, ◌<◌, ◌-◌, ◌^◌, List, ℕ, OnOk, OnErr};
+ghost use Rattle.hub.specs.Hub.{world, setting};
+ghost use Rattle.hub.specs.World.{world_outputs, world_step};
+ghost use Rattle.ws_server.specs.InputLines.{spelled};
+ghost use Rattle.ws_server.specs.OutputLines.{line_of};
+ghost use Rattle.replay.specs.Run.{Begins, ended, answer, after, told_lines, bad_line};
+
+use crate::fault::LineFault;
+use hub::event::Event;
+use hub::hub::Hub;
+use hub::out::Out;
+use hub::vendor::VendorHandler;
+use hub_rows::store::Store;
+use std::alloc::{AllocError, Global};
+use ws_server::lines::printing::print_out;
+use ws_server::lines::reading::{Line, read_line};
+
+/// The number of the next line, and the text that is still to be written.
+#[derive(Drop)]
+pub struct Answers {
+    pub number: u64,
+    pub text: Vec<u8>,
+}
+
+#[tactic(auto, using(crate::proofs::Facts::begins))]
+impl Answers {
+    /// Answers the next line.
+    pub fn line<S: Store + Drop, V: VendorHandler>(
+        &mut self,
+        alloc: Global,
+        hub: &mut Hub<S, V>,
+        raw: &[u8],
+    ) -> Result<(), LineFault>
+        requires { self.old.number < 2 ^ 64 - 1 }
+        ensures number { OnOk result (self.new.number ≡ self.old.number + 1) }
+        ensures was_clean { S.clean hub.new.book.store → S.clean hub.old.book.store }
+        ensures setting { setting V.name V.gives hub.new ≡ setting V.name V.gives hub.old }
+        ensures world { S.clean hub.new.book.store → OnOk result (world S.rows hub.new
+            ≡ after (setting V.name V.gives hub.old) (world S.rows hub.old) (spelled (setting V.name V.gives hub.old).hosted raw.now)) }
+        ensures text { S.clean hub.new.book.store → OnOk result (self.new.text.items ≡ self.old.text.items
+            ++ answer (setting V.name V.gives hub.old) (world S.rows hub.old) self.old.number (spelled (setting V.name V.gives hub.old).hosted raw.now)) }
+        ensures fault { S.clean hub.new.book.store → OnErr result (Begins self.new.text.items (self.old.text.items
+            ++ answer (setting V.name V.gives hub.old) (world S.rows hub.old) self.old.number (spelled (setting V.name V.gives hub.old).hosted raw.now))) }
+    {
+        match read_line(alloc, hub.hosted(), raw)? {
+            Line::Nothing => {}
+            Line::Event(event) => self.event(alloc, hub, &event)?,
+            Line::Bad => push_bad(&mut self.text, alloc, self.number)?,
+        }
+        self.number += 1;
+        Ok(())
+    }
+
+    /// Answers an event.
+    fn event<S: Store + Drop, V: VendorHandler>(
+        &mut self,
+        alloc: Global,
+        hub: &mut Hub<S, V>,
+        event: &Event,
+    ) -> Result<(), LineFault>
+        ensures number { self.new.number ≡ self.old.number }
+        ensures was_clean { S.clean hub.new.book.store → S.clean hub.old.book.store }
+        ensures setting { setting V.name V.gives hub.new ≡ setting V.name V.gives hub.old }
+        ensures world { S.clean hub.new.book.store → OnOk result (world S.rows hub.new
+            ≡ world_step (setting V.name V.gives hub.old) (world S.rows hub.old) event.now) }
+        ensures text { S.clean hub.new.book.store → OnOk result (self.new.text.items ≡ self.old.text.items
+            ++ told_lines (world_outputs (setting V.name V.gives hub.old) (world S.rows hub.old) event.now)) }
+        ensures fault { S.clean hub.new.book.store → OnErr result (Begins self.new.text.items (self.old.text.items
+            ++ told_lines (world_outputs (setting V.name V.gives hub.old) (world S.rows hub.old) event.now))) }
+    {
+        let outs = hub.handle(event)?;
+        push_all(&mut self.text, alloc, outs.as_slice())?;
+        Ok(())
+    }
+}
+
+/// Adds a bad line's answer.
+pub fn push_bad(text: &mut Vec<u8>, alloc: Global, number: u64) -> Result<(), AllocError>
+    ensures ok { OnOk result (text.new.items ≡ text.old.items ++ bad_line number) }
+    ensures err { OnErr result (text.new.items ≡ text.old.items) }
+{
+    let line = format!(in alloc; "bad line {number}\n")?;
+    text.extend_from_slice(line.as_bytes())?;
+    Ok(())
+}
+
+/// Adds the lines of outputs.
+#[tactic(auto, using(crate::proofs::Facts::front_of))]
+fn push_all(text: &mut Vec<u8>, alloc: Global, outs: &[Out]) -> Result<(), LineFault>
+    ensures ok { OnOk result (text.new.items ≡ text.old.items ++ told_lines outs.now) }
+    ensures err { OnErr result (Begins text.new.items (text.old.items ++ told_lines outs.now)) }
+{
+    for out in outs {
+        push_line(text, alloc, out)?;
+    }
+    Ok(())
+}
+
+/// Adds an output's line, or nothing.
+fn push_line(text: &mut Vec<u8>, alloc: Global, out: &Out) -> Result<(), LineFault>
+    ensures ok { OnOk result (text.new.items ≡ text.old.items ++ ended (line_of out.now)) }
+    ensures err { OnErr result (text.new.items ≡ text.old.items) }
+{
+    let mut line = print_out(alloc, out)?;
+    line.push('\n')?;
+    text.extend_from_slice(line.as_bytes())?;
+    Ok(())
+}

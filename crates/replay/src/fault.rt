@@ -1,0 +1,84 @@
+//! Why a replay ends before its input.
+ghost use Rattle.std.specs.Prelude.{◌≡◌, ◌≢◌};
+ghost use Rattle.replay.specs.declared.fault.ReplayFault.TheVariants.{TooLong, BadOperators};
+
+use hub::fault::Fault;
+use ocpp_types::memory::NoMemory;
+use std::alloc::AllocError;
+use thiserror::Error;
+
+/// Why a replay ended before its input. What was written is a front of what the whole input is
+/// answered.
+#[derive(Clone, Copy, Debug, PartialEq, Eq, Drop, Error)]
+pub enum ReplayFault {
+    #[error("NoMemory")]
+    NoMemory,
+    /// The store failed.
+    #[error("Store")]
+    Store,
+    /// These operators can't be hosted.
+    #[error("BadOperators")]
+    BadOperators,
+    /// The reader answered an error.
+    #[error("Read")]
+    Read,
+    /// The writer answered an error, or took no byte.
+    #[error("Write")]
+    Write,
+    /// The input didn't end within the bound.
+    #[error("TooLong")]
+    TooLong,
+}
+
+/// Why a line wasn't answered, or its answer not written.
+#[derive(Debug, Drop, Error)]
+pub enum LineFault {
+    #[error("NoMemory")]
+    NoMemory,
+    #[error("Store")]
+    Store,
+    #[error("Write")]
+    Write,
+}
+
+impl From<NoMemory> for LineFault {
+    fn from(_refused: NoMemory) -> LineFault {
+        LineFault::NoMemory
+    }
+}
+
+impl From<AllocError> for LineFault {
+    fn from(_refused: AllocError) -> LineFault {
+        LineFault::NoMemory
+    }
+}
+
+impl From<Fault> for LineFault {
+    fn from(fault: Fault) -> LineFault {
+        match fault {
+            Fault::NoMemory => LineFault::NoMemory,
+            // An event that was read from a line is of a hosted operator.
+            Fault::Store | Fault::NoSuchOperator => LineFault::Store,
+        }
+    }
+}
+
+impl From<LineFault> for ReplayFault {
+    ghost from_gives = { λ _ e. (e ≢ TooLong) × (e ≢ BadOperators) };
+
+    fn from(fault: LineFault) -> ReplayFault {
+        match fault {
+            LineFault::NoMemory => ReplayFault::NoMemory,
+            LineFault::Store => ReplayFault::Store,
+            LineFault::Write => ReplayFault::Write,
+        }
+    }
+}
+
+impl From<AllocError> for ReplayFault {
+    ghost from_gives = { λ _ e. (e ≢ TooLong) × (e ≢ BadOperators) };
+
+    fn from(_refused: AllocError) -> ReplayFault {
+        ReplayFault::NoMemory
+    }
+}

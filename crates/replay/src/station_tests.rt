@@ -1,0 +1,108 @@
+//! Worked scripts: connectors, vendors' messages and policies.
+
+use crate::tests::{BOOTED, BOOTED_OUTPUT, check};
+use std::test::Fail;
+
+#[test]
+fn answers_messages_of_vendors(rt: HostRuntime) -> Result<(), Fail> {
+    check(
+        &rt,
+        rt.alloc(),
+        &[
+            BOOTED,
+            r#"1704067200 ACME frame CP01 [2,"3","DataTransfer",{"vendorId":"org.example.echo","data":"x"}]
+1704067200 ACME frame CP01 [2,"4","DataTransfer",{"vendorId":"org.example.echo","messageId":"other","data":"x"}]
+1704067200 ACME frame CP01 [2,"5","DataTransfer",{"vendorId":"V"}]
+"#,
+        ],
+        &[
+            BOOTED_OUTPUT,
+            r#"ACME CP01 send [3,"3",{"data":"x","status":"Accepted"}]
+ACME CP01 send [3,"4",{"status":"UnknownMessageId"}]
+ACME CP01 send [3,"5",{"status":"UnknownVendorId"}]
+"#,
+        ],
+    )
+}
+
+#[test]
+fn sets_no_policy_of_an_unknown_station(rt: HostRuntime) -> Result<(), Fail> {
+    check(
+        &rt,
+        rt.alloc(),
+        &[
+            BOOTED,
+            r#"1704067200 ACME station policy CP09 Pending 60
+"#,
+        ],
+        &[
+            BOOTED_OUTPUT,
+            r#"ACME refused 1 NoSuchStation
+"#,
+        ],
+    )
+}
+
+#[test]
+fn reads_reports_on_connectors(rt: HostRuntime) -> Result<(), Fail> {
+    check(
+        &rt,
+        rt.alloc(),
+        &[
+            BOOTED,
+            r#"1704067200 ACME frame CP01 [2,"3","StatusNotification",{"connectorId":1,"errorCode":"NoError","status":"Available"}]
+1704067200 ACME frame CP01 [2,"3","StatusNotification",{"connectorId":1,"errorCode":"NoError","status":"Occupied"}]
+1704067200 ACME frame CP01 [2,"3","StatusNotification",{"connectorId":256,"errorCode":"NoError","status":"Available"}]
+1704067200 ACME frame CP01 [2,"3","StatusNotification",{"connectorId":1.0,"errorCode":"NoError","status":"Available"}]
+1704067200 ACME frame CP01 [2,"3","StatusNotification",{"connectorId":"1","errorCode":"NoError","status":"Available"}]
+1704067200 ACME frame CP01 [2,"3","StatusNotification",{"connectorId":1,"errorCode":"NoError","status":"Available","timestamp":"noon"}]
+1704067200 ACME frame CP01 [2,"3","StatusNotification",{"connectorId":1}]
+"#,
+        ],
+        &[
+            BOOTED_OUTPUT,
+            r#"ACME CP01 send [3,"3",{}]
+ACME CP01 send [4,"3","PropertyConstraintViolation","status",{}]
+ACME CP01 send [4,"3","PropertyConstraintViolation","connectorId",{}]
+ACME CP01 send [4,"3","TypeConstraintViolation","connectorId",{}]
+ACME CP01 send [4,"3","TypeConstraintViolation","connectorId",{}]
+ACME CP01 send [4,"3","TypeConstraintViolation","timestamp",{}]
+ACME CP01 send [4,"3","OccurenceConstraintViolation","errorCode",{}]
+"#,
+        ],
+    )
+}
+
+#[test]
+fn a_policy_works_from_the_next_boot(rt: HostRuntime) -> Result<(), Fail> {
+    check(
+        &rt,
+        rt.alloc(),
+        &[
+            BOOTED,
+            r#"1704067200 ACME station policy CP01 Rejected 86401
+1704067200 ACME station policy CP01 Pending 60
+1704067200 ACME frame CP01 [2,"3","Heartbeat",{}]
+1704067200 ACME frame CP01 [2,"4","BootNotification",{"chargePointVendor":"V","chargePointModel":"M"}]
+1704067200 ACME frame CP01 [2,"5","StatusNotification",{"connectorId":0,"errorCode":"NoError","status":"Available"}]
+1704067200 ACME station policy CP01 Rejected 7
+1704067200 ACME frame CP01 [2,"6","BootNotification",{"chargePointVendor":"V","chargePointModel":"M"}]
+1704067200 ACME frame CP01 [2,"7","DataTransfer",{"vendorId":"V"}]
+1704067200 BETA station policy CP01 Pending 60
+"#,
+        ],
+        &[
+            BOOTED_OUTPUT,
+            r#"ACME refused 12 BadField interval
+ACME ok
+ACME CP01 send [3,"3",{"currentTime":"2024-01-01T00:00:00Z"}]
+ACME CP01 send [3,"4",{"currentTime":"2024-01-01T00:00:00Z","interval":60,"status":"Pending"}]
+ACME CP01 send [3,"5",{}]
+ACME ok
+ACME CP01 send [3,"6",{"currentTime":"2024-01-01T00:00:00Z","interval":7,"status":"Rejected"}]
+ACME CP01 send [4,"7","SecurityError","",{}]
+BETA refused 1 NoSuchStation
+"#,
+        ],
+    )
+}

@@ -1,0 +1,70 @@
+//! Writing text out.
+ghost use Rattle.std.specs.Prelude.{◌≡◌, ◌++◌, List, [], ℕ, Option, OnOk, OnErr, length};
+ghost use Rattle.std.specs.Io.KnownBytes.{Appends};
+ghost use Rattle.replay.specs.Run.{AppendsFront, Stands, Falls};
+
+use crate::fault::LineFault;
+use std::io::Write;
+
+/// Writes the text, and leaves none of it.
+#[tactic(auto, using(crate::proofs::Facts::stands_front, crate::proofs::Facts::stands_more))]
+pub fn write_out<W: Write>(text: &mut Vec<u8>, writer: &mut W) -> Result<(), LineFault>
+    ensures empty { text.new.items ≡ [] }
+    ensures ok { OnOk result ((start : Option (List ℕ)) (ahead whole : List ℕ) →
+        Stands start (W.contents writer.old) (text.old.items ++ ahead) whole →
+        Stands start (W.contents writer.new) ahead whole) }
+    ensures fault { OnErr result ((start : Option (List ℕ)) (ahead whole : List ℕ) →
+        Stands start (W.contents writer.old) (text.old.items ++ ahead) whole →
+        Falls start (W.contents writer.new) text.new.items whole) }
+{
+    let result = write_slice(text.as_slice(), writer);
+    text.clear();
+    result
+}
+
+/// Writes of the text what can be written.
+#[tactic(auto, using(crate::proofs::Facts::stands_part, crate::proofs::Facts::falls_part))]
+pub fn write_last<W: Write>(text: &mut Vec<u8>, writer: &mut W)
+    ensures { (start : Option (List ℕ)) (ahead whole : List ℕ) →
+        Stands start (W.contents writer.old) (text.old.items ++ ahead) whole →
+        AppendsFront start (W.contents writer.new) whole }
+{
+    match write_out(text, writer) {
+        Ok(()) => {}
+        Err(_) => {}
+    }
+}
+
+const ENOUGH: usize = 65_536;
+
+/// Writes the text, if it is long.
+pub fn write_if_long<W: Write>(text: &mut Vec<u8>, writer: &mut W) -> Result<(), LineFault>
+    ensures ok { OnOk result ((start : Option (List ℕ)) (ahead whole : List ℕ) →
+        Stands start (W.contents writer.old) (text.old.items ++ ahead) whole →
+        Stands start (W.contents writer.new) (text.new.items ++ ahead) whole) }
+    ensures fault { OnErr result ((start : Option (List ℕ)) (ahead whole : List ℕ) →
+        Stands start (W.contents writer.old) (text.old.items ++ ahead) whole →
+        Falls start (W.contents writer.new) text.new.items whole) }
+{
+    if text.len() < ENOUGH {
+        return Ok(());
+    }
+    write_out(text, writer)
+}
+
+/// Writes the text.
+#[tactic(auto, using(crate::proofs::Facts::wrote_none, crate::proofs::Facts::wrote_more, crate::proofs::Facts::wrote_front, crate::proofs::Facts::wrote_all))]
+fn write_slice<W: Write>(text: &[u8], writer: &mut W) -> Result<(), LineFault>
+    ensures ok { OnOk result (Appends (W.contents writer.old) (W.contents writer.new) text.now) }
+    ensures fault { OnErr result (AppendsFront (W.contents writer.old) (W.contents writer.new) text.now) }
+{
+    let mut rest = text;
+    while !rest.is_empty() {
+        match writer.write(rest) {
+            Ok(0) => return Err(LineFault::Write),
+            Ok(n) => rest = rest.split_at(n).1,
+            Err(_) => return Err(LineFault::Write),
+        }
+    }
+    Ok(())
+}

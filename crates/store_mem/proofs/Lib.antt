@@ -1,0 +1,4 @@
+pub mod Kept
+pub mod ShelfLaws
+pub mod OpenLaws
+pub mod NewRows

@@ -1,0 +1,108 @@
+-- New rows of one station, behind those that it has.
+use Rattle.std.specs.Prelude.{◌≡◌, ℕ, ◌+◌, ◌<◌, ◌≤◌, List, [], ◌∷◌, length, map, Bool, true, false, cond, ◌&&◌, Option, Some, None}
+use Rattle.std.specs.List.{AllByRecursion}
+use Rattle.std.specs.List.Sorted.{IsStrictlySortedBy}
+use Rattle.std.specs.Str.{bytes_eq}
+use Rattle.std.specs.declared.cmp.Ordering.TheVariants.{Less}
+use Rattle.std.proofs.Common.{refl, sym, ◌∙◌, ap, subst, arith, ⊎_elim}
+use Rattle.hub_rows.specs.declared.tx_row.TxRow.{TxRow}
+use Rattle.hub_rows.specs.declared.reading_row.Reading.{Reading}
+use Rattle.hub_rows.specs.declared.reading_row.ReadingRow.{ReadingRow}
+use Rattle.hub_rows.specs.Keyed.{by_key, put, put_all, those, greatest}
+use Rattle.hub_rows.specs.Rows.{tx_key}
+use Rattle.hub_rows.specs.Transactions.{counts, reading_rows, readings_in, AreNext}
+use Rattle.hub_rows.proofs.ListLaws.{all-weaker}
+use Rattle.store_mem.specs.declared.open.OpenRow.{OpenRow}
+use Rattle.store_mem.specs.Open.{open_key, open_of, opens_of}
+use Rattle.store_mem.specs.Shelves.{number_key, AreOf}
+use Rattle.store_mem.proofs.ShelfLaws.{number-less}
+use Rattle.store_mem.proofs.OpenLaws.{is_new, opens-put}
+
+-- numbers that follow the last are above it
+pub follows-above : (last first count : ℕ) → 1 ≤ count → AreNext last first count → last < first
+follows-above last first count some next =
+    ⊎_elim (λ none. absurd (omega (arith, none, some))) (λ follow. let from = follow.from_one in ⊎_elim (λ zero. omega (arith, zero, from)) (λ more. omega (arith, more)) follow.next) next
+
+-- ---- one transaction
+
+abbrev pub last_of : List ℕ → List ℕ → List TxRow → ℕ
+last_of b st txs = greatest (map (λ x. x.number) (those (λ x. x.op) b (λ x. bytes_eq x.station st) txs))
+
+pub one_tx : (b st o s : List ℕ) (r : TxRow) (rows : List TxRow) → rows ≡ r ∷ [] → r.op ≡ b → r.station ≡ st → o ≡ b → s ≡ st → AreOf (λ x. x.op) (λ x. x.station) (λ x. x.number) o s rows
+unfolding IsStrictlySortedBy
+one_tx b st o s r rows are its_op its_station same_op same_station =
+    subst (AreOf (λ x. x.op) (λ x. x.station) (λ x. x.number) o s) (sym are) (record { mine = ((its_op ∙ sym same_op, its_station ∙ sym same_station), tt); sorted = (tt, tt) })
+
+pub one_behind : (b st o s : List ℕ) (r : TxRow) (rows txs : List TxRow) → rows ≡ r ∷ [] → o ≡ b → s ≡ st → last_of b st txs < r.number → AllByRecursion (λ x. last_of o s txs < x.number) rows
+one_behind b st o s r rows txs are same_op same_station below =
+    subst (AllByRecursion (λ x. last_of o s txs < x.number)) (sym are) (subst (λ p. last_of p s txs < r.number) (sym same_op) (subst (λ q. last_of b q txs < r.number) (sym same_station) below), tt)
+
+-- what its tag's use makes of the list of uses
+is_some_of : (t : Bool) (x o : OpenRow) → Some o ≡ cond t (Some x) None → (t ≡ true) × (o ≡ x)
+is_some_of true x o e = (refl, same x o e)
+  where
+    same : (x o : OpenRow) → Some o ≡ Some x → o ≡ x
+    same x o e = cc
+is_some_of false x o e = absurd (cc)
+
+is_none_of : (t : Bool) (x : OpenRow) → None ≡ cond t (Some x) None → t ≡ false
+is_none_of true x e = absurd (cc)
+is_none_of false x e = refl
+
+module _ (b st : List ℕ) (r : TxRow) (txs rows now : List TxRow) (opens : List OpenRow) (its_op : r.op ≡ b) (its_station : r.station ≡ st) (are : rows ≡ r ∷ []) (more : now ≡ put_all (by_key tx_key) rows txs)
+    (sorted : IsStrictlySortedBy (by_key tx_key) txs) (below : last_of b st txs < r.number) (in_use : opens ≡ opens_of txs) where
+  opens_now : opens_of now ≡ cond (counts r) (put (by_key open_key) (open_of r) (opens_of txs)) (opens_of txs)
+  opens_now =
+      ap opens_of (more ∙ ap (λ rs. put_all (by_key tx_key) rs txs) are)
+      ∙ opens-put r txs sorted (is_new r txs (subst (λ p. last_of p r.station txs < r.number) (sym its_op) (subst (λ q. last_of b q txs < r.number) (sym its_station) below)))
+
+  pub used : (o : OpenRow) (found : Option OpenRow) → found ≡ cond (counts r) (Some (open_of r)) None → found ≡ Some o → put (by_key open_key) o opens ≡ opens_of now
+  used o found is some =
+      let both = is_some_of (counts r) (open_of r) o (sym some ∙ is) in
+      (λ i. put (by_key open_key) (both.1 i) (in_use i)) ∙ sym (opens_now ∙ ap (λ t. cond t (put (by_key open_key) (open_of r) (opens_of txs)) (opens_of txs)) both.0)
+
+  pub unused : (found : Option OpenRow) → found ≡ cond (counts r) (Some (open_of r)) None → found ≡ None → opens ≡ opens_of now
+  unused found is none = in_use ∙ sym (opens_now ∙ ap (λ t. cond t (put (by_key open_key) (open_of r) (opens_of txs)) (opens_of txs)) (is_none_of (counts r) (open_of r) (sym none ∙ is)))
+
+-- ---- readings
+
+numbers_from : (m : ℕ) (b st : List ℕ) (first : ℕ) (readings : List Reading) → m ≤ first → AllByRecursion (λ r. m ≤ r.number) (reading_rows b st first readings)
+numbers_from m b st first [] from = tt
+numbers_from m b st first (r ∷ rs) from = (from, numbers_from m b st (first + 1) rs (omega (arith, from)))
+
+numbered : (b st : List ℕ) (first : ℕ) (readings : List Reading) → AreOf (λ x. x.op) (λ x. x.station) (λ x. x.number) b st (reading_rows b st first readings)
+unfolding IsStrictlySortedBy
+numbered b st first [] = record { mine = tt; sorted = tt }
+numbered b st first (r ∷ rs) =
+    let rest = numbered b st (first + 1) rs in
+    let number : ReadingRow → ℕ = (λ x. x.number) in
+    let row : ReadingRow = record { op = b; station = st; number = first; reading = r } in
+    record {
+      mine = ((refl, refl), rest.mine);
+      sorted = (all-weaker (λ x. first + 1 ≤ x.number) (λ x. by_key (number_key number) row x ≡ Less) (λ x from. number-less first x.number (omega (arith, from))) (reading_rows b st (first + 1) rs) (numbers_from (first + 1) b st (first + 1) rs (omega arith)), rest.sorted);
+    }
+
+pub are_readings : (b st o s : List ℕ) (first : ℕ) (readings : List Reading) (rows : List ReadingRow) → rows ≡ reading_rows b st first readings → o ≡ b → s ≡ st → AreOf (λ x. x.op) (λ x. x.station) (λ x. x.number) o s rows
+are_readings b st o s first readings rows are same_op same_station =
+    subst (AreOf (λ x. x.op) (λ x. x.station) (λ x. x.number) o s) (sym are)
+    (subst (λ p. AreOf (λ x. x.op) (λ x. x.station) (λ x. x.number) p s (reading_rows b st first readings)) (sym same_op)
+    (subst (λ q. AreOf (λ x. x.op) (λ x. x.station) (λ x. x.number) b q (reading_rows b st first readings)) (sym same_station) (numbered b st first readings)))
+
+abbrev pub last_reading_of : List ℕ → List ℕ → List ReadingRow → ℕ
+last_reading_of b st all = greatest (map (λ x. x.number) (those (λ x. x.op) b (λ x. bytes_eq x.station st) all))
+
+and-true : (t : Bool) → t && true ≡ t
+and-true true = refl
+and-true false = refl
+
+all_of_station : (b st : List ℕ) (all : List ReadingRow) → greatest (map (λ x. x.number) (readings_in b st None all)) ≡ last_reading_of b st all
+all_of_station b st all = λ i. greatest (map (λ x. x.number) (those (λ x. x.op) b (λ x. and-true (bytes_eq x.station st) i) all))
+
+pub readings_behind : (b st o s : List ℕ) (first : ℕ) (readings : List Reading) (rows all : List ReadingRow) → rows ≡ reading_rows b st first readings → o ≡ b → s ≡ st → 1 ≤ length readings
+    → AreNext (greatest (map (λ x. x.number) (readings_in b st None all))) first (length readings) → AllByRecursion (λ x. last_reading_of o s all < x.number) rows
+readings_behind b st o s first readings rows all are same_op same_station some next =
+    let above : last_reading_of b st all < first = subst (λ n. n < first) (all_of_station b st all) (follows-above (greatest (map (λ x. x.number) (readings_in b st None all))) first (length readings) some next) in
+    subst (AllByRecursion (λ x. last_reading_of o s all < x.number)) (sym are)
+    (subst (λ p. AllByRecursion (λ x. last_reading_of p s all < x.number) (reading_rows b st first readings)) (sym same_op)
+    (subst (λ q. AllByRecursion (λ x. last_reading_of b q all < x.number) (reading_rows b st first readings)) (sym same_station)
+    (all-weaker (λ x. first ≤ x.number) (λ x. last_reading_of b st all < x.number) (λ x from. omega (arith, from, above)) (reading_rows b st first readings) (numbers_from first b st first readings (omega arith)))))

@@ -1,0 +1,14 @@
+use Rattle.std.proofs.Common.{[], ◌∷◌, sym, ◌∙◌, rules}
+use Rattle.std.proofs.lemmas.Fn.{always_returns_same}
+use Rattle.hub_rows.specs.Keyed.{key_cmp}
+use Rattle.hub_rows.proofs.PlaceLaws.{placed}
+use Rattle.store_mem.specs.Shelves.{number_key}
+use Rattle.store_mem.proofs.ShelfLaws.{number_order}
+use Rattle.store_mem.proofs.shelf.place_of_number.Goals as goal
+
+pub returns : goal.returns
+returns g c =
+    let number = g.R.NumberedRow.number in
+    let k = (c.args.number ∷ []) ∷ [] in
+    placed (number_key number) k c.args.rows.now c.binary_search_by.result c.requires c.binary_search_by.ensures.bound
+    (c.binary_search_by.ensures.position (λ r. key_cmp (number_key number r) k) (always_returns_same _ _ _ (λ a r f' called. search (rules, number_order))))

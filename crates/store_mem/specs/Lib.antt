@@ -1,0 +1,3 @@
+pub mod Stations
+pub mod Shelves
+pub mod Open

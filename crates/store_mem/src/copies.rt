@@ -1,0 +1,58 @@
+//! Copies of rows, for lists that are asked for whole.
+ghost use Rattle.std.specs.Prelude.{◌≡◌, IfOk};
+ghost use Rattle.std.specs.Str.{bytes_eq};
+ghost use Rattle.hub_rows.specs.Keyed.{own};
+ghost use Rattle.hub_rows.specs.Lookups.{connectors_in};
+
+use hub_rows::connector_row::ConnectorRow;
+use hub_rows::named_row::NamedRow;
+use ocpp_types::listed::Listed;
+use ocpp_types::memory::Mem;
+use std::alloc::Global;
+
+/// Copies of all rows.
+#[tactic(auto, using(hub_rows::proofs::Steps::drop_here))]
+pub fn copies<R: Clone + Drop>(alloc: Global, rows: &[R]) -> Mem<Listed<R>>
+    requires { (row copy : R) → R.is_clone row copy → copy ≡ row }
+    ensures { IfOk result (λ l. l ≡ rows.now) }
+{
+    let mut list = Listed::new(alloc);
+    for row in rows {
+        list.push(row.clone()?)?;
+    }
+    Ok(list)
+}
+
+/// Copies of the rows of one operator.
+#[tactic(auto, using(hub_rows::proofs::Steps::drop_here))]
+pub fn own_copies<R: NamedRow + Clone>(alloc: Global, rows: &[R], op: &str) -> Mem<Listed<R>>
+    requires { (row copy : R) → R.is_clone row copy → copy ≡ row }
+    ensures { IfOk result (λ l. l ≡ own R.op op.now rows.now) }
+{
+    let mut list = Listed::new(alloc);
+    for row in rows {
+        if row.op() == op {
+            list.push(row.clone()?)?;
+        }
+    }
+    Ok(list)
+}
+
+/// Copies of the connectors of one station.
+#[tactic(auto, using(hub_rows::proofs::Steps::drop_here))]
+pub fn connectors_of(
+    alloc: Global,
+    rows: &[ConnectorRow],
+    op: &str,
+    station: &str,
+) -> Mem<Listed<ConnectorRow>>
+    ensures { IfOk result (λ l. l ≡ connectors_in op.now station.now rows.now) }
+{
+    let mut list = Listed::new(alloc);
+    for row in rows {
+        if row.op.as_str() == op && row.station.as_str() == station {
+            list.push(row.clone()?)?;
+        }
+    }
+    Ok(list)
+}

@@ -1,0 +1,143 @@
+//! A store that fails once, to test what stands on a store.
+ghost use Rattle.std.specs.Prelude.{◌≡◌, ◌+◌, OnOk, OnErr};
+
+use hub_rows::change::Change;
+use hub_rows::connector_row::ConnectorRow;
+use hub_rows::reading_row::ReadingRow;
+use hub_rows::station_row::{Registration, StationRow};
+use hub_rows::store::{Store, StoreFault};
+use hub_rows::tag_row::{Tag, TagRow};
+use hub_rows::tx_row::{LastNumbers, StartKey, TxKey, TxRow, TxState};
+use ocpp_types::listed::Listed;
+use ocpp_types::tag_key::TagKey;
+
+/// A store that answers one call with Failed, and hands on all others.
+#[derive(Drop)]
+pub struct Failing<S> {
+    store: S,
+    /// How many calls come before the one that fails, if that is still to come.
+    before: Option<u64>,
+    failures: u64,
+}
+
+impl<S> Failing<S> {
+    /// The store, whose call after the next `before` ones fails.
+    pub fn new(store: S, before: u64) -> Failing<S>
+        ensures { result.store ≡ store }
+    {
+        Failing {
+            store,
+            before: Some(before),
+            failures: 0,
+        }
+    }
+
+    fn count_call(&mut self) -> Result<(), StoreFault>
+        ensures ok { OnOk result (self.new.failures ≡ self.old.failures) }
+        ensures store { self.new.store ≡ self.old.store }
+        ensures err { OnErr result (self.new.failures ≡ self.old.failures + 1) }
+    {
+        match self.before {
+            Some(0) if self.failures < u64::MAX => {
+                self.before = None;
+                self.failures += 1;
+                Err(StoreFault::Failed)
+            }
+            Some(0) | None => Ok(()),
+            Some(before) => {
+                self.before = Some(before - 1);
+                Ok(())
+            }
+        }
+    }
+}
+
+impl<S: Store> Store for Failing<S> {
+    ghost rows = { λ s. S.rows s.store };
+
+    ghost failures = { λ s. s.failures + S.failures s.store };
+
+    ghost clean = { λ s. S.clean s.store };
+
+    ghost well_formed = { λ s clean. S.well_formed s.store clean };
+
+    fn station(&mut self, op: &str, station: &str) -> Result<Option<Registration>, StoreFault> {
+        self.count_call()?;
+        self.store.station(op, station)
+    }
+
+    fn own_tag(&mut self, op: &str, key: &TagKey) -> Result<Option<Tag>, StoreFault> {
+        self.count_call()?;
+        self.store.own_tag(op, key)
+    }
+
+    fn is_used(
+        &mut self,
+        op: &str,
+        key: &TagKey,
+        except: &Option<TxKey>,
+    ) -> Result<bool, StoreFault> {
+        self.count_call()?;
+        self.store.is_used(op, key, except)
+    }
+
+    fn same_start(
+        &mut self,
+        op: &str,
+        station: &str,
+        start: &StartKey,
+    ) -> Result<Option<u32>, StoreFault> {
+        self.count_call()?;
+        self.store.same_start(op, station, start)
+    }
+
+    fn tx(&mut self, op: &str, station: &str, number: u32) -> Result<Option<TxState>, StoreFault> {
+        self.count_call()?;
+        self.store.tx(op, station, number)
+    }
+
+    fn has_open(&mut self, op: &str, station: &str) -> Result<bool, StoreFault> {
+        self.count_call()?;
+        self.store.has_open(op, station)
+    }
+
+    fn last_numbers(&mut self, op: &str, station: &str) -> Result<LastNumbers, StoreFault> {
+        self.count_call()?;
+        self.store.last_numbers(op, station)
+    }
+
+    fn stations(&mut self, op: &str) -> Result<Listed<StationRow>, StoreFault> {
+        self.count_call()?;
+        self.store.stations(op)
+    }
+
+    fn tags(&mut self, op: &str) -> Result<Listed<TagRow>, StoreFault> {
+        self.count_call()?;
+        self.store.tags(op)
+    }
+
+    fn connectors(&mut self, op: &str, station: &str) -> Result<Listed<ConnectorRow>, StoreFault> {
+        self.count_call()?;
+        self.store.connectors(op, station)
+    }
+
+    fn txs(&mut self, op: &str, station: &str) -> Result<Listed<TxRow>, StoreFault> {
+        self.count_call()?;
+        self.store.txs(op, station)
+    }
+
+    fn readings(
+        &mut self,
+        op: &str,
+        station: &str,
+        transaction: Option<u64>,
+    ) -> Result<Listed<ReadingRow>, StoreFault> {
+        self.count_call()?;
+        self.store.readings(op, station, transaction)
+    }
+
+    fn apply(&mut self, change: &Change) -> Result<(), StoreFault> {
+        self.count_call()?;
+        self.store.apply(change)
+    }
+}

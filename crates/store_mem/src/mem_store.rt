@@ -1,0 +1,274 @@
+//! The store in memory.
+ghost use Rattle.std.specs.Prelude.{◌≡◌, length, OnOk, OnErr};
+ghost use Rattle.std.proofs.Props.{props};
+ghost use Rattle.hub_rows.specs.Keyed.{changed};
+ghost use Rattle.hub_rows.specs.Rows.{WellFormedRows, no_rows};
+ghost use Rattle.hub_rows.specs.Changes.{edit, stopped};
+ghost use Rattle.hub_rows.specs.Transactions.{AreNext, last_numbers_in, is_tx};
+ghost use Rattle.hub_rows.specs.declared.change.Edit.TheVariants.{TxStarted, ReadingsAdded};
+ghost use Rattle.store_mem.specs.Shelves.{all_rows, AreShelves, rows_in};
+ghost use Rattle.store_mem.specs.Open.{opens_of};
+
+use crate::copies::{connectors_of, copies, own_copies};
+use crate::open::{OpenRow, close, is_used};
+use crate::readings::{add_readings, readings_of};
+use crate::shelf::{Shelf, last_number, rows_of};
+use crate::started::{start_tx, started};
+use crate::stations::{StationChange, change_station, registration_of};
+use crate::tags::own_tag;
+use crate::transactions::{has_open, same_start, stop_tx, tx_state};
+use hub_rows::change::{Change, Edit};
+use hub_rows::connector_row::ConnectorRow;
+use hub_rows::named_row::remove_row;
+use hub_rows::ordered::put_row;
+use hub_rows::reading_row::{Reading, ReadingRow};
+use hub_rows::station_row::{Registration, StationRow};
+use hub_rows::store::{Store, StoreFault};
+use hub_rows::tag_row::{Tag, TagRow};
+use hub_rows::tx_row::{LastNumbers, Start, StartKey, Stop, TxKey, TxRow, TxState};
+use ocpp_types::listed::Listed;
+use ocpp_types::memory::Mem;
+use ocpp_types::state::State;
+use ocpp_types::tag_key::TagKey;
+use ocpp_types::text::Text;
+use std::alloc::Global;
+
+/// Records in memory, in vectors in the order of their keys. It is always clean, and it never
+/// fails but for want of memory.
+#[derive(Drop)]
+pub struct MemStore {
+    alloc: Global,
+    stations: Vec<StationRow>,
+    connectors: Vec<ConnectorRow>,
+    tags: Vec<TagRow>,
+    transactions: Vec<Shelf<TxRow>>,
+    /// The transactions by which tags are in use.
+    opens: Vec<OpenRow>,
+    readings: Vec<Shelf<ReadingRow>>,
+    ghost good: { WellFormedRows (rows_in stations.items connectors.items tags.items transactions.items readings.items) } by { Prim.hlevel props },
+    ghost by_station: { AreShelves (λ r. r.op) (λ r. r.station) (λ r. r.number) transactions.items × AreShelves (λ r. r.op) (λ r. r.station) (λ r. r.number) readings.items } by { Prim.hlevel props },
+    ghost in_use: { opens.items ≡ opens_of (all_rows transactions.items) } by { Prim.hlevel props },
+}
+
+impl MemStore {
+    /// A store with no records, which takes no memory yet.
+    pub fn new(alloc: Global) -> MemStore
+        ensures { ⟦<MemStore as Store>⟧.rows result ≡ no_rows }
+    {
+        MemStore {
+            alloc,
+            stations: Vec::new(alloc),
+            connectors: Vec::new(alloc),
+            tags: Vec::new(alloc),
+            transactions: Vec::new(alloc),
+            opens: Vec::new(alloc),
+            readings: Vec::new(alloc),
+        }
+    }
+}
+
+impl MemStore {
+    /// Adds a transaction behind those of its station.
+    fn start_tx(&mut self, op: &Text, station: &Text, number: u32, start: &Start) -> Mem<()>
+        requires { AreNext (last_numbers_in op.now station.now (all_rows self.old.transactions.items) (all_rows self.old.readings.items)).transaction number 1 }
+        ensures ok { OnOk result (⟦<MemStore as Store>⟧.rows self.new ≡ edit op.now (TxStarted station.now number start.now) (⟦<MemStore as Store>⟧.rows self.old)) }
+        ensures err { OnErr result (⟦<MemStore as Store>⟧.rows self.new ≡ ⟦<MemStore as Store>⟧.rows self.old) }
+    {
+        let row = started(op, station, number, start)?;
+        start_tx(
+            self.alloc,
+            &mut self.transactions,
+            &mut self.opens,
+            op,
+            station,
+            row,
+        )
+    }
+
+    /// Stops a transaction, which can't fail.
+    fn stop_tx(&mut self, op: &Text, station: &Text, number: u32, stop: Stop)
+        ensures { ⟦<MemStore as Store>⟧.rows self.new ≡ record (⟦<MemStore as Store>⟧.rows self.old) { transactions = changed (λ r. r.op) op.now (is_tx station.now number) (stopped stop) (all_rows self.old.transactions.items) } }
+    {
+        let op = op.as_str();
+        let station = station.as_str();
+        stop_tx(&mut self.transactions, op, station, number, stop);
+        close(&mut self.opens, op, station, number);
+    }
+
+    /// Adds readings behind those of their station.
+    fn add_readings(
+        &mut self,
+        op: &Text,
+        station: &Text,
+        first: u32,
+        readings: &[Reading],
+    ) -> Mem<()>
+        requires { AreNext (last_numbers_in op.now station.now (all_rows self.old.transactions.items) (all_rows self.old.readings.items)).reading first (length readings.now) }
+        ensures ok { OnOk result (⟦<MemStore as Store>⟧.rows self.new ≡ edit op.now (ReadingsAdded station.now first readings.now) (⟦<MemStore as Store>⟧.rows self.old)) }
+        ensures err { OnErr result (⟦<MemStore as Store>⟧.rows self.new ≡ ⟦<MemStore as Store>⟧.rows self.old) }
+    {
+        add_readings(self.alloc, &mut self.readings, op, station, first, readings)
+    }
+}
+
+impl Store for MemStore {
+    ghost rows = { λ s. rows_in s.stations.items s.connectors.items s.tags.items s.transactions.items s.readings.items };
+
+    ghost failures = { λ _. 0 };
+
+    ghost clean = { λ _. Unit {0} };
+
+    ghost well_formed = { λ s _. s.good };
+
+    fn station(&mut self, op: &str, station: &str) -> Result<Option<Registration>, StoreFault> {
+        Ok(registration_of(&self.stations, op, station))
+    }
+
+    fn own_tag(&mut self, op: &str, key: &TagKey) -> Result<Option<Tag>, StoreFault> {
+        Ok(own_tag(self.alloc, &self.tags, op, key)?)
+    }
+
+    fn is_used(
+        &mut self,
+        op: &str,
+        key: &TagKey,
+        except: &Option<TxKey>,
+    ) -> Result<bool, StoreFault> {
+        Ok(is_used(&self.opens, op, key, except))
+    }
+
+    fn same_start(
+        &mut self,
+        op: &str,
+        station: &str,
+        start: &StartKey,
+    ) -> Result<Option<u32>, StoreFault> {
+        Ok(same_start(&self.transactions, op, station, start))
+    }
+
+    fn tx(&mut self, op: &str, station: &str, number: u32) -> Result<Option<TxState>, StoreFault> {
+        Ok(tx_state(&self.transactions, op, station, number))
+    }
+
+    fn has_open(&mut self, op: &str, station: &str) -> Result<bool, StoreFault> {
+        Ok(has_open(&self.transactions, op, station))
+    }
+
+    fn last_numbers(&mut self, op: &str, station: &str) -> Result<LastNumbers, StoreFault> {
+        Ok(LastNumbers {
+            transaction: last_number(rows_of(&self.transactions, op, station)),
+            reading: last_number(rows_of(&self.readings, op, station)),
+        })
+    }
+
+    fn stations(&mut self, op: &str) -> Result<Listed<StationRow>, StoreFault> {
+        Ok(own_copies(self.alloc, &self.stations, op)?)
+    }
+
+    fn tags(&mut self, op: &str) -> Result<Listed<TagRow>, StoreFault> {
+        Ok(own_copies(self.alloc, &self.tags, op)?)
+    }
+
+    fn connectors(&mut self, op: &str, station: &str) -> Result<Listed<ConnectorRow>, StoreFault> {
+        Ok(connectors_of(self.alloc, &self.connectors, op, station)?)
+    }
+
+    fn txs(&mut self, op: &str, station: &str) -> Result<Listed<TxRow>, StoreFault> {
+        Ok(copies(self.alloc, rows_of(&self.transactions, op, station))?)
+    }
+
+    fn readings(
+        &mut self,
+        op: &str,
+        station: &str,
+        transaction: Option<u64>,
+    ) -> Result<Listed<ReadingRow>, StoreFault> {
+        Ok(readings_of(self.alloc, &self.readings, op, station, transaction)?)
+    }
+
+    fn apply(&mut self, change: &Change) -> Result<(), StoreFault> {
+        match &change.edit {
+            Edit::StationAdded {
+                station,
+                policy,
+                interval,
+            } => {
+                let row = StationRow {
+                    op: change.op.clone()?,
+                    station: station.clone()?,
+                    policy: *policy,
+                    interval: *interval,
+                    state: State::Fresh,
+                    boot: None,
+                };
+                put_row(&mut self.stations, row)?;
+            }
+            Edit::BootSeen {
+                station,
+                boot,
+                state,
+            } => {
+                let boot = boot.clone()?;
+                let state = *state;
+                let booted = StationChange::Booted { boot, state };
+                change_station(&mut self.stations, &change.op, station, booted);
+            }
+            Edit::PolicySet {
+                station,
+                policy,
+                interval,
+            } => {
+                let policy = *policy;
+                let interval = *interval;
+                let set = StationChange::PolicySet { policy, interval };
+                change_station(&mut self.stations, &change.op, station, set);
+            }
+            Edit::ConnectorSeen {
+                station,
+                connector,
+                report,
+            } => {
+                let row = ConnectorRow {
+                    op: change.op.clone()?,
+                    station: station.clone()?,
+                    connector: *connector,
+                    report: report.clone()?,
+                };
+                put_row(&mut self.connectors, row)?;
+            }
+            Edit::TagPut { key, tag } => {
+                let row = TagRow {
+                    op: change.op.clone()?,
+                    key: key.clone()?,
+                    tag: tag.clone()?,
+                };
+                put_row(&mut self.tags, row)?;
+            }
+            Edit::TagDropped { key } => {
+                remove_row(&mut self.tags, change.op.as_str(), key.as_str());
+            }
+            Edit::TxStarted {
+                station,
+                number,
+                start,
+            } => self.start_tx(&change.op, station, *number, start)?,
+            Edit::TxStopped {
+                station,
+                number,
+                stop,
+                first,
+                readings,
+            } => {
+                let stop = stop.clone()?;
+                self.add_readings(&change.op, station, *first, readings.as_slice())?;
+                self.stop_tx(&change.op, station, *number, stop);
+            }
+            Edit::ReadingsAdded {
+                station,
+                first,
+                readings,
+            } => self.add_readings(&change.op, station, *first, readings.as_slice())?,
+        }
+        Ok(())
+    }
+}

@@ -1,0 +1,144 @@
+//! Rows that are kept station by station, so that one station's cost nothing to another.
+ghost use Rattle.std.specs.Prelude.{◌≡◌, ◌<◌, ℕ, List, [], ◌∷◌, ◌++◌, map, OnOk, OnErr};
+ghost use Rattle.std.specs.List.{AllByRecursion};
+ghost use Rattle.std.specs.List.Sorted.{IsStrictlySortedBy};
+ghost use Rattle.std.specs.Str.{bytes_eq};
+ghost use Rattle.hub_rows.specs.Keyed.{by_key, greatest, numbered_key, put_all, those};
+ghost use Rattle.hub_rows.specs.Places.{IsPlace};
+ghost use Rattle.store_mem.specs.Shelves.{number_key, all_rows, AreOf, AreShelves};
+
+use hub_rows::named_row::{NamedRow, place_of_name};
+use hub_rows::reading_row::ReadingRow;
+use hub_rows::tx_row::TxRow;
+use ocpp_types::memory::Mem;
+use ocpp_types::text::Text;
+use std::alloc::{AllocError, Global};
+
+/// A row whose key is its operator, its station and a number.
+pub trait NumberedRow: Drop {
+    ghost op: { Self → List ℕ };
+
+    ghost station: { Self → List ℕ };
+
+    ghost number: { Self → ℕ };
+
+    /// Its number among the rows of its station.
+    fn number(&self) -> u32
+        ensures { result ≡ number self.now };
+}
+
+impl NumberedRow for TxRow {
+    ghost op = { λ r. r.op };
+
+    ghost station = { λ r. r.station };
+
+    ghost number = { λ r. r.number };
+
+    fn number(&self) -> u32 {
+        self.number
+    }
+}
+
+impl NumberedRow for ReadingRow {
+    ghost op = { λ r. r.op };
+
+    ghost station = { λ r. r.station };
+
+    ghost number = { λ r. r.number };
+
+    fn number(&self) -> u32 {
+        self.number
+    }
+}
+
+/// The rows of one station, in the order of their numbers.
+#[derive(Drop)]
+pub struct Shelf<R> {
+    pub op: Text,
+    pub station: Text,
+    pub rows: Vec<R>,
+}
+
+impl<R: Drop> NamedRow for Shelf<R> {
+    ghost op = { λ s. s.op };
+
+    ghost name = { λ s. s.station };
+
+    fn op(&self) -> &str {
+        self.op.as_str()
+    }
+
+    fn name(&self) -> &str {
+        self.station.as_str()
+    }
+}
+
+/// The rows of a station.
+pub fn rows_of<'a, R: NumberedRow>(shelves: &'a [Shelf<R>], op: &str, station: &str) -> &'a [R]
+    requires { AreShelves R.op R.station R.number shelves.now }
+    ensures rows { result.now ≡ those R.op op.now (λ r. bytes_eq (R.station r) station.now) (all_rows shelves.now) }
+    ensures sorted { IsStrictlySortedBy (by_key (number_key R.number)) result.now }
+{
+    match place_of_name(shelves, op, station) {
+        Ok(place) => shelves[place].rows.as_slice(),
+        Err(_) => &[],
+    }
+}
+
+/// The index of the row of a number among those of a station, or else its place.
+pub fn place_of_number<R: NumberedRow>(rows: &[R], number: u32) -> Result<usize, usize>
+    requires { IsStrictlySortedBy (by_key (number_key R.number)) rows.now }
+    ensures { IsPlace (number_key R.number) ((number ∷ []) ∷ []) rows.now result }
+{
+    rows.binary_search_by(|row| row.number().cmp(&number))
+}
+
+/// The greatest number among the rows of a station, 0 where there are none.
+pub fn last_number<R: NumberedRow>(rows: &[R]) -> u32
+    requires { IsStrictlySortedBy (by_key (number_key R.number)) rows.now }
+    ensures { result ≡ greatest (map R.number rows.now) }
+{
+    match rows.last() {
+        Some(row) => row.number(),
+        None => 0,
+    }
+}
+
+/// Adds rows of a station behind those that it has.
+pub fn append_rows<R: NumberedRow>(
+    alloc: Global,
+    shelves: &mut Vec<Shelf<R>>,
+    op: &str,
+    station: &str,
+    rows: Vec<R>,
+) -> Mem<()>
+    requires shelves { AreShelves R.op R.station R.number shelves.old.items }
+    requires new { AreOf R.op R.station R.number op.now station.now rows.items }
+    requires behind { AllByRecursion (λ r. greatest (map R.number (those R.op op.now (λ x. bytes_eq (R.station x) station.now) (all_rows shelves.old.items))) < R.number r) rows.items }
+    ensures shelves { AreShelves R.op R.station R.number shelves.new.items }
+    ensures ok { OnOk result (all_rows shelves.new.items ≡ put_all (by_key (numbered_key R.op R.station R.number)) rows.items (all_rows shelves.old.items)) }
+    ensures err { OnErr result (all_rows shelves.new.items ≡ all_rows shelves.old.items) }
+{
+    match place_of_name(shelves.as_slice(), op, station) {
+        Ok(place) => extend_shelf(&mut shelves[place], rows)?,
+        Err(place) => {
+            let shelf = Shelf {
+                op: Text::copy_of(alloc, op)?,
+                station: Text::copy_of(alloc, station)?,
+                rows,
+            };
+            shelves.insert(place, shelf)?;
+        }
+    }
+    Ok(())
+}
+
+fn extend_shelf<R: NumberedRow>(shelf: &mut Shelf<R>, rows: Vec<R>) -> Result<(), AllocError>
+    ensures op { shelf.new.op ≡ shelf.old.op }
+    ensures station { shelf.new.station ≡ shelf.old.station }
+    ensures ok { OnOk result (shelf.new.rows.items ≡ shelf.old.rows.items ++ rows.items) }
+    ensures err { OnErr result (shelf.new.rows.items ≡ shelf.old.rows.items) }
+{
+    let mut rows = rows;
+    shelf.rows.append(&mut rows)
+}

@@ -1,0 +1,108 @@
+//! Transactions, kept station by station.
+ghost use Rattle.std.specs.Prelude.{◌≡◌, ◌==◌, if◌then◌else◌, map, find, option_map};
+ghost use Rattle.std.specs.List.{list_any};
+ghost use Rattle.std.specs.List.Sorted.{IsStrictlySortedBy};
+ghost use Rattle.hub_rows.specs.Changes.{stopped};
+ghost use Rattle.hub_rows.specs.Keyed.{by_key, changed};
+ghost use Rattle.hub_rows.specs.Transactions.{tx_in, same_start_in, has_open_in, is_open, is_start, is_tx};
+ghost use Rattle.store_mem.specs.Shelves.{number_key, all_rows, AreShelves};
+
+use crate::shelf::{Shelf, place_of_number, rows_of};
+use hub_rows::named_row::place_of_name;
+use hub_rows::tx_row::{StartKey, Stop, TxRow, TxState};
+
+/// A transaction of a station, by its number.
+pub fn tx_state(shelves: &[Shelf<TxRow>], op: &str, station: &str, number: u32) -> Option<TxState>
+    requires { AreShelves (λ r. r.op) (λ r. r.station) (λ r. r.number) shelves.now }
+    ensures { result ≡ tx_in op.now station.now number (all_rows shelves.now) }
+{
+    let rows = rows_of(shelves, op, station);
+    match place_of_number(rows, number) {
+        Ok(place) => Some(rows[place].state()),
+        Err(_) => None,
+    }
+}
+
+/// The number of the first transaction of a station with that start.
+pub fn same_start(
+    shelves: &[Shelf<TxRow>],
+    op: &str,
+    station: &str,
+    start: &StartKey,
+) -> Option<u32>
+    requires { AreShelves (λ r. r.op) (λ r. r.station) (λ r. r.number) shelves.now }
+    ensures { result ≡ same_start_in op.now station.now start.now (all_rows shelves.now) }
+{
+    first_start(rows_of(shelves, op, station), start)
+}
+
+#[tactic(auto, using(hub_rows::proofs::Steps::drop_here))]
+fn first_start(rows: &[TxRow], start: &StartKey) -> Option<u32>
+    ensures { result ≡ option_map (λ r. r.number) (find (λ r. is_start start.now r.start.id) rows.now) }
+{
+    for row in rows {
+        if is_start(start, &row.start.id) {
+            return Some(row.number);
+        }
+    }
+    None
+}
+
+fn is_start(wanted: &StartKey, start: &StartKey) -> bool
+    ensures { result ≡ is_start wanted.now start.now }
+{
+    start.connector == wanted.connector
+        && start.key.as_str() == wanted.key.as_str()
+        && start.meter_start == wanted.meter_start
+        && start.at == wanted.at
+}
+
+/// Whether a transaction of a station is open.
+pub fn has_open(shelves: &[Shelf<TxRow>], op: &str, station: &str) -> bool
+    requires { AreShelves (λ r. r.op) (λ r. r.station) (λ r. r.number) shelves.now }
+    ensures { result ≡ has_open_in op.now station.now (all_rows shelves.now) }
+{
+    any_open(rows_of(shelves, op, station))
+}
+
+#[tactic(auto, using(hub_rows::proofs::Steps::drop_here))]
+fn any_open(rows: &[TxRow]) -> bool
+    ensures { result ≡ list_any is_open rows.now }
+{
+    for row in rows {
+        if row.is_open() {
+            return true;
+        }
+    }
+    false
+}
+
+/// Stops a transaction, if it is there.
+pub fn stop_tx(shelves: &mut Vec<Shelf<TxRow>>, op: &str, station: &str, number: u32, stop: Stop)
+    requires { AreShelves (λ r. r.op) (λ r. r.station) (λ r. r.number) shelves.old.items }
+    ensures shelves { AreShelves (λ r. r.op) (λ r. r.station) (λ r. r.number) shelves.new.items }
+    ensures rows { all_rows shelves.new.items
+        ≡ changed (λ r. r.op) op.now (is_tx station.now number) (stopped stop) (all_rows shelves.old.items) }
+{
+    if let Ok(place) = place_of_name(shelves.as_slice(), op, station) {
+        stop_in_shelf(&mut shelves[place], number, stop);
+    }
+}
+
+fn stop_in_shelf(shelf: &mut Shelf<TxRow>, number: u32, stop: Stop)
+    requires { IsStrictlySortedBy (by_key (number_key (λ r. r.number))) shelf.old.rows.items }
+    ensures op { shelf.new.op ≡ shelf.old.op }
+    ensures station { shelf.new.station ≡ shelf.old.station }
+    ensures rows { shelf.new.rows.items
+        ≡ map (λ r. if r.number == number then stopped stop r else r) shelf.old.rows.items }
+{
+    if let Ok(place) = place_of_number(shelf.rows.as_slice(), number) {
+        stop_row(&mut shelf.rows[place], stop);
+    }
+}
+
+fn stop_row(row: &mut TxRow, stop: Stop)
+    ensures { row.new ≡ stopped stop row.old }
+{
+    row.stop = Some(stop);
+}

@@ -1,0 +1,127 @@
+-- The line of each row of a listing.
+use Rattle.std.specs.Prelude.{ℕ, ℤ, List, ◌++◌, codes, Bool, true, false, Option, Some, None, option_map}
+use Rattle.std.specs.Fmt.{decimal, signed_decimal}
+use Rattle.serde_json.specs.Data.{string}
+use Rattle.serde_json.specs.Written.{compact_text}
+use Rattle.ocpp_types.specs.Micro.{micro}
+use Rattle.ocpp_types.specs.AuthorizationStatus.{authorization_status_name}
+use Rattle.ocpp_types.specs.ChargePointErrorCode.{charge_point_error_code_name}
+use Rattle.ocpp_types.specs.ChargePointStatus.{charge_point_status_name}
+use Rattle.ocpp_types.specs.Location.{location_name}
+use Rattle.ocpp_types.specs.Measurand.{measurand_name}
+use Rattle.ocpp_types.specs.Phase.{phase_name}
+use Rattle.ocpp_types.specs.Policy.{policy_name}
+use Rattle.ocpp_types.specs.ReadingContext.{reading_context_name}
+use Rattle.ocpp_types.specs.Reason.{reason_name}
+use Rattle.ocpp_types.specs.State.{state_name}
+use Rattle.ocpp_types.specs.UnitOfMeasure.{unit_of_measure_name}
+use Rattle.ocpp_types.specs.ValueFormat.{value_format_name}
+use Rattle.ocpp_types.specs.declared.value_format.ValueFormat.{ValueFormat}
+use Rattle.ocpp_types.specs.declared.value_format.ValueFormat.TheVariants.{Raw, SignedData}
+use Rattle.ocpp_types.specs.declared.unit_of_measure.UnitOfMeasure.{UnitOfMeasure}
+use Rattle.ocpp_payload.specs.Boot.{boot_data}
+use Rattle.hub_rows.specs.declared.station_row.Boot.{Boot}
+use Rattle.hub_rows.specs.declared.station_row.StationRow.{StationRow}
+use Rattle.hub_rows.specs.declared.connector_row.ConnectorReport.{ConnectorReport}
+use Rattle.hub_rows.specs.declared.connector_row.ConnectorRow.{ConnectorRow}
+use Rattle.hub_rows.specs.declared.tag_row.TagRow.{TagRow}
+use Rattle.hub_rows.specs.declared.tx_row.Start.{Start}
+use Rattle.hub_rows.specs.declared.tx_row.Stop.{Stop}
+use Rattle.hub_rows.specs.declared.tx_row.TxRow.{TxRow}
+use Rattle.hub_rows.specs.declared.reading_row.Reading.{Reading}
+use Rattle.hub_rows.specs.declared.reading_row.ReadingRow.{ReadingRow}
+use Rattle.hub.specs.declared.row.Row.{Row}
+use Rattle.hub.specs.declared.row.Row.TheVariants as row
+
+-- ---- fields: `-` stands for none, and a text of a peer is a JSON string
+
+abbrev pub quoted : List ℕ → List ℕ
+quoted text = compact_text (string text)
+
+abbrev pub text_field : Option (List ℕ) → List ℕ
+text_field None = codes "-"
+text_field (Some text) = quoted text
+
+abbrev pub signed_field : Option ℤ → List ℕ
+signed_field None = codes "-"
+signed_field (Some n) = signed_decimal n
+
+abbrev pub moment_field : Option ℕ → List ℕ
+moment_field None = codes "-"
+moment_field (Some m) = decimal m
+
+-- a name that may be missing
+abbrev pub name_field : Option (List ℕ) → List ℕ
+name_field None = codes "-"
+name_field (Some name) = name
+
+abbrev pub mark : Bool → List ℕ
+mark true = codes "1"
+mark false = codes "0"
+
+-- the texts of the last boot, as a JSON object
+abbrev pub boot_field : Option Boot → List ℕ
+boot_field None = codes "-"
+boot_field (Some boot) = compact_text (boot_data boot.texts)
+
+-- the number of a reading, which signed data has none of
+abbrev pub micro_of : ValueFormat → List ℕ → Option UnitOfMeasure → Option ℤ
+micro_of Raw text unit = micro text unit
+micro_of SignedData text unit = None
+
+-- the fields of a stop
+abbrev pub stop_fields : Option Stop → List ℕ
+stop_fields None = codes "- - - -"
+stop_fields (Some s) = signed_decimal s.meter_stop ++ (codes " " ++ (signed_decimal s.at ++ (codes " " ++ (reason_name s.reason ++ (codes " " ++ text_field s.tag)))))
+
+-- ---- lines, without a line feed
+
+-- `OP row station ST STATE POLICY INTERVAL BOOT`
+abbrev pub station_line : List ℕ → StationRow → List ℕ
+station_line op r = op ++ (codes " row station " ++ (r.station ++ (codes " " ++ (state_name r.state ++ (codes " " ++ (policy_name r.policy ++ (codes " " ++ (decimal r.interval ++ (codes " " ++ boot_field r.boot)))))))))
+
+-- `OP row tag TAG PARENT 0|1 EXPIRY`
+abbrev pub tag_line : List ℕ → TagRow → List ℕ
+tag_line op r = op ++ (codes " row tag " ++ (quoted r.tag.text ++ (codes " " ++ (text_field r.tag.parent ++ (codes " " ++ (mark r.tag.blocked ++ (codes " " ++ moment_field r.tag.expiry)))))))
+
+-- what was reported of a connector
+abbrev pub report_fields : ConnectorReport → List ℕ
+report_fields r = charge_point_status_name r.status ++ (codes " " ++ (charge_point_error_code_name r.error_code ++ (codes " " ++ (signed_decimal r.at ++ (codes " " ++ (text_field r.info ++ (codes " " ++ (text_field r.vendor_id ++ (codes " " ++ text_field r.vendor_error_code)))))))))
+
+-- `OP row connector ST C STATUS ERROR AT INFO VENDORID VENDORERROR`
+abbrev pub connector_line : List ℕ → ConnectorRow → List ℕ
+connector_line op r = op ++ (codes " row connector " ++ (r.station ++ (codes " " ++ (decimal r.connector ++ (codes " " ++ report_fields r.report)))))
+
+-- the fields of a start
+abbrev pub start_fields : Start → List ℕ
+start_fields s = decimal s.id.connector ++ (codes " " ++ (quoted s.tag ++ (codes " " ++ (authorization_status_name s.status ++ (codes " " ++ (signed_decimal s.id.meter_start ++ (codes " " ++ (signed_decimal s.id.at ++ (codes " " ++ signed_field s.reservation)))))))))
+
+-- `OP row transaction ST N C TAG STATUS METERSTART AT RESERVATION METERSTOP STOPAT REASON STOPTAG`
+abbrev pub tx_line : List ℕ → TxRow → List ℕ
+tx_line op r = op ++ (codes " row transaction " ++ (r.station ++ (codes " " ++ (decimal r.number ++ (codes " " ++ (start_fields r.start ++ (codes " " ++ stop_fields r.stop)))))))
+
+-- whose reading it is, and when
+abbrev pub taken_fields : Reading → List ℕ
+taken_fields r = decimal r.connector ++ (codes " " ++ (signed_field r.transaction ++ (codes " " ++ signed_decimal r.at)))
+
+-- what was sampled, and how
+abbrev pub sampled_fields : Reading → List ℕ
+sampled_fields r = reading_context_name r.context ++ (codes " " ++ (value_format_name r.format ++ (codes " " ++ (measurand_name r.measurand ++ (codes " " ++ (name_field (option_map phase_name r.phase) ++ (codes " " ++ (location_name r.location ++ (codes " " ++ name_field (option_map unit_of_measure_name r.unit))))))))))
+
+-- what it shows
+abbrev pub value_fields : Reading → List ℕ
+value_fields r = signed_field (micro_of r.format r.text r.unit) ++ (codes " " ++ quoted r.text)
+
+unfoldable pub reading_fields : Reading → List ℕ
+reading_fields r = taken_fields r ++ (codes " " ++ (sampled_fields r ++ (codes " " ++ value_fields r)))
+
+-- `OP row reading ST NUMBER C TX AT CONTEXT FORMAT MEASURAND PHASE LOCATION UNIT MICRO TEXT`
+abbrev pub reading_line : List ℕ → ReadingRow → List ℕ
+reading_line op r = op ++ (codes " row reading " ++ (r.station ++ (codes " " ++ (decimal r.number ++ (codes " " ++ reading_fields r.reading)))))
+
+abbrev pub row_line : List ℕ → Row → List ℕ
+row_line op (row.Station r) = station_line op r
+row_line op (row.Tag r) = tag_line op r
+row_line op (row.Connector r) = connector_line op r
+row_line op (row.Transaction r) = tx_line op r
+row_line op (row.Reading r) = reading_line op r

@@ -1,0 +1,41 @@
+-- Words that are parted by one space.
+use Rattle.std.specs.Prelude.{ℕ, nat_lt, nat_le, ◌==◌, Bool, ◌&&◌, ◌||◌, is_some, List, length, Option, Some, None, codes, if◌then◌else◌, option_and_then}
+use Rattle.std.specs.Char.{is_ascii_digit}
+use Rattle.std.specs.List.{list_all, position_or_len, before_first, after_first}
+use Rattle.std.specs.Str.{bytes_eq}
+use Rattle.std.specs.Str.Parse.{digits_value}
+use Rattle.ocpp_types.specs.Moment.{moment_of}
+
+abbrev pub is_space : ℕ → Bool
+is_space byte = byte == 32
+
+-- the first word, and what follows the one space behind it
+abbrev pub first_word : List ℕ → Option (List ℕ × List ℕ)
+first_word text = if nat_lt 0 (position_or_len is_space text) && nat_lt (position_or_len is_space text) (length text) then Some (before_first is_space text, after_first is_space text) else None
+
+-- the whole text, where it is one word
+abbrev pub only_word : List ℕ → Option (List ℕ)
+only_word text = if nat_lt 0 (length text) && (position_or_len is_space text == length text) then Some text else None
+
+-- the number that 1 to 12 decimal digits are
+abbrev pub number_of : List ℕ → Option ℕ
+number_of text = if nat_le 1 (length text) && nat_le (length text) 12 && list_all is_ascii_digit text then Some (digits_value 10 text) else None
+
+-- the moment of that number of seconds
+abbrev pub moment_at : List ℕ → Option ℕ
+moment_at text = option_and_then moment_of (number_of text)
+
+-- `-` stands for no parent
+abbrev pub parent_of : List ℕ → Option (List ℕ)
+parent_of word = if bytes_eq word (codes "-") then None else Some word
+
+-- an expiry is `-` or a moment, and `-` stands for none
+abbrev pub is_expiry : List ℕ → Bool
+is_expiry word = bytes_eq word (codes "-") || is_some (moment_at word)
+
+abbrev pub expiry_of : List ℕ → Option ℕ
+expiry_of word = if bytes_eq word (codes "-") then None else moment_at word
+
+infixl 10 ◌>>=◌
+abbrev pub ◌>>=◌ : {A B : Type 0} → Option A → (A → Option B) → Option B
+value >>= next = option_and_then next value

@@ -1,0 +1,6 @@
+//! The program layer of the central system: lines of input and output.
+#![tactic(auto)]
+
+pub mod lines;
+#[cfg(test)]
+mod tests;

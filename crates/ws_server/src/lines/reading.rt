@@ -1,0 +1,73 @@
+//! Lines of input (docs/RULES.md, Lines).
+ghost use Rattle.std.specs.Prelude.{◌≡◌, IfOk, option_map};
+ghost use Rattle.std.specs.Io.BufRead.{strip_last};
+ghost use Rattle.ws_server.specs.EventRef.{owned_event};
+ghost use Rattle.ws_server.specs.InputLines.{spelled, event_of};
+
+use crate::lines::event_ref::EventRef;
+use crate::lines::forms::read_what;
+use crate::lines::words::{first_word, moment_at};
+use hub::event::Event;
+use hub::operators::is_hosted;
+use ocpp_types::memory::Mem;
+use ocpp_types::text::Text;
+use std::alloc::Global;
+
+/// What a line of input says.
+#[derive(Debug, Drop)]
+pub enum Line {
+    /// The line is empty.
+    Nothing,
+    /// An event for the hub.
+    Event(Event),
+    /// The line has none of the forms, or its operator isn't hosted.
+    Bad,
+}
+
+/// The most bytes of a line, its carriage return counted and its line feed not.
+pub const MAX_LINE: usize = 1_048_576;
+
+/// What a line says (docs/RULES.md, Lines). `line` is its bytes without the line feed; an operator
+/// that isn't in `hosted` makes it Bad.
+#[tactic(auto, using(crate::proofs::Utf8Lines::valid_text), unfolding(crate::specs::InputLines::spelled))]
+pub fn read_line(alloc: Global, hosted: &[Text], line: &[u8]) -> Mem<Line>
+    ensures { IfOk result (λ l. l ≡ spelled hosted.now line.now) }
+{
+    if line.len() > MAX_LINE {
+        return Ok(Line::Bad);
+    }
+    let line = without_return(line);
+    if line.is_empty() {
+        return Ok(Line::Nothing);
+    }
+    let Ok(text) = str::from_utf8(line) else {
+        return Ok(Line::Bad);
+    };
+    match read_event(hosted, text) {
+        Some(event) => Ok(Line::Event(event.to_event(alloc)?)),
+        None => Ok(Line::Bad),
+    }
+}
+
+fn without_return(line: &[u8]) -> &[u8]
+    ensures { result.now ≡ strip_last 13 line.now }
+{
+    match line {
+        [front @ .., b'\r'] => front,
+        _ => line,
+    }
+}
+
+#[tactic(auto, unfolding(crate::specs::InputLines::event_of))]
+fn read_event<'a>(hosted: &[Text], text: &'a str) -> Option<EventRef<'a>>
+    ensures { option_map owned_event result ≡ event_of hosted.now text.now }
+{
+    let (moment, rest) = first_word(text)?;
+    let moment = moment_at(moment)?;
+    let (op, rest) = first_word(rest)?;
+    if !is_hosted(hosted, op) {
+        return None;
+    }
+    let what = read_what(rest)?;
+    Some(EventRef { op, moment, what })
+}
