@@ -1,5 +1,4 @@
 pub mod ConfLaws
-pub mod Steps
 pub mod Fitting
 pub mod Committing
 pub mod Isolation

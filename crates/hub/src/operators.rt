@@ -16,7 +16,7 @@ pub fn are_operators(names: &[Text]) -> bool
     !names.is_empty() && are_distinct_names(names)
 }
 
-#[tactic(auto, using(crate::proofs::Steps::drop_here))]
+#[tactic(auto, using(hub_rows::proofs::Steps::drop_here))]
 fn are_distinct_names(names: &[Text]) -> bool
     ensures { result ≡ are_distinct_names names.now }
 {

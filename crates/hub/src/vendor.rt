@@ -56,7 +56,7 @@ fn is_of<V: VendorHandler>(handler: &V, vendor: &str) -> bool
 }
 
 /// The answer of the first handler of the vendor, or UnknownVendorId with no content.
-#[tactic(auto, using(crate::proofs::Steps::drop_here))]
+#[tactic(auto, using(hub_rows::proofs::Steps::drop_here))]
 pub fn ask<V: VendorHandler>(
     vendors: &[V],
     vendor: &str,

@@ -10,6 +10,7 @@ use Rattle.std.specs.Cmp.{IsTotalOrder}
 use Rattle.std.specs.Cmp.Lexicographic.{slice_cmp, bytes_decides}
 use Rattle.std.specs.FinMap.{slice_cmp-IsAntisymmetric}
 use Rattle.std.proofs.lemmas.Map.Lookups.{exact_unsigned}
+use Rattle.std.proofs.lemmas.Map.Text.{is_eq-slice_cmp}
 use Rattle.std.specs.Str.{bytes_eq}
 use Rattle.std.specs.List.{AllByRecursion, list_any}
 use Rattle.std.specs.List.Sorted.{IsStrictlySortedBy}
@@ -209,30 +210,19 @@ and-is_eq Less p = refl
 and-is_eq Equal p = refl
 and-is_eq Greater p = refl
 
-and-true : (b : Bool) → b && true ≡ b
+pub and-true : (b : Bool) → b && true ≡ b
 and-true true = refl
 and-true false = refl
-
-text-is_eq : (s t : List ℕ) → is_eq (text_cmp s t) ≡ bytes_eq s t
-text-is_eq s t =
-    elim (bytes_eq s t) as (λ b. bytes_eq s t ≡ b → is_eq (text_cmp s t) ≡ b) [
-      | true ↦ λ e. ap is_eq (ap (text_cmp s) (sym (same_text s t e)) ∙ tied_itself nat_list_cmp_total s)
-      | false ↦ λ e. elim (text_cmp s t) as (λ o. text_cmp s t ≡ o → is_eq o ≡ false) [
-        | Less ↦ λ _. refl
-        | Equal ↦ λ same. absurd (true≢false (sym (text_itself s t (slice_cmp-IsAntisymmetric exact_unsigned s t same)) ∙ e))
-        | Greater ↦ λ _. refl
-      ] refl
-    ] refl
 
 pub two_parts : (a b c d : List ℕ) → bytes_eq a c && bytes_eq b d ≡ is_eq (key_cmp (a ∷ b ∷ []) (c ∷ d ∷ []))
 two_parts a b c d =
     sym (and-is_eq (text_cmp a c) (ordering_then (text_cmp b d) Equal)
-    ∙ (λ i. text-is_eq a c i && (and-is_eq (text_cmp b d) Equal ∙ ap (λ p. p && true) (text-is_eq b d) ∙ and-true (bytes_eq b d)) i))
+    ∙ (λ i. is_eq-slice_cmp a c i && (and-is_eq (text_cmp b d) Equal ∙ ap (λ p. p && true) (is_eq-slice_cmp b d) ∙ and-true (bytes_eq b d)) i))
 
 pub one_part : (m n : ℕ) → (m == n) ≡ is_eq (key_cmp ((m ∷ []) ∷ []) ((n ∷ []) ∷ []))
-one_part m n = sym (and-is_eq (text_cmp (m ∷ []) (n ∷ [])) Equal ∙ and-true (is_eq (text_cmp (m ∷ []) (n ∷ []))) ∙ text-is_eq (m ∷ []) (n ∷ []) ∙ and-true (m == n))
+one_part m n = sym (and-is_eq (text_cmp (m ∷ []) (n ∷ [])) Equal ∙ and-true (is_eq (text_cmp (m ∷ []) (n ∷ []))) ∙ is_eq-slice_cmp (m ∷ []) (n ∷ []) ∙ and-true (m == n))
 
 pub three_parts : (a b c d : List ℕ) (m n : ℕ) → bytes_eq a c && (bytes_eq b d && m == n) ≡ is_eq (key_cmp (a ∷ b ∷ (m ∷ []) ∷ []) (c ∷ d ∷ (n ∷ []) ∷ []))
 three_parts a b c d m n =
     sym (and-is_eq (text_cmp a c) (ordering_then (text_cmp b d) (ordering_then (text_cmp (m ∷ []) (n ∷ [])) Equal))
-    ∙ (λ i. text-is_eq a c i && (and-is_eq (text_cmp b d) (ordering_then (text_cmp (m ∷ []) (n ∷ [])) Equal) ∙ (λ j. text-is_eq b d j && sym (one_part m n) j)) i))
+    ∙ (λ i. is_eq-slice_cmp a c i && (and-is_eq (text_cmp b d) (ordering_then (text_cmp (m ∷ []) (n ∷ [])) Equal) ∙ (λ j. is_eq-slice_cmp b d j && sym (one_part m n) j)) i))

@@ -75,7 +75,7 @@ IsOpen None = ⊥
 IsOpen (Some t) = t.is_open ≡ true
 
 -- an edit that the rows allow: a new station isn't there, one that is edited or has the row is,
--- a transaction that is stopped is open, and new numbers follow the last
+-- a transaction that is stopped is open, and new numbers follow the station's last, if it has one
 abbrev pub EditFits : List ℕ → Edit → Rows → Type 0
 EditFits b (StationAdded station policy interval) rows = registration_at b station rows ≡ None
 EditFits b (BootSeen station boot state) rows = IsSome (registration_at b station rows)

@@ -11,7 +11,7 @@ use Rattle.hub_rows.specs.declared.reading_row.ReadingRow.{ReadingRow}
 use Rattle.hub_rows.specs.Keyed.{by_key, put, put_all, those, greatest}
 use Rattle.hub_rows.specs.Rows.{tx_key}
 use Rattle.hub_rows.specs.Transactions.{counts, reading_rows, readings_in, AreNext}
-use Rattle.hub_rows.proofs.ListLaws.{all-weaker}
+use Rattle.hub_rows.proofs.ListLaws.{all-weaker, and-true}
 use Rattle.store_mem.specs.declared.open.OpenRow.{OpenRow}
 use Rattle.store_mem.specs.Open.{open_key, open_of, opens_of}
 use Rattle.store_mem.specs.Shelves.{number_key, AreOf}
@@ -90,10 +90,6 @@ are_readings b st o s first readings rows are same_op same_station =
 
 abbrev pub last_reading_of : List ℕ → List ℕ → List ReadingRow → ℕ
 last_reading_of b st all = greatest (map (λ x. x.number) (those (λ x. x.op) b (λ x. bytes_eq x.station st) all))
-
-and-true : (t : Bool) → t && true ≡ t
-and-true true = refl
-and-true false = refl
 
 all_of_station : (b st : List ℕ) (all : List ReadingRow) → greatest (map (λ x. x.number) (readings_in b st None all)) ≡ last_reading_of b st all
 all_of_station b st all = λ i. greatest (map (λ x. x.number) (those (λ x. x.op) b (λ x. and-true (bytes_eq x.station st) i) all))

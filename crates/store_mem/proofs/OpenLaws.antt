@@ -42,16 +42,12 @@ used-opens b key except (r ∷ txs) =
 
 -- ---- the order
 
-all-opens : (P : List (List ℕ) → Type 0) (txs : List TxRow) → AllByRecursion (λ r. P (tx_key r)) txs → AllByRecursion (λ o. P (open_key o)) (opens_of txs)
-all-opens P txs all = go (filter counts txs) (all-filter (λ r. P (tx_key r)) counts txs all)
-  where
-    go : (rs : List TxRow) → AllByRecursion (λ r. P (tx_key r)) rs → AllByRecursion (λ o. P (open_key o)) (map open_of rs)
-    go [] all = tt
-    go (r ∷ rs) all = (all.0, go rs all.1)
-
 map-all : (P : List (List ℕ) → Type 0) (rs : List TxRow) → AllByRecursion (λ r. P (tx_key r)) rs → AllByRecursion (λ o. P (open_key o)) (map open_of rs)
 map-all P [] all = tt
 map-all P (r ∷ rs) all = (all.0, map-all P rs all.1)
+
+all-opens : (P : List (List ℕ) → Type 0) (txs : List TxRow) → AllByRecursion (λ r. P (tx_key r)) txs → AllByRecursion (λ o. P (open_key o)) (opens_of txs)
+all-opens P txs all = map-all P (filter counts txs) (all-filter (λ r. P (tx_key r)) counts txs all)
 
 map-sorted : (rs : List TxRow) → IsStrictlySortedBy (by_key tx_key) rs → IsStrictlySortedBy (by_key open_key) (map open_of rs)
 unfolding IsStrictlySortedBy
