@@ -1,10 +1,12 @@
 //! The answers to lines.
-ghost use Rattle.std.specs.Prelude.{◌≡◌, ◌+◌, ◌++◌, ◌<◌, ◌-◌, ◌^◌, List, ℕ, OnOk, OnErr};
-ghost use Rattle.hub.specs.Hub.{world, setting};
+ghost use Rattle.std.specs.Prelude.{◌≡◌, ◌+◌, ◌++◌, ◌<◌, ◌≤◌, ◌-◌, ◌^◌, List, ℕ, true, OnOk, OnErr, IfErr};
+ghost use Rattle.hub_rows.specs.Failures.{Rose};
+ghost use Rattle.hub.specs.Hub.{world, setting, is_taken};
 ghost use Rattle.hub.specs.World.{world_outputs, world_step};
 ghost use Rattle.ws_server.specs.InputLines.{spelled};
 ghost use Rattle.ws_server.specs.OutputLines.{line_of};
 ghost use Rattle.replay.specs.Run.{Begins, ended, answer, after, told_lines, bad_line};
+ghost use Rattle.replay.specs.declared.fault.LineFault.TheVariants as line_fault;
 
 use crate::fault::LineFault;
 use hub::event::Event;
@@ -12,6 +14,7 @@ use hub::hub::Hub;
 use hub::out::Out;
 use hub::vendor::VendorHandler;
 use hub_rows::store::Store;
+use ocpp_types::memory::Mem;
 use std::alloc::{AllocError, Global};
 use ws_server::lines::printing::print_out;
 use ws_server::lines::reading::{Line, read_line};
@@ -23,7 +26,7 @@ pub struct Answers {
     pub text: Vec<u8>,
 }
 
-#[tactic(auto, using(crate::proofs::Facts::begins))]
+#[tactic(auto, using(crate::proofs::Facts::begins, crate::proofs::Hosted::spelled_hosted))]
 impl Answers {
     /// Answers the next line.
     pub fn line<S: Store + Drop, V: VendorHandler>(
@@ -42,6 +45,8 @@ impl Answers {
             ++ answer (setting V.name V.gives hub.old) (world S.rows hub.old) self.old.number (spelled (setting V.name V.gives hub.old).hosted raw.now)) }
         ensures fault { S.clean hub.new.book.store → OnErr result (Begins self.new.text.items (self.old.text.items
             ++ answer (setting V.name V.gives hub.old) (world S.rows hub.old) self.old.number (spelled (setting V.name V.gives hub.old).hosted raw.now))) }
+        ensures count { S.failures hub.old.book.store ≤ S.failures hub.new.book.store }
+        ensures store_failed { IfErr result (λ f. f ≡ line_fault.Store → Rose (S.failures hub.old.book.store) (S.failures hub.new.book.store)) }
     {
         match read_line(alloc, hub.hosted(), raw)? {
             Line::Nothing => {}
@@ -68,6 +73,9 @@ impl Answers {
             ++ told_lines (world_outputs (setting V.name V.gives hub.old) (world S.rows hub.old) event.now)) }
         ensures fault { S.clean hub.new.book.store → OnErr result (Begins self.new.text.items (self.old.text.items
             ++ told_lines (world_outputs (setting V.name V.gives hub.old) (world S.rows hub.old) event.now))) }
+        ensures count { S.failures hub.old.book.store ≤ S.failures hub.new.book.store }
+        ensures store_failed { is_taken (setting V.name V.gives hub.old) event.now ≡ true → IfErr result (λ f. f ≡ line_fault.Store
+            → Rose (S.failures hub.old.book.store) (S.failures hub.new.book.store)) }
     {
         let outs = hub.handle(event)?;
         push_all(&mut self.text, alloc, outs.as_slice())?;
@@ -87,7 +95,7 @@ pub fn push_bad(text: &mut Vec<u8>, alloc: Global, number: u64) -> Result<(), Al
 
 /// Adds the lines of outputs.
 #[tactic(auto, using(crate::proofs::Facts::front_of))]
-fn push_all(text: &mut Vec<u8>, alloc: Global, outs: &[Out]) -> Result<(), LineFault>
+fn push_all(text: &mut Vec<u8>, alloc: Global, outs: &[Out]) -> Mem<()>
     ensures ok { OnOk result (text.new.items ≡ text.old.items ++ told_lines outs.now) }
     ensures err { OnErr result (Begins text.new.items (text.old.items ++ told_lines outs.now)) }
 {
@@ -98,7 +106,7 @@ fn push_all(text: &mut Vec<u8>, alloc: Global, outs: &[Out]) -> Result<(), LineF
 }
 
 /// Adds an output's line, or nothing.
-fn push_line(text: &mut Vec<u8>, alloc: Global, out: &Out) -> Result<(), LineFault>
+fn push_line(text: &mut Vec<u8>, alloc: Global, out: &Out) -> Mem<()>
     ensures ok { OnOk result (text.new.items ≡ text.old.items ++ ended (line_of out.now)) }
     ensures err { OnErr result (text.new.items ≡ text.old.items) }
 {

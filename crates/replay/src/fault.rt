@@ -1,6 +1,8 @@
 //! Why a replay ends before its input.
-ghost use Rattle.std.specs.Prelude.{◌≡◌, ◌≢◌};
-ghost use Rattle.replay.specs.declared.fault.ReplayFault.TheVariants.{TooLong, BadOperators};
+ghost use Rattle.std.specs.Prelude.{◌≡◌};
+ghost use Rattle.replay.specs.Faults.{line_fault_of, replay_fault_of};
+ghost use Rattle.replay.specs.declared.fault.LineFault.TheVariants as line_fault;
+ghost use Rattle.replay.specs.declared.fault.ReplayFault.TheVariants as replay_fault;
 
 use hub::fault::Fault;
 use ocpp_types::memory::NoMemory;
@@ -42,18 +44,24 @@ pub enum LineFault {
 }
 
 impl From<NoMemory> for LineFault {
+    ghost from_gives = { λ _ f. f ≡ line_fault.NoMemory };
+
     fn from(_refused: NoMemory) -> LineFault {
         LineFault::NoMemory
     }
 }
 
 impl From<AllocError> for LineFault {
+    ghost from_gives = { λ _ f. f ≡ line_fault.NoMemory };
+
     fn from(_refused: AllocError) -> LineFault {
         LineFault::NoMemory
     }
 }
 
 impl From<Fault> for LineFault {
+    ghost from_gives = { λ fault f. f ≡ line_fault_of fault };
+
     fn from(fault: Fault) -> LineFault {
         match fault {
             Fault::NoMemory => LineFault::NoMemory,
@@ -64,7 +72,7 @@ impl From<Fault> for LineFault {
 }
 
 impl From<LineFault> for ReplayFault {
-    ghost from_gives = { λ _ e. (e ≢ TooLong) × (e ≢ BadOperators) };
+    ghost from_gives = { λ fault f. f ≡ replay_fault_of fault };
 
     fn from(fault: LineFault) -> ReplayFault {
         match fault {
@@ -76,7 +84,7 @@ impl From<LineFault> for ReplayFault {
 }
 
 impl From<AllocError> for ReplayFault {
-    ghost from_gives = { λ _ e. (e ≢ TooLong) × (e ≢ BadOperators) };
+    ghost from_gives = { λ _ f. f ≡ replay_fault.NoMemory };
 
     fn from(_refused: AllocError) -> ReplayFault {
         ReplayFault::NoMemory

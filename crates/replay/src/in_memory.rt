@@ -5,7 +5,7 @@ ghost use Rattle.hub_rows.specs.Rows.{no_rows};
 ghost use Rattle.hub.specs.Hub.{setting_of};
 ghost use Rattle.hub.specs.Operators.{are_operators};
 ghost use Rattle.replay.specs.Run.{AppendsFront, output_of};
-ghost use Rattle.replay.specs.declared.fault.ReplayFault.TheVariants.{TooLong, BadOperators};
+ghost use Rattle.replay.specs.declared.fault.ReplayFault.TheVariants.{TooLong, BadOperators, Store as StoreFailed};
 
 use crate::fault::ReplayFault;
 use crate::input::replay;
@@ -36,6 +36,7 @@ pub fn replay_in_memory<V: VendorHandler, R: Read, W: Write>(
     ensures long { IfErr result (λ e. e ≡ TooLong → IfSome (R.remaining reader.old) (λ input. 1073741824 ≤ length input)) }
     ensures bad_operators { are_operators operators.items ≡ false → (result ≡ Err BadOperators) × (writer.new ≡ writer.old) }
     ensures operators { IfErr result (λ e. e ≡ BadOperators → are_operators operators.items ≡ false) }
+    ensures store { IfErr result (λ e. e ≢ StoreFailed) }
 {
     let mut hub = match Hub::new(alloc, MemStore::new(alloc), operators, vendors) {
         Ok(hub) => hub,

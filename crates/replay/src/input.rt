@@ -1,9 +1,11 @@
 //! A replay: the input is read in parts and handed on line by line.
 ghost use Rattle.std.specs.Prelude.{◌≡◌, ◌≢◌, ◌+◌, ◌*◌, ◌++◌, ◌<◌, ◌≤◌, ◌-◌, ◌^◌, List, [], ◌∷◌, ℕ, length, Option, OnOk, OnErr, IfOk, IfErr, IfSome, vec_len};
 ghost use Rattle.std.specs.Io.KnownBytes.{Appends, Consumes, IsAtEnd, Keeps};
+ghost use Rattle.hub_rows.specs.Failures.{Rose};
 ghost use Rattle.hub.specs.Hub.{world, setting};
 ghost use Rattle.replay.specs.Run.{Begins, HasNoFeed, Stands, Falls, AppendsFront, left, output_of};
-ghost use Rattle.replay.specs.declared.fault.ReplayFault.TheVariants.{TooLong, BadOperators};
+ghost use Rattle.replay.specs.declared.fault.LineFault.TheVariants as line_fault;
+ghost use Rattle.replay.specs.declared.fault.ReplayFault.TheVariants as replay_fault;
 
 use crate::answers::Answers;
 use crate::fault::{LineFault, ReplayFault};
@@ -22,7 +24,7 @@ pub const MAX_INPUT: u64 = 1_073_741_824;
 
 impl Pieces {
     /// Takes a part of the input.
-    #[tactic(auto, using(crate::proofs::Facts::stands_front, crate::proofs::Facts::stands_more, crate::proofs::Facts::stands_begins))]
+    #[tactic(auto, using(crate::proofs::Facts::stands_front, crate::proofs::Facts::stands_more, crate::proofs::Facts::stands_begins, crate::proofs::Hosted::rose_later))]
     pub fn feed<S: Store + Drop, V: VendorHandler, W: Write>(
         &mut self,
         alloc: Global,
@@ -42,6 +44,8 @@ impl Pieces {
         ensures fault { S.clean hub.new.book.store → OnErr result ((start : Option (List ℕ)) (rest whole : List ℕ) →
             Stands start (W.contents writer.old) (self.old.answers.text.items ++ left (setting V.name V.gives hub.old) (world S.rows hub.old) self.old.answers.number self.old.skips self.old.held.items (piece.now ++ rest)) whole →
             Falls start (W.contents writer.new) self.new.answers.text.items whole) }
+        ensures count { S.failures hub.old.book.store ≤ S.failures hub.new.book.store }
+        ensures store_failed { IfErr result (λ f. f ≡ line_fault.Store → Rose (S.failures hub.old.book.store) (S.failures hub.new.book.store)) }
     {
         let mut rest = piece;
         while let Some((line, after)) = cut(rest) {
@@ -68,6 +72,8 @@ impl Pieces {
             ≡ self.old.answers.text.items ++ left (setting V.name V.gives hub.old) (world S.rows hub.old) self.old.answers.number self.old.skips self.old.held.items []) }
         ensures fault { S.clean hub.new.book.store → OnErr result (Begins self.new.answers.text.items
             (self.old.answers.text.items ++ left (setting V.name V.gives hub.old) (world S.rows hub.old) self.old.answers.number self.old.skips self.old.held.items [])) }
+        ensures count { S.failures hub.old.book.store ≤ S.failures hub.new.book.store }
+        ensures store_failed { IfErr result (λ f. f ≡ line_fault.Store → Rose (S.failures hub.old.book.store) (S.failures hub.new.book.store)) }
     {
         if self.skips {
             return Ok(());
@@ -93,6 +99,8 @@ impl Pieces {
         ensures fault { S.clean hub.new.book.store → OnErr result ((start : Option (List ℕ)) (whole : List ℕ) →
             Stands start (W.contents writer.old) (self.old.answers.text.items ++ left (setting V.name V.gives hub.old) (world S.rows hub.old) self.old.answers.number self.old.skips self.old.held.items []) whole →
             Falls start (W.contents writer.new) self.new.answers.text.items whole) }
+        ensures count { S.failures hub.old.book.store ≤ S.failures hub.new.book.store }
+        ensures store_failed { IfErr result (λ f. f ≡ line_fault.Store → Rose (S.failures hub.old.book.store) (S.failures hub.new.book.store)) }
     {
         self.last(alloc, hub)?;
         write_out(&mut self.answers.text, writer)?;
@@ -104,7 +112,7 @@ impl Pieces {
 }
 
 /// Hands the input over in parts.
-#[tactic(auto, using(crate::proofs::Pass::passes_none, crate::proofs::Pass::passes_more, crate::proofs::Pass::passes_end, crate::proofs::Pass::passes_stop, crate::proofs::Pass::passes_long))]
+#[tactic(auto, using(crate::proofs::Pass::passes_none, crate::proofs::Pass::passes_more, crate::proofs::Pass::passes_end, crate::proofs::Pass::passes_stop, crate::proofs::Pass::passes_long, crate::proofs::Hosted::rose_later))]
 fn pass<S: Store + Drop, V: VendorHandler, R: Read, W: Write>(
     pieces: &mut Pieces,
     alloc: Global,
@@ -123,8 +131,10 @@ fn pass<S: Store + Drop, V: VendorHandler, R: Read, W: Write>(
     ensures fault { S.clean hub.new.book.store → OnErr result (IfSome (R.remaining reader.old) (λ input. (start : Option (List ℕ)) (whole : List ℕ) →
         Stands start (W.contents writer.old) (pieces.old.answers.text.items ++ left (setting V.name V.gives hub.old) (world S.rows hub.old) pieces.old.answers.number pieces.old.skips pieces.old.held.items input) whole →
         Falls start (W.contents writer.new) pieces.new.answers.text.items whole)) }
-    ensures long { IfErr result (λ e. e ≡ TooLong → IfSome (R.remaining reader.old) (λ input. most ≤ length input)) }
-    ensures operators { IfErr result (λ e. e ≢ BadOperators) }
+    ensures long { IfErr result (λ e. e ≡ replay_fault.TooLong → IfSome (R.remaining reader.old) (λ input. most ≤ length input)) }
+    ensures operators { IfErr result (λ e. e ≢ replay_fault.BadOperators) }
+    ensures count { S.failures hub.old.book.store ≤ S.failures hub.new.book.store }
+    ensures store_failed { IfErr result (λ f. f ≡ replay_fault.Store → Rose (S.failures hub.old.book.store) (S.failures hub.new.book.store)) }
 {
     let mut buffer = zeros(alloc, CHUNK)?;
     let mut left = most;
@@ -151,7 +161,7 @@ fn read_part<'b, R: Read>(
     ensures bytes { IfOk result (λ part. Consumes (R.remaining reader.old) (R.remaining reader.new) part.now) }
     ensures end { IfOk result (λ part. length part.now ≡ 0 → IsAtEnd (R.remaining reader.new)) }
     ensures err { OnErr result (Keeps (R.remaining reader.old) (R.remaining reader.new)) }
-    ensures other { IfErr result (λ e. (e ≢ TooLong) × (e ≢ BadOperators)) }
+    ensures kind { IfErr result (λ e. e ≡ replay_fault.Read) }
 {
     let room = most.min(buffer.len() as u64) as usize;
     let target = &mut buffer[..room];
@@ -186,8 +196,10 @@ pub fn replay<S: Store + Drop, V: VendorHandler, R: Read, W: Write>(
         Appends (W.contents writer.old) (W.contents writer.new) (output_of (setting V.name V.gives hub.old) (world S.rows hub.old) input))) }
     ensures fault { S.clean hub.new.book.store → OnErr result (IfSome (R.remaining reader.old) (λ input.
         AppendsFront (W.contents writer.old) (W.contents writer.new) (output_of (setting V.name V.gives hub.old) (world S.rows hub.old) input))) }
-    ensures long { IfErr result (λ e. e ≡ TooLong → IfSome (R.remaining reader.old) (λ input. 1073741824 ≤ length input)) }
-    ensures operators { IfErr result (λ e. e ≢ BadOperators) }
+    ensures long { IfErr result (λ e. e ≡ replay_fault.TooLong → IfSome (R.remaining reader.old) (λ input. 1073741824 ≤ length input)) }
+    ensures operators { IfErr result (λ e. e ≢ replay_fault.BadOperators) }
+    ensures count { S.failures hub.old.book.store ≤ S.failures hub.new.book.store }
+    ensures store_failed { IfErr result (λ f. f ≡ replay_fault.Store → Rose (S.failures hub.old.book.store) (S.failures hub.new.book.store)) }
 {
     let mut pieces = Pieces {
         answers: Answers {

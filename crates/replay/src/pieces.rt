@@ -1,9 +1,11 @@
 //! Lines that come in parts.
-ghost use Rattle.std.specs.Prelude.{◌≡◌, ◌+◌, ◌++◌, ◌<◌, ◌≤◌, ◌-◌, ◌^◌, List, [], ◌∷◌, ℕ, false, length, OnOk, OnErr, IfOk, MatchOption};
+ghost use Rattle.std.specs.Prelude.{◌≡◌, ◌+◌, ◌++◌, ◌<◌, ◌≤◌, ◌-◌, ◌^◌, List, [], ◌∷◌, ℕ, false, length, OnOk, OnErr, IfOk, IfErr, MatchOption};
+ghost use Rattle.hub_rows.specs.Failures.{Rose};
 ghost use Rattle.hub.specs.Hub.{world, setting};
 ghost use Rattle.hub.specs.Table.{Setting};
 ghost use Rattle.hub.specs.World.{World};
 ghost use Rattle.replay.specs.Run.{Begins, HasNoFeed, left};
+ghost use Rattle.replay.specs.declared.fault.LineFault.TheVariants as line_fault;
 
 use crate::answers::{Answers, push_bad};
 use crate::fault::LineFault;
@@ -51,6 +53,8 @@ impl Pieces {
             ≡ self.new.answers.text.items ++ left (setting V.name V.gives hub.new) (world S.rows hub.new) self.new.answers.number self.new.skips self.new.held.items rest) }
         ensures fault { S.clean hub.new.book.store → OnErr result ((rest : List ℕ) → Begins self.new.answers.text.items
             (self.old.answers.text.items ++ left (setting V.name V.gives hub.old) (world S.rows hub.old) self.old.answers.number self.old.skips self.old.held.items (line.now ++ (10 ∷ rest)))) }
+        ensures count { S.failures hub.old.book.store ≤ S.failures hub.new.book.store }
+        ensures store_failed { IfErr result (λ f. f ≡ line_fault.Store → Rose (S.failures hub.old.book.store) (S.failures hub.new.book.store)) }
     {
         if self.skips {
             self.skips = false;
@@ -65,7 +69,7 @@ impl Pieces {
 
     /// Takes a part of a line that goes on.
     #[tactic(auto, using(crate::proofs::Splits::keep_more, crate::proofs::Splits::keep_long, crate::proofs::Splits::skip_more, crate::proofs::Splits::no_feeds))]
-    pub fn keep(&mut self, alloc: Global, tail: &[u8]) -> Result<(), LineFault>
+    pub fn keep(&mut self, alloc: Global, tail: &[u8]) -> Result<(), AllocError>
         requires held { HasNoFeed self.old.held.items }
         requires tail { HasNoFeed tail.now }
         requires room { self.old.answers.number < 2 ^ 64 - 1 }

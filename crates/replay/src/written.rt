@@ -1,7 +1,8 @@
 //! Writing text out.
-ghost use Rattle.std.specs.Prelude.{◌≡◌, ◌++◌, List, [], ℕ, Option, OnOk, OnErr, length};
+ghost use Rattle.std.specs.Prelude.{◌≡◌, ◌++◌, ◌<◌, List, [], ℕ, Option, OnOk, OnErr, IfErr, length};
 ghost use Rattle.std.specs.Io.KnownBytes.{Appends};
 ghost use Rattle.replay.specs.Run.{AppendsFront, Stands, Falls};
+ghost use Rattle.replay.specs.declared.fault.LineFault.TheVariants as line_fault;
 
 use crate::fault::LineFault;
 use std::io::Write;
@@ -16,6 +17,7 @@ pub fn write_out<W: Write>(text: &mut Vec<u8>, writer: &mut W) -> Result<(), Lin
     ensures fault { OnErr result ((start : Option (List ℕ)) (ahead whole : List ℕ) →
         Stands start (W.contents writer.old) (text.old.items ++ ahead) whole →
         Falls start (W.contents writer.new) text.new.items whole) }
+    ensures kind { IfErr result (λ f. f ≡ line_fault.Write) }
 {
     let result = write_slice(text.as_slice(), writer);
     text.clear();
@@ -25,7 +27,8 @@ pub fn write_out<W: Write>(text: &mut Vec<u8>, writer: &mut W) -> Result<(), Lin
 /// Writes of the text what can be written.
 #[tactic(auto, using(crate::proofs::Facts::stands_part, crate::proofs::Facts::falls_part))]
 pub fn write_last<W: Write>(text: &mut Vec<u8>, writer: &mut W)
-    ensures { (start : Option (List ℕ)) (ahead whole : List ℕ) →
+    ensures empty { text.new.items ≡ [] }
+    ensures front { (start : Option (List ℕ)) (ahead whole : List ℕ) →
         Stands start (W.contents writer.old) (text.old.items ++ ahead) whole →
         AppendsFront start (W.contents writer.new) whole }
 {
@@ -39,12 +42,14 @@ const ENOUGH: usize = 65_536;
 
 /// Writes the text, if it is long.
 pub fn write_if_long<W: Write>(text: &mut Vec<u8>, writer: &mut W) -> Result<(), LineFault>
+    ensures short { OnOk result (length text.new.items < 65536) }
     ensures ok { OnOk result ((start : Option (List ℕ)) (ahead whole : List ℕ) →
         Stands start (W.contents writer.old) (text.old.items ++ ahead) whole →
         Stands start (W.contents writer.new) (text.new.items ++ ahead) whole) }
     ensures fault { OnErr result ((start : Option (List ℕ)) (ahead whole : List ℕ) →
         Stands start (W.contents writer.old) (text.old.items ++ ahead) whole →
         Falls start (W.contents writer.new) text.new.items whole) }
+    ensures kind { IfErr result (λ f. f ≡ line_fault.Write) }
 {
     if text.len() < ENOUGH {
         return Ok(());
@@ -57,6 +62,7 @@ pub fn write_if_long<W: Write>(text: &mut Vec<u8>, writer: &mut W) -> Result<(),
 fn write_slice<W: Write>(text: &[u8], writer: &mut W) -> Result<(), LineFault>
     ensures ok { OnOk result (Appends (W.contents writer.old) (W.contents writer.new) text.now) }
     ensures fault { OnErr result (AppendsFront (W.contents writer.old) (W.contents writer.new) text.now) }
+    ensures kind { IfErr result (λ f. f ≡ line_fault.Write) }
 {
     let mut rest = text;
     while !rest.is_empty() {

@@ -8,6 +8,7 @@ loop-left-preserved g c = record {
   size = grind arith;
   number = grind arith;
   was_clean = λ clean. c.loop-left.invariant.was_clean (c.in_ok-feed.ensures.was_clean clean);
+  count = grind arith;
   same = c.in_ok-feed.ensures.setting ∙ c.loop-left.invariant.same;
   passes = passes_more _ _ _ _ _ _ _ _ _ _ _ _ _ _ _ c.loop-left.invariant.passes c.in_ok-feed.ensures.was_clean c.in_ok-part.ensures.bytes (grind arith) c.in_ok-feed.ensures.text;
 }

@@ -8,6 +8,7 @@ invariant-loop-line g l = record {
   held : HasNoFeed l.self.held.items;
   number : l.self.answers.number + length l.rest ≤ l.fn.self.answers.number + length l.piece;
   was_clean : g.S.Store.clean l.hub.book.store → g.S.Store.clean l.fn.hub.book.store;
+  count : g.S.Store.failures l.fn.hub.book.store ≤ g.S.Store.failures l.hub.book.store;
   same : setting g.V.VendorHandler.name g.V.VendorHandler.gives l.hub ≡ setting g.V.VendorHandler.name g.V.VendorHandler.gives l.fn.hub;
   text : g.S.Store.clean l.hub.book.store → (start : Option (List ℕ)) (rest whole : List ℕ) →
       Stands start (g.W.Write.contents l.fn.writer) (l.fn.self.answers.text.items ++ left (setting g.V.VendorHandler.name g.V.VendorHandler.gives l.fn.hub) (world g.S.Store.rows l.fn.hub) l.fn.self.answers.number l.fn.self.skips l.fn.self.held.items (l.piece ++ rest)) whole →

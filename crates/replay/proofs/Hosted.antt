@@ -1,0 +1,61 @@
+-- Events that lines spell are of hosted operators, and failures are counted along.
+use Rattle.std.proofs.Common.{◌≡◌, ◌<◌, ◌≤◌, ℕ, List, Bool, true, false, cond, refl, subst, arith, inl, inr}
+use Rattle.std.specs.Prelude.{Option, Some, None}
+use Rattle.hub.specs.declared.event.Event.{Event as HubEvent}
+use Rattle.hub.specs.Operators.{is_hosted}
+use Rattle.hub_rows.specs.Failures.{Rose}
+use Rattle.ws_server.specs.declared.lines.reading.Line.{Line}
+use Rattle.ws_server.specs.declared.lines.reading.Line.TheVariants as line
+use Rattle.ws_server.specs.InputLines.{spelled, spelled_text, said, event_of, is_utf8}
+use Rattle.ws_server.specs.Forms.{what_of}
+use Rattle.ws_server.specs.Words.{first_word, moment_at, ◌>>=◌}
+use Rattle.std.specs.Prelude.{nat_lt, ◌==◌, length}
+use Rattle.std.specs.Io.BufRead.{strip_last}
+use Rattle.std.specs.Str.Lossy.{utf8_valid_len}
+
+-- a rise at any part of a run is one of the whole
+pub rose_later : (a b c : ℕ) → a ≤ b → Rose b c → Rose a c
+rose_later a b c below (inl rise) = inl (omega (arith, below, rise))
+rose_later a b c below (inr most) = inr most
+
+bind_gives : {A B : Type 0} (P : B → Type 0) (x : Option A) (f : A → Option B) → ((a : A) (b : B) → f a ≡ Some b → P b) → (b : B) → (x >>= f) ≡ Some b → P b
+bind_gives P None f g b e = absurd (cc)
+bind_gives P (Some a) f g b e = g a b e
+
+when_gives : {B : Type 0} (P : B → Type 0) (t : Bool) (x : Option B) → (t ≡ true → (b : B) → x ≡ Some b → P b) → (b : B) → cond t x None ≡ Some b → P b
+when_gives P false x g b e = absurd (cc)
+when_gives P true x g b e = g refl b e
+
+same_event : (x e : HubEvent) → Some x ≡ Some e → x ≡ e
+same_event x e is = cc
+
+event_hosted : (hosted : List (List ℕ)) (text : List ℕ) (e : HubEvent) → event_of hosted text ≡ Some e → is_hosted hosted e.op ≡ true
+unfolding event_of
+event_hosted hosted text =
+    let P : HubEvent → Type 0 = λ e. is_hosted hosted e.op ≡ true in
+    bind_gives P (first_word text) _ (λ first. bind_gives P (moment_at first.0) _ (λ moment. bind_gives P (first_word first.1) _ (λ op.
+    when_gives P (is_hosted hosted op.0) _ (λ taken. bind_gives P (what_of op.1) _ (λ w e is.
+    subst P (same_event (record { op = op.0; moment = moment; what = w }) e is) taken)))))
+
+line_event : (x : Option HubEvent) (e : HubEvent) → line.Event e ≡ said x → x ≡ Some e
+line_event None e is = absurd (cc)
+line_event (Some x) e is = cc
+
+-- an event that a line spells is of a hosted operator
+pub spelled_hosted : (hosted : List (List ℕ)) (bytes : List ℕ) (e : HubEvent) → line.Event e ≡ spelled hosted bytes → is_hosted hosted e.op ≡ true
+unfolding spelled
+spelled_hosted hosted bytes e =
+    elim (nat_lt 1_048_576 (length bytes)) as (λ t. line.Event e ≡ cond t line.Bad (spelled_text hosted (strip_last 13 bytes)) → is_hosted hosted e.op ≡ true) [
+      | true ↦ λ is. absurd (cc)
+      | false ↦ text_hosted (strip_last 13 bytes)
+    ]
+  where
+    text_hosted : (text : List ℕ) → line.Event e ≡ spelled_text hosted text → is_hosted hosted e.op ≡ true
+    text_hosted text =
+        elim (length text == 0) as (λ t. line.Event e ≡ cond t line.Nothing (cond (is_utf8 text) (said (event_of hosted text)) line.Bad) → is_hosted hosted e.op ≡ true) [
+          | true ↦ λ is. absurd (cc)
+          | false ↦ elim (is_utf8 text) as (λ t. line.Event e ≡ cond t (said (event_of hosted text)) line.Bad → is_hosted hosted e.op ≡ true) [
+            | true ↦ λ is. event_hosted hosted text e (line_event (event_of hosted text) e is)
+            | false ↦ λ is. absurd (cc)
+          ]
+        ]
