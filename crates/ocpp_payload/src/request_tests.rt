@@ -1,10 +1,9 @@
 //! Faults of each member, by the field lists of OCPP 1.6, section 6, and what is read.
 
 use crate::action::Action;
-use crate::read_request::read_request;
 use crate::readings::MeterValue;
 use crate::request::Request;
-use crate::tests::outcome;
+use crate::tests::{outcome, request_of};
 use ocpp_types::charge_point_status::ChargePointStatus;
 use ocpp_types::location::Location;
 use ocpp_types::measurand::Measurand;
@@ -13,7 +12,6 @@ use ocpp_types::reading_context::ReadingContext;
 use ocpp_types::reason::Reason;
 use ocpp_types::unit_of_measure::UnitOfMeasure;
 use ocpp_types::value_format::ValueFormat;
-use serde_json::Value;
 use std::alloc::Global;
 
 #[test]
@@ -237,11 +235,8 @@ fn members_of_meter_values(rt: HostRuntime) -> Result<(), NoMemory> {
 /// The readings of a MeterValues with that list.
 fn read_values(alloc: Global, values: &str) -> Mem<Vec<MeterValue>> {
     let payload = format!(in alloc; "{{\"connectorId\":1,\"meterValue\":{values}}}")?;
-    let Ok(payload) = Value::from_str(alloc, payload.as_str()) else {
-        return Ok(Vec::new(alloc));
-    };
-    match read_request(alloc, Action::MeterValues, &payload)? {
-        Ok(Request::MeterValues(request)) => Ok(request.meter_value.into_vec()),
+    match request_of(alloc, Action::MeterValues, payload.as_str())? {
+        Some(Request::MeterValues(request)) => Ok(request.meter_value.into_vec()),
         _ => Ok(Vec::new(alloc)),
     }
 }
@@ -293,17 +288,11 @@ fn long_lists_are_read_whole(rt: HostRuntime) -> Result<(), NoMemory> {
 }
 
 #[test]
-fn requests_keep_what_was_sent(rt: HostRuntime) -> Result<(), NoMemory> {
-    let alloc = rt.alloc();
-    let status =
+fn a_status_keeps_what_was_sent(rt: HostRuntime) -> Result<(), NoMemory> {
+    let text =
         r#"{"connectorId":2,"errorCode":"OtherError","status":"Charging","timestamp":"1969-12-31T23:59:59.9995Z","vendorErrorCode":"e"}"#;
-    let payload = Value::from_str(alloc, status).ok().expect(&rt, "JSON");
-    let Ok(Request::StatusNotification(status)) = read_request(
-        alloc,
-        Action::StatusNotification,
-        &payload,
-    )?
-    else {
+    let request = request_of(rt.alloc(), Action::StatusNotification, text)?;
+    let Some(Request::StatusNotification(status)) = request else {
         panic!(rt; "not read");
     };
     assert_eq!(rt; status.connector_id, 2);
@@ -311,10 +300,14 @@ fn requests_keep_what_was_sent(rt: HostRuntime) -> Result<(), NoMemory> {
     assert!(rt; status.timestamp == Some(-1));
     assert!(rt; status.vendor_id.is_none());
     assert!(rt; status.vendor_error_code.as_ref().map(|t| t.as_str()) == Some("e"));
-    let stop = r#"{"meterStop":200,"timestamp":"2024-01-01T01:00:00Z","transactionId":57}"#;
-    let payload = Value::from_str(alloc, stop).ok().expect(&rt, "JSON");
-    let Ok(Request::StopTransaction(stop)) = read_request(alloc, Action::StopTransaction, &payload)?
-    else {
+    Ok(())
+}
+
+#[test]
+fn a_stop_keeps_what_was_sent(rt: HostRuntime) -> Result<(), NoMemory> {
+    let text = r#"{"meterStop":200,"timestamp":"2024-01-01T01:00:00Z","transactionId":57}"#;
+    let request = request_of(rt.alloc(), Action::StopTransaction, text)?;
+    let Some(Request::StopTransaction(stop)) = request else {
         panic!(rt; "not read");
     };
     assert!(rt; stop.id_tag.is_none());

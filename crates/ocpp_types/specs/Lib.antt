@@ -17,6 +17,7 @@ pub mod Phase
 pub mod ReadingContext
 pub mod Reason
 pub mod UnitOfMeasure
+pub mod Digits
 pub mod Micro
 pub mod ValueFormat
 pub mod TagKey

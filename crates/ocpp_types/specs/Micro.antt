@@ -1,8 +1,8 @@
 -- The numbers of readings, in millionths of the base unit.
 use Rattle.std.specs.Prelude.{ℕ, ◌+◌, ◌-◌, ◌*◌, ◌/◌, ◌%◌, ◌^◌, nat_lt, nat_le, ◌==◌, Bool, ◌&&◌, if◌then◌else◌, ℤ, pos, neg_ℤ, List, length, Option, Some, None, option_map, option_and_then}
-use Rattle.std.specs.Char.{is_ascii_digit}
-use Rattle.std.specs.List.{list_all, position_or_len, before_first, after_first}
-use Rattle.std.specs.Str.Parse.{digits_value, starts_with_minus, without_leading_sign}
+use Rattle.std.specs.List.{position_or_len, before_first, after_first}
+use Rattle.std.specs.Str.Parse.{starts_with_minus, without_leading_sign}
+use Rattle.ocpp_types.specs.Digits.{number_of_digits}
 use Rattle.ocpp_types.specs.declared.unit_of_measure.UnitOfMeasure.{UnitOfMeasure}
 use Rattle.ocpp_types.specs.declared.unit_of_measure.UnitOfMeasure.TheVariants.{KWh, Kvarh, KW, KVA, Kvar}
 
@@ -14,10 +14,6 @@ scale (Some KW) = 1000
 scale (Some KVA) = 1000
 scale (Some Kvar) = 1000
 scale _ = 1
-
--- the number that decimal digits are, of which there are 1 to so many
-abbrev pub number_of_digits : ℕ → List ℕ → Option ℕ
-number_of_digits most text = if nat_le 1 (length text) && nat_le (length text) most && list_all is_ascii_digit text then Some (digits_value 10 text) else None
 
 -- the digits before a point, in billionths
 abbrev pub whole_billionths : List ℕ → Option ℕ

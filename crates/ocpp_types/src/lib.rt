@@ -7,6 +7,7 @@ pub mod boot_notification;
 pub mod charge_point_error_code;
 pub mod charge_point_status;
 pub mod data_transfer_status;
+pub mod digits;
 pub mod error_code;
 pub mod field_name;
 pub mod id_tag_info;

@@ -1,10 +1,9 @@
 //! Numbers of readings (docs/RULES.md, Readings).
 ghost use Rattle.std.specs.Prelude.{◌≡◌, ◌≤◌, ◌<◌, ◌-◌, ◌*◌, ◌^◌, length, IfSome};
-ghost use Rattle.std.specs.Char.{is_ascii_digit};
-ghost use Rattle.std.specs.List.{list_all};
 ghost use Rattle.std.specs.Str.Parse.{without_leading_plus};
-ghost use Rattle.ocpp_types.specs.Micro.{scale, number_of_digits, whole_billionths, fraction_billionths, billionths, thousandth, magnitude, micro};
+ghost use Rattle.ocpp_types.specs.Micro.{scale, whole_billionths, fraction_billionths, billionths, thousandth, magnitude, micro};
 
+use crate::digits::number_of_digits;
 use crate::unit_of_measure::UnitOfMeasure;
 
 /// The most digits of a reading before its point.
@@ -91,22 +90,4 @@ fn fraction_billionths(text: &str) -> Option<u128>
     let digits = number_of_digits(text, FRACTION_DIGITS)?;
     let missing = FRACTION_DIGITS - text.len();
     Some((digits * 10_u64.pow(missing as u32)) as u128)
-}
-
-fn number_of_digits(text: &str, most: usize) -> Option<u64>
-    requires { most ≤ 19 }
-    ensures value { result ≡ number_of_digits most text.now }
-    ensures within { IfSome result (λ n. n < 10 ^ length text.now) }
-    ensures short { IfSome result (λ _. length text.now ≤ most) }
-{
-    if text.is_empty() || most < text.len() || !are_digits(text) {
-        return None;
-    }
-    text.parse().ok()
-}
-
-fn are_digits(text: &str) -> bool
-    ensures { result ≡ list_all is_ascii_digit text.now }
-{
-    text.bytes().all(|byte| byte.is_ascii_digit())
 }

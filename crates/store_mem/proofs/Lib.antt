@@ -1,4 +1,4 @@
 pub mod Kept
-pub mod ShelfLaws
+pub mod StationRowsLaws
 pub mod OpenLaws
 pub mod NewRows

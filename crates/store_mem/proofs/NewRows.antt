@@ -14,8 +14,8 @@ use Rattle.hub_rows.specs.Transactions.{counts, reading_rows, readings_in, AreNe
 use Rattle.hub_rows.proofs.ListLaws.{all-weaker, and-true}
 use Rattle.store_mem.specs.declared.open.OpenRow.{OpenRow}
 use Rattle.store_mem.specs.Open.{open_key, open_of, opens_of}
-use Rattle.store_mem.specs.Shelves.{number_key, AreOf}
-use Rattle.store_mem.proofs.ShelfLaws.{number-less}
+use Rattle.store_mem.specs.ByStation.{number_key, AreOf}
+use Rattle.store_mem.proofs.StationRowsLaws.{number-less}
 use Rattle.store_mem.proofs.OpenLaws.{is_new, opens-put}
 
 -- numbers that follow the last are above it

@@ -18,7 +18,7 @@ use Rattle.hub_rows.specs.Rows.{tx_key}
 use Rattle.hub_rows.specs.Transactions.{counts, is_tx, is_left_out, is_used_in}
 use Rattle.hub_rows.proofs.ListLaws.{by_key_total, all-filter, all-weaker, put-front, same_key, three_parts, two_parts, head, keys_total}
 use Rattle.std.proofs.lemmas.Cmp.{tied_itself}
-use Rattle.store_mem.proofs.ShelfLaws.{second}
+use Rattle.store_mem.proofs.StationRowsLaws.{second}
 use Rattle.store_mem.specs.declared.open.OpenRow.{OpenRow}
 use Rattle.store_mem.specs.Open.{open_key, open_of, opens_of, is_used, is_left_out as is_left_out_of, is_use}
 

@@ -1,3 +1,3 @@
 pub mod Stations
-pub mod Shelves
+pub mod ByStation
 pub mod Open

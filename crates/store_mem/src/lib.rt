@@ -8,8 +8,8 @@ mod making;
 pub mod mem_store;
 mod open;
 mod readings;
-mod shelf;
 mod started;
+mod station_rows;
 mod stations;
 mod tags;
 #[cfg(test)]

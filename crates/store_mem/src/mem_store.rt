@@ -6,14 +6,14 @@ ghost use Rattle.hub_rows.specs.Rows.{WellFormedRows, no_rows};
 ghost use Rattle.hub_rows.specs.Changes.{edit, stopped};
 ghost use Rattle.hub_rows.specs.Transactions.{AreNext, last_numbers_in, is_tx};
 ghost use Rattle.hub_rows.specs.declared.change.Edit.TheVariants.{TxStarted, ReadingsAdded};
-ghost use Rattle.store_mem.specs.Shelves.{all_rows, AreShelves, rows_in};
+ghost use Rattle.store_mem.specs.ByStation.{all_rows, AreGrouped, rows_in};
 ghost use Rattle.store_mem.specs.Open.{opens_of};
 
 use crate::copies::{connectors_of, copies, own_copies};
 use crate::open::{OpenRow, close, is_used};
 use crate::readings::{add_readings, readings_of};
-use crate::shelf::{Shelf, last_number, rows_of};
 use crate::started::{start_tx, started};
+use crate::station_rows::{StationRows, last_number, rows_of};
 use crate::stations::{StationChange, change_station, registration_of};
 use crate::tags::own_tag;
 use crate::transactions::{has_open, same_start, stop_tx, tx_state};
@@ -41,12 +41,12 @@ pub struct MemStore {
     stations: Vec<StationRow>,
     connectors: Vec<ConnectorRow>,
     tags: Vec<TagRow>,
-    transactions: Vec<Shelf<TxRow>>,
+    transactions: Vec<StationRows<TxRow>>,
     /// The transactions by which tags are in use.
     opens: Vec<OpenRow>,
-    readings: Vec<Shelf<ReadingRow>>,
+    readings: Vec<StationRows<ReadingRow>>,
     ghost good: { WellFormedRows (rows_in stations.items connectors.items tags.items transactions.items readings.items) } by { Prim.hlevel props },
-    ghost by_station: { AreShelves (λ r. r.op) (λ r. r.station) (λ r. r.number) transactions.items × AreShelves (λ r. r.op) (λ r. r.station) (λ r. r.number) readings.items } by { Prim.hlevel props },
+    ghost by_station: { AreGrouped (λ r. r.op) (λ r. r.station) (λ r. r.number) transactions.items × AreGrouped (λ r. r.op) (λ r. r.station) (λ r. r.number) readings.items } by { Prim.hlevel props },
     ghost in_use: { opens.items ≡ opens_of (all_rows transactions.items) } by { Prim.hlevel props },
 }
 

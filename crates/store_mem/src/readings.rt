@@ -3,9 +3,9 @@ ghost use Rattle.std.specs.Prelude.{◌≡◌, ◌+◌, ◌≤◌, length, filte
 ghost use Rattle.hub_rows.specs.Changes.{with_readings};
 ghost use Rattle.hub_rows.specs.Keyed.{greatest};
 ghost use Rattle.hub_rows.specs.Transactions.{reading_rows, readings_in, is_sent_with, AreNext};
-ghost use Rattle.store_mem.specs.Shelves.{all_rows, AreShelves};
+ghost use Rattle.store_mem.specs.ByStation.{all_rows, AreGrouped};
 
-use crate::shelf::{Shelf, append_rows, rows_of};
+use crate::station_rows::{StationRows, append_rows, rows_of};
 use hub_rows::reading_row::{Reading, ReadingRow};
 use ocpp_types::listed::Listed;
 use ocpp_types::memory::Mem;
@@ -41,37 +41,37 @@ fn reading_rows(
 /// Adds readings behind those of their station, numbered from the first number on.
 pub fn add_readings(
     alloc: Global,
-    shelves: &mut Vec<Shelf<ReadingRow>>,
+    groups: &mut Vec<StationRows<ReadingRow>>,
     op: &Text,
     station: &Text,
     first: u32,
     readings: &[Reading],
 ) -> Mem<()>
-    requires shelves { AreShelves (λ r. r.op) (λ r. r.station) (λ r. r.number) shelves.old.items }
-    requires next { AreNext (greatest (map (λ r. r.number) (readings_in op.now station.now None (all_rows shelves.old.items)))) first (length readings.now) }
-    ensures shelves { AreShelves (λ r. r.op) (λ r. r.station) (λ r. r.number) shelves.new.items }
-    ensures ok { OnOk result (all_rows shelves.new.items ≡ with_readings op.now station.now first readings.now (all_rows shelves.old.items)) }
-    ensures err { OnErr result (all_rows shelves.new.items ≡ all_rows shelves.old.items) }
+    requires groups { AreGrouped (λ r. r.op) (λ r. r.station) (λ r. r.number) groups.old.items }
+    requires next { AreNext (greatest (map (λ r. r.number) (readings_in op.now station.now None (all_rows groups.old.items)))) first (length readings.now) }
+    ensures groups { AreGrouped (λ r. r.op) (λ r. r.station) (λ r. r.number) groups.new.items }
+    ensures ok { OnOk result (all_rows groups.new.items ≡ with_readings op.now station.now first readings.now (all_rows groups.old.items)) }
+    ensures err { OnErr result (all_rows groups.new.items ≡ all_rows groups.old.items) }
 {
     if readings.is_empty() {
         return Ok(());
     }
     let rows = reading_rows(alloc, op, station, first, readings)?;
-    append_rows(alloc, shelves, op.as_str(), station.as_str(), rows)
+    append_rows(alloc, groups, op.as_str(), station.as_str(), rows)
 }
 
 /// The readings of a station, of all or of those sent with the number of a transaction.
 pub fn readings_of(
     alloc: Global,
-    shelves: &[Shelf<ReadingRow>],
+    groups: &[StationRows<ReadingRow>],
     op: &str,
     station: &str,
     transaction: Option<u64>,
 ) -> Mem<Listed<ReadingRow>>
-    requires { AreShelves (λ r. r.op) (λ r. r.station) (λ r. r.number) shelves.now }
-    ensures { IfOk result (λ rows. rows ≡ readings_in op.now station.now transaction (all_rows shelves.now)) }
+    requires { AreGrouped (λ r. r.op) (λ r. r.station) (λ r. r.number) groups.now }
+    ensures { IfOk result (λ rows. rows ≡ readings_in op.now station.now transaction (all_rows groups.now)) }
 {
-    sent_with(alloc, rows_of(shelves, op, station), transaction)
+    sent_with(alloc, rows_of(groups, op, station), transaction)
 }
 
 #[tactic(auto, using(hub_rows::proofs::Steps::drop_here))]

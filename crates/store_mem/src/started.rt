@@ -7,10 +7,10 @@ ghost use Rattle.hub_rows.specs.Keyed.{by_key, greatest, put, those};
 ghost use Rattle.hub_rows.specs.Rows.{tx_key};
 ghost use Rattle.hub_rows.specs.Transactions.{counts};
 ghost use Rattle.store_mem.specs.Open.{open_of, opens_of};
-ghost use Rattle.store_mem.specs.Shelves.{all_rows, AreShelves};
+ghost use Rattle.store_mem.specs.ByStation.{all_rows, AreGrouped};
 
 use crate::open::{OpenRow, open_of};
-use crate::shelf::{Shelf, append_rows};
+use crate::station_rows::{StationRows, append_rows};
 use hub_rows::ordered::put_ready;
 use hub_rows::tx_row::{Start, TxRow};
 use ocpp_types::memory::Mem;
@@ -34,7 +34,7 @@ pub fn started(op: &Text, station: &Text, number: u32, start: &Start) -> Mem<TxR
 /// counts.
 pub fn start_tx(
     alloc: Global,
-    shelves: &mut Vec<Shelf<TxRow>>,
+    groups: &mut Vec<StationRows<TxRow>>,
     opens: &mut Vec<OpenRow>,
     op: &Text,
     station: &Text,
@@ -42,19 +42,19 @@ pub fn start_tx(
 ) -> Mem<()>
     requires op { row.op ≡ op.now }
     requires station { row.station ≡ station.now }
-    requires shelves { AreShelves (λ r. r.op) (λ r. r.station) (λ r. r.number) shelves.old.items }
-    requires sorted { IsStrictlySortedBy (by_key tx_key) (all_rows shelves.old.items) }
-    requires in_use { opens.old.items ≡ opens_of (all_rows shelves.old.items) }
-    requires behind { greatest (map (λ r. r.number) (those (λ r. r.op) op.now (λ r. bytes_eq r.station station.now) (all_rows shelves.old.items))) < row.number }
-    ensures shelves { AreShelves (λ r. r.op) (λ r. r.station) (λ r. r.number) shelves.new.items }
-    ensures in_use { opens.new.items ≡ opens_of (all_rows shelves.new.items) }
-    ensures ok { OnOk result (all_rows shelves.new.items ≡ put (by_key tx_key) row (all_rows shelves.old.items)) }
-    ensures err { OnErr result (all_rows shelves.new.items ≡ all_rows shelves.old.items) }
+    requires groups { AreGrouped (λ r. r.op) (λ r. r.station) (λ r. r.number) groups.old.items }
+    requires sorted { IsStrictlySortedBy (by_key tx_key) (all_rows groups.old.items) }
+    requires in_use { opens.old.items ≡ opens_of (all_rows groups.old.items) }
+    requires behind { greatest (map (λ r. r.number) (those (λ r. r.op) op.now (λ r. bytes_eq r.station station.now) (all_rows groups.old.items))) < row.number }
+    ensures groups { AreGrouped (λ r. r.op) (λ r. r.station) (λ r. r.number) groups.new.items }
+    ensures in_use { opens.new.items ≡ opens_of (all_rows groups.new.items) }
+    ensures ok { OnOk result (all_rows groups.new.items ≡ put (by_key tx_key) row (all_rows groups.old.items)) }
+    ensures err { OnErr result (all_rows groups.new.items ≡ all_rows groups.old.items) }
 {
     opens.reserve(1)?;
     let in_use = in_use(&row)?;
     let rows = one(alloc, row)?;
-    append_rows(alloc, shelves, op.as_str(), station.as_str(), rows)?;
+    append_rows(alloc, groups, op.as_str(), station.as_str(), rows)?;
     if let Some(in_use) = in_use {
         put_ready(opens, in_use);
     }

@@ -5,18 +5,23 @@ ghost use Rattle.std.specs.List.Sorted.{IsStrictlySortedBy};
 ghost use Rattle.hub_rows.specs.Changes.{stopped};
 ghost use Rattle.hub_rows.specs.Keyed.{by_key, changed};
 ghost use Rattle.hub_rows.specs.Transactions.{tx_in, same_start_in, has_open_in, is_open, is_start, is_tx};
-ghost use Rattle.store_mem.specs.Shelves.{number_key, all_rows, AreShelves};
+ghost use Rattle.store_mem.specs.ByStation.{number_key, all_rows, AreGrouped};
 
-use crate::shelf::{Shelf, place_of_number, rows_of};
+use crate::station_rows::{StationRows, place_of_number, rows_of};
 use hub_rows::named_row::place_of_name;
 use hub_rows::tx_row::{StartKey, Stop, TxRow, TxState};
 
 /// A transaction of a station, by its number.
-pub fn tx_state(shelves: &[Shelf<TxRow>], op: &str, station: &str, number: u32) -> Option<TxState>
-    requires { AreShelves (λ r. r.op) (λ r. r.station) (λ r. r.number) shelves.now }
-    ensures { result ≡ tx_in op.now station.now number (all_rows shelves.now) }
+pub fn tx_state(
+    groups: &[StationRows<TxRow>],
+    op: &str,
+    station: &str,
+    number: u32,
+) -> Option<TxState>
+    requires { AreGrouped (λ r. r.op) (λ r. r.station) (λ r. r.number) groups.now }
+    ensures { result ≡ tx_in op.now station.now number (all_rows groups.now) }
 {
-    let rows = rows_of(shelves, op, station);
+    let rows = rows_of(groups, op, station);
     match place_of_number(rows, number) {
         Ok(place) => Some(rows[place].state()),
         Err(_) => None,
@@ -25,15 +30,15 @@ pub fn tx_state(shelves: &[Shelf<TxRow>], op: &str, station: &str, number: u32) 
 
 /// The number of the first transaction of a station with that start.
 pub fn same_start(
-    shelves: &[Shelf<TxRow>],
+    groups: &[StationRows<TxRow>],
     op: &str,
     station: &str,
     start: &StartKey,
 ) -> Option<u32>
-    requires { AreShelves (λ r. r.op) (λ r. r.station) (λ r. r.number) shelves.now }
-    ensures { result ≡ same_start_in op.now station.now start.now (all_rows shelves.now) }
+    requires { AreGrouped (λ r. r.op) (λ r. r.station) (λ r. r.number) groups.now }
+    ensures { result ≡ same_start_in op.now station.now start.now (all_rows groups.now) }
 {
-    first_start(rows_of(shelves, op, station), start)
+    first_start(rows_of(groups, op, station), start)
 }
 
 #[tactic(auto, using(hub_rows::proofs::Steps::drop_here))]
@@ -58,11 +63,11 @@ fn is_start(wanted: &StartKey, start: &StartKey) -> bool
 }
 
 /// Whether a transaction of a station is open.
-pub fn has_open(shelves: &[Shelf<TxRow>], op: &str, station: &str) -> bool
-    requires { AreShelves (λ r. r.op) (λ r. r.station) (λ r. r.number) shelves.now }
-    ensures { result ≡ has_open_in op.now station.now (all_rows shelves.now) }
+pub fn has_open(groups: &[StationRows<TxRow>], op: &str, station: &str) -> bool
+    requires { AreGrouped (λ r. r.op) (λ r. r.station) (λ r. r.number) groups.now }
+    ensures { result ≡ has_open_in op.now station.now (all_rows groups.now) }
 {
-    any_open(rows_of(shelves, op, station))
+    any_open(rows_of(groups, op, station))
 }
 
 #[tactic(auto, using(hub_rows::proofs::Steps::drop_here))]
@@ -78,26 +83,32 @@ fn any_open(rows: &[TxRow]) -> bool
 }
 
 /// Stops a transaction, if it is there.
-pub fn stop_tx(shelves: &mut Vec<Shelf<TxRow>>, op: &str, station: &str, number: u32, stop: Stop)
-    requires { AreShelves (λ r. r.op) (λ r. r.station) (λ r. r.number) shelves.old.items }
-    ensures shelves { AreShelves (λ r. r.op) (λ r. r.station) (λ r. r.number) shelves.new.items }
-    ensures rows { all_rows shelves.new.items
-        ≡ changed (λ r. r.op) op.now (is_tx station.now number) (stopped stop) (all_rows shelves.old.items) }
+pub fn stop_tx(
+    groups: &mut Vec<StationRows<TxRow>>,
+    op: &str,
+    station: &str,
+    number: u32,
+    stop: Stop,
+)
+    requires { AreGrouped (λ r. r.op) (λ r. r.station) (λ r. r.number) groups.old.items }
+    ensures groups { AreGrouped (λ r. r.op) (λ r. r.station) (λ r. r.number) groups.new.items }
+    ensures rows { all_rows groups.new.items
+        ≡ changed (λ r. r.op) op.now (is_tx station.now number) (stopped stop) (all_rows groups.old.items) }
 {
-    if let Ok(place) = place_of_name(shelves.as_slice(), op, station) {
-        stop_in_shelf(&mut shelves[place], number, stop);
+    if let Ok(place) = place_of_name(groups.as_slice(), op, station) {
+        stop_in_group(&mut groups[place], number, stop);
     }
 }
 
-fn stop_in_shelf(shelf: &mut Shelf<TxRow>, number: u32, stop: Stop)
-    requires { IsStrictlySortedBy (by_key (number_key (λ r. r.number))) shelf.old.rows.items }
-    ensures op { shelf.new.op ≡ shelf.old.op }
-    ensures station { shelf.new.station ≡ shelf.old.station }
-    ensures rows { shelf.new.rows.items
-        ≡ map (λ r. if r.number == number then stopped stop r else r) shelf.old.rows.items }
+fn stop_in_group(group: &mut StationRows<TxRow>, number: u32, stop: Stop)
+    requires { IsStrictlySortedBy (by_key (number_key (λ r. r.number))) group.old.rows.items }
+    ensures op { group.new.op ≡ group.old.op }
+    ensures station { group.new.station ≡ group.old.station }
+    ensures rows { group.new.rows.items
+        ≡ map (λ r. if r.number == number then stopped stop r else r) group.old.rows.items }
 {
-    if let Ok(place) = place_of_number(shelf.rows.as_slice(), number) {
-        stop_row(&mut shelf.rows[place], stop);
+    if let Ok(place) = place_of_number(group.rows.as_slice(), number) {
+        stop_row(&mut group.rows[place], stop);
     }
 }
 

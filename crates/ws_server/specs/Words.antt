@@ -1,9 +1,8 @@
 -- Words that are parted by one space.
-use Rattle.std.specs.Prelude.{ℕ, nat_lt, nat_le, ◌==◌, Bool, ◌&&◌, ◌||◌, is_some, List, length, Option, Some, None, codes, if◌then◌else◌, option_and_then}
-use Rattle.std.specs.Char.{is_ascii_digit}
-use Rattle.std.specs.List.{list_all, position_or_len, before_first, after_first}
+use Rattle.std.specs.Prelude.{ℕ, nat_lt, ◌==◌, Bool, ◌&&◌, ◌||◌, is_some, List, length, Option, Some, None, codes, if◌then◌else◌, option_and_then}
+use Rattle.std.specs.List.{position_or_len, before_first, after_first}
 use Rattle.std.specs.Str.{bytes_eq}
-use Rattle.std.specs.Str.Parse.{digits_value}
+use Rattle.ocpp_types.specs.Digits.{number_of_digits}
 use Rattle.ocpp_types.specs.Moment.{moment_of}
 
 abbrev pub is_space : ℕ → Bool
@@ -19,7 +18,7 @@ only_word text = if nat_lt 0 (length text) && (position_or_len is_space text == 
 
 -- the number that 1 to 12 decimal digits are
 abbrev pub number_of : List ℕ → Option ℕ
-number_of text = if nat_le 1 (length text) && nat_le (length text) 12 && list_all is_ascii_digit text then Some (digits_value 10 text) else None
+number_of text = number_of_digits 12 text
 
 -- the moment of that number of seconds
 abbrev pub moment_at : List ℕ → Option ℕ

@@ -1,9 +1,8 @@
 //! The words of a line.
 ghost use Rattle.std.specs.Prelude.{◌≡◌, option_map};
-ghost use Rattle.std.specs.Char.{is_ascii_digit};
-ghost use Rattle.std.specs.List.{list_all};
 ghost use Rattle.ws_server.specs.Words.{first_word, only_word, number_of, moment_at, is_expiry, expiry_of};
 
+use ocpp_types::digits::number_of_digits;
 use ocpp_types::moment::Moment;
 
 /// The most digits of a number in a line.
@@ -57,14 +56,5 @@ pub fn expiry_of(word: &str) -> Option<Moment>
 pub fn number_of(text: &str) -> Option<u64>
     ensures { result ≡ number_of text.now }
 {
-    if text.is_empty() || MAX_DIGITS < text.len() || !are_digits(text) {
-        return None;
-    }
-    text.parse().ok()
-}
-
-fn are_digits(text: &str) -> bool
-    ensures { result ≡ list_all is_ascii_digit text.now }
-{
-    text.bytes().all(|byte| byte.is_ascii_digit())
+    number_of_digits(text, MAX_DIGITS)
 }

@@ -1,5 +1,5 @@
 use Rattle.std.proofs.Common.{◌≤◌, length, rules}
-use Rattle.store_mem.specs.Shelves.{all_rows}
+use Rattle.store_mem.specs.ByStation.{all_rows}
 use Rattle.store_mem.proofs.NewRows.{are_readings, readings_behind}
 use Rattle.store_mem.proofs.readings.add_readings.Goals as goal
 
@@ -10,4 +10,4 @@ append_rows-requires-clause-new c =
 pub append_rows-requires-clause-behind : goal.append_rows-requires-clause-behind
 append_rows-requires-clause-behind c =
     let some : 1 ≤ length c.args.readings.now = search rules in
-    readings_behind c.args.op.now c.args.station.now c.as_str.result.now c.as_str-2.result.now c.args.first c.args.readings.now c.in_ok-rows.rows.items (all_rows c.args.shelves.now.items) c.in_ok-rows.ensures c.as_str.ensures c.as_str-2.ensures some c.requires.next
+    readings_behind c.args.op.now c.args.station.now c.as_str.result.now c.as_str-2.result.now c.args.first c.args.readings.now c.in_ok-rows.rows.items (all_rows c.args.groups.now.items) c.in_ok-rows.ensures c.as_str.ensures c.as_str-2.ensures some c.requires.next

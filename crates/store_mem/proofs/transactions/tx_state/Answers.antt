@@ -5,8 +5,8 @@ use Rattle.hub_rows.specs.declared.tx_row.TxRow.{TxRow}
 use Rattle.hub_rows.specs.Transactions.{state_of}
 use Rattle.hub_rows.proofs.ListLaws.{one_part}
 use Rattle.hub_rows.proofs.PlaceLaws.{find-found, find-gap}
-use Rattle.store_mem.specs.Shelves.{number_key, all_rows}
-use Rattle.store_mem.proofs.ShelfLaws.{found-those}
+use Rattle.store_mem.specs.ByStation.{number_key, all_rows}
+use Rattle.store_mem.proofs.StationRowsLaws.{found-those}
 use Rattle.store_mem.proofs.transactions.tx_state.Goals as goal
 
 pub returns-in-Ok : goal.returns-in-Ok
@@ -17,7 +17,7 @@ returns-in-Ok c =
     let at = c.in-Ok.ensures in
     let row = c.index-rows-place.result in
     ap (λ s. Some s) (c.state.ensures ∙ ap state_of (c.index-rows-place.is ∙ at.here row))
-    ∙ sym (ap (option_map state_of) (found-those (λ r. r.op) c.args.op.now (λ r. bytes_eq r.station c.args.station.now) (λ r. r.number == n) (all_rows c.args.shelves.now)
+    ∙ sym (ap (option_map state_of) (found-those (λ r. r.op) c.args.op.now (λ r. bytes_eq r.station c.args.station.now) (λ r. r.number == n) (all_rows c.args.groups.now)
     ∙ ap (find (λ r. r.number == n)) (sym c.rows_of-rows.ensures.rows)
     ∙ find-found (number_key number) ((n ∷ []) ∷ []) (λ r. r.number == n) (λ r. one_part r.number n) rows c.in-Ok.place at))
 
@@ -26,6 +26,6 @@ returns-in-Err c =
     let number : TxRow → _ = (λ r. r.number) in
     let n = c.args.number in
     let rows = c.rows_of-rows.result.now in
-    sym (ap (option_map state_of) (found-those (λ r. r.op) c.args.op.now (λ r. bytes_eq r.station c.args.station.now) (λ r. r.number == n) (all_rows c.args.shelves.now)
+    sym (ap (option_map state_of) (found-those (λ r. r.op) c.args.op.now (λ r. bytes_eq r.station c.args.station.now) (λ r. r.number == n) (all_rows c.args.groups.now)
     ∙ ap (find (λ r. r.number == n)) (sym c.rows_of-rows.ensures.rows)
     ∙ find-gap (number_key number) ((n ∷ []) ∷ []) (λ r. r.number == n) (λ r. one_part r.number n) rows c.in-Err.field-0 c.in-Err.ensures))

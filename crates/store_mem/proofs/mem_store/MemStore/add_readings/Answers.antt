@@ -4,7 +4,7 @@ use Rattle.hub_rows.specs.declared.reading_row.ReadingRow.{ReadingRow}
 use Rattle.hub_rows.specs.Changes.{with_readings}
 use Rattle.hub_rows.specs.Rows.{Rows, WellFormedRows}
 use Rattle.hub_rows.proofs.OwnLaws.{well_formed-edit}
-use Rattle.store_mem.specs.Shelves.{all_rows, rows_in}
+use Rattle.store_mem.specs.ByStation.{all_rows, rows_in}
 use Rattle.store_mem.proofs.Kept.{by_result}
 use Rattle.store_mem.proofs.mem_store.MemStore.add_readings.Goals as goal
 
@@ -16,8 +16,8 @@ invariant_of-self c =
     let b = c.args.op.now in
     let st = c.args.station.now in
     record {
-      good = by_result (λ xs. WellFormedRows (record rows { readings = xs })) c.add_readings.result (all_rows c.add_readings.new.shelves.items) (with_readings b st c.args.first c.args.readings.now all) all
+      good = by_result (λ xs. WellFormedRows (record rows { readings = xs })) c.add_readings.result (all_rows c.add_readings.new.groups.items) (with_readings b st c.args.first c.args.readings.now all) all
           (well_formed-edit b (ReadingsAdded st c.args.first c.args.readings.now) rows s.good) s.good c.add_readings.ensures.ok c.add_readings.ensures.err;
-      by_station = (s.by_station.0, c.add_readings.ensures.shelves);
+      by_station = (s.by_station.0, c.add_readings.ensures.groups);
       in_use = s.in_use;
     }

@@ -7,14 +7,14 @@ use Rattle.hub_rows.specs.declared.tx_row.TxRow.{TxRow}
 use Rattle.hub_rows.specs.declared.reading_row.ReadingRow.{ReadingRow}
 use Rattle.hub_rows.specs.Rows.{WellFormedRows}
 use Rattle.store_mem.specs.declared.open.OpenRow.{OpenRow}
-use Rattle.store_mem.specs.declared.shelf.Shelf.{Shelf}
+use Rattle.store_mem.specs.declared.station_rows.StationRows.{StationRows}
 use Rattle.store_mem.specs.Open.{opens_of}
-use Rattle.store_mem.specs.Shelves.{all_rows, AreShelves, rows_in}
+use Rattle.store_mem.specs.ByStation.{all_rows, AreGrouped, rows_in}
 use Rattle.store_mem.proofs.mem_store.MemStore.new.Goals as goal
 
-record IsMem (ss : List StationRow) (cs : List ConnectorRow) (ts : List TagRow) (xs : List (Shelf TxRow)) (os : List OpenRow) (rs : List (Shelf ReadingRow)) : Type 0 where
+record IsMem (ss : List StationRow) (cs : List ConnectorRow) (ts : List TagRow) (xs : List (StationRows TxRow)) (os : List OpenRow) (rs : List (StationRows ReadingRow)) : Type 0 where
   good : WellFormedRows (rows_in ss cs ts xs rs)
-  by_station : AreShelves (λ r. r.op) (λ r. r.station) (λ r. r.number) xs × AreShelves (λ r. r.op) (λ r. r.station) (λ r. r.number) rs
+  by_station : AreGrouped (λ r. r.op) (λ r. r.station) (λ r. r.number) xs × AreGrouped (λ r. r.op) (λ r. r.station) (λ r. r.number) rs
   in_use : os ≡ opens_of (all_rows xs)
 
 none : IsMem [] [] [] [] [] []
@@ -25,7 +25,7 @@ none = record {
   in_use = refl;
 }
 
-empty : (ss : List StationRow) (cs : List ConnectorRow) (ts : List TagRow) (xs : List (Shelf TxRow)) (os : List OpenRow) (rs : List (Shelf ReadingRow)) → ss ≡ [] → cs ≡ [] → ts ≡ [] → xs ≡ [] → os ≡ [] → rs ≡ [] → IsMem ss cs ts xs os rs
+empty : (ss : List StationRow) (cs : List ConnectorRow) (ts : List TagRow) (xs : List (StationRows TxRow)) (os : List OpenRow) (rs : List (StationRows ReadingRow)) → ss ≡ [] → cs ≡ [] → ts ≡ [] → xs ≡ [] → os ≡ [] → rs ≡ [] → IsMem ss cs ts xs os rs
 empty ss cs ts xs os rs a b c d e f =
     subst (λ l. IsMem l cs ts xs os rs) (sym a) (subst (λ l. IsMem [] l ts xs os rs) (sym b) (subst (λ l. IsMem [] [] l xs os rs) (sym c)
     (subst (λ l. IsMem [] [] [] l os rs) (sym d) (subst (λ l. IsMem [] [] [] [] l rs) (sym e) (subst (λ l. IsMem [] [] [] [] [] l) (sym f) none)))))

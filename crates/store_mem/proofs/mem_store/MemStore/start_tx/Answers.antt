@@ -4,7 +4,7 @@ use Rattle.hub_rows.specs.declared.tx_row.TxRow.{TxRow}
 use Rattle.hub_rows.specs.Keyed.{by_key, put}
 use Rattle.hub_rows.specs.Rows.{Rows, WellFormedRows, tx_key}
 use Rattle.hub_rows.proofs.OwnLaws.{well_formed-edit}
-use Rattle.store_mem.specs.Shelves.{all_rows, rows_in}
+use Rattle.store_mem.specs.ByStation.{all_rows, rows_in}
 use Rattle.store_mem.proofs.Kept.{by_result}
 use Rattle.store_mem.proofs.mem_store.MemStore.start_tx.Goals as goal
 
@@ -16,9 +16,9 @@ invariant_of-self c =
     let Good : List TxRow → Type 0 = (λ xs. WellFormedRows (record rows { transactions = xs })) in
     let row = c.in_ok-row.row in
     record {
-      good = by_result Good c.start_tx.result (all_rows c.start_tx.new.shelves.items) (put (by_key tx_key) row txs) txs
+      good = by_result Good c.start_tx.result (all_rows c.start_tx.new.groups.items) (put (by_key tx_key) row txs) txs
           (subst (λ r. Good (put (by_key tx_key) r txs)) (sym c.in_ok-row.ensures) (well_formed-edit c.args.op.now (TxStarted c.args.station.now c.args.number c.args.start.now) rows s.good))
           s.good c.start_tx.ensures.ok c.start_tx.ensures.err;
-      by_station = (c.start_tx.ensures.shelves, s.by_station.1);
+      by_station = (c.start_tx.ensures.groups, s.by_station.1);
       in_use = c.start_tx.ensures.in_use;
     }

@@ -8,7 +8,7 @@ use Rattle.hub_rows.specs.Rows.{Rows, WellFormedRows, tx_key}
 use Rattle.hub_rows.specs.Transactions.{is_tx}
 use Rattle.hub_rows.proofs.ListLaws.{sorted-changed}
 use Rattle.store_mem.specs.Open.{open_key, opens_of}
-use Rattle.store_mem.specs.Shelves.{all_rows, rows_in}
+use Rattle.store_mem.specs.ByStation.{all_rows, rows_in}
 use Rattle.store_mem.proofs.OpenLaws.{sorted-opens, opens-stopped}
 use Rattle.store_mem.proofs.mem_store.MemStore.stop_tx.Goals as goal
 
@@ -33,7 +33,7 @@ invariant_of-self c =
         transactions = sorted-changed tx_key (λ r. r.op) b (is_tx st n) (stopped c.args.stop) (λ r. refl) txs s.good.transactions;
         readings = s.good.readings;
       });
-      by_station = (c.stop_tx.ensures.shelves, s.by_station.1);
+      by_station = (c.stop_tx.ensures.groups, s.by_station.1);
       in_use = c.close.ensures ∙ ap (without (λ o. o.op) b (λ o. bytes_eq o.station st && o.number == n)) s.in_use
           ∙ sym (opens-stopped b st n c.args.stop txs) ∙ ap opens_of (sym c.stop_tx.ensures.rows);
     }

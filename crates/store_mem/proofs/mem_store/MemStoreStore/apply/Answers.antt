@@ -3,7 +3,7 @@ use Rattle.hub_rows.specs.Keyed.{by_key}
 use Rattle.hub_rows.specs.Rows.{Rows, WellFormedRows, station_key, connector_key, tag_key}
 use Rattle.hub_rows.proofs.ListLaws.{by_key_total, sorted-put}
 use Rattle.hub_rows.proofs.OwnLaws.{well_formed-edit}
-use Rattle.store_mem.specs.Shelves.{rows_in}
+use Rattle.store_mem.specs.ByStation.{rows_in}
 use Rattle.store_mem.proofs.Kept.{by_result}
 use Rattle.store_mem.proofs.mem_store.MemStoreStore.apply.Goals as goal
 

@@ -1,5 +1,5 @@
 use Rattle.std.proofs.Common.{ap, sym, ◌∙◌}
-use Rattle.store_mem.specs.Shelves.{all_rows}
+use Rattle.store_mem.specs.ByStation.{all_rows}
 use Rattle.store_mem.specs.Open.{is_used}
 use Rattle.store_mem.proofs.OpenLaws.{used-opens}
 use Rattle.store_mem.proofs.mem_store.MemStoreStore.is_used.Goals as goal

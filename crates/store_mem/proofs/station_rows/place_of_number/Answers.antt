@@ -2,9 +2,9 @@ use Rattle.std.proofs.Common.{[], ◌∷◌, sym, ◌∙◌, rules}
 use Rattle.std.proofs.lemmas.Fn.{always_returns_same}
 use Rattle.hub_rows.specs.Keyed.{key_cmp}
 use Rattle.hub_rows.proofs.PlaceLaws.{placed}
-use Rattle.store_mem.specs.Shelves.{number_key}
-use Rattle.store_mem.proofs.ShelfLaws.{number_order}
-use Rattle.store_mem.proofs.shelf.place_of_number.Goals as goal
+use Rattle.store_mem.specs.ByStation.{number_key}
+use Rattle.store_mem.proofs.StationRowsLaws.{number_order}
+use Rattle.store_mem.proofs.station_rows.place_of_number.Goals as goal
 
 pub returns : goal.returns
 returns g c =

@@ -9,17 +9,17 @@ use Rattle.hub_rows.specs.declared.tx_row.TxRow.{TxRow}
 use Rattle.hub_rows.specs.declared.reading_row.ReadingRow.{ReadingRow}
 use Rattle.hub_rows.specs.Keyed.{by_key}
 use Rattle.hub_rows.specs.Rows.{Rows}
-use Rattle.store_mem.specs.declared.shelf.Shelf.{Shelf}
+use Rattle.store_mem.specs.declared.station_rows.StationRows.{StationRows}
 
 -- what tells the rows of one station apart
 abbrev pub number_key : {R : Type 0} → (R → ℕ) → R → List (List ℕ)
 number_key number r = (number r ∷ []) ∷ []
 
-abbrev pub shelf_key : {R : Type 0} → Shelf R → List (List ℕ)
-shelf_key s = s.op ∷ s.station ∷ []
+abbrev pub group_key : {R : Type 0} → StationRows R → List (List ℕ)
+group_key s = s.op ∷ s.station ∷ []
 
--- the rows of all shelves in one list
-abbrev pub all_rows : {R : Type 0} → List (Shelf R) → List R
+-- the rows of all groups in one list
+abbrev pub all_rows : {R : Type 0} → List (StationRows R) → List R
 all_rows [] = []
 all_rows (s ∷ ss) = s.rows.items ++ all_rows ss
 
@@ -29,14 +29,14 @@ module _ {R : Type 0} (op station : R → List ℕ) (number : R → ℕ) where
     pub mine : AllByRecursion (λ r. (op r ≡ b) × (station r ≡ st)) rows
     pub sorted : IsStrictlySortedBy (by_key (number_key number)) rows
 
-  abbrev pub IsShelf : Shelf R → Type 0
-  IsShelf s = AreOf s.op s.station s.rows.items
+  abbrev pub IsGroup : StationRows R → Type 0
+  IsGroup s = AreOf s.op s.station s.rows.items
 
-  -- shelves in the order of their stations
-  pub record AreShelves (ss : List (Shelf R)) : Type 0 where
-    pub sorted : IsStrictlySortedBy (by_key shelf_key) ss
-    pub each : AllByRecursion IsShelf ss
+  -- groups in the order of their stations
+  pub record AreGrouped (ss : List (StationRows R)) : Type 0 where
+    pub sorted : IsStrictlySortedBy (by_key group_key) ss
+    pub each : AllByRecursion IsGroup ss
 
 -- the rows of a store that keeps transactions and readings so
-abbrev pub rows_in : List StationRow → List ConnectorRow → List TagRow → List (Shelf TxRow) → List (Shelf ReadingRow) → Rows
+abbrev pub rows_in : List StationRow → List ConnectorRow → List TagRow → List (StationRows TxRow) → List (StationRows ReadingRow) → Rows
 rows_in stations connectors tags transactions readings = record { stations = stations; connectors = connectors; tags = tags; transactions = all_rows transactions; readings = all_rows readings }

@@ -1,7 +1,7 @@
 use Rattle.std.proofs.Common.{ap, sym, ◌∙◌}
 use Rattle.std.specs.Option.{option_copied}
-use Rattle.store_mem.proofs.ShelfLaws.{last_greatest}
-use Rattle.store_mem.proofs.shelf.last_number.Goals as goal
+use Rattle.store_mem.proofs.StationRowsLaws.{last_greatest}
+use Rattle.store_mem.proofs.station_rows.last_number.Goals as goal
 
 pub returns-in-Some : goal.returns-in-Some
 returns-in-Some g c =

@@ -5,7 +5,7 @@ ghost use Rattle.std.specs.List.Sorted.{IsStrictlySortedBy};
 ghost use Rattle.std.specs.Str.{bytes_eq};
 ghost use Rattle.hub_rows.specs.Keyed.{by_key, greatest, numbered_key, put_all, those};
 ghost use Rattle.hub_rows.specs.Places.{IsPlace};
-ghost use Rattle.store_mem.specs.Shelves.{number_key, all_rows, AreOf, AreShelves};
+ghost use Rattle.store_mem.specs.ByStation.{number_key, all_rows, AreOf, AreGrouped};
 
 use hub_rows::named_row::{NamedRow, place_of_name};
 use hub_rows::reading_row::ReadingRow;
@@ -53,13 +53,13 @@ impl NumberedRow for ReadingRow {
 
 /// The rows of one station, in the order of their numbers.
 #[derive(Drop)]
-pub struct Shelf<R> {
+pub struct StationRows<R> {
     pub op: Text,
     pub station: Text,
     pub rows: Vec<R>,
 }
 
-impl<R: Drop> NamedRow for Shelf<R> {
+impl<R: Drop> NamedRow for StationRows<R> {
     ghost op = { λ s. s.op };
 
     ghost name = { λ s. s.station };
@@ -74,13 +74,13 @@ impl<R: Drop> NamedRow for Shelf<R> {
 }
 
 /// The rows of a station.
-pub fn rows_of<'a, R: NumberedRow>(shelves: &'a [Shelf<R>], op: &str, station: &str) -> &'a [R]
-    requires { AreShelves R.op R.station R.number shelves.now }
-    ensures rows { result.now ≡ those R.op op.now (λ r. bytes_eq (R.station r) station.now) (all_rows shelves.now) }
+pub fn rows_of<'a, R: NumberedRow>(groups: &'a [StationRows<R>], op: &str, station: &str) -> &'a [R]
+    requires { AreGrouped R.op R.station R.number groups.now }
+    ensures rows { result.now ≡ those R.op op.now (λ r. bytes_eq (R.station r) station.now) (all_rows groups.now) }
     ensures sorted { IsStrictlySortedBy (by_key (number_key R.number)) result.now }
 {
-    match place_of_name(shelves, op, station) {
-        Ok(place) => shelves[place].rows.as_slice(),
+    match place_of_name(groups, op, station) {
+        Ok(place) => groups[place].rows.as_slice(),
         Err(_) => &[],
     }
 }
@@ -107,38 +107,38 @@ pub fn last_number<R: NumberedRow>(rows: &[R]) -> u32
 /// Adds rows of a station behind those that it has.
 pub fn append_rows<R: NumberedRow>(
     alloc: Global,
-    shelves: &mut Vec<Shelf<R>>,
+    groups: &mut Vec<StationRows<R>>,
     op: &str,
     station: &str,
     rows: Vec<R>,
 ) -> Mem<()>
-    requires shelves { AreShelves R.op R.station R.number shelves.old.items }
+    requires groups { AreGrouped R.op R.station R.number groups.old.items }
     requires new { AreOf R.op R.station R.number op.now station.now rows.items }
-    requires behind { AllByRecursion (λ r. greatest (map R.number (those R.op op.now (λ x. bytes_eq (R.station x) station.now) (all_rows shelves.old.items))) < R.number r) rows.items }
-    ensures shelves { AreShelves R.op R.station R.number shelves.new.items }
-    ensures ok { OnOk result (all_rows shelves.new.items ≡ put_all (by_key (numbered_key R.op R.station R.number)) rows.items (all_rows shelves.old.items)) }
-    ensures err { OnErr result (all_rows shelves.new.items ≡ all_rows shelves.old.items) }
+    requires behind { AllByRecursion (λ r. greatest (map R.number (those R.op op.now (λ x. bytes_eq (R.station x) station.now) (all_rows groups.old.items))) < R.number r) rows.items }
+    ensures groups { AreGrouped R.op R.station R.number groups.new.items }
+    ensures ok { OnOk result (all_rows groups.new.items ≡ put_all (by_key (numbered_key R.op R.station R.number)) rows.items (all_rows groups.old.items)) }
+    ensures err { OnErr result (all_rows groups.new.items ≡ all_rows groups.old.items) }
 {
-    match place_of_name(shelves.as_slice(), op, station) {
-        Ok(place) => extend_shelf(&mut shelves[place], rows)?,
+    match place_of_name(groups.as_slice(), op, station) {
+        Ok(place) => extend_group(&mut groups[place], rows)?,
         Err(place) => {
-            let shelf = Shelf {
+            let group = StationRows {
                 op: Text::copy_of(alloc, op)?,
                 station: Text::copy_of(alloc, station)?,
                 rows,
             };
-            shelves.insert(place, shelf)?;
+            groups.insert(place, group)?;
         }
     }
     Ok(())
 }
 
-fn extend_shelf<R: NumberedRow>(shelf: &mut Shelf<R>, rows: Vec<R>) -> Result<(), AllocError>
-    ensures op { shelf.new.op ≡ shelf.old.op }
-    ensures station { shelf.new.station ≡ shelf.old.station }
-    ensures ok { OnOk result (shelf.new.rows.items ≡ shelf.old.rows.items ++ rows.items) }
-    ensures err { OnErr result (shelf.new.rows.items ≡ shelf.old.rows.items) }
+fn extend_group<R: NumberedRow>(group: &mut StationRows<R>, rows: Vec<R>) -> Result<(), AllocError>
+    ensures op { group.new.op ≡ group.old.op }
+    ensures station { group.new.station ≡ group.old.station }
+    ensures ok { OnOk result (group.new.rows.items ≡ group.old.rows.items ++ rows.items) }
+    ensures err { OnErr result (group.new.rows.items ≡ group.old.rows.items) }
 {
     let mut rows = rows;
-    shelf.rows.append(&mut rows)
+    group.rows.append(&mut rows)
 }

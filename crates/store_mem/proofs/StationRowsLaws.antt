@@ -17,8 +17,8 @@ use Rattle.hub_rows.specs.Keyed.{text_cmp, key_cmp, by_key, put, put_all, found,
 use Rattle.hub_rows.specs.Places.{AllBelow, AllAbove, IsFoundAt, IsGapAt}
 use Rattle.hub_rows.proofs.ListLaws.{keys_total, by_key_total, all-weaker, put-front, sorted-put, set_here, two_parts, head}
 use Rattle.hub_rows.proofs.PlaceLaws.{all-middle, all-back, map-append, map-none, put-passed, put-gap}
-use Rattle.store_mem.specs.declared.shelf.Shelf.{Shelf}
-use Rattle.store_mem.specs.Shelves.{number_key, shelf_key, all_rows, AreOf, AreShelves}
+use Rattle.store_mem.specs.declared.station_rows.StationRows.{StationRows}
+use Rattle.store_mem.specs.ByStation.{number_key, group_key, all_rows, AreOf, AreGrouped}
 
 -- ---- lists
 
@@ -180,11 +180,11 @@ last_greatest number (x ∷ xs) r sorted is =
 
 -- ---- the rows of all stations
 
-pub all_rows-append : {R : Type 0} (ss ts : List (Shelf R)) → all_rows (ss ++ ts) ≡ all_rows ss ++ all_rows ts
+pub all_rows-append : {R : Type 0} (ss ts : List (StationRows R)) → all_rows (ss ++ ts) ≡ all_rows ss ++ all_rows ts
 all_rows-append [] ts = refl
 all_rows-append (s ∷ ss) ts = ap (λ rs. s.rows.items ++ rs) (all_rows-append ss ts) ∙ sym (append_assoc s.rows.items (all_rows ss) (all_rows ts))
 
-pub all-rows : {R : Type 0} (P : R → Type 0) (Q : Shelf R → Type 0) → ((s : Shelf R) → Q s → AllByRecursion P s.rows.items) → (ss : List (Shelf R)) → AllByRecursion Q ss → AllByRecursion P (all_rows ss)
+pub all-rows : {R : Type 0} (P : R → Type 0) (Q : StationRows R → Type 0) → ((s : StationRows R) → Q s → AllByRecursion P s.rows.items) → (ss : List (StationRows R)) → AllByRecursion Q ss → AllByRecursion P (all_rows ss)
 all-rows P Q f [] all = tt
 all-rows P Q f (s ∷ ss) all = all-append P s.rows.items (all_rows ss) (f s all.0) (all-rows P Q f ss all.1)
 
@@ -211,18 +211,18 @@ module _ {R : Type 0} (op station : R → List ℕ) (number : R → ℕ) (b st :
   all_mine : (rows : List R) → AllByRecursion IsMine rows → AllByRecursion (λ r. mine r ≡ true) rows
   all_mine rows all = all-weaker IsMine (λ r. mine r ≡ true) is_mine rows all
 
-  -- the rows of a shelf of another station
+  -- the rows of a group of another station
   module _ (z : Ordering) (apart : is_eq z ≡ false) where
-    shelf_not : (s : Shelf R) → AreOf op station number s.op s.station s.rows.items × (key_cmp (shelf_key s) k ≡ z) → AllByRecursion (λ r. mine r ≡ false) s.rows.items
-    shelf_not s at =
+    group_not : (s : StationRows R) → AreOf op station number s.op s.station s.rows.items × (key_cmp (group_key s) k ≡ z) → AllByRecursion (λ r. mine r ≡ false) s.rows.items
+    group_not s at =
         all-weaker (λ r. (op r ≡ s.op) × (station r ≡ s.station)) (λ r. mine r ≡ false)
         (λ r m. two_parts (op r) (station r) b st ∙ ap is_eq ((λ i. key_cmp (m.0 i ∷ m.1 i ∷ []) k) ∙ at.1) ∙ apart) s.rows.items at.0.mine
 
-    shelves_not : (ss : List (Shelf R)) → AllByRecursion (λ s. AreOf op station number s.op s.station s.rows.items) ss → AllByRecursion (λ s. key_cmp (shelf_key s) k ≡ z) ss → AllByRecursion (λ r. mine r ≡ false) (all_rows ss)
-    shelves_not ss each all = all-rows (λ r. mine r ≡ false) (λ s. AreOf op station number s.op s.station s.rows.items × (key_cmp (shelf_key s) k ≡ z)) shelf_not ss (all-both _ _ ss each all)
+    groups_not : (ss : List (StationRows R)) → AllByRecursion (λ s. AreOf op station number s.op s.station s.rows.items) ss → AllByRecursion (λ s. key_cmp (group_key s) k ≡ z) ss → AllByRecursion (λ r. mine r ≡ false) (all_rows ss)
+    groups_not ss each all = all-rows (λ r. mine r ≡ false) (λ s. AreOf op station number s.op s.station s.rows.items × (key_cmp (group_key s) k ≡ z)) group_not ss (all-both _ _ ss each all)
 
   -- what stands before, at and behind the place of the station
-  pub record Parts (ss : List (Shelf R)) (front rows back : List R) : Type 0 where
+  pub record Parts (ss : List (StationRows R)) (front rows back : List R) : Type 0 where
     pub split : all_rows ss ≡ front ++ (rows ++ back)
     pub of_station : AreOf op station number b st rows
     pub front_not : AllByRecursion (λ r. mine r ≡ false) front
@@ -230,9 +230,9 @@ module _ {R : Type 0} (op station : R → List ℕ) (number : R → ℕ) (b st :
     pub front_less : (r : R) → IsMine r → AllByRecursion (λ y. by_key key r y ≡ Greater) front
     pub back_more : (r : R) → IsMine r → AllByRecursion (λ y. by_key key r y ≡ Less) back
 
-  front_below : (ss : List (Shelf R)) → AllByRecursion (λ s. AreOf op station number s.op s.station s.rows.items) ss → AllBelow shelf_key k ss → (r : R) → IsMine r → AllByRecursion (λ y. by_key key r y ≡ Greater) (all_rows ss)
+  front_below : (ss : List (StationRows R)) → AllByRecursion (λ s. AreOf op station number s.op s.station s.rows.items) ss → AllBelow group_key k ss → (r : R) → IsMine r → AllByRecursion (λ y. by_key key r y ≡ Greater) (all_rows ss)
   front_below ss each all r m =
-      all-rows (λ y. by_key key r y ≡ Greater) (λ s. AreOf op station number s.op s.station s.rows.items × (key_cmp (shelf_key s) k ≡ Less))
+      all-rows (λ y. by_key key r y ≡ Greater) (λ s. AreOf op station number s.op s.station s.rows.items × (key_cmp (group_key s) k ≡ Less))
       (λ s at. all-weaker (λ y. (op y ≡ s.op) × (station y ≡ s.station)) (λ y. by_key key r y ≡ Greater)
       (λ y n. keys_total.antisymm (key r) (key y)
       ∙ ap ordering_reverse ((λ i. key_cmp (n.0 i ∷ n.1 i ∷ number_key number y) (m.0 i ∷ m.1 i ∷ number_key number r))
@@ -240,9 +240,9 @@ module _ {R : Type 0} (op station : R → List ℕ) (number : R → ℕ) (b st :
       s.rows.items at.0.mine)
       ss (all-both _ _ ss each all)
 
-  back_above : (ss : List (Shelf R)) → AllByRecursion (λ s. AreOf op station number s.op s.station s.rows.items) ss → AllAbove shelf_key k ss → (r : R) → IsMine r → AllByRecursion (λ y. by_key key r y ≡ Less) (all_rows ss)
+  back_above : (ss : List (StationRows R)) → AllByRecursion (λ s. AreOf op station number s.op s.station s.rows.items) ss → AllAbove group_key k ss → (r : R) → IsMine r → AllByRecursion (λ y. by_key key r y ≡ Less) (all_rows ss)
   back_above ss each all r m =
-      all-rows (λ y. by_key key r y ≡ Less) (λ s. AreOf op station number s.op s.station s.rows.items × (key_cmp (shelf_key s) k ≡ Greater))
+      all-rows (λ y. by_key key r y ≡ Less) (λ s. AreOf op station number s.op s.station s.rows.items × (key_cmp (group_key s) k ≡ Greater))
       (λ s at. all-weaker (λ y. (op y ≡ s.op) × (station y ≡ s.station)) (λ y. by_key key r y ≡ Less)
       (λ y n. keys_total.antisymm (key r) (key y)
       ∙ ap ordering_reverse ((λ i. key_cmp (n.0 i ∷ n.1 i ∷ number_key number y) (m.0 i ∷ m.1 i ∷ number_key number r))
@@ -250,7 +250,7 @@ module _ {R : Type 0} (op station : R → List ℕ) (number : R → ℕ) (b st :
       s.rows.items at.0.mine)
       ss (all-both _ _ ss each all)
 
-  pub parts-found : (ss : List (Shelf R)) (i : ℕ) → AreShelves op station number ss → (at : IsFoundAt shelf_key k ss i) → Parts ss (all_rows (take i ss)) at.row.rows.items (all_rows (drop (i + 1) ss))
+  pub parts-found : (ss : List (StationRows R)) (i : ℕ) → AreGrouped op station number ss → (at : IsFoundAt group_key k ss i) → Parts ss (all_rows (take i ss)) at.row.rows.items (all_rows (drop (i + 1) ss))
   parts-found ss i are at =
       let each = subst (AllByRecursion (λ s. AreOf op station number s.op s.station s.rows.items)) at.split are.each in
       let before = all-front (λ s. AreOf op station number s.op s.station s.rows.items) (take i ss) (at.row ∷ drop (i + 1) ss) each in
@@ -258,13 +258,13 @@ module _ {R : Type 0} (op station : R → List ℕ) (number : R → ℕ) (b st :
       record {
         split = ap all_rows at.split ∙ all_rows-append (take i ss) (at.row ∷ drop (i + 1) ss);
         of_station = subst (λ l. AreOf op station number (head l) (second l) at.row.rows.items) at.has_key here.0;
-        front_not = shelves_not Less refl (take i ss) before at.before;
-        back_not = shelves_not Greater refl (drop (i + 1) ss) here.1 at.after;
+        front_not = groups_not Less refl (take i ss) before at.before;
+        back_not = groups_not Greater refl (drop (i + 1) ss) here.1 at.after;
         front_less = front_below (take i ss) before at.before;
         back_more = back_above (drop (i + 1) ss) here.1 at.after;
       }
 
-  pub parts-gap : (ss : List (Shelf R)) (i : ℕ) → AreShelves op station number ss → IsGapAt shelf_key k ss i → Parts ss (all_rows (take i ss)) [] (all_rows (drop i ss))
+  pub parts-gap : (ss : List (StationRows R)) (i : ℕ) → AreGrouped op station number ss → IsGapAt group_key k ss i → Parts ss (all_rows (take i ss)) [] (all_rows (drop i ss))
   unfolding IsStrictlySortedBy
   parts-gap ss i are gap =
       let each = subst (AllByRecursion (λ s. AreOf op station number s.op s.station s.rows.items)) (sym (take-append-drop i ss)) are.each in
@@ -273,21 +273,21 @@ module _ {R : Type 0} (op station : R → List ℕ) (number : R → ℕ) (b st :
       record {
         split = ap all_rows (sym (take-append-drop i ss)) ∙ all_rows-append (take i ss) (drop i ss);
         of_station = record { mine = tt; sorted = tt };
-        front_not = shelves_not Less refl (take i ss) before gap.before;
-        back_not = shelves_not Greater refl (drop i ss) behind gap.after;
+        front_not = groups_not Less refl (take i ss) before gap.before;
+        back_not = groups_not Greater refl (drop i ss) behind gap.after;
         front_less = front_below (take i ss) before gap.before;
         back_more = back_above (drop i ss) behind gap.after;
       }
 
   -- the rows of the station
-  pub those-parts : (ss : List (Shelf R)) (front rows back : List R) → Parts ss front rows back → those op b (λ r. bytes_eq (station r) st) (all_rows ss) ≡ rows
+  pub those-parts : (ss : List (StationRows R)) (front rows back : List R) → Parts ss front rows back → those op b (λ r. bytes_eq (station r) st) (all_rows ss) ≡ rows
   those-parts ss front rows back parts =
       ap (filter mine) parts.split ∙ filter-append mine front (rows ++ back) ∙ ap (λ xs. filter mine front ++ xs) (filter-append mine rows back)
       ∙ (λ i. filter-no mine front parts.front_not i ++ (filter-all mine rows (all_mine rows parts.of_station.mine) i ++ filter-no mine back parts.back_not i))
       ∙ append-nil rows
 
   -- a change of the row of a number
-  pub changed-parts : (ss : List (Shelf R)) (front rows back : List R) (n : ℕ) (f : R → R) → Parts ss front rows back
+  pub changed-parts : (ss : List (StationRows R)) (front rows back : List R) (n : ℕ) (f : R → R) → Parts ss front rows back
       → map (λ r. cond (bytes_eq (op r) b && (bytes_eq (station r) st && number r == n)) (f r) r) (all_rows ss) ≡ front ++ (map (λ r. cond (number r == n) (f r) r) rows ++ back)
   changed-parts ss front rows back n f parts =
       let t : R → Bool = (λ r. bytes_eq (op r) b && (bytes_eq (station r) st && number r == n)) in
@@ -321,7 +321,7 @@ module _ {R : Type 0} (op station : R → List ℕ) (number : R → ℕ) (b st :
       ∙ append_assoc front (r ∷ []) (new ++ back)
 
   -- new rows of the station, behind those that it has
-  module _ (ss : List (Shelf R)) (front rows back : List R) (parts : Parts ss front rows back) (new : List R) (are : AreOf op station number b st new)
+  module _ (ss : List (StationRows R)) (front rows back : List R) (parts : Parts ss front rows back) (new : List R) (are : AreOf op station number b st new)
       (behind : AllByRecursion (λ r. greatest (map number rows) < number r) new) where
     above : (r : R) → greatest (map number rows) < number r → AllByRecursion (λ y. number y < number r) rows
     above r below = all-above number (number r) rows below
@@ -356,10 +356,10 @@ module _ {R : Type 0} (op station : R → List ℕ) (number : R → ℕ) (b st :
         across xs [] all = none xs
         across xs (n ∷ ns) all = onto n ns xs all.0 (across xs ns all.1)
 
-  -- ---- shelves
+  -- ---- groups
 
-  -- a shelf in the place of that of its station
-  module _ (ss : List (Shelf R)) (i : ℕ) (good : AreShelves op station number ss) (at : IsFoundAt shelf_key k ss i) (s : Shelf R)
+  -- a group in the place of that of its station
+  module _ (ss : List (StationRows R)) (i : ℕ) (good : AreGrouped op station number ss) (at : IsFoundAt group_key k ss i) (s : StationRows R)
       (same_op : s.op ≡ at.row.op) (same_station : s.station ≡ at.row.station) (of : AreOf op station number b st s.rows.items) where
     written : set ss i s ≡ take i ss ++ s ∷ drop (i + 1) ss
     written = set_here ss i s at.in_range
@@ -367,34 +367,34 @@ module _ {R : Type 0} (op station : R → List ℕ) (number : R → ℕ) (b st :
     pub set-rows : all_rows (set ss i s) ≡ all_rows (take i ss) ++ (s.rows.items ++ all_rows (drop (i + 1) ss))
     set-rows = ap all_rows written ∙ all_rows-append (take i ss) (s ∷ drop (i + 1) ss)
 
-    pub set-shelves : AreShelves op station number (set ss i s)
-    set-shelves =
+    pub set-groups : AreGrouped op station number (set ss i s)
+    set-groups =
         let each = subst (AllByRecursion (λ t. AreOf op station number t.op t.station t.rows.items)) at.split good.each in
         let its_op : b ≡ s.op = ap head (sym at.has_key) ∙ sym same_op in
         let its_station : st ≡ s.station = ap second (sym at.has_key) ∙ sym same_station in
         let here : AreOf op station number s.op s.station s.rows.items = subst (λ o. AreOf op station number o s.station s.rows.items) its_op (subst (λ t. AreOf op station number b t s.rows.items) its_station of) in
-        subst (AreShelves op station number) (sym written) (record {
-          sorted = sorted-swap shelf_key (take i ss) (drop (i + 1) ss) at.row s (λ j. same_op j ∷ same_station j ∷ []) (subst (IsStrictlySortedBy (by_key shelf_key)) at.split good.sorted);
+        subst (AreGrouped op station number) (sym written) (record {
+          sorted = sorted-swap group_key (take i ss) (drop (i + 1) ss) at.row s (λ j. same_op j ∷ same_station j ∷ []) (subst (IsStrictlySortedBy (by_key group_key)) at.split good.sorted);
           each = all-append (λ t. AreOf op station number t.op t.station t.rows.items) (take i ss) (s ∷ drop (i + 1) ss)
               (all-front (λ t. AreOf op station number t.op t.station t.rows.items) (take i ss) (at.row ∷ drop (i + 1) ss) each)
               (here, (all-back (λ t. AreOf op station number t.op t.station t.rows.items) (take i ss) (at.row ∷ drop (i + 1) ss) each).1);
         })
 
-  -- a shelf of a new station
-  module _ (ss : List (Shelf R)) (i : ℕ) (good : AreShelves op station number ss) (s : Shelf R) (its_op : s.op ≡ b) (its_station : s.station ≡ st)
-      (gap : IsGapAt shelf_key k ss i) (of : AreOf op station number b st s.rows.items) where
-    its_key : k ≡ shelf_key s
+  -- a group of a new station
+  module _ (ss : List (StationRows R)) (i : ℕ) (good : AreGrouped op station number ss) (s : StationRows R) (its_op : s.op ≡ b) (its_station : s.station ≡ st)
+      (gap : IsGapAt group_key k ss i) (of : AreOf op station number b st s.rows.items) where
+    its_key : k ≡ group_key s
     its_key = λ j. sym its_op j ∷ sym its_station j ∷ []
 
     pub insert-rows : all_rows (take i ss ++ s ∷ drop i ss) ≡ all_rows (take i ss) ++ (s.rows.items ++ all_rows (drop i ss))
     insert-rows = all_rows-append (take i ss) (s ∷ drop i ss)
 
-    pub insert-shelves : AreShelves op station number (take i ss ++ s ∷ drop i ss)
-    insert-shelves =
+    pub insert-groups : AreGrouped op station number (take i ss ++ s ∷ drop i ss)
+    insert-groups =
         let each = subst (AllByRecursion (λ t. AreOf op station number t.op t.station t.rows.items)) (sym (take-append-drop i ss)) good.each in
         let here : AreOf op station number s.op s.station s.rows.items = subst (λ o. AreOf op station number o s.station s.rows.items) (sym its_op) (subst (λ t. AreOf op station number b t s.rows.items) (sym its_station) of) in
         record {
-          sorted = subst (IsStrictlySortedBy (by_key shelf_key)) (put-gap shelf_key s ss i (subst (λ l. IsGapAt shelf_key l ss i) its_key gap)) (sorted-put (by_key shelf_key) (by_key_total shelf_key) s ss good.sorted);
+          sorted = subst (IsStrictlySortedBy (by_key group_key)) (put-gap group_key s ss i (subst (λ l. IsGapAt group_key l ss i) its_key gap)) (sorted-put (by_key group_key) (by_key_total group_key) s ss good.sorted);
           each = all-append (λ t. AreOf op station number t.op t.station t.rows.items) (take i ss) (s ∷ drop i ss)
               (all-front (λ t. AreOf op station number t.op t.station t.rows.items) (take i ss) (drop i ss) each)
               (here, all-back (λ t. AreOf op station number t.op t.station t.rows.items) (take i ss) (drop i ss) each);
@@ -415,10 +415,10 @@ module _ {R : Type 0} (op station : R → List ℕ) (number : R → ℕ) (b st :
 
   -- ---- what becomes of the rows of a station
 
-  abbrev IsChanged : List (Shelf R) → List R → Type 0
-  IsChanged ss rows = AreShelves op station number ss × (all_rows ss ≡ rows)
+  abbrev IsChanged : List (StationRows R) → List R → Type 0
+  IsChanged ss rows = AreGrouped op station number ss × (all_rows ss ≡ rows)
 
-  module _ (ss : List (Shelf R)) (i : ℕ) (good : AreShelves op station number ss) (at : IsFoundAt shelf_key k ss i) (s : Shelf R)
+  module _ (ss : List (StationRows R)) (i : ℕ) (good : AreGrouped op station number ss) (at : IsFoundAt group_key k ss i) (s : StationRows R)
       (same_op : s.op ≡ at.row.op) (same_station : s.station ≡ at.row.station) where
     its_parts : Parts ss (all_rows (take i ss)) at.row.rows.items (all_rows (drop (i + 1) ss))
     its_parts = parts-found ss i good at
@@ -426,7 +426,7 @@ module _ {R : Type 0} (op station : R → List ℕ) (number : R → ℕ) (b st :
     changed_to : (rows : List R) → AreOf op station number b st rows → s.rows.items ≡ rows → IsChanged (set ss i s) (all_rows (take i ss) ++ (rows ++ all_rows (drop (i + 1) ss)))
     changed_to rows of are =
         let mine_now = subst (AreOf op station number b st) (sym are) of in
-        (set-shelves ss i good at s same_op same_station mine_now, set-rows ss i good at s same_op same_station mine_now ∙ ap (λ xs. all_rows (take i ss) ++ (xs ++ all_rows (drop (i + 1) ss))) are)
+        (set-groups ss i good at s same_op same_station mine_now, set-rows ss i good at s same_op same_station mine_now ∙ ap (λ xs. all_rows (take i ss) ++ (xs ++ all_rows (drop (i + 1) ss))) are)
 
     pub set-same : s.rows.items ≡ at.row.rows.items → IsChanged (set ss i s) (all_rows ss)
     set-same are = let to = changed_to at.row.rows.items its_parts.of_station are in (to.0, to.1 ∙ sym its_parts.split)
@@ -444,15 +444,15 @@ module _ {R : Type 0} (op station : R → List ℕ) (number : R → ℕ) (b st :
         let to = changed_to (map (λ r. cond (number r == n) (f r) r) at.row.rows.items) (of-changed n f same at.row.rows.items its_parts.of_station) are in
         (to.0, to.1 ∙ sym (changed-parts ss (all_rows (take i ss)) at.row.rows.items (all_rows (drop (i + 1) ss)) n f its_parts))
 
-  module _ (ss : List (Shelf R)) (i : ℕ) (good : AreShelves op station number ss) (gap : IsGapAt shelf_key k ss i) where
+  module _ (ss : List (StationRows R)) (i : ℕ) (good : AreGrouped op station number ss) (gap : IsGapAt group_key k ss i) where
     no_parts : Parts ss (all_rows (take i ss)) [] (all_rows (drop i ss))
     no_parts = parts-gap ss i good gap
 
-    pub insert-more : (s : Shelf R) → s.op ≡ b → s.station ≡ st → AreOf op station number b st s.rows.items → AllByRecursion (λ r. greatest (map number (those op b (λ x. bytes_eq (station x) st) (all_rows ss))) < number r) s.rows.items
+    pub insert-more : (s : StationRows R) → s.op ≡ b → s.station ≡ st → AreOf op station number b st s.rows.items → AllByRecursion (λ r. greatest (map number (those op b (λ x. bytes_eq (station x) st) (all_rows ss))) < number r) s.rows.items
         → IsChanged (take i ss ++ s ∷ drop i ss) (put_all (by_key key) s.rows.items (all_rows ss))
     insert-more s its_op its_station are behind =
         let behind_these = subst (λ xs. AllByRecursion (λ r. greatest (map number xs) < number r) s.rows.items) (those-parts ss (all_rows (take i ss)) [] (all_rows (drop i ss)) no_parts) behind in
-        (insert-shelves ss i good s its_op its_station gap are, insert-rows ss i good s its_op its_station gap are ∙ sym (put-parts ss (all_rows (take i ss)) [] (all_rows (drop i ss)) no_parts s.rows.items are behind_these))
+        (insert-groups ss i good s its_op its_station gap are, insert-rows ss i good s its_op its_station gap are ∙ sym (put-parts ss (all_rows (take i ss)) [] (all_rows (drop i ss)) no_parts s.rows.items are behind_these))
 
     pub changed-none : (n : ℕ) (f : R → R) → map (λ r. cond (bytes_eq (op r) b && (bytes_eq (station r) st && number r == n)) (f r) r) (all_rows ss) ≡ all_rows ss
     changed-none n f = changed-parts ss (all_rows (take i ss)) [] (all_rows (drop i ss)) n f no_parts ∙ sym no_parts.split
