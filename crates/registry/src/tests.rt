@@ -116,6 +116,26 @@ fn each_state_has_its_actions(rt: HostRuntime) {
     }
 }
 
+/// The station, the policy and the interval that operator A is to get, unless it is refused.
+fn planned<S: Store>(
+    alloc: Global,
+    store: &mut S,
+    station: &str,
+    interval: u64,
+) -> Result<Option<(Text, Policy, u32)>, StoreFault> {
+    let plan = plan_add(alloc, store, "A", station, Policy::Pending, interval)?;
+    match plan {
+        Ok(
+            Edit::StationAdded {
+                station,
+                policy,
+                interval,
+            },
+        ) => Ok(Some((station, policy, interval))),
+        _ => Ok(None),
+    }
+}
+
 #[test]
 fn a_good_station_is_added_as_asked(rt: HostRuntime) -> Result<(), StoreFault> {
     let alloc = rt.alloc();
@@ -126,20 +146,9 @@ fn a_good_station_is_added_as_asked(rt: HostRuntime) -> Result<(), StoreFault> {
         ("!~", 86400),
         ("123456789012345678901234567890123456789012345678", 60),
     ] {
-        let plan = plan_add(alloc, &mut store, "A", name, Policy::Pending, seconds)?;
-        let Ok(
-            Edit::StationAdded {
-                station,
-                policy,
-                interval,
-            },
-        ) = plan
-        else {
-            panic!(rt; "refused: {name}");
-        };
-        assert_eq!(rt; station.as_str(), name);
-        assert!(rt; policy == Policy::Pending);
-        assert_eq!(rt; u64::from(interval), seconds);
+        let found = planned(alloc, &mut store, name, seconds)?;
+        let want = (Text::copy_of(alloc, name)?, Policy::Pending, seconds as u32);
+        assert!(rt; found == Some(want), "{name}");
     }
     Ok(())
 }
@@ -324,6 +333,22 @@ fn an_open_transaction_keeps_a_station_from_being_rejected(
     Ok(())
 }
 
+/// What a boot of station CP01 of operator A is answered, and what is kept of it.
+fn booted<S: Store>(
+    alloc: Global,
+    store: &mut S,
+    moment: Moment,
+) -> Result<(Reply, Option<(Text, Boot, State)>), StoreFault> {
+    let decision = on_boot(alloc, store, "A", "CP01", boot(alloc)?, moment)?;
+    Ok((decision.reply, boot_of(decision.change)))
+}
+
+/// What is kept of a boot of station CP01.
+fn kept(alloc: Global, moment: Moment, state: State) -> Mem<(Text, Boot, State)> {
+    let texts = boot(alloc)?;
+    Ok((Text::copy_of(alloc, "CP01")?, Boot { texts, moment }, state))
+}
+
 #[test]
 fn a_boot_is_answered_with_the_policy_of_its_station(rt: HostRuntime) -> Result<(), StoreFault> {
     let alloc = rt.alloc();
@@ -335,23 +360,14 @@ fn a_boot_is_answered_with_the_policy_of_its_station(rt: HostRuntime) -> Result<
     ] {
         let mut store = MemStore::new(alloc);
         add(alloc, &mut store, "A", "CP01", policy)?;
-        let Decision { reply, change } = on_boot(
-            alloc,
-            &mut store,
-            "A",
-            "CP01",
-            boot(alloc)?,
-            moment,
-        )?;
+        let (reply, change) = booted(alloc, &mut store, moment)?;
         let answer = Conf::BootNotification {
             current_time: moment,
             interval: 300,
             status: policy,
         };
         assert!(rt; conf_of(reply) == Some(answer), "{policy:?}");
-        let texts = boot(alloc)?;
-        let kept = (Text::copy_of(alloc, "CP01")?, Boot { texts, moment }, state);
-        assert!(rt; boot_of(change) == Some(kept), "{policy:?}");
+        assert!(rt; change == Some(kept(alloc, moment, state)?), "{policy:?}");
     }
     Ok(())
 }
@@ -362,7 +378,7 @@ fn a_boot_of_no_station_on_record_gets_an_error(rt: HostRuntime) -> Result<(), S
     let moment = Moment::new(1704067200).expect(&rt, "a moment");
     let mut store = MemStore::new(alloc);
     add(alloc, &mut store, "B", "CP01", Policy::Accepted)?;
-    let Decision { reply, change } = on_boot(alloc, &mut store, "A", "CP01", boot(alloc)?, moment)?;
+    let (reply, change) = booted(alloc, &mut store, moment)?;
     let Reply::Error(code) = reply else {
         panic!(rt; "an answer");
     };
@@ -384,8 +400,8 @@ fn a_failure_of_the_store_is_handed_on(rt: HostRuntime) -> Result<(), StoreFault
     let alloc = rt.alloc();
     let moment = Moment::new(1704067200).expect(&rt, "a moment");
     let mut store = Failing::new(MemStore::new(alloc), 0);
-    let booted = on_boot(alloc, &mut store, "A", "CP01", boot(alloc)?, moment).err();
-    assert!(rt; booted == Some(StoreFault::Failed));
+    let failed = booted(alloc, &mut store, moment).err();
+    assert!(rt; failed == Some(StoreFault::Failed));
     let mut store = Failing::new(MemStore::new(alloc), 0);
     let long = refused(alloc, &mut store, "CP01", 86401)?;
     assert!(rt; long == Some(Refusal::BadField(FieldName::new("interval"))));
