@@ -1,7 +1,6 @@
 -- What is committed is what the table says.
-use Rattle.std.proofs.Common.{◌≡◌, ℕ, List, Option, Some, None, refl, sym, ◌∙◌, ap, subst}
+use Rattle.std.proofs.Common.{◌≡◌, ℕ, List, Option, Some, None, refl, ◌∙◌, ap}
 use Rattle.std.specs.Option.{option_map, ForSome}
-use Rattle.hub_rows.specs.declared.change.Edit.{Edit}
 use Rattle.hub_rows.specs.Rows.{Rows}
 use Rattle.hub_rows.specs.Changes.{EditFits}
 use Rattle.hub.specs.declared.event.What.{What}
@@ -11,7 +10,7 @@ use Rattle.hub.specs.Committed.{slots_with}
 use Rattle.hub.specs.Planned.{IsPlanned, step_of}
 use Rattle.hub.specs.Table.{Setting, Move, Connected, Disconnected, Plan, plan}
 use Rattle.hub.specs.World.{World, facts_at, rows_after, slots_after, world_by}
-use Rattle.hub.proofs.Fitting.{FitsLookups, plan_fits, for_some}
+use Rattle.hub.proofs.Fitting.{plan_fits, for_some}
 
 slots_same : (b : List ℕ) (move : Option Move) (slots : List Slot) → slots_with (option_map (step_of b) move) slots ≡ slots_after b move slots
 slots_same b None slots = refl

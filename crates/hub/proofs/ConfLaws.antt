@@ -3,7 +3,6 @@ use Rattle.std.proofs.Common.{◌≡◌, false, refl, ℕ, List, Option, Some, N
 use Rattle.serde_json.specs.Data.{Data}
 use Rattle.serde_json.specs.Written.{has_float}
 use Rattle.ocpp_types.specs.declared.authorization_status.AuthorizationStatus.{AuthorizationStatus}
-use Rattle.ocpp_types.specs.declared.id_tag_info.IdTagInfo.{IdTagInfo}
 use Rattle.ocpp_payload.specs.declared.conf.Conf.{Conf}
 use Rattle.ocpp_payload.specs.declared.conf.Conf.TheVariants.{Authorize, BootNotification, DataTransfer, Heartbeat, MeterValues, StartTransaction, StatusNotification, StopTransaction}
 use Rattle.ocpp_payload.specs.Conf.{conf_data, id_tag_info_data}

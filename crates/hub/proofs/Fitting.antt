@@ -2,7 +2,7 @@
 use Rattle.std.specs.Prelude.{◌≡◌, ℕ, ◌+◌, length, nat_le, List, [], codes, cond, Option, None, Some, Bool, true, false, Result, Ok, Err, is_some, IsSome, IfSome}
 use Rattle.std.specs.Option.{ForSome}
 use Rattle.std.proofs.lemmas.Bool.{leb-true, leb-false}
-use Rattle.std.proofs.Common.{refl, sym, ◌∙◌, ap, subst, arith, inl, inr}
+use Rattle.std.proofs.Common.{refl, sym, ap, subst, arith, inl, inr}
 use Rattle.serde_json.specs.Data.{Data}
 use Rattle.ocpp_types.specs.declared.error_code.ErrorCode.TheVariants as code
 use Rattle.ocpp_types.specs.declared.policy.Policy.{Policy}

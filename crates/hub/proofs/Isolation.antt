@@ -1,5 +1,5 @@
 -- Each operator is told, and left with, what its own machine gives for what it was shown.
-use Rattle.std.specs.Prelude.{◌≡◌, ◌≢◌, ℕ, Option, None, Some, List, [], ◌∷◌, ◌++◌, Bool, true, false, cond, ◌&&◌, not, filter, map, is_some}
+use Rattle.std.specs.Prelude.{◌≡◌, ◌≢◌, ℕ, Option, None, Some, List, [], ◌∷◌, ◌++◌, true, false, cond, ◌&&◌, not, map, is_some}
 use Rattle.std.proofs.Common.{refl, sym, ◌∙◌, ap, append_assoc, append-nil}
 use Rattle.std.specs.Str.{bytes_eq}
 use Rattle.std.specs.List.Sorted.{IsStrictlySortedBy}
@@ -7,7 +7,7 @@ use Rattle.std.proofs.lemmas.Bool.{true≢false}
 use Rattle.std.proofs.lemmas.List.Elements.{filter-append}
 use Rattle.std.proofs.lemmas.List.Kept.{IsStrictlySortedBy-filter}
 use Rattle.hub_rows.specs.declared.change.Edit.{Edit}
-use Rattle.hub_rows.specs.Keyed.{put, by_key, own, without}
+use Rattle.hub_rows.specs.Keyed.{by_key, own}
 use Rattle.hub_rows.specs.Rows.{Rows, WellFormedRows}
 use Rattle.hub_rows.specs.Own.{own_rows}
 use Rattle.hub_rows.proofs.ListLaws.{by_key_total, sorted-put, own-put, own-put_other, own-without, own-without_other, found-own, same_text, text_itself, other_text}
@@ -18,9 +18,9 @@ use Rattle.hub.specs.declared.out.Out.{Out}
 use Rattle.hub.specs.declared.slot.Slot.{Slot}
 use Rattle.hub.specs.Said.{Said, Sent, TurnedAway, RefusedFor, Shown, Taken, said_to, op_of, outputs_of}
 use Rattle.hub.specs.Slots.{slot_key, slot_rest}
-use Rattle.hub.specs.Table.{Setting, Facts, Move, Connected, Disconnected, Plan, plan}
+use Rattle.hub.specs.Table.{Setting, Move, Connected, Disconnected, plan}
 use Rattle.hub.specs.World.{World, facts_at, rows_after, slot_of, slots_after, world_by, plan_at, world_outputs, world_step, run_outputs, world_run}
-use Rattle.hub.specs.View.{View, view, own_facts, own_rows_after, own_slots_after, Item, Own, own_plan, operator_outputs, operator_step, operator_run_outputs, operator_run, seen_of, seen}
+use Rattle.hub.specs.View.{View, view, own_facts, own_rows_after, own_slots_after, Item, Own, operator_outputs, operator_step, operator_run_outputs, operator_run, seen_of, seen}
 use Rattle.hub.specs.WellFormed.{WellFormed}
 
 -- the facts of an operator are those of its view

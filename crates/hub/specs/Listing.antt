@@ -1,5 +1,5 @@
 -- The rows of each listing.
-use Rattle.std.specs.Prelude.{ℕ, List, map, Option, Some, None, Result, Ok, Err}
+use Rattle.std.specs.Prelude.{List, map, Option, Some, None, Result, Ok, Err}
 use Rattle.ocpp_types.specs.declared.refusal.Refusal.{Refusal}
 use Rattle.ocpp_types.specs.declared.refusal.Refusal.TheVariants.{NoSuchStation}
 use Rattle.hub_rows.specs.declared.station_row.Registration.{Registration}

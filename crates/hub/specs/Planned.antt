@@ -1,5 +1,5 @@
 -- What the code has planned is what the table says.
-use Rattle.std.specs.Prelude.{◌≡◌, ℕ, List, Option, map}
+use Rattle.std.specs.Prelude.{◌≡◌, ℕ, List, map}
 use Rattle.std.specs.Option.{option_map}
 use Rattle.hub.specs.declared.planned.Planned.{Planned}
 use Rattle.hub.specs.declared.planned.Step.{Step}

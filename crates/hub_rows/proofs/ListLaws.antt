@@ -1,20 +1,20 @@
 -- What one operator sees of a shared list after an edit of it.
-use Rattle.std.specs.Prelude.{◌≡◌, ◌≢◌, ℕ, Option, None, Some, List, [], ◌∷◌, Bool, true, false, cond, ◌&&◌, ◌||◌, ◌==◌, not, filter, map, find}
-use Rattle.std.proofs.Common.{◌+◌, ◌<◌, ◌++◌, length, take, drop, refl, sym, ◌∙◌, ap, subst, arith, rules, add-one}
+use Rattle.std.specs.Prelude.{◌≡◌, ◌≢◌, ℕ, List, [], ◌∷◌, Bool, true, false, cond, ◌&&◌, ◌||◌, ◌==◌, not, filter, map, find}
+use Rattle.std.proofs.Common.{◌+◌, ◌<◌, ◌++◌, length, take, drop, refl, sym, ◌∙◌, ap, arith, add-one}
 use Rattle.std.proofs.Math.ListN.{set}
 use Rattle.std.proofs.lemmas.List.{set_split}
-use Rattle.std.specs.Ordering.{nat_cmp, match_ordering, ordering_then, ordering_reverse, is_eq}
+use Rattle.std.specs.Ordering.{match_ordering, ordering_then, ordering_reverse, is_eq}
 use Rattle.std.specs.declared.cmp.Ordering.{Ordering}
 use Rattle.std.specs.declared.cmp.Ordering.TheVariants.{Less, Equal, Greater}
 use Rattle.std.specs.Cmp.{IsTotalOrder}
-use Rattle.std.specs.Cmp.Lexicographic.{slice_cmp, bytes_decides}
+use Rattle.std.specs.Cmp.Lexicographic.{bytes_decides}
 use Rattle.std.specs.FinMap.{slice_cmp-IsAntisymmetric}
 use Rattle.std.proofs.lemmas.Map.Lookups.{exact_unsigned}
 use Rattle.std.proofs.lemmas.Map.Text.{is_eq-slice_cmp}
 use Rattle.std.specs.Str.{bytes_eq}
 use Rattle.std.specs.List.{AllByRecursion, list_any}
 use Rattle.std.specs.List.Sorted.{IsStrictlySortedBy}
-use Rattle.std.proofs.lemmas.Bool.{cond-true, cond-false, false_from_ne_true, true≢false}
+use Rattle.std.proofs.lemmas.Bool.{cond-true, cond-false, false_from_ne_true}
 use Rattle.std.proofs.lemmas.Cmp.{tied_itself, lists_total, nat_list_cmp_total, on_total}
 use Rattle.hub_rows.specs.Keyed.{text_cmp, key_cmp, put, put_all, by_key, own, without, changed, found, those, any_of}
 

@@ -1,5 +1,5 @@
 -- What a change does to the rows of each operator.
-use Rattle.std.specs.Prelude.{◌≡◌, ◌≢◌, ℕ, ◌+◌, List, [], ◌∷◌, Option, None, refl, ◌&&◌, not, find}
+use Rattle.std.specs.Prelude.{◌≡◌, ◌≢◌, ℕ, ◌+◌, List, [], ◌∷◌, None, refl, ◌&&◌, not, find}
 use Rattle.std.proofs.lemmas.List.Kept.{IsStrictlySortedBy-filter}
 use Rattle.std.specs.Option.{option_map}
 use Rattle.std.specs.Str.{bytes_eq}
@@ -9,14 +9,12 @@ use Rattle.hub_rows.specs.declared.station_row.StationRow.{StationRow}
 use Rattle.hub_rows.specs.Rows.{Rows, WellFormedRows, station_key, station_rest, connector_key, connector_rest, tag_key, tag_rest, tx_key, tx_rest, reading_key, reading_rest, registration_of}
 use Rattle.std.specs.List.{AllByRecursion}
 use Rattle.hub_rows.specs.declared.reading_row.Reading.{Reading}
-use Rattle.hub_rows.specs.declared.reading_row.ReadingRow.{ReadingRow}
-use Rattle.hub_rows.specs.declared.tx_row.TxRow.{TxRow}
 use Rattle.hub_rows.specs.Keyed.{by_key, put_all, changed, own, greatest}
 use Rattle.hub_rows.specs.Changes.{edit, new_station, booted, with_policy, reported, tag_row, tx_row, stopped, with_readings}
 use Rattle.hub_rows.specs.Own.{own_rows, own_edit}
 use Rattle.hub_rows.specs.Tags.{tag_in, effective_tag}
 use Rattle.hub_rows.specs.Transactions.{is_open, is_use, is_tx, is_started, is_reading, state_of, numbers_of, reading_rows}
-use Rattle.hub_rows.specs.Lookups.{Lookups, lookups_at, own_lookups}
+use Rattle.hub_rows.specs.Lookups.{lookups_at, own_lookups}
 use Rattle.hub_rows.proofs.ListLaws.{by_key_total, sorted-put, sorted-changed, own-put, own-put_other, own-without, own-without_other, own-changed, own-changed_other, own-put_all, own-put_all_other, sorted-put_all, found-own, those-own, any_of-own}
 
 -- the readings of operator b are its own

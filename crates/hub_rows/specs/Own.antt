@@ -1,5 +1,5 @@
 -- The rows of one operator by themselves.
-use Rattle.std.specs.Prelude.{ℕ, List, if◌then◌else◌, map, filter, find, not}
+use Rattle.std.specs.Prelude.{ℕ, List, if◌then◌else◌, map, filter, not}
 use Rattle.std.specs.Str.{bytes_eq}
 use Rattle.hub_rows.specs.declared.change.Edit.{Edit}
 use Rattle.hub_rows.specs.declared.change.Edit.TheVariants.{StationAdded, BootSeen, PolicySet, ConnectorSeen, TagPut, TagDropped, TxStarted, TxStopped, ReadingsAdded}

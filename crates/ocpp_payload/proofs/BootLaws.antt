@@ -2,10 +2,9 @@
 use Rattle.std.specs.Prelude.{◌≡◌, ℕ, List, codes, Bool, true, false, ◌||◌, Option, Some, None, option_map}
 use Rattle.std.specs.Ordering.{match_ordering, nat_cmp}
 use Rattle.std.specs.Cmp.Lexicographic.{slice_cmp}
-use Rattle.std.specs.declared.cmp.Ordering.{Ordering}
 use Rattle.std.specs.declared.cmp.Ordering.TheVariants.{Less, Equal, Greater}
-use Rattle.std.proofs.Common.{refl, sym, ◌∙◌, ap}
-use Rattle.serde_json.specs.Data.{Data, string, object, Members, no_members, member, put}
+use Rattle.std.proofs.Common.{refl, ◌∙◌, ap}
+use Rattle.serde_json.specs.Data.{Data, string, Members, no_members, member, put}
 use Rattle.serde_json.specs.Written.{has_float, members_have_float}
 use Rattle.ocpp_types.specs.declared.boot_notification.BootNotification.{BootNotification}
 use Rattle.ocpp_payload.specs.Boot.{boot_data}

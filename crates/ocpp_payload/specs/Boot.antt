@@ -1,5 +1,5 @@
 -- What a station tells of itself, as JSON.
-use Rattle.std.specs.Prelude.{List, codes, option_map}
+use Rattle.std.specs.Prelude.{codes, option_map}
 use Rattle.serde_json.specs.Data.{Data, string, object, no_members, put}
 use Rattle.ocpp_types.specs.declared.boot_notification.BootNotification.{BootNotification}
 use Rattle.ocpp_payload.specs.Conf.{put_some}

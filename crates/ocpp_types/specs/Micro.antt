@@ -1,5 +1,5 @@
 -- The numbers of readings, in millionths of the base unit.
-use Rattle.std.specs.Prelude.{ℕ, ◌+◌, ◌-◌, ◌*◌, ◌/◌, ◌%◌, ◌^◌, nat_lt, nat_le, ◌==◌, Bool, ◌&&◌, if◌then◌else◌, ℤ, pos, neg_ℤ, List, length, Option, Some, None, option_map, option_and_then}
+use Rattle.std.specs.Prelude.{ℕ, ◌+◌, ◌-◌, ◌*◌, ◌/◌, ◌%◌, ◌^◌, nat_lt, ◌==◌, Bool, if◌then◌else◌, ℤ, pos, neg_ℤ, List, length, Option, Some, None, option_map, option_and_then}
 use Rattle.std.specs.List.{position_or_len, before_first, after_first}
 use Rattle.std.specs.Str.Parse.{starts_with_minus, without_leading_sign}
 use Rattle.ocpp_types.specs.Digits.{number_of_digits}

@@ -1,13 +1,13 @@
 -- The transactions by which tags are in use, among all.
 use Rattle.std.specs.Prelude.{◌≡◌, ℕ, ◌<◌, ◌≤◌, max, List, [], ◌∷◌, Bool, true, false, cond, ◌&&◌, ◌||◌, ◌==◌, not, Option, Some, None, map, filter}
-use Rattle.std.specs.List.{AllByRecursion, list_any}
+use Rattle.std.specs.List.{AllByRecursion}
 use Rattle.std.specs.List.Sorted.{IsStrictlySortedBy}
 use Rattle.std.specs.Ordering.{match_ordering, is_eq}
 use Rattle.std.specs.Str.{bytes_eq}
 use Rattle.std.specs.declared.cmp.Ordering.TheVariants.{Less, Equal, Greater}
-use Rattle.std.proofs.Common.{refl, sym, ◌∙◌, ap, subst, arith}
+use Rattle.std.proofs.Common.{refl, sym, ◌∙◌, ap, arith}
 use Rattle.std.proofs.Math.Nat.{le-max_left, le-max_right}
-use Rattle.std.proofs.lemmas.Bool.{cond-true, cond-false, true≢false}
+use Rattle.std.proofs.lemmas.Bool.{true≢false}
 use Rattle.std.proofs.lemmas.List.Kept.{IsStrictlySortedBy-filter}
 use Rattle.hub_rows.specs.declared.tx_row.TxRow.{TxRow}
 use Rattle.hub_rows.specs.declared.tx_row.TxKey.{TxKey}
@@ -16,11 +16,11 @@ use Rattle.hub_rows.specs.Changes.{stopped}
 use Rattle.hub_rows.specs.Keyed.{by_key, key_cmp, put, without, changed, those, greatest}
 use Rattle.hub_rows.specs.Rows.{tx_key}
 use Rattle.hub_rows.specs.Transactions.{counts, is_tx, is_left_out, is_used_in}
-use Rattle.hub_rows.proofs.ListLaws.{by_key_total, all-filter, all-weaker, put-front, same_key, three_parts, two_parts, head, keys_total}
+use Rattle.hub_rows.proofs.ListLaws.{by_key_total, all-filter, all-weaker, put-front, same_key, two_parts, head, keys_total}
 use Rattle.std.proofs.lemmas.Cmp.{tied_itself}
 use Rattle.store_mem.proofs.StationRowsLaws.{second}
 use Rattle.store_mem.specs.declared.open.OpenRow.{OpenRow}
-use Rattle.store_mem.specs.Open.{open_key, open_of, opens_of, is_used, is_left_out as is_left_out_of, is_use}
+use Rattle.store_mem.specs.Open.{open_key, open_of, opens_of, is_used, is_left_out as is_left_out_of}
 
 -- ---- what is looked for
 

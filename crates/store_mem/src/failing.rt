@@ -1,5 +1,5 @@
 //! A store that fails once, to test what stands on a store.
-ghost use Rattle.std.specs.Prelude.{◌≡◌, ◌+◌, OnOk, OnErr};
+ghost use Rattle.std.specs.Prelude.{◌≡◌, ◌+◌, Some, OnOk, OnErr};
 
 use hub_rows::change::Change;
 use hub_rows::connector_row::ConnectorRow;
@@ -23,7 +23,8 @@ pub struct Failing<S> {
 impl<S> Failing<S> {
     /// The store, whose call after the next `before` ones fails.
     pub fn new(store: S, before: u64) -> Failing<S>
-        ensures { result.store ≡ store }
+        ensures store { result.store ≡ store }
+        ensures before { result.before ≡ Some before }
     {
         Failing {
             store,

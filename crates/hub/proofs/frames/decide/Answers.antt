@@ -1,5 +1,5 @@
 use Rattle.std.proofs.Common.{◌≡◌, IfOk, subst, sym}
-use Rattle.hub_rows.specs.Lookups.{Lookups, lookups_at}
+use Rattle.hub_rows.specs.Lookups.{lookups_at}
 use Rattle.hub_rows.specs.Rows.{Rows}
 use Rattle.charging.specs.Start.{start_rule}
 use Rattle.hub.specs.Table.{decision}

@@ -1,4 +1,4 @@
-use Rattle.std.proofs.Common.{◌≡◌, [], ◌∷◌, ap, sym, ◌∙◌}
+use Rattle.std.proofs.Common.{[], ◌∷◌, sym, ◌∙◌}
 use Rattle.hub_rows.specs.Keyed.{pair_key}
 use Rattle.hub_rows.proofs.NameLaws.{is_of, pair_agrees, filter-found, filter-gap}
 use Rattle.hub_rows.proofs.named_row.remove_row.Goals as goal

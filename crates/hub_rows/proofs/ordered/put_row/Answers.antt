@@ -1,5 +1,4 @@
-use Rattle.std.proofs.Common.{◌∙◌, sym, ap, ◌<◌}
-use Rattle.hub_rows.specs.Keyed.{by_key, put}
+use Rattle.std.proofs.Common.{◌∙◌, sym}
 use Rattle.hub_rows.proofs.PlaceLaws.{put-found, put-gap}
 use Rattle.hub_rows.proofs.ListLaws.{set_here}
 use Rattle.hub_rows.proofs.ordered.put_row.Goals as goal

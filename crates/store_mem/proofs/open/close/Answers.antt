@@ -1,4 +1,4 @@
-use Rattle.std.proofs.Common.{◌≡◌, [], ◌∷◌, ◌&&◌, ◌==◌, Bool, sym, ◌∙◌}
+use Rattle.std.proofs.Common.{[], ◌∷◌, ◌&&◌, ◌==◌, Bool, sym, ◌∙◌}
 use Rattle.std.specs.Str.{bytes_eq}
 use Rattle.hub_rows.proofs.ListLaws.{three_parts}
 use Rattle.hub_rows.proofs.NameLaws.{filter-found, filter-gap}

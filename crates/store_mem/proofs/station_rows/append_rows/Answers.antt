@@ -1,4 +1,4 @@
-use Rattle.std.proofs.Common.{◌++◌, ap, sym, ◌∙◌}
+use Rattle.std.proofs.Common.{◌++◌, ap, ◌∙◌}
 use Rattle.store_mem.proofs.Kept.{on_err}
 use Rattle.store_mem.proofs.StationRowsLaws.{set-same, set-more, insert-more}
 use Rattle.store_mem.proofs.station_rows.append_rows.Goals as goal

@@ -1,4 +1,4 @@
-use Rattle.std.proofs.Common.{[], ◌∷◌, sym, ◌∙◌, rules}
+use Rattle.std.proofs.Common.{[], ◌∷◌, rules}
 use Rattle.std.proofs.lemmas.Fn.{always_returns_same}
 use Rattle.hub_rows.specs.Keyed.{key_cmp}
 use Rattle.hub_rows.proofs.PlaceLaws.{placed}

@@ -1,4 +1,4 @@
-use Rattle.std.proofs.Common.{◌≡◌, ℕ, List, Bool, ap, sym, ◌∙◌}
+use Rattle.std.proofs.Common.{ℕ, List, Bool, ap, sym, ◌∙◌}
 use Rattle.ocpp_types.specs.TagKey.{key_of}
 use Rattle.hub_rows.specs.Tags.{is_blocked, is_parent_blocked, tag_in}
 use Rattle.store_mem.proofs.tags.is_parent_blocked.Goals as goal

@@ -1,4 +1,4 @@
-use Rattle.std.proofs.Common.{◌≡◌, ◌==◌, refl, ap, sym, ◌∙◌, map, cond}
+use Rattle.std.proofs.Common.{◌==◌, refl, ap, sym, ◌∙◌, map, cond}
 use Rattle.hub_rows.specs.declared.tx_row.TxRow.{TxRow}
 use Rattle.hub_rows.specs.Changes.{stopped}
 use Rattle.store_mem.proofs.StationRowsLaws.{set-changed, changed-none}

@@ -1,4 +1,4 @@
-use Rattle.std.proofs.Common.{◌≡◌, ◌∙◌, ◌++◌, [], ◌∷◌, ap, sym, append-nil}
+use Rattle.std.proofs.Common.{◌∙◌, ◌++◌, [], ◌∷◌, ap, sym, append-nil}
 use Rattle.hub.specs.Said.{outputs_of}
 use Rattle.hub.specs.Hub.{world, setting}
 use Rattle.hub.specs.Table.{Setting}

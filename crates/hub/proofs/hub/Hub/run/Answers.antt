@@ -1,4 +1,4 @@
-use Rattle.std.proofs.Common.{◌≡◌, ◌∙◌, ◌++◌, ◌+◌, take, ap, sym, arith}
+use Rattle.std.proofs.Common.{◌∙◌, ◌+◌, take, ap, sym, arith}
 use Rattle.hub.specs.Said.{outputs_of}
 use Rattle.hub.specs.Hub.{world, setting}
 use Rattle.hub.specs.Table.{Setting}

@@ -1,9 +1,9 @@
-use Rattle.std.proofs.Common.{◌≡◌, ◌==◌, ◌&&◌, List, refl, ap, sym, subst, ◌∙◌}
+use Rattle.std.proofs.Common.{◌==◌, ◌&&◌, List, refl, ap, sym, subst, ◌∙◌}
 use Rattle.std.specs.List.Sorted.{IsStrictlySortedBy}
 use Rattle.std.specs.Str.{bytes_eq}
 use Rattle.hub_rows.specs.declared.tx_row.TxRow.{TxRow}
 use Rattle.hub_rows.specs.Changes.{stopped}
-use Rattle.hub_rows.specs.Keyed.{by_key, changed, without}
+use Rattle.hub_rows.specs.Keyed.{by_key, without}
 use Rattle.hub_rows.specs.Rows.{Rows, WellFormedRows, tx_key}
 use Rattle.hub_rows.specs.Transactions.{is_tx}
 use Rattle.hub_rows.proofs.ListLaws.{sorted-changed}
