@@ -1,17 +1,15 @@
 -- Events that lines spell are of hosted operators, and failures are counted along.
-use Rattle.std.proofs.Common.{◌≡◌, ◌<◌, ◌≤◌, ℕ, List, Bool, true, false, cond, refl, subst, arith, inl, inr}
+use Rattle.std.proofs.Common.{◌≡◌, ◌≤◌, ℕ, List, Bool, true, false, cond, refl, subst, arith, inl, inr}
 use Rattle.std.specs.Prelude.{Option, Some, None}
 use Rattle.hub.specs.declared.event.Event.{Event as HubEvent}
 use Rattle.hub.specs.Operators.{is_hosted}
 use Rattle.hub_rows.specs.Failures.{Rose}
-use Rattle.ws_server.specs.declared.lines.reading.Line.{Line}
 use Rattle.ws_server.specs.declared.lines.reading.Line.TheVariants as line
 use Rattle.ws_server.specs.InputLines.{spelled, spelled_text, said, event_of, is_utf8}
 use Rattle.ws_server.specs.Forms.{what_of}
 use Rattle.ws_server.specs.Words.{first_word, moment_at, ◌>>=◌}
 use Rattle.std.specs.Prelude.{nat_lt, ◌==◌, length}
 use Rattle.std.specs.Io.BufRead.{strip_last}
-use Rattle.std.specs.Str.Lossy.{utf8_valid_len}
 
 -- a rise at any part of a run is one of the whole
 pub rose_later : (a b c : ℕ) → a ≤ b → Rose b c → Rose a c
