@@ -1,14 +1,12 @@
 //! Worked scripts: transactions, readings and listings.
 
-use crate::tests::{BOOTED, BOOTED_OUTPUT, check};
+use crate::tests::{BOOTED, BOOTED_OUTPUT, Worked, check_all};
 use std::test::Fail;
 
-#[test]
-fn answers_a_repeated_start_with_its_number(rt: HostRuntime) -> Result<(), Fail> {
-    check(
-        &rt,
-        rt.alloc(),
-        &[
+const TRANSACTIONS: [Worked; 11] = [
+    Worked {
+        name: "answers a repeated start with its number",
+        script: &[
             BOOTED,
             r#"1704067200 ACME tag put K1 - 0 -
 1704067200 ACME frame CP01 [2,"7","StartTransaction",{"connectorId":1,"idTag":"K1","meterStart":100,"timestamp":"2024-01-01T00:00:00Z"}]
@@ -16,7 +14,7 @@ fn answers_a_repeated_start_with_its_number(rt: HostRuntime) -> Result<(), Fail>
 1704067200 ACME list transactions CP01
 "#,
         ],
-        &[
+        written: &[
             BOOTED_OUTPUT,
             r#"ACME ok
 ACME CP01 send [3,"7",{"idTagInfo":{"status":"Accepted"},"transactionId":1}]
@@ -25,15 +23,10 @@ ACME row transaction CP01 1 1 "K1" Accepted 100 1704067200000 - - - - -
 ACME ok
 "#,
         ],
-    )
-}
-
-#[test]
-fn begins_no_second_transaction_with_a_tag(rt: HostRuntime) -> Result<(), Fail> {
-    check(
-        &rt,
-        rt.alloc(),
-        &[
+    },
+    Worked {
+        name: "begins no second transaction with a tag",
+        script: &[
             BOOTED,
             r#"1704067200 ACME tag put K1 - 0 -
 1704067200 ACME frame CP01 [2,"7","StartTransaction",{"connectorId":1,"idTag":"K1","meterStart":100,"timestamp":"2024-01-01T00:00:00Z"}]
@@ -43,7 +36,7 @@ fn begins_no_second_transaction_with_a_tag(rt: HostRuntime) -> Result<(), Fail> 
 1704067200 ACME frame CP02 [2,"7","StartTransaction",{"connectorId":1,"idTag":"K1","meterStart":100,"timestamp":"2024-01-01T00:00:00Z"}]
 "#,
         ],
-        &[
+        written: &[
             BOOTED_OUTPUT,
             r#"ACME ok
 ACME CP01 send [3,"7",{"idTagInfo":{"status":"Accepted"},"transactionId":1}]
@@ -52,15 +45,10 @@ ACME CP02 send [3,"1",{"currentTime":"2024-01-01T00:00:00Z","interval":300,"stat
 ACME CP02 send [3,"7",{"idTagInfo":{"status":"ConcurrentTx"},"transactionId":1}]
 "#,
         ],
-    )
-}
-
-#[test]
-fn keeps_a_stop(rt: HostRuntime) -> Result<(), Fail> {
-    check(
-        &rt,
-        rt.alloc(),
-        &[
+    },
+    Worked {
+        name: "keeps a stop",
+        script: &[
             BOOTED,
             r#"1704067200 ACME tag put K1 - 0 -
 1704067200 ACME frame CP01 [2,"7","StartTransaction",{"connectorId":1,"idTag":"K1","meterStart":100,"timestamp":"2024-01-01T00:00:00Z"}]
@@ -68,7 +56,7 @@ fn keeps_a_stop(rt: HostRuntime) -> Result<(), Fail> {
 1704067200 ACME list transactions CP01
 "#,
         ],
-        &[
+        written: &[
             BOOTED_OUTPUT,
             r#"ACME ok
 ACME CP01 send [3,"7",{"idTagInfo":{"status":"Accepted"},"transactionId":1}]
@@ -77,15 +65,10 @@ ACME row transaction CP01 1 1 "K1" Accepted 100 1704067200000 - 1500 17040708000
 ACME ok
 "#,
         ],
-    )
-}
-
-#[test]
-fn stops_no_transaction_of_another_operator(rt: HostRuntime) -> Result<(), Fail> {
-    check(
-        &rt,
-        rt.alloc(),
-        &[
+    },
+    Worked {
+        name: "stops no transaction of another operator",
+        script: &[
             r#"1704067200 BETA station add B1 Accepted 300
 1704067200 BETA connect B1
 1704067200 BETA frame B1 [2,"1","BootNotification",{"chargePointVendor":"V","chargePointModel":"M"}]
@@ -102,7 +85,7 @@ fn stops_no_transaction_of_another_operator(rt: HostRuntime) -> Result<(), Fail>
 1704067200 ACME list transactions CP01
 "#,
         ],
-        &[
+        written: &[
             r#"BETA ok
 BETA B1 send [3,"1",{"currentTime":"2024-01-01T00:00:00Z","interval":300,"status":"Accepted"}]
 BETA B1 send [3,"b1",{"idTagInfo":{"status":"Invalid"},"transactionId":1}]
@@ -118,15 +101,10 @@ ACME row transaction CP01 1 1 "K1" Accepted 100 1704067200000 - - - - -
 ACME ok
 "#,
         ],
-    )
-}
-
-#[test]
-fn keeps_the_first_stop(rt: HostRuntime) -> Result<(), Fail> {
-    check(
-        &rt,
-        rt.alloc(),
-        &[
+    },
+    Worked {
+        name: "keeps the first stop",
+        script: &[
             BOOTED,
             r#"1704067200 ACME tag put K1 - 0 -
 1704067200 ACME frame CP01 [2,"7","StartTransaction",{"connectorId":1,"idTag":"K1","meterStart":100,"timestamp":"2024-01-01T00:00:00Z"}]
@@ -135,7 +113,7 @@ fn keeps_the_first_stop(rt: HostRuntime) -> Result<(), Fail> {
 1704067200 ACME list transactions CP01
 "#,
         ],
-        &[
+        written: &[
             BOOTED_OUTPUT,
             r#"ACME ok
 ACME CP01 send [3,"7",{"idTagInfo":{"status":"Accepted"},"transactionId":1}]
@@ -145,15 +123,10 @@ ACME row transaction CP01 1 1 "K1" Accepted 100 1704067200000 - 200 170407080000
 ACME ok
 "#,
         ],
-    )
-}
-
-#[test]
-fn lists_readings(rt: HostRuntime) -> Result<(), Fail> {
-    check(
-        &rt,
-        rt.alloc(),
-        &[
+    },
+    Worked {
+        name: "lists readings",
+        script: &[
             BOOTED,
             r#"1704067200 ACME tag put K1 - 0 -
 1704067200 ACME frame CP01 [2,"14","MeterValues",{"connectorId":1,"meterValue":[{"timestamp":"2024-01-01T00:00:00Z","sampledValue":[{"value":"1.5","unit":"kWh"},{"value":"1e3"}]}]}]
@@ -161,7 +134,7 @@ fn lists_readings(rt: HostRuntime) -> Result<(), Fail> {
 1704067200 ACME frame CP01 [2,"15","MeterValues",{"connectorId":1,"meterValue":[{"timestamp":"2024-01-01T00:00:00Z","sampledValue":[]}]}]
 "#,
         ],
-        &[
+        written: &[
             BOOTED_OUTPUT,
             r#"ACME ok
 ACME CP01 send [3,"14",{}]
@@ -171,15 +144,10 @@ ACME ok
 ACME CP01 send [4,"15","OccurenceConstraintViolation","sampledValue",{}]
 "#,
         ],
-    )
-}
-
-#[test]
-fn reads_times(rt: HostRuntime) -> Result<(), Fail> {
-    check(
-        &rt,
-        rt.alloc(),
-        &[
+    },
+    Worked {
+        name: "reads times",
+        script: &[
             BOOTED,
             r#"1704067200 ACME tag put K1 - 0 -
 1704067200 ACME frame CP01 [2,"3","StatusNotification",{"connectorId":1,"errorCode":"NoError","status":"Available","timestamp":"2024-01-01T01:00:00.5+01:00"}]
@@ -189,7 +157,7 @@ fn reads_times(rt: HostRuntime) -> Result<(), Fail> {
 1704067200 ACME list connectors CP01
 "#,
         ],
-        &[
+        written: &[
             BOOTED_OUTPUT,
             r#"ACME ok
 ACME CP01 send [3,"3",{}]
@@ -202,22 +170,17 @@ ACME row connector CP01 3 Available NoError -1 - - -
 ACME ok
 "#,
         ],
-    )
-}
-
-#[test]
-fn reads_numbers_of_readings(rt: HostRuntime) -> Result<(), Fail> {
-    check(
-        &rt,
-        rt.alloc(),
-        &[
+    },
+    Worked {
+        name: "reads numbers of readings",
+        script: &[
             BOOTED,
             r#"1704067200 ACME tag put K1 - 0 -
 1704067200 ACME frame CP01 [2,"14","MeterValues",{"connectorId":1,"meterValue":[{"timestamp":"2024-01-01T00:00:00Z","sampledValue":[{"value":"-0.000001"},{"value":"1.0000001","unit":"W"},{"value":"1.0000001","unit":"kW"},{"value":"1."},{"value":".5"}]}]}]
 1704067200 ACME list readings CP01
 "#,
         ],
-        &[
+        written: &[
             BOOTED_OUTPUT,
             r#"ACME ok
 ACME CP01 send [3,"14",{}]
@@ -229,37 +192,27 @@ ACME row reading CP01 5 1 - 1704067200000 Sample.Periodic Raw Energy.Active.Impo
 ACME ok
 "#,
         ],
-    )
-}
-
-#[test]
-fn rejects_no_station_with_an_open_transaction(rt: HostRuntime) -> Result<(), Fail> {
-    check(
-        &rt,
-        rt.alloc(),
-        &[
+    },
+    Worked {
+        name: "rejects no station with an open transaction",
+        script: &[
             BOOTED,
             r#"1704067200 ACME tag put K1 - 0 -
 1704067200 ACME frame CP01 [2,"7","StartTransaction",{"connectorId":1,"idTag":"K1","meterStart":100,"timestamp":"2024-01-01T00:00:00Z"}]
 1704067200 ACME station policy CP01 Rejected 60
 "#,
         ],
-        &[
+        written: &[
             BOOTED_OUTPUT,
             r#"ACME ok
 ACME CP01 send [3,"7",{"idTagInfo":{"status":"Accepted"},"transactionId":1}]
 ACME refused 13 HasOpenTransactions
 "#,
         ],
-    )
-}
-
-#[test]
-fn serves_a_session(rt: HostRuntime) -> Result<(), Fail> {
-    check(
-        &rt,
-        rt.alloc(),
-        &[
+    },
+    Worked {
+        name: "serves a session",
+        script: &[
             r#"1704067200 ACME station add CP01 Accepted 300
 1704067200 ACME connect CP01
 1704067200 ACME tag put SIM1 - 0 -
@@ -272,7 +225,7 @@ fn serves_a_session(rt: HostRuntime) -> Result<(), Fail> {
 1704067200 ACME frame CP01 [2,"s7","StopTransaction",{"idTag":"SIM1","meterStop":1000,"reason":"Local","timestamp":"2024-01-01T00:00:00Z","transactionId":1}]
 "#,
         ],
-        &[
+        written: &[
             r#"ACME ok
 ACME ok
 ACME CP01 send [3,"s1",{"currentTime":"2024-01-01T00:00:00Z","interval":300,"status":"Accepted"}]
@@ -284,15 +237,10 @@ ACME CP01 send [3,"s6",{}]
 ACME CP01 send [3,"s7",{"idTagInfo":{"status":"Accepted"}}]
 "#,
         ],
-    )
-}
-
-#[test]
-fn lists_records(rt: HostRuntime) -> Result<(), Fail> {
-    check(
-        &rt,
-        rt.alloc(),
-        &[
+    },
+    Worked {
+        name: "lists records",
+        script: &[
             BOOTED,
             r#"1704067200 ACME tag put K1 - 0 -
 1704067200 ACME frame CP01 [2,"7","StartTransaction",{"connectorId":1,"idTag":"K1","meterStart":100,"timestamp":"2024-01-01T00:00:00Z"}]
@@ -303,7 +251,7 @@ fn lists_records(rt: HostRuntime) -> Result<(), Fail> {
 1704067200 ACME list connectors CP01
 "#,
         ],
-        &[
+        written: &[
             BOOTED_OUTPUT,
             r#"ACME ok
 ACME CP01 send [3,"7",{"idTagInfo":{"status":"Accepted"},"transactionId":1}]
@@ -318,5 +266,10 @@ ACME row connector CP01 1 Available NoError 1704067200000 - - -
 ACME ok
 "#,
         ],
-    )
+    },
+];
+
+#[test]
+fn worked_scripts_of_transactions(rt: HostRuntime) -> Result<(), Fail> {
+    check_all(&rt, rt.alloc(), &TRANSACTIONS)
 }

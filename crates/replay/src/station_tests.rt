@@ -1,54 +1,42 @@
 //! Worked scripts: connectors, vendors' messages and policies.
 
-use crate::tests::{BOOTED, BOOTED_OUTPUT, check};
+use crate::tests::{BOOTED, BOOTED_OUTPUT, Worked, check_all};
 use std::test::Fail;
 
-#[test]
-fn answers_messages_of_vendors(rt: HostRuntime) -> Result<(), Fail> {
-    check(
-        &rt,
-        rt.alloc(),
-        &[
+const STATIONS: [Worked; 4] = [
+    Worked {
+        name: "answers messages of vendors",
+        script: &[
             BOOTED,
             r#"1704067200 ACME frame CP01 [2,"3","DataTransfer",{"vendorId":"org.example.echo","data":"x"}]
 1704067200 ACME frame CP01 [2,"4","DataTransfer",{"vendorId":"org.example.echo","messageId":"other","data":"x"}]
 1704067200 ACME frame CP01 [2,"5","DataTransfer",{"vendorId":"V"}]
 "#,
         ],
-        &[
+        written: &[
             BOOTED_OUTPUT,
             r#"ACME CP01 send [3,"3",{"data":"x","status":"Accepted"}]
 ACME CP01 send [3,"4",{"status":"UnknownMessageId"}]
 ACME CP01 send [3,"5",{"status":"UnknownVendorId"}]
 "#,
         ],
-    )
-}
-
-#[test]
-fn sets_no_policy_of_an_unknown_station(rt: HostRuntime) -> Result<(), Fail> {
-    check(
-        &rt,
-        rt.alloc(),
-        &[
+    },
+    Worked {
+        name: "sets no policy of an unknown station",
+        script: &[
             BOOTED,
             r#"1704067200 ACME station policy CP09 Pending 60
 "#,
         ],
-        &[
+        written: &[
             BOOTED_OUTPUT,
             r#"ACME refused 1 NoSuchStation
 "#,
         ],
-    )
-}
-
-#[test]
-fn reads_reports_on_connectors(rt: HostRuntime) -> Result<(), Fail> {
-    check(
-        &rt,
-        rt.alloc(),
-        &[
+    },
+    Worked {
+        name: "reads reports on connectors",
+        script: &[
             BOOTED,
             r#"1704067200 ACME frame CP01 [2,"3","StatusNotification",{"connectorId":1,"errorCode":"NoError","status":"Available"}]
 1704067200 ACME frame CP01 [2,"3","StatusNotification",{"connectorId":1,"errorCode":"NoError","status":"Occupied"}]
@@ -59,7 +47,7 @@ fn reads_reports_on_connectors(rt: HostRuntime) -> Result<(), Fail> {
 1704067200 ACME frame CP01 [2,"3","StatusNotification",{"connectorId":1}]
 "#,
         ],
-        &[
+        written: &[
             BOOTED_OUTPUT,
             r#"ACME CP01 send [3,"3",{}]
 ACME CP01 send [4,"3","PropertyConstraintViolation","status",{}]
@@ -70,15 +58,10 @@ ACME CP01 send [4,"3","TypeConstraintViolation","timestamp",{}]
 ACME CP01 send [4,"3","OccurenceConstraintViolation","errorCode",{}]
 "#,
         ],
-    )
-}
-
-#[test]
-fn a_policy_works_from_the_next_boot(rt: HostRuntime) -> Result<(), Fail> {
-    check(
-        &rt,
-        rt.alloc(),
-        &[
+    },
+    Worked {
+        name: "a policy works from the next boot",
+        script: &[
             BOOTED,
             r#"1704067200 ACME station policy CP01 Rejected 86401
 1704067200 ACME station policy CP01 Pending 60
@@ -91,7 +74,7 @@ fn a_policy_works_from_the_next_boot(rt: HostRuntime) -> Result<(), Fail> {
 1704067200 BETA station policy CP01 Pending 60
 "#,
         ],
-        &[
+        written: &[
             BOOTED_OUTPUT,
             r#"ACME refused 12 BadField interval
 ACME ok
@@ -104,5 +87,10 @@ ACME CP01 send [4,"7","SecurityError","",{}]
 BETA refused 1 NoSuchStation
 "#,
         ],
-    )
+    },
+];
+
+#[test]
+fn worked_scripts_of_stations(rt: HostRuntime) -> Result<(), Fail> {
+    check_all(&rt, rt.alloc(), &STATIONS)
 }

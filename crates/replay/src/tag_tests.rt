@@ -1,36 +1,29 @@
 //! Worked scripts: id tags, and stations that ask for them.
 
-use crate::tests::{BOOTED, BOOTED_OUTPUT, check};
+use crate::tests::{BOOTED, BOOTED_OUTPUT, Worked, check_all};
 use std::test::Fail;
 
-#[test]
-fn finds_a_tag_by_its_key(rt: HostRuntime) -> Result<(), Fail> {
-    check(
-        &rt,
-        rt.alloc(),
-        &[
+const TAGS: [Worked; 8] = [
+    Worked {
+        name: "finds a tag by its key",
+        script: &[
             BOOTED,
             r#"1704067200 ACME tag put K1 - 0 -
 1704067200 ACME tag put AbC1 - 0 -
 1704067200 ACME frame CP01 [2,"4","Authorize",{"idTag":"aBc1"}]
 "#,
         ],
-        &[
+        written: &[
             BOOTED_OUTPUT,
             r#"ACME ok
 ACME ok
 ACME CP01 send [3,"4",{"idTagInfo":{"status":"Accepted"}}]
 "#,
         ],
-    )
-}
-
-#[test]
-fn blocks_the_child_of_a_blocked_parent(rt: HostRuntime) -> Result<(), Fail> {
-    check(
-        &rt,
-        rt.alloc(),
-        &[
+    },
+    Worked {
+        name: "blocks the child of a blocked parent",
+        script: &[
             BOOTED,
             r#"1704067200 ACME tag put K1 - 0 -
 1704067200 ACME tag put P1 - 1 -
@@ -38,7 +31,7 @@ fn blocks_the_child_of_a_blocked_parent(rt: HostRuntime) -> Result<(), Fail> {
 1704067200 ACME frame CP01 [2,"4","Authorize",{"idTag":"aBc1"}]
 "#,
         ],
-        &[
+        written: &[
             BOOTED_OUTPUT,
             r#"ACME ok
 ACME ok
@@ -46,37 +39,27 @@ ACME ok
 ACME CP01 send [3,"4",{"idTagInfo":{"parentIdTag":"P1","status":"Blocked"}}]
 "#,
         ],
-    )
-}
-
-#[test]
-fn judges_an_expiry_to_the_second(rt: HostRuntime) -> Result<(), Fail> {
-    check(
-        &rt,
-        rt.alloc(),
-        &[
+    },
+    Worked {
+        name: "judges an expiry to the second",
+        script: &[
             BOOTED,
             r#"1704067200 ACME tag put K1 - 0 1704067260
 1704067259 ACME frame CP01 [2,"4","Authorize",{"idTag":"K1"}]
 1704067260 ACME frame CP01 [2,"5","Authorize",{"idTag":"K1"}]
 "#,
         ],
-        &[
+        written: &[
             BOOTED_OUTPUT,
             r#"ACME ok
 ACME CP01 send [3,"4",{"idTagInfo":{"expiryDate":"2024-01-01T00:01:00Z","status":"Accepted"}}]
 ACME CP01 send [3,"5",{"idTagInfo":{"expiryDate":"2024-01-01T00:01:00Z","status":"Expired"}}]
 "#,
         ],
-    )
-}
-
-#[test]
-fn keeps_the_tags_of_operators_apart(rt: HostRuntime) -> Result<(), Fail> {
-    check(
-        &rt,
-        rt.alloc(),
-        &[
+    },
+    Worked {
+        name: "keeps the tags of operators apart",
+        script: &[
             BOOTED,
             r#"1704067200 ACME tag put k1 - 0 -
 1704067200 BETA tag put k1 - 1 -
@@ -87,7 +70,7 @@ fn keeps_the_tags_of_operators_apart(rt: HostRuntime) -> Result<(), Fail> {
 1704067200 BETA frame B1 [2,"4","Authorize",{"idTag":"k1"}]
 "#,
         ],
-        &[
+        written: &[
             BOOTED_OUTPUT,
             r#"ACME ok
 BETA ok
@@ -97,15 +80,10 @@ ACME CP01 send [3,"4",{"idTagInfo":{"status":"Accepted"}}]
 BETA B1 send [3,"4",{"idTagInfo":{"status":"Blocked"}}]
 "#,
         ],
-    )
-}
-
-#[test]
-fn lowers_ascii_letters_alone(rt: HostRuntime) -> Result<(), Fail> {
-    check(
-        &rt,
-        rt.alloc(),
-        &[
+    },
+    Worked {
+        name: "lowers ascii letters alone",
+        script: &[
             BOOTED,
             r#"1704067200 ACME tag put K1 - 0 -
 1704067200 ACME tag put ÄBc1 - 0 -
@@ -113,7 +91,7 @@ fn lowers_ascii_letters_alone(rt: HostRuntime) -> Result<(), Fail> {
 1704067200 ACME frame CP01 [2,"4","Authorize",{"idTag":"äbc1"}]
 "#,
         ],
-        &[
+        written: &[
             BOOTED_OUTPUT,
             r#"ACME ok
 ACME ok
@@ -121,15 +99,10 @@ ACME CP01 send [3,"3",{"idTagInfo":{"status":"Accepted"}}]
 ACME CP01 send [3,"4",{"idTagInfo":{"status":"Invalid"}}]
 "#,
         ],
-    )
-}
-
-#[test]
-fn judges_no_tag_for_a_pending_station(rt: HostRuntime) -> Result<(), Fail> {
-    check(
-        &rt,
-        rt.alloc(),
-        &[
+    },
+    Worked {
+        name: "judges no tag for a pending station",
+        script: &[
             BOOTED,
             r#"1704067200 ACME tag put K1 - 0 -
 1704067200 ACME station add CP02 Pending 60
@@ -139,7 +112,7 @@ fn judges_no_tag_for_a_pending_station(rt: HostRuntime) -> Result<(), Fail> {
 1704067200 ACME frame CP02 [2,"3","Heartbeat",{}]
 "#,
         ],
-        &[
+        written: &[
             BOOTED_OUTPUT,
             r#"ACME ok
 ACME ok
@@ -148,35 +121,25 @@ ACME CP02 send [4,"2","SecurityError","",{}]
 ACME CP02 send [3,"3",{"currentTime":"2024-01-01T00:00:00Z"}]
 "#,
         ],
-    )
-}
-
-#[test]
-fn drops_no_unknown_tag(rt: HostRuntime) -> Result<(), Fail> {
-    check(
-        &rt,
-        rt.alloc(),
-        &[
+    },
+    Worked {
+        name: "drops no unknown tag",
+        script: &[
             BOOTED,
             r#"1704067200 ACME tag put K1 - 0 -
 1704067200 ACME tag drop NONE
 "#,
         ],
-        &[
+        written: &[
             BOOTED_OUTPUT,
             r#"ACME ok
 ACME refused 3 NoSuchTag
 "#,
         ],
-    )
-}
-
-#[test]
-fn answers_a_foreign_tag_as_one_that_nobody_has(rt: HostRuntime) -> Result<(), Fail> {
-    check(
-        &rt,
-        rt.alloc(),
-        &[
+    },
+    Worked {
+        name: "answers a foreign tag as one that nobody has",
+        script: &[
             BOOTED,
             r#"1704067200 BETA tag put ZZ P1 1 1704067260
 1704067200 ACME frame CP01 [2,"3","Authorize",{"idTag":"ZZ"}]
@@ -191,7 +154,7 @@ fn answers_a_foreign_tag_as_one_that_nobody_has(rt: HostRuntime) -> Result<(), F
 1704067200 ACME frame CP01 [2,"6","Authorize",{"idTag":"k1"}]
 "#,
         ],
-        &[
+        written: &[
             BOOTED_OUTPUT,
             r#"BETA ok
 ACME CP01 send [3,"3",{"idTagInfo":{"status":"Invalid"}}]
@@ -206,5 +169,10 @@ ACME ok
 ACME CP01 send [3,"6",{"idTagInfo":{"status":"Invalid"}}]
 "#,
         ],
-    )
+    },
+];
+
+#[test]
+fn worked_scripts_of_tags(rt: HostRuntime) -> Result<(), Fail> {
+    check_all(&rt, rt.alloc(), &TAGS)
 }

@@ -54,6 +54,25 @@ pub fn joined(alloc: Global, parts: &[&str]) -> Result<String, AllocError> {
     Ok(text)
 }
 
+/// A name, a script and what a replay of it writes, both told in parts.
+pub struct Worked {
+    pub name: &'static str,
+    pub script: &'static [&'static str],
+    pub written: &'static [&'static str],
+}
+
+/// Checks that a replay of each script writes what is wanted.
+pub fn check_all(rt: &impl Abort, alloc: Global, all: &[Worked]) -> Result<(), Fail> {
+    for worked in all {
+        let script = joined(alloc, worked.script)?;
+        let want = joined(alloc, worked.written)?;
+        let written = answered(alloc, script.as_str().as_bytes())?;
+        let written = str::from_utf8(written.as_slice())?;
+        assert_eq!(rt; written, want.as_str(), "{}", worked.name);
+    }
+    Ok(())
+}
+
 /// Checks that a replay of the script writes what is wanted, both told in parts.
 pub fn check(rt: &impl Abort, alloc: Global, script: &[&str], want: &[&str]) -> Result<(), Fail> {
     let script = joined(alloc, script)?;
@@ -63,71 +82,54 @@ pub fn check(rt: &impl Abort, alloc: Global, script: &[&str], want: &[&str]) -> 
     Ok(())
 }
 
-#[test]
-fn no_input_gives_no_output(rt: HostRuntime) -> Result<(), Fail> {
-    check(&rt, rt.alloc(), &[], &[])
-}
-
-#[test]
-fn takes_a_vendor_name_of_twenty_characters(rt: HostRuntime) -> Result<(), Fail> {
-    check(
-        &rt,
-        rt.alloc(),
-        &[
+const FRAMES: [Worked; 13] = [
+    Worked {
+        name: "no input gives no output",
+        script: &[],
+        written: &[],
+    },
+    Worked {
+        name: "takes a vendor name of twenty characters",
+        script: &[
             BOOTED,
             r#"1704067200 ACME frame CP01 [2,"3","BootNotification",{"chargePointModel":"M","chargePointVendor":"ABCDEFGHIJKLMNOPQRST"}]
 "#,
         ],
-        &[
+        written: &[
             BOOTED_OUTPUT,
             r#"ACME CP01 send [3,"3",{"currentTime":"2024-01-01T00:00:00Z","interval":300,"status":"Accepted"}]
 "#,
         ],
-    )
-}
-
-#[test]
-fn refuses_a_vendor_name_of_twenty_one_characters(rt: HostRuntime) -> Result<(), Fail> {
-    check(
-        &rt,
-        rt.alloc(),
-        &[
+    },
+    Worked {
+        name: "refuses a vendor name of twenty one characters",
+        script: &[
             BOOTED,
             r#"1704067200 ACME frame CP01 [2,"3","BootNotification",{"chargePointModel":"M","chargePointVendor":"ABCDEFGHIJKLMNOPQRSTU"}]
 "#,
         ],
-        &[
+        written: &[
             BOOTED_OUTPUT,
             r#"ACME CP01 send [4,"3","PropertyConstraintViolation","chargePointVendor",{}]
 "#,
         ],
-    )
-}
-
-#[test]
-fn refuses_a_boot_without_its_model(rt: HostRuntime) -> Result<(), Fail> {
-    check(
-        &rt,
-        rt.alloc(),
-        &[
+    },
+    Worked {
+        name: "refuses a boot without its model",
+        script: &[
             BOOTED,
             r#"1704067200 ACME frame CP01 [2,"3","BootNotification",{"chargePointVendor":"ABCDEFGHIJKLMNOPQRSTU"}]
 "#,
         ],
-        &[
+        written: &[
             BOOTED_OUTPUT,
             r#"ACME CP01 send [4,"3","OccurenceConstraintViolation","chargePointModel",{}]
 "#,
         ],
-    )
-}
-
-#[test]
-fn refuses_calls_before_a_boot(rt: HostRuntime) -> Result<(), Fail> {
-    check(
-        &rt,
-        rt.alloc(),
-        &[
+    },
+    Worked {
+        name: "refuses calls before a boot",
+        script: &[
             r#"1704067200 ACME station add CP01 Accepted 300
 1704067200 ACME connect CP01
 1704067200 ACME frame CP01 [2,"3","Heartbeat",{}]
@@ -135,41 +137,31 @@ fn refuses_calls_before_a_boot(rt: HostRuntime) -> Result<(), Fail> {
 1704067200 ACME frame CP01 [2,"3","Reset",{}]
 "#,
         ],
-        &[
+        written: &[
             r#"ACME ok
 ACME CP01 send [4,"3","SecurityError","",{}]
 ACME CP01 send [4,"3","NotImplemented","",{}]
 ACME CP01 send [4,"3","NotSupported","",{}]
 "#,
         ],
-    )
-}
-
-#[test]
-fn does_not_support_firmware_notifications(rt: HostRuntime) -> Result<(), Fail> {
-    check(
-        &rt,
-        rt.alloc(),
-        &[
+    },
+    Worked {
+        name: "does not support firmware notifications",
+        script: &[
             r#"1704067200 ACME station add CP01 Accepted 300
 1704067200 ACME connect CP01
 1704067200 ACME frame CP01 [2,"3","FirmwareStatusNotification",{}]
 "#,
         ],
-        &[
+        written: &[
             r#"ACME ok
 ACME CP01 send [4,"3","NotSupported","",{}]
 "#,
         ],
-    )
-}
-
-#[test]
-fn tells_broken_frames_apart(rt: HostRuntime) -> Result<(), Fail> {
-    check(
-        &rt,
-        rt.alloc(),
-        &[
+    },
+    Worked {
+        name: "tells broken frames apart",
+        script: &[
             BOOTED,
             r#"1704067200 ACME frame CP01 [2,"5","Heart
 1704067200 ACME frame CP01 [5,"x"]
@@ -179,41 +171,31 @@ fn tells_broken_frames_apart(rt: HostRuntime) -> Result<(), Fail> {
 1704067200 ACME frame CP01 [2,"aaaaaaaaaaaaaaaaaaaaaaaaaaaaaaaaaaaaa","Heartbeat",{}]
 "#,
         ],
-        &[
+        written: &[
             BOOTED_OUTPUT,
             r#"ACME CP01 send [4,"6","FormationViolation","",{}]
 ACME CP01 send [4,"aaaaaaaaaaaaaaaaaaaaaaaaaaaaaaaaaaaaa","FormationViolation","",{}]
 "#,
         ],
-    )
-}
-
-#[test]
-fn takes_moments_up_to_the_last(rt: HostRuntime) -> Result<(), Fail> {
-    check(
-        &rt,
-        rt.alloc(),
-        &[
+    },
+    Worked {
+        name: "takes moments up to the last",
+        script: &[
             BOOTED,
             r#"253402300799 ACME frame CP01 [2,"3","Heartbeat",{}]
 253402300800 ACME frame CP01 [2,"4","Heartbeat",{}]
 "#,
         ],
-        &[
+        written: &[
             BOOTED_OUTPUT,
             r#"ACME CP01 send [3,"3",{"currentTime":"9999-12-31T23:59:59Z"}]
 bad line 6
 "#,
         ],
-    )
-}
-
-#[test]
-fn answers_a_pending_boot(rt: HostRuntime) -> Result<(), Fail> {
-    check(
-        &rt,
-        rt.alloc(),
-        &[
+    },
+    Worked {
+        name: "answers a pending boot",
+        script: &[
             BOOTED,
             r#"1704067200 ACME station add CP02 Pending 60
 1704067200 ACME connect CP02
@@ -221,79 +203,59 @@ fn answers_a_pending_boot(rt: HostRuntime) -> Result<(), Fail> {
 1704067200 ACME frame CP02 [2,"3","Heartbeat",{}]
 "#,
         ],
-        &[
+        written: &[
             BOOTED_OUTPUT,
             r#"ACME ok
 ACME CP02 send [3,"1",{"currentTime":"2024-01-01T00:00:00Z","interval":60,"status":"Pending"}]
 ACME CP02 send [3,"3",{"currentTime":"2024-01-01T00:00:00Z"}]
 "#,
         ],
-    )
-}
-
-#[test]
-fn turns_a_station_that_was_not_added_away(rt: HostRuntime) -> Result<(), Fail> {
-    check(
-        &rt,
-        rt.alloc(),
-        &[
+    },
+    Worked {
+        name: "turns a station that was not added away",
+        script: &[
             r#"1704067200 ACME connect NONE
 "#,
         ],
-        &[
+        written: &[
             r#"ACME NONE turned
 "#,
         ],
-    )
-}
-
-#[test]
-fn adds_a_station_once(rt: HostRuntime) -> Result<(), Fail> {
-    check(
-        &rt,
-        rt.alloc(),
-        &[
+    },
+    Worked {
+        name: "adds a station once",
+        script: &[
             BOOTED,
             r#"1704067200 ACME station add CP01 Accepted 300
 1704067200 ACME station add CP09 Accepted 86401
 "#,
         ],
-        &[
+        written: &[
             BOOTED_OUTPUT,
             r#"ACME refused 2 StationExists
 ACME refused 12 BadField interval
 "#,
         ],
-    )
-}
-
-#[test]
-fn answers_bad_lines(rt: HostRuntime) -> Result<(), Fail> {
-    check(
-        &rt,
-        rt.alloc(),
-        &[
+    },
+    Worked {
+        name: "answers bad lines",
+        script: &[
             r#"hello
 
 1704067200 ZETA list tags
 1704067200 ACME call CP01 Frob {}
 "#,
         ],
-        &[
+        written: &[
             r#"bad line 1
 bad line 3
 bad line 4
 "#,
         ],
-    )
-}
-
-#[test]
-fn has_no_other_commands_yet(rt: HostRuntime) -> Result<(), Fail> {
-    check(
-        &rt,
-        rt.alloc(),
-        &[
+    },
+    Worked {
+        name: "has no other commands yet",
+        script: &[
             r#"1704067200 ACME station add CP01 Accepted 300
 1704067200 ACME connect CP01
 1704067200 ACME list grants
@@ -304,7 +266,7 @@ fn has_no_other_commands_yet(rt: HostRuntime) -> Result<(), Fail> {
 1704067200 ACME frame CP01 [4,"1","InternalError","",{}]
 "#,
         ],
-        &[
+        written: &[
             r#"ACME ok
 bad line 3
 bad line 4
@@ -312,7 +274,12 @@ bad line 5
 bad line 6
 "#,
         ],
-    )
+    },
+];
+
+#[test]
+fn worked_scripts_of_frames(rt: HostRuntime) -> Result<(), Fail> {
+    check_all(&rt, rt.alloc(), &FRAMES)
 }
 
 #[test]
