@@ -11,7 +11,7 @@ use Rattle.ws_server.specs.Words.{first_word, moment_at, ◌>>=◌}
 use Rattle.std.specs.Prelude.{nat_lt, ◌==◌, length}
 use Rattle.std.specs.Io.BufRead.{strip_last}
 
--- a rise at any part of a run is one of the whole
+-- a rise in the later part of a run is one of the whole
 pub rose_later : (a b c : ℕ) → a ≤ b → Rose b c → Rose a c
 rose_later a b c below (inl rise) = inl (omega (arith, below, rise))
 rose_later a b c below (inr most) = inr most
