@@ -5,9 +5,9 @@ mod command;
 mod status;
 
 use command::Plan;
-use hub::echo::Echo;
-use hub::vendor::VendorHandler;
 use replay::in_memory::replay_in_memory;
+use station_calls::echo::Echo;
+use station_calls::vendor::VendorHandler;
 use std::process::ExitCode;
 use std::{env, io};
 

@@ -1,4 +1,3 @@
-pub mod InternalError
 pub mod Numbers
 pub mod Readings
 pub mod Start

@@ -8,7 +8,7 @@ use Rattle.hub_rows.specs.declared.station_row.Registration.{Registration}
 use Rattle.hub_rows.specs.Lookups.{Lookups}
 use Rattle.registry.specs.declared.decision.Decision.{Decision}
 use Rattle.registry.specs.declared.decision.Reply.TheVariants.{Conf}
-use Rattle.charging.specs.InternalError.{internal_error}
+use Rattle.registry.specs.InternalError.{internal_error}
 use Rattle.charging.specs.Numbers.{has_room}
 use Rattle.charging.specs.Readings.{readings_of}
 

@@ -15,7 +15,7 @@ use Rattle.id_tags.specs.Judge.{judge_rule}
 use Rattle.id_tags.specs.declared.judge.Purpose.TheVariants as purpose
 use Rattle.registry.specs.declared.decision.Decision.{Decision}
 use Rattle.registry.specs.declared.decision.Reply.TheVariants.{Conf}
-use Rattle.charging.specs.InternalError.{internal_error}
+use Rattle.registry.specs.InternalError.{internal_error}
 
 -- what tells the start from others of the station
 abbrev pub start_key : StartTransaction → StartKey

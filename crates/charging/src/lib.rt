@@ -1,7 +1,6 @@
 //! The rules on charging: how transactions begin and end, and which readings are kept.
 #![tactic(auto)]
 
-mod internal_error;
 #[cfg(test)]
 mod making;
 pub mod meter_values;

@@ -4,7 +4,6 @@ ghost use Rattle.hub_rows.specs.Failures.{Rose};
 ghost use Rattle.hub_rows.specs.Lookups.{lookups_at};
 ghost use Rattle.charging.specs.MeterValues.{meter_values_rule, added};
 
-use crate::internal_error::internal_error;
 use crate::numbers::has_room;
 use crate::readings::readings_of;
 use hub_rows::change::Edit;
@@ -14,7 +13,7 @@ use ocpp_payload::conf::Conf;
 use ocpp_payload::request::MeterValues;
 use ocpp_types::listed::Listed;
 use ocpp_types::text::Text;
-use registry::decision::{Decision, Reply};
+use registry::decision::{Decision, Reply, internal_error};
 use std::alloc::Global;
 
 /// The readings of a MeterValues are kept, numbered from the one behind the station's last on. A

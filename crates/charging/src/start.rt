@@ -4,7 +4,6 @@ ghost use Rattle.hub_rows.specs.Failures.{Rose};
 ghost use Rattle.hub_rows.specs.Lookups.{lookups_at};
 ghost use Rattle.charging.specs.Start.{start_rule, start_key, start_of, repeated, new_start, found_start, begun};
 
-use crate::internal_error::internal_error;
 use crate::numbers::LAST_NUMBER;
 use hub_rows::change::Edit;
 use hub_rows::store::{Store, StoreFault};
@@ -18,7 +17,7 @@ use ocpp_types::memory::Mem;
 use ocpp_types::moment::Moment;
 use ocpp_types::tag_key::TagKey;
 use ocpp_types::text::Text;
-use registry::decision::{Decision, Reply};
+use registry::decision::{Decision, Reply, internal_error};
 use std::alloc::Global;
 
 /// A start begins a transaction, numbered from the one behind the station's last on, and is

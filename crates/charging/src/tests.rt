@@ -398,37 +398,57 @@ fn readings_past_the_last_number_are_not_kept(rt: HostRuntime) -> Result<(), Sto
     Ok(())
 }
 
+/// What a start of K1 at A's CP01 is answered, or its fault.
+fn start_again<S: Store>(
+    alloc: Global,
+    store: &mut S,
+    moment: Moment,
+) -> Result<String, StoreFault> {
+    let request = starting(alloc, 1, "K1")?;
+    start(alloc, store, "A", "CP01", request, moment)
+}
+
+/// What a stop of the first transaction of A's CP01 is answered, or its fault.
+fn stop_again<S: Store>(
+    alloc: Global,
+    store: &mut S,
+    moment: Moment,
+) -> Result<String, StoreFault> {
+    let request = stopping(alloc, 1, Some("K1"), &[])?;
+    stop(alloc, store, "A", "CP01", request, moment)
+}
+
+/// What a reading of A's CP01 is answered, or its fault.
+fn meter_again<S: Store>(alloc: Global, store: &mut S) -> Result<String, StoreFault> {
+    let request = metered(alloc, None, &[(1, "a")])?;
+    meter(alloc, store, "A", "CP01", request)
+}
+
 #[test]
 fn a_failure_of_the_store_is_handed_on(rt: HostRuntime) -> Result<(), StoreFault> {
     let alloc = rt.alloc();
     let moment = Moment::new(1704067200).expect(&rt, "a moment");
     for before in 0..5 {
         let mut store = Failing::new(filled(alloc)?, before);
-        let request = starting(alloc, 1, "K1")?;
-        let failed = on_start(alloc, &mut store, "A", "CP01", request, moment).err();
+        let failed = start_again(alloc, &mut store, moment).err();
         assert!(rt; failed == Some(StoreFault::Failed), "{before}");
-        let request = starting(alloc, 1, "K1")?;
-        let answer = start(alloc, &mut store, "A", "CP01", request, moment)?;
+        let answer = start_again(alloc, &mut store, moment)?;
         assert_eq!(rt; answer.as_str(), "1 Accepted, true");
     }
     for before in 0..3 {
         let mut store = filled(alloc)?;
         assert!(rt; begin(alloc, &mut store, 1, moment)?);
         let mut store = Failing::new(store, before);
-        let request = stopping(alloc, 1, Some("K1"), &[])?;
-        let failed = on_stop(alloc, &mut store, "A", "CP01", request, moment).err();
+        let failed = stop_again(alloc, &mut store, moment).err();
         assert!(rt; failed == Some(StoreFault::Failed), "{before}");
-        let request = stopping(alloc, 1, Some("K1"), &[])?;
-        let answer = stop(alloc, &mut store, "A", "CP01", request, moment)?;
+        let answer = stop_again(alloc, &mut store, moment)?;
         assert_eq!(rt; answer.as_str(), "Accepted, true");
     }
     for before in 0..2 {
         let mut store = Failing::new(filled(alloc)?, before);
-        let request = metered(alloc, None, &[(1, "a")])?;
-        let failed = on_meter_values(alloc, &mut store, "A", "CP01", request).err();
+        let failed = meter_again(alloc, &mut store).err();
         assert!(rt; failed == Some(StoreFault::Failed), "{before}");
-        let request = metered(alloc, None, &[(1, "a")])?;
-        let answer = meter(alloc, &mut store, "A", "CP01", request)?;
+        let answer = meter_again(alloc, &mut store)?;
         assert_eq!(rt; answer.as_str(), "kept, true");
     }
     Ok(())

@@ -34,7 +34,7 @@ use Rattle.ocpp_payload.specs.declared.request.MeterValues.{MeterValues as Readi
 use Rattle.registry.specs.declared.decision.Reply.TheVariants.{Conf}
 use Rattle.id_tags.specs.Judge.{judge_rule}
 use Rattle.id_tags.specs.declared.judge.Purpose.TheVariants as purpose
-use Rattle.charging.specs.InternalError.{internal_error}
+use Rattle.registry.specs.InternalError.{internal_error}
 use Rattle.charging.specs.Numbers.{has_room}
 use Rattle.charging.specs.Readings.{readings_of}
 use Rattle.charging.specs.MeterValues.{meter_values_rule, readings_from}
@@ -53,7 +53,7 @@ use Rattle.hub.specs.declared.event.What.{What}
 use Rattle.hub.specs.declared.event.What.TheVariants as what
 use Rattle.hub.specs.declared.event.Admin.{Admin}
 use Rattle.hub.specs.declared.event.Admin.TheVariants as admin
-use Rattle.hub.specs.Vendors.{Answers}
+use Rattle.station_calls.specs.Vendors.{Answers}
 use Rattle.hub.specs.Table.{Setting, Facts, Plan, plan, connect_plan, disconnect_plan, text_plan, frame_plan, call_plan, state_plan, payload_plan, error_plan, edit_plan, admin_rule, list_plan}
 use Rattle.hub.specs.Listing.{rows_rule}
 

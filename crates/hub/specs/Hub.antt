@@ -3,9 +3,9 @@ use Rattle.std.specs.Prelude.{ℕ, List, Option, Bool}
 use Rattle.hub_rows.specs.Rows.{Rows}
 use Rattle.hub.specs.declared.event.Event.{Event}
 use Rattle.hub.specs.declared.hub.Hub.{Hub}
-use Rattle.hub.specs.Operators.{is_hosted}
-use Rattle.hub.specs.declared.vendor.VendorAnswer.{VendorAnswer}
-use Rattle.hub.specs.Vendors.{answer_of}
+use Rattle.hub_rows.specs.Operators.{is_hosted}
+use Rattle.station_calls.specs.declared.vendor.VendorAnswer.{VendorAnswer}
+use Rattle.station_calls.specs.Vendors.{answer_of}
 use Rattle.hub.specs.Table.{Setting}
 use Rattle.hub.specs.World.{World}
 

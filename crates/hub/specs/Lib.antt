@@ -1,7 +1,3 @@
-pub mod Vendors
-pub mod Echo
-pub mod Transfer
-pub mod Authorized
 pub mod Fault
 pub mod Slots
 pub mod Said
@@ -11,6 +7,5 @@ pub mod World
 pub mod Planned
 pub mod View
 pub mod WellFormed
-pub mod Operators
 pub mod Committed
 pub mod Hub

@@ -15,7 +15,6 @@ use Rattle.ocpp_payload.specs.declared.action_class.ActionClass.{ActionClass}
 use Rattle.ocpp_payload.specs.declared.action_class.ActionClass.TheVariants.{Known, NotSupported, NotImplemented}
 use Rattle.ocpp_payload.specs.declared.fault.FieldFault.{FieldFault}
 use Rattle.ocpp_payload.specs.declared.request.Request.{Request}
-use Rattle.ocpp_payload.specs.declared.request.Request.TheVariants as request_of
 use Rattle.ocpp_payload.specs.ActionClass.{action_class}
 use Rattle.ocpp_payload.specs.Request.{request}
 use Rattle.ocpp_payload.specs.Conf.{conf_data}
@@ -26,24 +25,18 @@ use Rattle.registry.specs.declared.decision.Decision.{Decision}
 use Rattle.registry.specs.declared.decision.Reply.{Reply}
 use Rattle.registry.specs.declared.decision.Reply.TheVariants.{Conf, Error}
 use Rattle.registry.specs.Allowed.{is_allowed}
-use Rattle.registry.specs.Boot.{boot_rule, heartbeat_rule}
 use Rattle.registry.specs.StationAdded.{add_rule}
 use Rattle.hub.specs.declared.event.What.{What}
 use Rattle.hub.specs.declared.event.What.TheVariants as what
 use Rattle.hub.specs.declared.event.Admin.{Admin}
 use Rattle.hub.specs.declared.event.Admin.TheVariants as admin
 use Rattle.registry.specs.PolicySet.{policy_rule}
-use Rattle.registry.specs.Status.{status_rule}
 use Rattle.id_tags.specs.Plan.{put_rule, drop_rule}
-use Rattle.hub.specs.Authorized.{authorize_rule}
-use Rattle.hub.specs.Transfer.{transfer_rule}
-use Rattle.hub.specs.Vendors.{Answers}
+use Rattle.station_calls.specs.Decided.{decision}
+use Rattle.station_calls.specs.Vendors.{Answers}
 use Rattle.hub.specs.Said.{Said, Sent, TurnedAway, RefusedFor, Shown, Taken}
 use Rattle.hub.specs.declared.row.Row.{Row}
 use Rattle.hub.specs.Listing.{rows_rule}
-use Rattle.charging.specs.MeterValues.{meter_values_rule}
-use Rattle.charging.specs.Start.{start_rule}
-use Rattle.charging.specs.Stop.{stop_rule}
 
 -- the hosted operators, and what vendors' messages are answered
 pub record Setting : Type 0 where
@@ -99,17 +92,6 @@ reply_text id (Error c) = error_text id c []
 
 abbrev pub decided_plan : List ℕ → List ℕ → Decision → Plan
 decided_plan station id d = record { said = Sent station (reply_text id d.reply) ∷ []; edit = d.change; move = None }
-
--- the rule of each request
-abbrev pub decision : Answers → ℕ → List ℕ → Request → Lookups → Decision
-decision answers m station (request_of.Authorize r) l = authorize_rule r m l
-decision answers m station (request_of.BootNotification texts) l = boot_rule station texts m l
-decision answers m station (request_of.DataTransfer r) l = transfer_rule answers r
-decision answers m station request_of.Heartbeat l = heartbeat_rule m
-decision answers m station (request_of.MeterValues r) l = meter_values_rule station r l
-decision answers m station (request_of.StartTransaction r) l = start_rule station r m l
-decision answers m station (request_of.StatusNotification r) l = status_rule station r m l
-decision answers m station (request_of.StopTransaction r) l = stop_rule station r m l
 
 -- the last check of a call is its payload
 abbrev pub payload_plan : Answers → ℕ → List ℕ → List ℕ → Result Request FieldFault → Lookups → Plan

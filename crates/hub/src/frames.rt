@@ -5,28 +5,27 @@ ghost use Rattle.ocpp_frame.specs.Frame.{frame};
 ghost use Rattle.hub_rows.specs.Failures.{Rose};
 ghost use Rattle.hub_rows.specs.Lookups.{lookups_at};
 ghost use Rattle.hub.specs.Planned.{IsPlanned};
-ghost use Rattle.hub.specs.Table.{frame_plan, call_plan, state_plan, decision};
-ghost use Rattle.hub.specs.Vendors.{answer_of};
+ghost use Rattle.hub.specs.Table.{frame_plan, call_plan, state_plan};
+ghost use Rattle.station_calls.specs.Vendors.{answer_of};
 ghost use Rattle.ocpp_payload.specs.ActionClass.{action_class};
 
-use crate::book::{Book, CoreHandler};
 use crate::fault::Fault;
 use crate::plan::{answer_call, nothing, refuse_call};
 use crate::planned::Planned;
-use crate::vendor::VendorHandler;
-use hub_rows::store::{Store, StoreFault};
+use hub_rows::store::Store;
 use ocpp_frame::frame::Frame;
 use ocpp_frame::payload::Payload;
 use ocpp_frame::read::read_frame;
 use ocpp_payload::action::Action;
 use ocpp_payload::action_class::{ActionClass, action_class};
 use ocpp_payload::read_request::read_request;
-use ocpp_payload::request::Request;
 use ocpp_types::error_code::ErrorCode;
 use ocpp_types::moment::Moment;
 use ocpp_types::text::Text;
 use registry::allowed::is_allowed;
-use registry::decision::Decision;
+use station_calls::book::Book;
+use station_calls::decide::decide;
+use station_calls::vendor::VendorHandler;
 use std::alloc::Global;
 
 /// The plan for a text of a connected station, by the frame that it is.
@@ -149,49 +148,5 @@ fn plan_known<S: Store, V: VendorHandler>(
             Ok(answer_call(alloc, op, station, id, decision)?)
         }
         Err(fault) => Ok(refuse_call(alloc, op, station, id, fault.code, fault.field.as_str())?),
-    }
-}
-
-/// The decision of the rule of each request.
-fn decide<S: Store, V: VendorHandler>(
-    alloc: Global,
-    book: &mut Book<S, V>,
-    op: &Text,
-    station: &Text,
-    moment: Moment,
-    request: Request,
-) -> Result<Decision, StoreFault>
-    ensures was_clean { S.clean book.new.store → S.clean book.old.store }
-    ensures decision { S.clean book.new.store → IfOk result (λ d. d
-        ≡ decision (answer_of V.name V.gives book.old.vendors.items) moment station.now request (lookups_at op.now (S.rows book.old.store))) }
-    ensures rows { S.clean book.new.store → S.rows book.new.store ≡ S.rows book.old.store }
-    ensures failed { IfErr result (λ f. f ≡ StoreFault.Failed
-        → Rose (S.failures book.old.store) (S.failures book.new.store)) }
-    ensures count { S.failures book.old.store ≤ S.failures book.new.store }
-    ensures answers { answer_of V.name V.gives book.new.vendors.items ≡ answer_of V.name V.gives book.old.vendors.items }
-{
-    let op = op.as_str();
-    let station = station.as_str();
-    match request {
-        Request::Authorize(request) => book.on_authorize(alloc, op, station, request, moment),
-        Request::BootNotification(request) => {
-            book.on_boot_notification(alloc, op, station, request, moment)
-        }
-        Request::DataTransfer(request) => {
-            book.on_data_transfer(alloc, op, station, request, moment)
-        }
-        Request::Heartbeat => book.on_heartbeat(alloc, op, station, moment),
-        Request::MeterValues(request) => {
-            book.on_meter_values(alloc, op, station, request, moment)
-        }
-        Request::StartTransaction(request) => {
-            book.on_start_transaction(alloc, op, station, request, moment)
-        }
-        Request::StatusNotification(request) => {
-            book.on_status_notification(alloc, op, station, request, moment)
-        }
-        Request::StopTransaction(request) => {
-            book.on_stop_transaction(alloc, op, station, request, moment)
-        }
     }
 }

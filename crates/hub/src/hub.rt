@@ -1,20 +1,20 @@
 //! The hub: one event is one step.
 ghost use Rattle.std.specs.Prelude.{◌≡◌, ◌↔◌, ◌<◌, ◌≤◌, ◌++◌, ℕ, List, [], ◌∷◌, length, take, slice_index_or, true, false, IsOk, IfOk, IfErr, IfNone, IfSome, OnOk, OnErr};
 ghost use Rattle.hub_rows.specs.Failures.{Rose};
-ghost use Rattle.hub.specs.Operators.{are_operators};
+ghost use Rattle.hub_rows.specs.Operators.{are_operators};
 
-use crate::book::Book;
 use crate::commit::{append_ready, commit};
 use crate::event::Event;
 use crate::fault::Fault;
-use crate::operators::{are_operators, is_hosted};
 use crate::out::Out;
 use crate::plan_event::plan_event;
 use crate::planned::Planned;
 use crate::slots::Slots;
-use crate::vendor::VendorHandler;
+use hub_rows::operators::{are_operators, is_hosted};
 use hub_rows::store::Store;
 use ocpp_types::text::Text;
+use station_calls::book::Book;
+use station_calls::vendor::VendorHandler;
 use std::alloc::Global;
 use thiserror::Error;
 

@@ -2,15 +2,12 @@
 #![tactic(auto)]
 
 pub mod admin;
-pub mod book;
 pub mod commit;
-pub mod echo;
 pub mod event;
 pub mod fault;
 pub mod frames;
 pub mod hub;
 pub mod list;
-pub mod operators;
 pub mod out;
 pub mod plan;
 pub mod plan_event;
@@ -20,6 +17,5 @@ pub mod slot;
 pub mod slots;
 #[cfg(test)]
 mod tests;
-pub mod vendor;
 #[cfg(test)]
 mod vendor_tests;

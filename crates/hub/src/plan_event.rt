@@ -4,11 +4,10 @@ ghost use Rattle.hub_rows.specs.Failures.{Rose};
 ghost use Rattle.hub.specs.Planned.{IsPlanned};
 ghost use Rattle.hub.specs.Hub.{setting_of};
 ghost use Rattle.hub.specs.Table.{plan};
-ghost use Rattle.hub.specs.Vendors.{answer_of};
+ghost use Rattle.station_calls.specs.Vendors.{answer_of};
 ghost use Rattle.hub.specs.World.{facts_at};
 
 use crate::admin::decide_admin;
-use crate::book::Book;
 use crate::event::What;
 use crate::fault::Fault;
 use crate::frames::plan_text;
@@ -16,10 +15,11 @@ use crate::list::plan_list;
 use crate::plan::{connect, disconnect, edit, turned};
 use crate::planned::Planned;
 use crate::slots::Slots;
-use crate::vendor::VendorHandler;
 use hub_rows::store::Store;
 use ocpp_types::moment::Moment;
 use ocpp_types::text::Text;
+use station_calls::book::Book;
+use station_calls::vendor::VendorHandler;
 use std::alloc::Global;
 
 /// The plan for an event of an operator, whatever else the hub's setting is.

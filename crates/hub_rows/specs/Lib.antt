@@ -1,3 +1,4 @@
+pub mod Operators
 pub mod Keyed
 pub mod Places
 pub mod Failures

@@ -4,6 +4,7 @@
 pub mod change;
 pub mod connector_row;
 pub mod named_row;
+pub mod operators;
 pub mod ordered;
 pub mod reading_row;
 pub mod station_row;

@@ -4,6 +4,7 @@ ghost use Rattle.std.specs.List.Sorted.{IsStrictlySortedBy};
 ghost use Rattle.hub_rows.specs.Keyed.{by_key};
 ghost use Rattle.hub_rows.specs.Rows.{station_key};
 
+use crate::operators::{are_operators, is_hosted};
 use crate::ordered::{Keyed, put_ready, put_row};
 use crate::reading_row::{Reading, ReadingRow};
 use crate::station_row::{Boot, Registration, StationRow};
@@ -328,5 +329,36 @@ fn want_of_memory_is_a_fault_of_the_store(rt: HostRuntime) -> Result<(), StoreFa
         let text = format!(in rt.alloc(); "{fault}")?;
         assert_eq!(rt; text.as_str(), want);
     }
+    Ok(())
+}
+
+fn names_of(alloc: Global, names: &[&str]) -> Mem<Vec<Text>> {
+    let mut texts = Vec::new(alloc);
+    for name in names {
+        texts.push(Text::copy_of(alloc, name)?)?;
+    }
+    Ok(texts)
+}
+
+#[test]
+fn operators_have_names(rt: HostRuntime) -> Result<(), NoMemory> {
+    let alloc = rt.alloc();
+    for (names, good) in [
+        (&[][..], false),
+        (&["A", "A"][..], false),
+        (&["A B"][..], false),
+        (&[""][..], false),
+        (&["A", ""][..], false),
+        (&["ä"][..], false),
+        (&["A", "a", "B-2_"][..], true),
+        (&["ABCDEFGHIJKLMNOPQRSTUVWXYZ012345"][..], true),
+        (&["ABCDEFGHIJKLMNOPQRSTUVWXYZ0123456"][..], false),
+    ] {
+        let hosted = names_of(alloc, names)?;
+        assert_eq!(rt; are_operators(hosted.as_slice()), good);
+    }
+    let hosted = names_of(alloc, &["ACME"])?;
+    assert!(rt; is_hosted(hosted.as_slice(), "ACME"));
+    assert!(rt; !is_hosted(hosted.as_slice(), "acme"));
     Ok(())
 }

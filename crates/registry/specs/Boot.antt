@@ -1,7 +1,6 @@
 -- How boots and heartbeats are answered, and what they change.
 use Rattle.std.specs.Prelude.{ℕ, List, Option, Some, None}
 use Rattle.ocpp_types.specs.declared.boot_notification.BootNotification.{BootNotification}
-use Rattle.ocpp_types.specs.declared.error_code.ErrorCode.TheVariants.{InternalError}
 use Rattle.ocpp_types.specs.declared.policy.Policy.{Policy}
 use Rattle.ocpp_types.specs.declared.policy.Policy.TheVariants as policy
 use Rattle.ocpp_types.specs.declared.state.State.{State}
@@ -11,7 +10,8 @@ use Rattle.hub_rows.specs.declared.change.Edit.TheVariants.{BootSeen}
 use Rattle.hub_rows.specs.declared.station_row.Registration.{Registration}
 use Rattle.hub_rows.specs.Lookups.{Lookups}
 use Rattle.registry.specs.declared.decision.Decision.{Decision}
-use Rattle.registry.specs.declared.decision.Reply.TheVariants.{Conf, Error}
+use Rattle.registry.specs.declared.decision.Reply.TheVariants.{Conf}
+use Rattle.registry.specs.InternalError.{internal_error}
 
 -- the state that a boot leads to
 abbrev pub state_after : Policy → State
@@ -21,7 +21,7 @@ state_after policy.Rejected = state.Rejected
 
 -- by how the station is registered
 abbrev pub boot_of : List ℕ → BootNotification → ℕ → Option Registration → Decision
-boot_of station texts m None = record { reply = Error InternalError; change = None }
+boot_of station texts m None = internal_error
 boot_of station texts m (Some r) = record {
   reply = Conf (conf.BootNotification m r.interval r.policy);
   change = Some (BootSeen station (record { texts = texts; moment = m }) (state_after r.policy));

@@ -1,3 +1,4 @@
+pub mod InternalError
 pub mod Allowed
 pub mod Boot
 pub mod PolicySet

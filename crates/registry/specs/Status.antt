@@ -1,6 +1,5 @@
 -- How reports on connectors are answered, and what they change.
 use Rattle.std.specs.Prelude.{ℕ, ◌*◌, pos, List, Option, Some, None, unwrap_or}
-use Rattle.ocpp_types.specs.declared.error_code.ErrorCode.TheVariants.{InternalError}
 use Rattle.ocpp_payload.specs.declared.conf.Conf.TheVariants as conf
 use Rattle.ocpp_payload.specs.declared.request.StatusNotification.{StatusNotification}
 use Rattle.hub_rows.specs.declared.change.Edit.TheVariants.{ConnectorSeen}
@@ -8,7 +7,8 @@ use Rattle.hub_rows.specs.declared.connector_row.ConnectorReport.{ConnectorRepor
 use Rattle.hub_rows.specs.declared.station_row.Registration.{Registration}
 use Rattle.hub_rows.specs.Lookups.{Lookups}
 use Rattle.registry.specs.declared.decision.Decision.{Decision}
-use Rattle.registry.specs.declared.decision.Reply.TheVariants.{Conf, Error}
+use Rattle.registry.specs.declared.decision.Reply.TheVariants.{Conf}
+use Rattle.registry.specs.InternalError.{internal_error}
 
 -- the report is of the time that was sent, or else of the moment, in milliseconds
 abbrev pub report_of : StatusNotification → ℕ → ConnectorReport
@@ -22,7 +22,7 @@ report_of r m = record {
 }
 
 abbrev pub status_of : List ℕ → StatusNotification → ℕ → Option Registration → Decision
-status_of station r m None = record { reply = Error InternalError; change = None }
+status_of station r m None = internal_error
 status_of station r m (Some found) = record {
   reply = Conf conf.StatusNotification;
   change = Some (ConnectorSeen station r.connector_id (report_of r m));

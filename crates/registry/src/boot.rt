@@ -4,13 +4,12 @@ ghost use Rattle.hub_rows.specs.Failures.{Rose};
 ghost use Rattle.hub_rows.specs.Lookups.{lookups_at};
 ghost use Rattle.registry.specs.Boot.{boot_rule, boot_of, heartbeat_rule, state_after};
 
-use crate::decision::{Decision, Reply};
+use crate::decision::{Decision, Reply, internal_error};
 use hub_rows::change::Edit;
 use hub_rows::station_row::{Boot, Registration};
 use hub_rows::store::{Store, StoreFault};
 use ocpp_payload::conf::Conf;
 use ocpp_types::boot_notification::BootNotification;
-use ocpp_types::error_code::ErrorCode;
 use ocpp_types::memory::Mem;
 use ocpp_types::moment::Moment;
 use ocpp_types::policy::Policy;
@@ -51,10 +50,7 @@ fn boot_of(
     ensures { IfOk result (λ d. d ≡ boot_of station.now texts moment registration) }
 {
     let Some(registration) = registration else {
-        return Ok(Decision {
-            reply: Reply::Error(ErrorCode::InternalError),
-            change: None,
-        });
+        return Ok(internal_error());
     };
     let station = Text::copy_of(alloc, station)?;
     let reply = Conf::BootNotification {

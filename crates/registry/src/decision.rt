@@ -1,4 +1,6 @@
 //! What a rule decides.
+ghost use Rattle.std.specs.Prelude.{◌≡◌};
+ghost use Rattle.registry.specs.InternalError.{internal_error};
 
 use hub_rows::change::Edit;
 use ocpp_payload::conf::Conf;
@@ -19,4 +21,15 @@ pub enum Reply {
     Conf(Conf),
     /// An error, with no description and no details.
     Error(ErrorCode),
+}
+
+/// InternalError, and no change: for a request that the records have no room or no place for
+/// (OCPP-J 1.6, section 4.2.3).
+pub fn internal_error() -> Decision
+    ensures { result ≡ internal_error }
+{
+    Decision {
+        reply: Reply::Error(ErrorCode::InternalError),
+        change: None,
+    }
 }

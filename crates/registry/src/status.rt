@@ -4,13 +4,12 @@ ghost use Rattle.hub_rows.specs.Failures.{Rose};
 ghost use Rattle.hub_rows.specs.Lookups.{lookups_at};
 ghost use Rattle.registry.specs.Status.{status_rule, report_of};
 
-use crate::decision::{Decision, Reply};
+use crate::decision::{Decision, Reply, internal_error};
 use hub_rows::change::Edit;
 use hub_rows::connector_row::ConnectorReport;
 use hub_rows::store::{Store, StoreFault};
 use ocpp_payload::conf::Conf;
 use ocpp_payload::request::StatusNotification;
-use ocpp_types::error_code::ErrorCode;
 use ocpp_types::moment::Moment;
 use ocpp_types::text::Text;
 use std::alloc::Global;
@@ -34,10 +33,7 @@ pub fn on_status<S: Store>(
     ensures count { S.failures store.old ≤ S.failures store.new }
 {
     if store.station(op, station)?.is_none() {
-        return Ok(Decision {
-            reply: Reply::Error(ErrorCode::InternalError),
-            change: None,
-        });
+        return Ok(internal_error());
     }
     let connector = request.connector_id;
     let change = Edit::ConnectorSeen {

@@ -2,7 +2,7 @@
 use Rattle.std.proofs.Common.{◌≡◌, ◌≤◌, ℕ, List, Bool, true, false, cond, refl, subst, arith, inl, inr}
 use Rattle.std.specs.Prelude.{Option, Some, None}
 use Rattle.hub.specs.declared.event.Event.{Event as HubEvent}
-use Rattle.hub.specs.Operators.{is_hosted}
+use Rattle.hub_rows.specs.Operators.{is_hosted}
 use Rattle.hub_rows.specs.Failures.{Rose}
 use Rattle.ws_server.specs.declared.lines.reading.Line.TheVariants as line
 use Rattle.ws_server.specs.InputLines.{spelled, spelled_text, said, event_of, is_utf8}

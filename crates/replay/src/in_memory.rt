@@ -3,15 +3,15 @@ ghost use Rattle.std.specs.Prelude.{◌≡◌, ◌≢◌, ◌≤◌, List, [], �
 ghost use Rattle.std.specs.Io.KnownBytes.{Appends};
 ghost use Rattle.hub_rows.specs.Rows.{no_rows};
 ghost use Rattle.hub.specs.Hub.{setting_of};
-ghost use Rattle.hub.specs.Operators.{are_operators};
+ghost use Rattle.hub_rows.specs.Operators.{are_operators};
 ghost use Rattle.replay.specs.Run.{AppendsFront, output_of};
 ghost use Rattle.replay.specs.declared.fault.ReplayFault.TheVariants.{TooLong, BadOperators, Store as StoreFailed};
 
 use crate::fault::ReplayFault;
 use crate::input::replay;
 use hub::hub::Hub;
-use hub::vendor::VendorHandler;
 use ocpp_types::text::Text;
+use station_calls::vendor::VendorHandler;
 use std::alloc::Global;
 use std::io::{Read, Write};
 use store_mem::mem_store::MemStore;

@@ -12,8 +12,8 @@ use crate::fault::{LineFault, ReplayFault};
 use crate::pieces::{Pieces, cut};
 use crate::written::{write_if_long, write_last, write_out};
 use hub::hub::Hub;
-use hub::vendor::VendorHandler;
 use hub_rows::store::Store;
+use station_calls::vendor::VendorHandler;
 use std::alloc::{AllocError, Global};
 use std::io::{Read, Write};
 

@@ -10,8 +10,8 @@ ghost use Rattle.replay.specs.declared.fault.LineFault.TheVariants as line_fault
 use crate::answers::{Answers, push_bad};
 use crate::fault::LineFault;
 use hub::hub::Hub;
-use hub::vendor::VendorHandler;
 use hub_rows::store::Store;
+use station_calls::vendor::VendorHandler;
 use std::alloc::{AllocError, Global};
 use ws_server::lines::reading::MAX_LINE;
 

@@ -2,9 +2,9 @@
 
 use crate::fault::ReplayFault;
 use crate::in_memory::replay_in_memory;
-use hub::echo::Echo;
 use ocpp_types::memory::Mem;
 use ocpp_types::text::Text;
+use station_calls::echo::Echo;
 use std::alloc::{AllocError, Global};
 use std::process::Abort;
 use std::test::Fail;

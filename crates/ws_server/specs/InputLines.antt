@@ -3,7 +3,7 @@ use Rattle.std.specs.Prelude.{ℕ, nat_lt, ◌==◌, Bool, List, length, Option,
 use Rattle.std.specs.Io.BufRead.{strip_last}
 use Rattle.std.specs.Str.Lossy.{utf8_valid_len}
 use Rattle.hub.specs.declared.event.Event.{Event}
-use Rattle.hub.specs.Operators.{is_hosted}
+use Rattle.hub_rows.specs.Operators.{is_hosted}
 use Rattle.ws_server.specs.Forms.{what_of}
 use Rattle.ws_server.specs.Words.{first_word, moment_at, ◌>>=◌}
 use Rattle.ws_server.specs.declared.lines.reading.Line.{Line}

@@ -8,7 +8,7 @@ use crate::lines::event_ref::EventRef;
 use crate::lines::forms::read_what;
 use crate::lines::words::{first_word, moment_at};
 use hub::event::Event;
-use hub::operators::is_hosted;
+use hub_rows::operators::is_hosted;
 use ocpp_types::memory::Mem;
 use ocpp_types::text::Text;
 use std::alloc::Global;

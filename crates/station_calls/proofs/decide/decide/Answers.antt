@@ -2,9 +2,9 @@ use Rattle.std.proofs.Common.{◌≡◌, IfOk, subst, sym}
 use Rattle.hub_rows.specs.Lookups.{lookups_at}
 use Rattle.hub_rows.specs.Rows.{Rows}
 use Rattle.charging.specs.Start.{start_rule}
-use Rattle.hub.specs.Table.{decision}
-use Rattle.hub.specs.Vendors.{Answers, answer_of}
-use Rattle.hub.proofs.frames.decide.Goals as goal
+use Rattle.station_calls.specs.Decided.{decision}
+use Rattle.station_calls.specs.Vendors.{Answers, answer_of}
+use Rattle.station_calls.proofs.decide.decide.Goals as goal
 
 pub returns-in-StartTransaction-clause-decision : goal.returns-in-StartTransaction-clause-decision
 returns-in-StartTransaction-clause-decision g c =

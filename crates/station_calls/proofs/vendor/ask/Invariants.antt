@@ -1,6 +1,6 @@
 use Rattle.std.proofs.Common.{◌≡◌, drop}
-use Rattle.hub.specs.Vendors.{text, answer_of}
-use Rattle.hub.proofs.vendor.ask.Given as goal
+use Rattle.station_calls.specs.Vendors.{text, answer_of}
+use Rattle.station_calls.proofs.vendor.ask.Given as goal
 
 abbrev pub invariant-loop-handler : goal.invariant-loop-handler
 invariant-loop-handler g l =

@@ -4,8 +4,8 @@ use Rattle.ocpp_payload.specs.declared.conf.Conf.TheVariants as conf
 use Rattle.ocpp_payload.specs.declared.request.DataTransfer.{DataTransfer}
 use Rattle.registry.specs.declared.decision.Decision.{Decision}
 use Rattle.registry.specs.declared.decision.Reply.TheVariants.{Conf}
-use Rattle.hub.specs.declared.vendor.VendorAnswer.{VendorAnswer}
-use Rattle.hub.specs.Vendors.{Answers}
+use Rattle.station_calls.specs.declared.vendor.VendorAnswer.{VendorAnswer}
+use Rattle.station_calls.specs.Vendors.{Answers}
 
 abbrev pub transferred : VendorAnswer → Decision
 transferred a = record { reply = Conf (conf.DataTransfer a.status a.content); change = None }

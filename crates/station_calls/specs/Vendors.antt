@@ -3,7 +3,7 @@ use Rattle.std.specs.Prelude.{ℕ, List, [], ◌∷◌, Option, Some, None, if�
 use Rattle.std.specs.Borrow.{Bor}
 use Rattle.std.specs.Str.{bytes_eq}
 use Rattle.ocpp_types.specs.declared.data_transfer_status.DataTransferStatus.TheVariants.{UnknownVendorId}
-use Rattle.hub.specs.declared.vendor.VendorAnswer.{VendorAnswer}
+use Rattle.station_calls.specs.declared.vendor.VendorAnswer.{VendorAnswer}
 
 -- the text behind a reference, if there is one
 abbrev pub text : Option (Bor (List ℕ)) → Option (List ℕ)

@@ -1,6 +1,6 @@
 //! A vendor's handler that sends back what it gets.
 ghost use Rattle.std.specs.Prelude.{◌≡◌, IfOk};
-ghost use Rattle.hub.specs.Vendors.{text};
+ghost use Rattle.station_calls.specs.Vendors.{text};
 
 use crate::vendor::{VendorAnswer, VendorHandler};
 use ocpp_types::data_transfer_status::DataTransferStatus;
@@ -17,7 +17,7 @@ pub struct Echo {
 
 impl VendorHandler for Echo {
     ghost use Rattle.std.specs.Prelude.{codes};
-    ghost use Rattle.hub.specs.Echo.{echo};
+    ghost use Rattle.station_calls.specs.Echo.{echo};
 
     ghost name = { λ _. codes "org.example.echo" };
 

@@ -1,7 +1,7 @@
 //! The names of the hosted operators.
 ghost use Rattle.std.specs.Prelude.{◌≡◌};
 ghost use Rattle.std.specs.List.{list_all};
-ghost use Rattle.hub.specs.Operators.{is_hosted, is_name_byte, is_operator_name, are_distinct_names, are_operators};
+ghost use Rattle.hub_rows.specs.Operators.{is_hosted, is_name_byte, is_operator_name, are_distinct_names, are_operators};
 
 use ocpp_types::text::Text;
 
@@ -16,7 +16,7 @@ pub fn are_operators(names: &[Text]) -> bool
     !names.is_empty() && are_distinct_names(names)
 }
 
-#[tactic(auto, using(hub_rows::proofs::Steps::drop_here))]
+#[tactic(auto, using(crate::proofs::Steps::drop_here))]
 fn are_distinct_names(names: &[Text]) -> bool
     ensures { result ≡ are_distinct_names names.now }
 {

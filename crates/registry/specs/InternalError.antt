@@ -1,4 +1,4 @@
--- The answer to a request that the records have no room or no place for.
+-- The answer to a request that the records have no room or no place for, and no change.
 use Rattle.std.specs.Prelude.{None}
 use Rattle.ocpp_types.specs.declared.error_code.ErrorCode.TheVariants.{InternalError}
 use Rattle.registry.specs.declared.decision.Decision.{Decision}

@@ -2,7 +2,7 @@
 use Rattle.std.specs.Prelude.{ℕ, List, Option, Some, None, codes, if◌then◌else◌}
 use Rattle.std.specs.Str.{bytes_eq}
 use Rattle.ocpp_types.specs.declared.data_transfer_status.DataTransferStatus.TheVariants.{Accepted, UnknownMessageId}
-use Rattle.hub.specs.declared.vendor.VendorAnswer.{VendorAnswer}
+use Rattle.station_calls.specs.declared.vendor.VendorAnswer.{VendorAnswer}
 
 abbrev pub echoed : Option (List ℕ) → VendorAnswer
 echoed content = record { status = Accepted; content = content }

@@ -1,7 +1,7 @@
 //! Messages of vendors (OCPP 1.6, section 4.3; docs/RULES.md, Vendor messages).
 ghost use Rattle.std.specs.Prelude.{◌≡◌, ℕ, List, Option, IfOk};
 ghost use Rattle.std.specs.Str.{bytes_eq};
-ghost use Rattle.hub.specs.Vendors.{text, answer_of};
+ghost use Rattle.station_calls.specs.Vendors.{text, answer_of};
 
 use ocpp_types::data_transfer_status::DataTransferStatus;
 use ocpp_types::memory::Mem;
@@ -18,7 +18,7 @@ pub struct VendorAnswer {
 /// Answers the messages of one vendor. An answer is a function of the message alone: nothing is
 /// kept from one to the next, so no operator can learn of another through it.
 pub trait VendorHandler: Drop {
-    ghost use Rattle.hub.specs.declared.vendor.VendorAnswer.{VendorAnswer};
+    ghost use Rattle.station_calls.specs.declared.vendor.VendorAnswer.{VendorAnswer};
 
     /// The vendor.
     ghost name: { Self → List ℕ };

@@ -1,0 +1,5 @@
+pub mod Vendors
+pub mod Echo
+pub mod Transfer
+pub mod Authorized
+pub mod Decided

@@ -1,0 +1,150 @@
+//! The rules of every action, over a store and the handlers of vendors.
+ghost use Rattle.std.specs.Prelude.{◌≡◌};
+ghost use Rattle.station_calls.specs.Vendors.{answer_of};
+
+use crate::core_handler::CoreHandler;
+use crate::vendor::{VendorHandler, ask, lent};
+use charging::meter_values::on_meter_values;
+use charging::start::on_start;
+use charging::stop::on_stop;
+use hub_rows::store::{Store, StoreFault};
+use id_tags::judge::{Purpose, judge};
+use ocpp_payload::conf::Conf;
+use ocpp_payload::request::{
+    Authorize, DataTransfer, MeterValues, StartTransaction, StatusNotification, StopTransaction,
+};
+use ocpp_types::boot_notification::BootNotification;
+use ocpp_types::moment::Moment;
+use ocpp_types::tag_key::TagKey;
+use registry::boot::{on_boot, on_heartbeat};
+use registry::decision::{Decision, Reply};
+use registry::status::on_status;
+use std::alloc::Global;
+
+/// A store and the handlers of vendors' messages.
+#[derive(Drop)]
+pub struct Book<S, V> {
+    pub store: S,
+    pub vendors: Vec<V>,
+}
+
+impl<S, V> Book<S, V> {
+    /// The rules over that store and those handlers. It takes no memory.
+    pub fn new(store: S, vendors: Vec<V>) -> Book<S, V>
+        ensures store { result.store ≡ store }
+        ensures vendors { result.vendors.items ≡ vendors.items }
+    {
+        Book { store, vendors }
+    }
+}
+
+impl<S: Store, V: VendorHandler> CoreHandler for Book<S, V> {
+    ghost rows = { λ b. S.rows b.store };
+
+    ghost failures = { λ b. S.failures b.store };
+
+    ghost clean = { λ b. S.clean b.store };
+
+    ghost answers = { λ b. answer_of V.name V.gives b.vendors.items };
+
+    fn on_authorize(
+        &mut self,
+        alloc: Global,
+        op: &str,
+        _station: &str,
+        request: Authorize,
+        moment: Moment,
+    ) -> Result<Decision, StoreFault> {
+        let key = TagKey::of(alloc, request.id_tag.as_str())?;
+        let id_tag_info = judge(&mut self.store, op, &key, moment, &Purpose::Authorize)?;
+        Ok(Decision {
+            reply: Reply::Conf(Conf::Authorize { id_tag_info }),
+            change: None,
+        })
+    }
+
+    fn on_boot_notification(
+        &mut self,
+        alloc: Global,
+        op: &str,
+        station: &str,
+        request: BootNotification,
+        moment: Moment,
+    ) -> Result<Decision, StoreFault> {
+        on_boot(alloc, &mut self.store, op, station, request, moment)
+    }
+
+    fn on_data_transfer(
+        &mut self,
+        _alloc: Global,
+        _op: &str,
+        _station: &str,
+        request: DataTransfer,
+        _moment: Moment,
+    ) -> Result<Decision, StoreFault> {
+        let message = lent(&request.message_id);
+        let content = lent(&request.content);
+        let answer = ask(&self.vendors, request.vendor_id.as_str(), message, content)?;
+        Ok(Decision {
+            reply: Reply::Conf(Conf::DataTransfer {
+                status: answer.status,
+                content: answer.content,
+            }),
+            change: None,
+        })
+    }
+
+    fn on_heartbeat(
+        &mut self,
+        _alloc: Global,
+        _op: &str,
+        _station: &str,
+        moment: Moment,
+    ) -> Result<Decision, StoreFault> {
+        Ok(on_heartbeat(moment))
+    }
+
+    fn on_status_notification(
+        &mut self,
+        alloc: Global,
+        op: &str,
+        station: &str,
+        request: StatusNotification,
+        moment: Moment,
+    ) -> Result<Decision, StoreFault> {
+        on_status(alloc, &mut self.store, op, station, request, moment)
+    }
+
+    fn on_meter_values(
+        &mut self,
+        alloc: Global,
+        op: &str,
+        station: &str,
+        request: MeterValues,
+        _moment: Moment,
+    ) -> Result<Decision, StoreFault> {
+        on_meter_values(alloc, &mut self.store, op, station, request)
+    }
+
+    fn on_start_transaction(
+        &mut self,
+        alloc: Global,
+        op: &str,
+        station: &str,
+        request: StartTransaction,
+        moment: Moment,
+    ) -> Result<Decision, StoreFault> {
+        on_start(alloc, &mut self.store, op, station, request, moment)
+    }
+
+    fn on_stop_transaction(
+        &mut self,
+        alloc: Global,
+        op: &str,
+        station: &str,
+        request: StopTransaction,
+        moment: Moment,
+    ) -> Result<Decision, StoreFault> {
+        on_stop(alloc, &mut self.store, op, station, request, moment)
+    }
+}

@@ -1,0 +1,60 @@
+//! A station's call, decided by the rule of its action.
+ghost use Rattle.std.specs.Prelude.{◌≡◌, ◌≤◌, IfOk, IfErr};
+ghost use Rattle.hub_rows.specs.Failures.{Rose};
+ghost use Rattle.hub_rows.specs.Lookups.{lookups_at};
+ghost use Rattle.station_calls.specs.Decided.{decision};
+ghost use Rattle.station_calls.specs.Vendors.{answer_of};
+
+use crate::book::Book;
+use crate::core_handler::CoreHandler;
+use crate::vendor::VendorHandler;
+use hub_rows::store::{Store, StoreFault};
+use ocpp_payload::request::Request;
+use ocpp_types::moment::Moment;
+use ocpp_types::text::Text;
+use registry::decision::Decision;
+use std::alloc::Global;
+
+/// The decision of the rule of each request.
+pub fn decide<S: Store, V: VendorHandler>(
+    alloc: Global,
+    book: &mut Book<S, V>,
+    op: &Text,
+    station: &Text,
+    moment: Moment,
+    request: Request,
+) -> Result<Decision, StoreFault>
+    ensures was_clean { S.clean book.new.store → S.clean book.old.store }
+    ensures decision { S.clean book.new.store → IfOk result (λ d. d
+        ≡ decision (answer_of V.name V.gives book.old.vendors.items) moment station.now request (lookups_at op.now (S.rows book.old.store))) }
+    ensures rows { S.clean book.new.store → S.rows book.new.store ≡ S.rows book.old.store }
+    ensures failed { IfErr result (λ f. f ≡ StoreFault.Failed
+        → Rose (S.failures book.old.store) (S.failures book.new.store)) }
+    ensures count { S.failures book.old.store ≤ S.failures book.new.store }
+    ensures answers { answer_of V.name V.gives book.new.vendors.items ≡ answer_of V.name V.gives book.old.vendors.items }
+{
+    let op = op.as_str();
+    let station = station.as_str();
+    match request {
+        Request::Authorize(request) => book.on_authorize(alloc, op, station, request, moment),
+        Request::BootNotification(request) => {
+            book.on_boot_notification(alloc, op, station, request, moment)
+        }
+        Request::DataTransfer(request) => {
+            book.on_data_transfer(alloc, op, station, request, moment)
+        }
+        Request::Heartbeat => book.on_heartbeat(alloc, op, station, moment),
+        Request::MeterValues(request) => {
+            book.on_meter_values(alloc, op, station, request, moment)
+        }
+        Request::StartTransaction(request) => {
+            book.on_start_transaction(alloc, op, station, request, moment)
+        }
+        Request::StatusNotification(request) => {
+            book.on_status_notification(alloc, op, station, request, moment)
+        }
+        Request::StopTransaction(request) => {
+            book.on_stop_transaction(alloc, op, station, request, moment)
+        }
+    }
+}

@@ -1,0 +1,10 @@
+//! The calls of stations decided: the rules of all actions, and the handlers of vendors' messages.
+#![tactic(auto)]
+
+pub mod book;
+pub mod core_handler;
+pub mod decide;
+pub mod echo;
+#[cfg(test)]
+mod tests;
+pub mod vendor;
