@@ -15,7 +15,3 @@ pub mod planned;
 pub mod row;
 pub mod slot;
 pub mod slots;
-#[cfg(test)]
-mod tests;
-#[cfg(test)]
-mod vendor_tests;

@@ -1,9 +1,9 @@
 //! Handlers of vendors' messages, through the hub.
 
-use crate::event::Event;
-use crate::fault::Fault;
-use crate::hub::Hub;
-use crate::tests::{BOOT, added, connected, event, frame, operators, shown};
+use crate::hub_tests::{BOOT, added, connected, event, frame, operators, shown};
+use hub::event::Event;
+use hub::fault::Fault;
+use hub::hub::Hub;
 use ocpp_types::data_transfer_status::DataTransferStatus;
 use ocpp_types::memory::{Mem, NoMemory};
 use ocpp_types::moment::Moment;

@@ -1,12 +1,12 @@
 //! Worked scripts, and each public call once with ample memory.
 
-use crate::event::{Admin, Event, Listing, What};
-use crate::fault::Fault;
-use crate::hub::{BadOperators, Hub};
-use crate::out::Out;
-use crate::slot::Slot;
-use crate::slots::Slots;
 use crate::vendor_tests::Fixed;
+use hub::event::{Admin, Event, Listing, What};
+use hub::fault::Fault;
+use hub::hub::{BadOperators, Hub};
+use hub::out::Out;
+use hub::slot::Slot;
+use hub::slots::Slots;
 use hub_rows::store::Store;
 use hub_rows::tag_row::Tag;
 use ocpp_types::memory::Mem;
