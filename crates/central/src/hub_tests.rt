@@ -1,9 +1,10 @@
-//! Worked scripts, and each public call once with ample memory.
+//! The hub over a store in memory and over one that fails: worked scripts, and each of its calls once
+//! with ample memory.
 
 use crate::vendor_tests::Fixed;
 use hub::event::{Admin, Event, Listing, What};
 use hub::fault::Fault;
-use hub::hub::{BadOperators, Hub};
+use hub::hub::Hub;
 use hub::out::Out;
 use hub::slot::Slot;
 use hub::slots::Slots;
