@@ -1,7 +1,7 @@
 //! The words of a command line.
 
 use clap::error::ErrorKind;
-use clap::{Arg, Command, Error};
+use clap::{Arg, ArgMatches, Command, Error};
 use ocpp_types::text::Text;
 use std::alloc::{AllocError, Global};
 
@@ -16,15 +16,30 @@ pub enum Plan {
 /// also the answer to `--help`.
 pub fn read(alloc: Global, words: &[String]) -> Result<Plan, Error> {
     let matches = central(alloc)?.try_get_matches_from(words)?;
-    if let Some(found) = matches.subcommand_matches("replay") {
-        let operators = parts(alloc, found.get_str("operators"))?;
-        return Ok(Plan::Replay { operators });
+    match replay_of(alloc, &matches)? {
+        Some(plan) => Ok(plan),
+        None => Err(no_command(alloc)?),
     }
-    Err(central(alloc)?.error(ErrorKind::MissingSubcommand, "no command")?)
+}
+
+/// The replay that was asked for, if it was.
+fn replay_of(alloc: Global, matches: &ArgMatches) -> Result<Option<Plan>, AllocError> {
+    match matches.subcommand_matches("replay") {
+        Some(found) => {
+            let operators = parts(alloc, found.get_str("operators"))?;
+            Ok(Some(Plan::Replay { operators }))
+        }
+        None => Ok(None),
+    }
+}
+
+fn no_command(alloc: Global) -> Result<Error, AllocError> {
+    central(alloc)?.error(ErrorKind::MissingSubcommand, "no command")
 }
 
 fn central<'a>(alloc: Global) -> Result<Command<'a>, AllocError> {
     Command::new(alloc, "central")
+        .about("A central system for charging stations of several operators (OCPP 1.6 JSON)")
         .subcommand_required(true)
         .subcommand(replay_command(alloc)?)
 }
@@ -33,8 +48,12 @@ fn replay_command<'a>(alloc: Global) -> Result<Command<'a>, AllocError> {
     let operators = Arg::new(alloc, "operators")
         .long("operators")
         .value_name("A,B")
+        .help("The operators that are hosted, parted by commas")
+        .allow_hyphen_values(true)
         .required(true);
-    Command::new(alloc, "replay").arg(operators)
+    Command::new(alloc, "replay")
+        .about("Reads lines of events from standard input and writes what the hub answers")
+        .arg(operators)
 }
 
 /// The parts between commas, empty ones too.

@@ -36,10 +36,3 @@ fn main(rt: HostRuntime) -> anyhow::Result<ExitCode> {
         }
     }
 }
-
-#[cfg(test)]
-mod hub_tests;
-#[cfg(test)]
-mod tests;
-#[cfg(test)]
-mod vendor_tests;

@@ -17,6 +17,7 @@ use Rattle.ocpp_payload.specs.declared.fault.FieldFault.{FieldFault}
 use Rattle.ocpp_payload.specs.declared.request.Request.{Request}
 use Rattle.ocpp_payload.specs.ActionClass.{action_class}
 use Rattle.ocpp_payload.specs.Request.{request}
+use Rattle.ocpp_payload.specs.declared.conf.Conf.{Conf as Answer}
 use Rattle.ocpp_payload.specs.Conf.{conf_data}
 use Rattle.hub_rows.specs.declared.change.Edit.{Edit}
 use Rattle.hub_rows.specs.declared.station_row.Registration.{Registration}
@@ -85,9 +86,13 @@ error_text id c description = compact_text (error_data id (error_code_name c) de
 abbrev pub error_plan : List ℕ → List ℕ → ErrorCode → List ℕ → Plan
 error_plan station id c description = only (Sent station (error_text id c description))
 
+-- the text of an answer
+unfoldable pub conf_text : List ℕ → Answer → List ℕ
+conf_text id conf = compact_text (result_data id (conf_data conf))
+
 -- the text of a decision's reply
 abbrev pub reply_text : List ℕ → Reply → List ℕ
-reply_text id (Conf conf) = compact_text (result_data id (conf_data conf))
+reply_text id (Conf conf) = conf_text id conf
 reply_text id (Error c) = error_text id c []
 
 abbrev pub decided_plan : List ℕ → List ℕ → Decision → Plan

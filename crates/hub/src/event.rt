@@ -6,7 +6,7 @@ use ocpp_types::policy::Policy;
 use ocpp_types::text::Text;
 
 /// One event, of one operator. Each carries its moment; moments need not grow.
-#[derive(Debug, Drop)]
+#[derive(Drop)]
 pub struct Event {
     pub op: Text,
     pub moment: Moment,
@@ -14,7 +14,7 @@ pub struct Event {
 }
 
 /// What happens at an operator.
-#[derive(Debug, Drop)]
+#[derive(Drop)]
 pub enum What {
     /// A station has connected.
     Connect { station: Text },
@@ -29,7 +29,7 @@ pub enum What {
 }
 
 /// A list of an operator's records.
-#[derive(Debug, Drop)]
+#[derive(Drop)]
 pub enum Listing {
     Stations,
     Tags,
@@ -47,7 +47,7 @@ pub enum Listing {
 }
 
 /// An operator's edit of its records.
-#[derive(Debug, Drop)]
+#[derive(Drop)]
 pub enum Admin {
     /// A new station, with its policy and its heartbeat interval in seconds.
     StationAdd {

@@ -1,5 +1,6 @@
 //! The hub: one event is one step.
 ghost use Rattle.std.specs.Prelude.{◌≡◌, ◌↔◌, ◌<◌, ◌≤◌, ◌++◌, ℕ, List, [], ◌∷◌, length, take, slice_index_or, true, false, IsOk, IfOk, IfErr, IfNone, IfSome, OnOk, OnErr};
+ghost use Rattle.std.specs.List.{AllWithin};
 ghost use Rattle.hub_rows.specs.Failures.{Rose};
 ghost use Rattle.hub_rows.specs.Operators.{are_operators};
 
@@ -130,6 +131,7 @@ impl<S: Store + Drop, V: VendorHandler> Hub<S, V> {
             → view a (world S.rows self.new) ≡ operator_run (setting V.name V.gives self.old) a
             (view a (world S.rows self.old)) (seen (setting V.name V.gives self.old) a (world S.rows self.old) (take result.1 events.now)) }
         ensures setting { setting V.name V.gives self.new ≡ setting V.name V.gives self.old }
+        ensures taken { AllWithin (λ e. is_taken (setting V.name V.gives self.old) e ≡ true) events.now 0 result.1 }
         ensures all { IfNone result.2 (result.1 ≡ length events.now) }
         ensures fault { IfSome result.2 (λ _. result.1 < length events.now) }
         ensures not_hosted { IfSome result.2 (λ f. f ≡ Fault.NoSuchOperator

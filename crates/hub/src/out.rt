@@ -5,7 +5,7 @@ use ocpp_types::refusal::Refusal;
 use ocpp_types::text::Text;
 
 /// One output. Each names the operator that it is for.
-#[derive(Debug, Drop)]
+#[derive(Drop)]
 pub enum Out {
     /// A text to a station.
     Send { op: Text, station: Text, text: Text },

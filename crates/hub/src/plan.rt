@@ -1,7 +1,7 @@
 //! Plans from facts: one small function for each kind of event (docs/RULES.md).
 ghost use Rattle.std.specs.Prelude.{◌≡◌, [], ◌∷◌, None, Some, IfOk, string_bytes};
 ghost use Rattle.hub.specs.Planned.{IsPlanned};
-ghost use Rattle.hub.specs.Table.{nothing, connect_plan, disconnect_plan, error_plan, error_text, reply_text, decided_plan, edit_plan, only};
+ghost use Rattle.hub.specs.Table.{nothing, connect_plan, disconnect_plan, error_plan, error_text, conf_text, reply_text, decided_plan, edit_plan, only};
 ghost use Rattle.hub.specs.Said.{TurnedAway};
 
 use crate::out::Out;
@@ -10,6 +10,7 @@ use crate::slot::Slot;
 use hub_rows::change::Edit;
 use hub_rows::station_row::Registration;
 use ocpp_frame::write::{write_error, write_result};
+use ocpp_payload::conf::Conf;
 use ocpp_payload::write_conf::write_conf;
 use ocpp_types::error_code::ErrorCode;
 use ocpp_types::memory::Mem;
@@ -112,15 +113,19 @@ fn error_text(alloc: Global, id: &Text, code: ErrorCode, description: &str) -> M
     Ok(Text::from(text))
 }
 
-#[tactic(auto, using(crate::proofs::ConfLaws::conf_no_float))]
+fn conf_text(alloc: Global, id: &Text, conf: &Conf) -> Mem<Text>
+    ensures { IfOk result (λ t. t ≡ conf_text id.now conf.now) }
+{
+    let payload = write_conf(alloc, conf)?;
+    let text = write_result(alloc, id.as_str(), payload)?;
+    Ok(Text::from(text))
+}
+
 fn reply_text(alloc: Global, id: &Text, reply: &Reply) -> Mem<Text>
     ensures { IfOk result (λ t. t ≡ reply_text id.now reply.now) }
 {
     match reply {
-        Reply::Conf(conf) => {
-            let payload = write_conf(alloc, conf)?;
-            Ok(Text::from(write_result(alloc, id.as_str(), payload)?))
-        }
+        Reply::Conf(conf) => conf_text(alloc, id, conf),
         Reply::Error(code) => error_text(alloc, id, *code, ""),
     }
 }

@@ -10,7 +10,7 @@ use hub_rows::tag_row::TagRow;
 use hub_rows::tx_row::TxRow;
 
 /// A row of a listing.
-#[derive(Debug, Drop)]
+#[derive(Drop)]
 pub enum Row {
     Station(StationRow),
     Tag(TagRow),

@@ -6,7 +6,7 @@ use ocpp_types::text::Text;
 use std::cmp::Ordering;
 
 /// A station that is connected.
-#[derive(Debug, Drop)]
+#[derive(Drop)]
 pub struct Slot {
     pub op: Text,
     pub station: Text,

@@ -12,14 +12,14 @@ use ocpp_types::tag_key::TagKey;
 use ocpp_types::text::Text;
 
 /// A change of one operator's records, which a store makes whole or not at all.
-#[derive(Debug, Drop)]
+#[derive(Drop)]
 pub struct Change {
     pub op: Text,
     pub edit: Edit,
 }
 
 /// What changes.
-#[derive(Debug, Drop)]
+#[derive(Drop)]
 pub enum Edit {
     /// A new station, which is Fresh.
     StationAdded {

@@ -10,7 +10,7 @@ use std::cmp::Ordering;
 
 /// A connector of a station, as the station reported it last. Its key is `op`, `station` and
 /// `connector`.
-#[derive(Debug, Drop)]
+#[derive(Drop)]
 pub struct ConnectorRow {
     /// The operator that hosts the station.
     pub op: Text,
@@ -21,7 +21,7 @@ pub struct ConnectorRow {
 }
 
 /// What a station reports of a connector (OCPP 1.6, StatusNotification.req).
-#[derive(Debug, PartialEq, Eq, Drop)]
+#[derive(Drop)]
 pub struct ConnectorReport {
     pub status: ChargePointStatus,
     pub error_code: ChargePointErrorCode,

@@ -10,6 +10,4 @@ pub mod reading_row;
 pub mod station_row;
 pub mod store;
 pub mod tag_row;
-#[cfg(test)]
-mod tests;
 pub mod tx_row;

@@ -13,7 +13,7 @@ use std::alloc::AllocError;
 use std::cmp::Ordering;
 
 /// A meter reading of a station. Its key is `op`, `station` and `number`.
-#[derive(Debug, Drop)]
+#[derive(Drop)]
 pub struct ReadingRow {
     /// The operator that hosts the station.
     pub op: Text,
@@ -24,7 +24,7 @@ pub struct ReadingRow {
 }
 
 /// What a meter showed (OCPP 1.6, section 7.43, SampledValue).
-#[derive(Debug, Drop)]
+#[derive(Drop)]
 pub struct Reading {
     /// 0 is the station's main meter.
     pub connector: u8,

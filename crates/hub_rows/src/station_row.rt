@@ -12,7 +12,7 @@ use std::alloc::AllocError;
 use std::cmp::Ordering;
 
 /// A station of an operator. Its key is `op` and `station`.
-#[derive(Debug, Drop)]
+#[derive(Drop)]
 pub struct StationRow {
     /// The operator that hosts it.
     pub op: Text,
@@ -29,7 +29,7 @@ pub struct StationRow {
 }
 
 /// What a station told of itself when it booted.
-#[derive(Debug, PartialEq, Eq, Drop)]
+#[derive(Drop)]
 pub struct Boot {
     pub texts: BootNotification,
     pub moment: Moment,

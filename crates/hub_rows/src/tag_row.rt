@@ -10,7 +10,7 @@ use std::alloc::AllocError;
 use std::cmp::Ordering;
 
 /// An id tag of an operator. Its key is `op` and `key`.
-#[derive(Debug, Drop)]
+#[derive(Drop)]
 pub struct TagRow {
     /// The operator that owns it.
     pub op: Text,
@@ -19,7 +19,7 @@ pub struct TagRow {
 }
 
 /// What is known of an id tag.
-#[derive(Debug, PartialEq, Eq, Drop)]
+#[derive(Drop)]
 pub struct Tag {
     /// Its text as it was put.
     pub text: Text,

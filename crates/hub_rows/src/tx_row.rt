@@ -11,7 +11,7 @@ use std::alloc::AllocError;
 use std::cmp::Ordering;
 
 /// A transaction of a station. Its key is `op`, `station` and `number`.
-#[derive(Debug, Drop)]
+#[derive(Drop)]
 pub struct TxRow {
     /// The operator that hosts the station.
     pub op: Text,
@@ -25,7 +25,7 @@ pub struct TxRow {
 
 /// What tells the starts of a station apart. A station that has missed the answer to a start sends
 /// the same again (OCPP 1.6, section 3.7.1).
-#[derive(Debug, Drop)]
+#[derive(Drop)]
 pub struct StartKey {
     pub connector: u8,
     pub key: TagKey,
@@ -36,7 +36,7 @@ pub struct StartKey {
 }
 
 /// How a transaction began (OCPP 1.6, StartTransaction.req).
-#[derive(Debug, Drop)]
+#[derive(Drop)]
 pub struct Start {
     pub id: StartKey,
     /// The tag as it was sent.
@@ -49,7 +49,7 @@ pub struct Start {
 }
 
 /// How a transaction ended (OCPP 1.6, StopTransaction.req).
-#[derive(Debug, Drop)]
+#[derive(Drop)]
 pub struct Stop {
     /// In Wh.
     pub meter_stop: i64,
@@ -63,7 +63,7 @@ pub struct Stop {
 }
 
 /// What tells the transactions of an operator apart.
-#[derive(Debug, Drop)]
+#[derive(Drop)]
 pub struct TxKey {
     pub station: Text,
     pub number: u32,

@@ -13,7 +13,7 @@ use ocpp_types::moment::Moment;
 use ocpp_types::tag_key::TagKey;
 
 /// What a tag is judged for.
-#[derive(Debug, Drop)]
+#[derive(Drop)]
 pub enum Purpose {
     /// To be told of, in an Authorize or with a stop.
     Authorize,

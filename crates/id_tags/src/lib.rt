@@ -3,5 +3,3 @@
 
 pub mod judge;
 pub mod plan;
-#[cfg(test)]
-mod tests;

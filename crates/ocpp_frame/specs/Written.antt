@@ -1,5 +1,8 @@
 -- What is written for a frame, as JSON.
-use Rattle.std.specs.Prelude.{◌≤◌, ℕ, List, IsSome}
+use Rattle.std.specs.Prelude.{◌≡◌, ◌≤◌, ℕ, List, IsSome}
+use Rattle.json.specs.Lex.{tokens}
+use Rattle.json.specs.Print.{print}
+use Rattle.serde_json.specs.Written.{IsInOrder}
 use Rattle.serde_json.specs.Data.{Data, number, unsigned, string, array, object, no_items, item, no_members, depth as nesting}
 use Rattle.serde_json.specs.Find.{as_object}
 
@@ -14,6 +17,11 @@ result_data id payload = array (item (number (unsigned 3)) (item (string id) (it
 -- `[4,"<id>","<code>","<description>",{}]`
 abbrev pub error_data : List ℕ → List ℕ → List ℕ → Data
 error_data id code description = array (item (number (unsigned 4)) (item (string id) (item (string code) (item (string description) (item (object no_members) no_items)))))
+
+-- a text of a value with no blanks between its tokens: the items and members stand in the value's order, its integers in decimal, and its floats in digits that the text chooses
+pub record IsCompact (text : List ℕ) (d : Data) : Type 0 where
+  pub compact : text ≡ print (tokens text)
+  pub order : IsInOrder text d
 
 -- a payload that is read again wherever it is written: an object, nested at most 100 deep
 pub record IsPayload (d : Data) : Type 0 where

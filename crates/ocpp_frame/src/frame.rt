@@ -4,7 +4,7 @@ use crate::payload::Payload;
 use ocpp_types::text::Text;
 
 /// One message of OCPP-J (OCPP-J 1.6, section 4.2).
-#[derive(Debug, Drop)]
+#[derive(Drop)]
 pub enum Frame {
     /// A request: `[2,"<id>","<action>",{payload}]`.
     Call {

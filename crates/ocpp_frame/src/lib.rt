@@ -4,6 +4,4 @@
 pub mod frame;
 pub mod payload;
 pub mod read;
-#[cfg(test)]
-mod tests;
 pub mod write;

@@ -7,7 +7,7 @@ use std::alloc::AllocError;
 use std::marker::Model;
 
 /// The payload of a message: a JSON value. A contract sees it as its data.
-#[derive(Debug, Drop)]
+#[derive(Drop)]
 pub struct Payload {
     value: Value,
 }

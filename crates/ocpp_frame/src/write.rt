@@ -4,7 +4,7 @@ ghost use Rattle.serde_json.specs.View.{view};
 ghost use Rattle.serde_json.specs.Written.{has_float, compact_text};
 ghost use Rattle.ocpp_frame.specs.Frame.{frame};
 ghost use Rattle.ocpp_types.specs.Text.{characters};
-ghost use Rattle.ocpp_frame.specs.Written.{call_data, result_data, error_data, IsPayload};
+ghost use Rattle.ocpp_frame.specs.Written.{call_data, result_data, error_data, IsCompact, IsPayload};
 
 use crate::frame::Frame;
 use ocpp_types::memory::Mem;
@@ -16,6 +16,7 @@ use std::alloc::{AllocError, Global};
 pub fn write_call(alloc: Global, id: &str, action: &str, payload: Value) -> Mem<String>
     ensures text { IfOk result (λ s. has_float (view payload) ≡ false
         → string_bytes s ≡ compact_text (call_data id.now action.now (view payload))) }
+    ensures compact { IfOk result (λ s. IsCompact (string_bytes s) (call_data id.now action.now (view payload))) }
     ensures reads_back { IfOk result (λ s. characters id.now ≤ 36 → IsPayload (view payload)
         → frame (string_bytes s) ≡ Frame.Call id.now action.now (view payload)) }
 {
@@ -28,6 +29,7 @@ pub fn write_call(alloc: Global, id: &str, action: &str, payload: Value) -> Mem<
 pub fn write_result(alloc: Global, id: &str, payload: Value) -> Mem<String>
     ensures text { IfOk result (λ s. has_float (view payload) ≡ false
         → string_bytes s ≡ compact_text (result_data id.now (view payload))) }
+    ensures compact { IfOk result (λ s. IsCompact (string_bytes s) (result_data id.now (view payload))) }
     ensures reads_back { IfOk result (λ s. IsPayload (view payload)
         → frame (string_bytes s) ≡ Frame.CallResult id.now (view payload)) }
 {

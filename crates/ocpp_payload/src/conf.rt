@@ -7,7 +7,7 @@ use ocpp_types::policy::Policy;
 use ocpp_types::text::Text;
 
 /// The answer to a station's request (OCPP 1.6, section 6).
-#[derive(Debug, PartialEq, Eq, Drop)]
+#[derive(Drop)]
 pub enum Conf {
     Authorize {
         id_tag_info: IdTagInfo,

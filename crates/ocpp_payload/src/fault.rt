@@ -15,7 +15,7 @@ pub struct FieldFault {
 }
 
 /// Why nothing was read.
-#[derive(Debug, Drop)]
+#[derive(Drop)]
 pub enum ReadError {
     /// The allocator refused memory.
     NoMemory,

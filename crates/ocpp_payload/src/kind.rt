@@ -131,7 +131,8 @@ impl Kind for Int64 {
     }
 }
 
-/// The integer that a value is: a number written without a fraction or an exponent.
+/// The integer that a value is: a number that `serde_json` holds as a signed or unsigned integer of
+/// 64 bits. One written with a fraction or an exponent, `-0`, and one past 64 bits are floats to it.
 fn integer(field: &'static str, value: &Value) -> Result<i128, ReadError>
     ensures { Gives result (typed field.now (option_and_then as_integer (as_number (view value.now)))) }
 {

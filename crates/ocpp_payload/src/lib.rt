@@ -12,9 +12,5 @@ pub mod objects;
 pub mod read_request;
 pub mod readings;
 pub mod request;
-#[cfg(test)]
-mod request_tests;
-#[cfg(test)]
-mod tests;
 pub mod write_boot;
 pub mod write_conf;

@@ -20,7 +20,7 @@ use std::alloc::Global;
 
 /// One reading (OCPP 1.6, type SampledValue). What a station left out has the standard's default,
 /// but the unit, which stays out.
-#[derive(Debug, Drop)]
+#[derive(Drop)]
 pub struct SampledValue {
     pub value: Text,
     pub context: ReadingContext,
@@ -62,7 +62,7 @@ impl Readable for SampledValue {
 }
 
 /// The readings of one time (OCPP 1.6, type MeterValue).
-#[derive(Debug, Drop)]
+#[derive(Drop)]
 pub struct MeterValue {
     /// Milliseconds since 1970.
     pub timestamp: i64,

@@ -9,7 +9,7 @@ use ocpp_types::reason::Reason;
 use ocpp_types::text::Text;
 
 /// A request of a station (OCPP 1.6, section 6).
-#[derive(Debug, Drop)]
+#[derive(Drop)]
 pub enum Request {
     Authorize(Authorize),
     BootNotification(BootNotification),
@@ -22,13 +22,13 @@ pub enum Request {
 }
 
 /// May this tag charge? (OCPP 1.6, Authorize.req)
-#[derive(Debug, Drop)]
+#[derive(Drop)]
 pub struct Authorize {
     pub id_tag: Text,
 }
 
 /// A message of a vendor (OCPP 1.6, DataTransfer.req).
-#[derive(Debug, Drop)]
+#[derive(Drop)]
 pub struct DataTransfer {
     pub vendor_id: Text,
     pub message_id: Option<Text>,
@@ -37,7 +37,7 @@ pub struct DataTransfer {
 }
 
 /// Readings of a connector's meter (OCPP 1.6, MeterValues.req).
-#[derive(Debug, Drop)]
+#[derive(Drop)]
 pub struct MeterValues {
     /// 0 is the station's main meter.
     pub connector_id: u8,
@@ -47,7 +47,7 @@ pub struct MeterValues {
 }
 
 /// A transaction has begun (OCPP 1.6, StartTransaction.req).
-#[derive(Debug, Drop)]
+#[derive(Drop)]
 pub struct StartTransaction {
     /// 1 or more.
     pub connector_id: u8,
@@ -60,7 +60,7 @@ pub struct StartTransaction {
 }
 
 /// The status of a connector (OCPP 1.6, StatusNotification.req).
-#[derive(Debug, Drop)]
+#[derive(Drop)]
 pub struct StatusNotification {
     /// 0 is the station itself.
     pub connector_id: u8,
@@ -74,7 +74,7 @@ pub struct StatusNotification {
 }
 
 /// A transaction has ended (OCPP 1.6, StopTransaction.req).
-#[derive(Debug, Drop)]
+#[derive(Drop)]
 pub struct StopTransaction {
     pub id_tag: Option<Text>,
     /// In Wh.

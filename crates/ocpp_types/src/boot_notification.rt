@@ -5,7 +5,7 @@ use crate::text::{Text, copied};
 use std::alloc::AllocError;
 
 /// What a station tells of itself when it boots (OCPP 1.6, BootNotification.req), as it sent it.
-#[derive(Debug, PartialEq, Eq, Drop)]
+#[derive(Drop)]
 pub struct BootNotification {
     pub charge_box_serial_number: Option<Text>,
     pub charge_point_model: Text,

@@ -21,14 +21,10 @@ pub mod phase;
 pub mod policy;
 pub mod reading_context;
 pub mod reading_number;
-#[cfg(test)]
-mod reading_number_tests;
 pub mod reason;
 pub mod refusal;
 pub mod state;
 pub mod tag_key;
-#[cfg(test)]
-mod tests;
 pub mod text;
 pub mod time;
 pub mod unit_of_measure;

@@ -6,7 +6,7 @@ use std::alloc::Global;
 use std::marker::Model;
 
 /// A list. A contract sees it as its items, in order.
-#[derive(Debug, Drop)]
+#[derive(Drop)]
 pub struct Listed<T> {
     listed: Vec<T>,
 }

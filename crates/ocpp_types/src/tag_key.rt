@@ -11,7 +11,7 @@ use std::marker::Model;
 /// key are one tag (OCPP 1.6, type IdToken, which is case-insensitive).
 ///
 /// A contract sees it as its bytes.
-#[derive(Debug, Drop)]
+#[derive(Drop)]
 pub struct TagKey {
     text: Text,
 }

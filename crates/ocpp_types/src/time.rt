@@ -1,5 +1,5 @@
 //! Times as text (OCPP 1.6, section 3, "Time notations"; docs/RULES.md, Times and moments).
-ghost use Rattle.std.specs.Prelude.{◌≡◌, ◌≤◌, ◌*◌, pos, Some, IfOk, string_bytes, option_map};
+ghost use Rattle.std.specs.Prelude.{◌≡◌, ◌<◌, ◌≤◌, ◌*◌, pos, Some, None, IfOk, string_bytes, option_map};
 ghost use Rattle.std.specs.Result.{result_ok};
 ghost use Rattle.jiff_core.specs.DateTime.{civil_nanos};
 ghost use Rattle.jiff_fmt.specs.Temporal.{parse_timestamp, parse_datetime, instant};
@@ -13,12 +13,15 @@ use jiff::civil::{DateTime, datetime};
 use std::alloc::Global;
 use std::time::Duration;
 
-/// The text `YYYY-MM-DDTHH:MM:SSZ` of a moment. `parse_time` reads it again, but for the last
-/// 26 hours of the year 9999, which are past `jiff`'s last Timestamp.
+/// The text `YYYY-MM-DDTHH:MM:SSZ` of a moment. `parse_time` reads it again, unless the moment is
+/// past 9999-12-30T22:00:00Z, the last second that `jiff`'s Timestamp holds: `parse_time` refuses
+/// that text.
 pub fn print_time(alloc: Global, moment: Moment) -> Mem<String>
     ensures text { IfOk result (λ s. string_bytes s ≡ time_text moment) }
     ensures reads_back { IfOk result (λ s. moment ≤ last_read_moment
         → time_of (string_bytes s) ≡ Some (pos (moment * 1000))) }
+    ensures not_read { IfOk result (λ s. last_read_moment < moment
+        → time_of (string_bytes s) ≡ None) }
 {
     let civil = civil_time(moment);
     Ok(format!(in alloc; "{civil}Z")?)

@@ -7,7 +7,7 @@ use ocpp_payload::conf::Conf;
 use ocpp_types::error_code::ErrorCode;
 
 /// What a station's request is answered, and what it changes.
-#[derive(Debug, Drop)]
+#[derive(Drop)]
 pub struct Decision {
     pub reply: Reply,
     /// A change of the records of the station's operator.
@@ -15,7 +15,7 @@ pub struct Decision {
 }
 
 /// The answer to a request.
-#[derive(Debug, Drop)]
+#[derive(Drop)]
 pub enum Reply {
     /// The answer of the action.
     Conf(Conf),

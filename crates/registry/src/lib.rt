@@ -7,5 +7,3 @@ pub mod decision;
 pub mod policy_set;
 pub mod station_added;
 pub mod status;
-#[cfg(test)]
-mod tests;

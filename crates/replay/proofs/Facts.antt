@@ -3,11 +3,9 @@ use Rattle.std.proofs.lemmas.List.{take-append-drop}
 use mathlib.Core.List.{append-nil}
 use Rattle.std.proofs.lemmas.Grind.{flat_map-append}
 use Rattle.hub.specs.declared.out.Out.{Out}
-use Rattle.hub.specs.Table.{Setting}
-use Rattle.hub.specs.World.{World}
-use Rattle.replay.specs.Run.{Begins, told_lines, AppendsFront, Stands, Falls, left, output_of}
+use Rattle.replay.specs.Run.{Begins, told_lines, AppendsFront, Stands, Falls}
 use Rattle.std.specs.Io.KnownBytes.{Appends, Keeps}
-use Rattle.std.specs.Prelude.{Option, IfSome, false, Some, None, OnErr, Result, Ok, Err}
+use Rattle.std.specs.Prelude.{Option, Some, None, OnErr, Result, Ok, Err}
 
 pub begins : (xs ys : List ℕ) → Begins xs (xs ++ ys)
 begins xs ys = record { more = ys; is = refl }
@@ -96,18 +94,11 @@ stands_kept (Some x) None new ahead whole a s = absurd s
 stands_kept (Some x) (Some y) None ahead whole a s = absurd a
 stands_kept (Some x) (Some y) (Some z) ahead whole a s = record { done = s.done; now = a ∙ s.now; all = s.all }
 
--- with nothing ahead
-pub stands_end : (start now : Option (List ℕ)) (text text' ahead whole : List ℕ) → text' ≡ text ++ ahead → Stands start now (text ++ ahead) whole → Stands start now (text' ++ []) whole
-stands_end start now text text' ahead whole e s = subst (λ t. Stands start now t whole) (sym (append-nil text' ∙ e)) s
-
-pub falls_end : (start old now : Option (List ℕ)) (text whole : List ℕ) → text ≡ [] → Keeps old now → Stands start old [] whole → Falls start now text whole
-falls_end start old now text whole e k s = record { ahead = []; stands = subst (λ t. Stands start now (t ++ []) whole) (sym e) (stands_kept start old now [] whole k s) }
-
-stands_start : (start : Option (List ℕ)) (whole : List ℕ) → Stands start start whole whole
+pub stands_start : (start : Option (List ℕ)) (whole : List ℕ) → Stands start start whole whole
 stands_start None whole = tt
 stands_start (Some xs) whole = record { done = []; now = sym (append-nil xs); all = refl }
 
-stands_all : (start now : Option (List ℕ)) (whole : List ℕ) → Stands start now [] whole → Appends start now whole
+pub stands_all : (start now : Option (List ℕ)) (whole : List ℕ) → Stands start now [] whole → Appends start now whole
 stands_all None now whole s = tt
 stands_all (Some xs) None whole s = absurd s
 stands_all (Some xs) (Some ys) whole s = s.now ∙ ap (λ d. xs ++ d) (sym (append-nil s.done) ∙ s.all)
@@ -117,20 +108,5 @@ stands_part None now ahead whole s = record { front = []; begins = record { more
 stands_part (Some xs) None ahead whole s = absurd s
 stands_part (Some xs) (Some ys) ahead whole s = record { front = s.done; begins = record { more = ahead; is = s.all }; appends = s.now }
 
-pub replay_ok : (remaining start now : Option (List ℕ)) (st : Setting) (w : World) → IfSome remaining (λ input. (begin : Option (List ℕ)) (whole : List ℕ) → Stands begin start ([] ++ left st w 1 false [] input) whole → Stands begin now [] whole) → IfSome remaining (λ input. Appends start now (output_of st w input))
-unfolding left
-replay_ok None start now st w f = tt
-replay_ok (Some input) start now st w f = stands_all start now (output_of st w input) (f start (output_of st w input) (stands_start start (output_of st w input)))
-
-pub replay_falls : (remaining start now : Option (List ℕ)) (text : List ℕ) (st : Setting) (w : World) → IfSome remaining (λ input. (begin : Option (List ℕ)) (whole : List ℕ) → Stands begin start ([] ++ left st w 1 false [] input) whole → Falls begin now text whole) → IfSome remaining (λ input. Falls start now text (output_of st w input))
-unfolding left
-replay_falls None start now text st w f = tt
-replay_falls (Some input) start now text st w f = f start (output_of st w input) (stands_start start (output_of st w input))
-
 pub falls_part : (start now : Option (List ℕ)) (text whole : List ℕ) → Falls start now text whole → AppendsFront start now whole
 falls_part start now text whole f = stands_part start now (text ++ f.ahead) whole f.stands
-
-pub replay_fault : (remaining start now new : Option (List ℕ)) (text : List ℕ) (st : Setting) (w : World) → IfSome remaining (λ input. (begin : Option (List ℕ)) (whole : List ℕ) → Stands begin start ([] ++ left st w 1 false [] input) whole → Falls begin now text whole) → ((begin : Option (List ℕ)) (ahead whole : List ℕ) → Stands begin now (text ++ ahead) whole → AppendsFront begin new whole) → IfSome remaining (λ input. AppendsFront start new (output_of st w input))
-unfolding left
-replay_fault None start now new text st w f g = tt
-replay_fault (Some input) start now new text st w f g = let h = f start (output_of st w input) (stands_start start (output_of st w input)) in g start h.ahead (output_of st w input) h.stands

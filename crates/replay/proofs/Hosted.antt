@@ -1,20 +1,16 @@
--- Events that lines spell are of hosted operators, and failures are counted along.
-use Rattle.std.proofs.Common.{◌≡◌, ◌≤◌, ℕ, List, Bool, true, false, cond, refl, subst, arith, inl, inr}
+-- What lines spell: events of hosted operators, and nothing where they are too long. Failures are counted along.
+use Rattle.std.proofs.Common.{◌≡◌, ◌<◌, ℕ, List, Bool, true, false, cond, refl, subst, arith}
 use Rattle.std.specs.Prelude.{Option, Some, None}
 use Rattle.hub.specs.declared.event.Event.{Event as HubEvent}
 use Rattle.hub_rows.specs.Operators.{is_hosted}
-use Rattle.hub_rows.specs.Failures.{Rose}
+use Rattle.ws_server.specs.declared.lines.reading.Line.{Line}
 use Rattle.ws_server.specs.declared.lines.reading.Line.TheVariants as line
 use Rattle.ws_server.specs.InputLines.{spelled, spelled_text, said, event_of, is_utf8}
 use Rattle.ws_server.specs.Forms.{what_of}
 use Rattle.ws_server.specs.Words.{first_word, moment_at, ◌>>=◌}
 use Rattle.std.specs.Prelude.{nat_lt, ◌==◌, length}
 use Rattle.std.specs.Io.BufRead.{strip_last}
-
--- a rise in the later part of a run is one of the whole
-pub rose_later : (a b c : ℕ) → a ≤ b → Rose b c → Rose a c
-rose_later a b c below (inl rise) = inl (omega (arith, below, rise))
-rose_later a b c below (inr most) = inr most
+use Rattle.replay.specs.Run.{IsOfHosted}
 
 bind_gives : {A B : Type 0} (P : B → Type 0) (x : Option A) (f : A → Option B) → ((a : A) (b : B) → f a ≡ Some b → P b) → (b : B) → (x >>= f) ≡ Some b → P b
 bind_gives P None f g b e = absurd (cc)
@@ -40,7 +36,7 @@ line_event None e is = absurd (cc)
 line_event (Some x) e is = cc
 
 -- an event that a line spells is of a hosted operator
-pub spelled_hosted : (hosted : List (List ℕ)) (bytes : List ℕ) (e : HubEvent) → line.Event e ≡ spelled hosted bytes → is_hosted hosted e.op ≡ true
+spelled_hosted : (hosted : List (List ℕ)) (bytes : List ℕ) (e : HubEvent) → line.Event e ≡ spelled hosted bytes → is_hosted hosted e.op ≡ true
 unfolding spelled
 spelled_hosted hosted bytes e =
     elim (nat_lt 1_048_576 (length bytes)) as (λ t. line.Event e ≡ cond t line.Bad (spelled_text hosted (strip_last 13 bytes)) → is_hosted hosted e.op ≡ true) [
@@ -57,3 +53,15 @@ spelled_hosted hosted bytes e =
             | false ↦ λ is. absurd (cc)
           ]
         ]
+
+of_hosted : (hosted : List (List ℕ)) (said : Line) → ((e : HubEvent) → line.Event e ≡ said → is_hosted hosted e.op ≡ true) → IsOfHosted hosted said
+of_hosted hosted line.Nothing f = tt
+of_hosted hosted (line.Event e) f = f e refl
+of_hosted hosted line.Bad f = tt
+
+pub spelled_of_hosted : (hosted : List (List ℕ)) (bytes : List ℕ) → IsOfHosted hosted (spelled hosted bytes)
+spelled_of_hosted hosted bytes = of_hosted hosted (spelled hosted bytes) (spelled_hosted hosted bytes)
+
+pub long_bad : (hosted : List (List ℕ)) (bytes : List ℕ) → 1_048_576 < length bytes → line.Bad ≡ spelled hosted bytes
+unfolding spelled
+long_bad hosted bytes h = grind arith

@@ -1,8 +1,8 @@
 -- What is written for an input, by lines, events and the steps of the machine.
-use Rattle.std.specs.Prelude.{◌≡◌, ℕ, ◌+◌, Bool, true, false, List, [], ◌∷◌, ◌++◌, Option, Some, None, ◌==◌, flat_map, All, codes}
-use Rattle.std.specs.List.{slice_split}
+use Rattle.std.specs.Prelude.{◌≡◌, ℕ, ◌+◌, List, [], ◌∷◌, ◌++◌, ◌⊎◌, true, Option, Some, None, flat_map, take, codes}
 use Rattle.std.specs.Fmt.{decimal}
 use Rattle.std.specs.Io.KnownBytes.{Appends}
+use Rattle.hub_rows.specs.Operators.{is_hosted}
 use Rattle.hub.specs.declared.out.Out.{Out}
 use Rattle.hub.specs.Table.{Setting}
 use Rattle.hub.specs.World.{World, world_outputs, world_step}
@@ -10,6 +10,7 @@ use Rattle.ws_server.specs.declared.lines.reading.Line.{Line}
 use Rattle.ws_server.specs.declared.lines.reading.Line.TheVariants.{Nothing, Event, Bad}
 use Rattle.ws_server.specs.InputLines.{spelled}
 use Rattle.ws_server.specs.OutputLines.{line_of}
+use Rattle.replay.specs.Held.{lines_of}
 
 -- the text is the front of the whole
 pub record Begins (text whole : List ℕ) : Type 0 where
@@ -40,44 +41,52 @@ after st w Nothing = w
 after st w (Event e) = world_step st w e
 after st w Bad = w
 
--- what lines are answered, the first of them line k
-unfoldable pub answers : Setting → World → ℕ → List (List ℕ) → List ℕ
-answers st w k [] = []
-answers st w k (l ∷ ls) = answer st w k (spelled st.hosted l) ++ answers st (after st w (spelled st.hosted l)) (k + 1) ls
+-- an event that a line says is of a hosted operator
+abbrev pub IsOfHosted : List (List ℕ) → Line → Type 0
+IsOfHosted hosted Nothing = Unit {0}
+IsOfHosted hosted (Event e) = is_hosted hosted e.op ≡ true
+IsOfHosted hosted Bad = Unit {0}
 
-abbrev pub is_feed : ℕ → Bool
-is_feed b = b == 10
+-- the line was taken, or not
+abbrev pub IsStep : Setting → World → Line → World → Type 0
+IsStep st w said v = (v ≡ w) ⊎ (v ≡ after st w said)
+
+-- what lines are answered, the first of them line k
+unfoldable pub answers_to : Setting → World → ℕ → List (List ℕ) → List ℕ
+answers_to st w k [] = []
+answers_to st w k (l ∷ ls) = answer st w k (spelled st.hosted l) ++ answers_to st (after st w (spelled st.hosted l)) (k + 1) ls
+
+-- the world after lines
+unfoldable pub world_after : Setting → World → List (List ℕ) → World
+world_after st w [] = w
+world_after st w (l ∷ ls) = world_after st (after st w (spelled st.hosted l)) ls
 
 -- what is written for an input: what its lines are answered, from a world on
 abbrev pub output_of : Setting → World → List ℕ → List ℕ
-output_of st w input = answers st w 1 (slice_split is_feed input)
+output_of st w input = answers_to st w 1 (lines_of input)
 
--- without the first
-abbrev pub skip_first : Bool → List (List ℕ) → List (List ℕ)
-skip_first false ls = ls
-skip_first true [] = []
-skip_first true (l ∷ ls) = ls
+-- the world after an input
+abbrev pub world_of : Setting → World → List ℕ → World
+world_of st w input = world_after st w (lines_of input)
 
--- what is still to be written: line k is in held so far, or its rest is passed over
-unfoldable pub left : Setting → World → ℕ → Bool → List ℕ → List ℕ → List ℕ
-left st w k skips held rest = answers st w k (skip_first skips (slice_split is_feed (held ++ rest)))
+-- the world after a number of the lines, the last of them whole
+pub record IsReached (st : Setting) (w : World) (lines : List (List ℕ)) (v : World) : Type 0 where
+  pub taken : ℕ
+  pub is : v ≡ world_after st w (take taken lines)
 
-abbrev pub HasNoFeed : List ℕ → Type 0
-HasNoFeed bytes = All (λ b. is_feed b ≡ false) bytes
-
--- xs has grown by a front of whole, and the rest lies ahead
+-- what was known at the start has grown by a front of whole, and the rest of whole lies ahead
 pub record Grown (xs ys ahead whole : List ℕ) : Type 0 where
   pub done : List ℕ
   pub now : ys ≡ xs ++ done
   pub all : done ++ ahead ≡ whole
 
--- what was known at the start has grown, and with what lies ahead it is all of whole
+-- the same, where the bytes are known
 abbrev pub Stands : Option (List ℕ) → Option (List ℕ) → List ℕ → List ℕ → Type 0
 Stands None now ahead whole = Unit {0}
 Stands (Some xs) None ahead whole = ⊥
 Stands (Some xs) (Some ys) ahead whole = Grown xs ys ahead whole
 
--- the same, with something ahead
+-- the same, with something ahead that begins with text
 pub record Falls (start now : Option (List ℕ)) (text whole : List ℕ) : Type 0 where
   pub ahead : List ℕ
   pub stands : Stands start now (text ++ ahead) whole

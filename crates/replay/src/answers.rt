@@ -1,11 +1,13 @@
 //! The answers to lines.
-ghost use Rattle.std.specs.Prelude.{◌≡◌, ◌+◌, ◌++◌, ◌<◌, ◌≤◌, ◌-◌, ◌^◌, List, ℕ, true, OnOk, OnErr, IfErr};
+ghost use Rattle.std.specs.Prelude.{◌≡◌, ◌+◌, ◌++◌, ◌<◌, ◌≤◌, ◌-◌, ◌^◌, List, [], ◌∷◌, ℕ, true, OnOk, OnErr, IfOk, IfErr};
 ghost use Rattle.hub_rows.specs.Failures.{Rose};
 ghost use Rattle.hub.specs.Hub.{world, setting, is_taken};
 ghost use Rattle.hub.specs.World.{world_outputs, world_step};
+ghost use Rattle.ws_server.specs.declared.lines.reading.Line.TheVariants as line;
 ghost use Rattle.ws_server.specs.InputLines.{spelled};
 ghost use Rattle.ws_server.specs.OutputLines.{line_of};
-ghost use Rattle.replay.specs.Run.{Begins, ended, answer, after, told_lines, bad_line};
+ghost use Rattle.replay.specs.Held.{IsLine};
+ghost use Rattle.replay.specs.Run.{Begins, IsOfHosted, IsStep, ended, answer, after, told_lines, bad_line};
 ghost use Rattle.replay.specs.declared.fault.LineFault.TheVariants as line_fault;
 
 use crate::fault::LineFault;
@@ -14,6 +16,7 @@ use hub::hub::Hub;
 use hub::out::Out;
 use hub_rows::store::Store;
 use ocpp_types::memory::Mem;
+use ocpp_types::text::Text;
 use station_calls::vendor::VendorHandler;
 use std::alloc::{AllocError, Global};
 use ws_server::lines::printing::print_out;
@@ -26,29 +29,31 @@ pub struct Answers {
     pub text: Vec<u8>,
 }
 
-#[tactic(auto, using(crate::proofs::Facts::begins, crate::proofs::Hosted::spelled_hosted))]
+#[tactic(auto, using(crate::proofs::Facts::begins))]
 impl Answers {
-    /// Answers the next line.
+    /// Answers the next line, of which none is held where it is too long.
     pub fn line<S: Store + Drop, V: VendorHandler>(
         &mut self,
         alloc: Global,
         hub: &mut Hub<S, V>,
-        raw: &[u8],
+        held: Option<&[u8]>,
     ) -> Result<(), LineFault>
         requires { self.old.number < 2 ^ 64 - 1 }
         ensures number { OnOk result (self.new.number ≡ self.old.number + 1) }
         ensures was_clean { S.clean hub.new.book.store → S.clean hub.old.book.store }
         ensures setting { setting V.name V.gives hub.new ≡ setting V.name V.gives hub.old }
-        ensures world { S.clean hub.new.book.store → OnOk result (world S.rows hub.new
-            ≡ after (setting V.name V.gives hub.old) (world S.rows hub.old) (spelled (setting V.name V.gives hub.old).hosted raw.now)) }
-        ensures text { S.clean hub.new.book.store → OnOk result (self.new.text.items ≡ self.old.text.items
-            ++ answer (setting V.name V.gives hub.old) (world S.rows hub.old) self.old.number (spelled (setting V.name V.gives hub.old).hosted raw.now)) }
-        ensures fault { S.clean hub.new.book.store → OnErr result (Begins self.new.text.items (self.old.text.items
-            ++ answer (setting V.name V.gives hub.old) (world S.rows hub.old) self.old.number (spelled (setting V.name V.gives hub.old).hosted raw.now))) }
+        ensures world { S.clean hub.new.book.store → OnOk result ((line : List ℕ) → IsLine held.entry line
+            → world S.rows hub.new ≡ after (setting V.name V.gives hub.old) (world S.rows hub.old) (spelled (setting V.name V.gives hub.old).hosted line)) }
+        ensures text { S.clean hub.new.book.store → OnOk result ((line : List ℕ) → IsLine held.entry line
+            → self.new.text.items ≡ self.old.text.items ++ answer (setting V.name V.gives hub.old) (world S.rows hub.old) self.old.number (spelled (setting V.name V.gives hub.old).hosted line)) }
+        ensures fault_world { S.clean hub.new.book.store → OnErr result ((line : List ℕ) → IsLine held.entry line
+            → IsStep (setting V.name V.gives hub.old) (world S.rows hub.old) (spelled (setting V.name V.gives hub.old).hosted line) (world S.rows hub.new)) }
+        ensures fault_text { S.clean hub.new.book.store → OnErr result ((line : List ℕ) → IsLine held.entry line
+            → Begins self.new.text.items (self.old.text.items ++ answer (setting V.name V.gives hub.old) (world S.rows hub.old) self.old.number (spelled (setting V.name V.gives hub.old).hosted line))) }
         ensures count { S.failures hub.old.book.store ≤ S.failures hub.new.book.store }
         ensures store_failed { IfErr result (λ f. f ≡ line_fault.Store → Rose (S.failures hub.old.book.store) (S.failures hub.new.book.store)) }
     {
-        match read_line(alloc, hub.hosted(), raw)? {
+        match read_held(alloc, hub.hosted(), held)? {
             Line::Nothing => {}
             Line::Event(event) => self.event(alloc, hub, &event)?,
             Line::Bad => push_bad(&mut self.text, alloc, self.number)?,
@@ -71,7 +76,9 @@ impl Answers {
             ≡ world_step (setting V.name V.gives hub.old) (world S.rows hub.old) event.now) }
         ensures text { S.clean hub.new.book.store → OnOk result (self.new.text.items ≡ self.old.text.items
             ++ told_lines (world_outputs (setting V.name V.gives hub.old) (world S.rows hub.old) event.now)) }
-        ensures fault { S.clean hub.new.book.store → OnErr result (Begins self.new.text.items (self.old.text.items
+        ensures fault_world { S.clean hub.new.book.store → OnErr result (IsStep (setting V.name V.gives hub.old) (world S.rows hub.old)
+            (line.Event event.now) (world S.rows hub.new)) }
+        ensures fault_text { S.clean hub.new.book.store → OnErr result (Begins self.new.text.items (self.old.text.items
             ++ told_lines (world_outputs (setting V.name V.gives hub.old) (world S.rows hub.old) event.now))) }
         ensures count { S.failures hub.old.book.store ≤ S.failures hub.new.book.store }
         ensures store_failed { is_taken (setting V.name V.gives hub.old) event.now ≡ true → IfErr result (λ f. f ≡ line_fault.Store
@@ -83,8 +90,20 @@ impl Answers {
     }
 }
 
+/// What a line says, where one that isn't held is too long.
+#[tactic(auto, using(crate::proofs::Hosted::long_bad, crate::proofs::Hosted::spelled_of_hosted))]
+fn read_held(alloc: Global, hosted: &[Text], held: Option<&[u8]>) -> Mem<Line>
+    ensures hosted { IfOk result (λ said. IsOfHosted hosted.now said) }
+    ensures said { IfOk result (λ said. (line : List ℕ) → IsLine held.entry line → said ≡ spelled hosted.now line) }
+{
+    match held {
+        Some(line) => read_line(alloc, hosted, line),
+        None => Ok(Line::Bad),
+    }
+}
+
 /// Adds a bad line's answer.
-pub fn push_bad(text: &mut Vec<u8>, alloc: Global, number: u64) -> Result<(), AllocError>
+fn push_bad(text: &mut Vec<u8>, alloc: Global, number: u64) -> Result<(), AllocError>
     ensures ok { OnOk result (text.new.items ≡ text.old.items ++ bad_line number) }
     ensures err { OnErr result (text.new.items ≡ text.old.items) }
 {

@@ -1,5 +1,5 @@
 //! A replay over records in memory.
-ghost use Rattle.std.specs.Prelude.{◌≡◌, ◌≢◌, ◌≤◌, List, [], ℕ, length, false, OnOk, OnErr, IfErr, IfSome, Err};
+ghost use Rattle.std.specs.Prelude.{◌≡◌, ◌≢◌, ◌<◌, ◌≤◌, List, [], ℕ, length, false, OnOk, OnErr, IfErr, IfSome, Err};
 ghost use Rattle.std.specs.Io.KnownBytes.{Appends};
 ghost use Rattle.hub_rows.specs.Rows.{no_rows};
 ghost use Rattle.hub.specs.Hub.{setting_of};
@@ -33,6 +33,7 @@ pub fn replay_in_memory<V: VendorHandler, R: Read, W: Write>(
     ensures fault { OnErr result (IfSome (R.remaining reader.old) (λ input.
         AppendsFront (W.contents writer.old) (W.contents writer.new)
         (output_of (setting_of V.name V.gives operators.items vendors.items) (record { rows = no_rows; slots = [] }) input))) }
+    ensures short { OnOk result (IfSome (R.remaining reader.old) (λ input. length input < 1073741824)) }
     ensures long { IfErr result (λ e. e ≡ TooLong → IfSome (R.remaining reader.old) (λ input. 1073741824 ≤ length input)) }
     ensures bad_operators { are_operators operators.items ≡ false → (result ≡ Err BadOperators) × (writer.new ≡ writer.old) }
     ensures operators { IfErr result (λ e. e ≡ BadOperators → are_operators operators.items ≡ false) }

@@ -5,6 +5,4 @@ pub mod book;
 pub mod core_handler;
 pub mod decide;
 pub mod echo;
-#[cfg(test)]
-mod tests;
 pub mod vendor;

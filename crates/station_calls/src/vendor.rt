@@ -8,7 +8,7 @@ use ocpp_types::memory::Mem;
 use ocpp_types::text::Text;
 
 /// What a vendor's message is answered (OCPP 1.6, DataTransfer.conf).
-#[derive(Debug, PartialEq, Eq, Drop)]
+#[derive(Drop)]
 pub struct VendorAnswer {
     pub status: DataTransferStatus,
     /// The member `data`.

@@ -3,8 +3,6 @@
 
 mod copies;
 pub mod failing;
-#[cfg(test)]
-mod making;
 pub mod mem_store;
 mod open;
 mod readings;
@@ -12,6 +10,4 @@ mod started;
 mod station_rows;
 mod stations;
 mod tags;
-#[cfg(test)]
-mod tests;
 mod transactions;

@@ -2,5 +2,3 @@
 #![tactic(auto)]
 
 pub mod lines;
-#[cfg(test)]
-mod tests;

@@ -14,13 +14,13 @@ use ocpp_types::text::Text;
 use std::alloc::Global;
 
 /// What a line of input says.
-#[derive(Debug, Drop)]
+#[derive(Drop)]
 pub enum Line {
     /// The line is empty.
     Nothing,
     /// An event for the hub.
     Event(Event),
-    /// The line has none of the forms, or its operator isn't hosted.
+    /// The line is too long, isn't UTF-8, has none of the forms, or its operator isn't hosted.
     Bad,
 }
 

@@ -1,6 +1,7 @@
-use Rattle.std.proofs.Common.{◌∙◌, ◌+◌, take, ap, sym, arith}
+use Rattle.std.proofs.Common.{◌≡◌, ◌∙◌, ◌+◌, true, take, ap, sym, arith}
+use Rattle.std.proofs.lemmas.List.Elements.{AllWithin-more, at_read}
 use Rattle.hub.specs.Said.{outputs_of}
-use Rattle.hub.specs.Hub.{world, setting}
+use Rattle.hub.specs.Hub.{world, setting, is_taken}
 use Rattle.hub.specs.Table.{Setting}
 use Rattle.hub.specs.View.{view}
 use Rattle.hub.specs.WellFormed.{WellFormed}
@@ -58,6 +59,9 @@ loop-event-preserved g c =
     let mine : Setting = setting g.V.VendorHandler.name g.V.VendorHandler.gives at.self in
     record {
       at = ap (λ n. n + 1) inv.at;
+      hosted = AllWithin-more (λ e. is_taken st e ≡ true) es 0 i inv.hosted
+          (at_read es (λ e. is_taken st e ≡ true) i c.event-item.result c.loop-event-test.true c.event-item.is
+          (ap (λ s. is_taken s c.event-item.result) (sym inv.setting) ∙ c.in-Ok.ensures.taken));
       was_clean = λ clean. inv.was_clean (c.in-Ok.ensures.was_clean clean);
       outputs = λ clean. let before = c.in-Ok.ensures.was_clean clean in
           outputs_go_on st w es i c.event-item.result at.outs.items c.take.new.told.items mine (world g.S.Store.rows at.self) c.loop-event-test.true c.event-item.is inv.setting (inv.world before) (inv.outputs before) (c.in-Ok.ensures.told clean);

@@ -1,0 +1,16 @@
+//! Proved tests of what no file of cases can show: stores, handlers, readers and writers that fail,
+//! and numbers at their end.
+#![tactic(auto)]
+
+#[cfg(test)]
+mod failing_stores;
+#[cfg(test)]
+mod faulty;
+#[cfg(test)]
+mod handlers;
+#[cfg(test)]
+mod last_numbers;
+#[cfg(test)]
+mod replays;
+#[cfg(test)]
+mod scripts;

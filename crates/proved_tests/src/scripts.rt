@@ -1,0 +1,53 @@
+//! Scripts as events, and outputs as lines.
+
+use hub::event::Event;
+use hub::out::Out;
+use ocpp_types::memory::Mem;
+use ocpp_types::text::Text;
+use std::alloc::Global;
+use ws_server::lines::printing::print_out;
+use ws_server::lines::reading::{Line, read_line};
+
+/// ACME's station CP01 is added, connects, boots and sends a heartbeat.
+pub const BOOTED: &str = r#"1704067200 ACME station add CP01 Accepted 300
+1704067200 ACME connect CP01
+1704067200 ACME frame CP01 [2,"1","BootNotification",{"chargePointVendor":"V","chargePointModel":"M"}]
+1704067200 ACME frame CP01 [2,"2","Heartbeat",{}]
+"#;
+
+/// What is written for it.
+pub const BOOTED_OUTPUT: &str = r#"ACME ok
+ACME CP01 send [3,"1",{"currentTime":"2024-01-01T00:00:00Z","interval":300,"status":"Accepted"}]
+ACME CP01 send [3,"2",{"currentTime":"2024-01-01T00:00:00Z"}]
+"#;
+
+pub fn operators(alloc: Global, names: &[&str]) -> Mem<Vec<Text>> {
+    let mut operators = Vec::new(alloc);
+    for name in names {
+        operators.push(Text::copy_of(alloc, name)?)?;
+    }
+    Ok(operators)
+}
+
+/// The events of the lines of a script, those of an operator ZETA among them.
+pub fn events(alloc: Global, script: &str) -> Mem<Vec<Event>> {
+    let hosted = operators(alloc, &["ACME", "BETA", "ZETA"])?;
+    let mut events = Vec::new(alloc);
+    for line in script.lines() {
+        if let Line::Event(event) = read_line(alloc, &hosted, line.as_bytes())? {
+            events.push(event)?;
+        }
+    }
+    Ok(events)
+}
+
+/// The lines of outputs.
+pub fn lines_of(alloc: Global, outs: &[Out]) -> Mem<String> {
+    let mut text = String::new(alloc);
+    for out in outs {
+        let line = print_out(alloc, out)?;
+        text.push_str(line.as_str())?;
+        text.push('\n')?;
+    }
+    Ok(text)
+}

@@ -1,0 +1,51 @@
+//! Tables of frames.
+
+use anyhow::{Result, bail};
+use ocpp_frame::frame::Frame;
+use ocpp_frame::read::read_frame;
+use ocpp_frame::write::{write_call, write_error, write_result};
+use serde_json::Value;
+use std::alloc::Global;
+
+/// The frame that a text is: its kind and its parts, `|` between them.
+pub fn frame_read(alloc: Global, text: &str) -> Result<String> {
+    Ok(match read_frame(alloc, text)? {
+        Frame::Call {
+            id,
+            action,
+            payload,
+        } => {
+            let payload = payload.as_value().to_string(alloc)?;
+            format!(in alloc; "Call|{id}|{action}|{payload}")?
+        }
+        Frame::CallResult { id, payload } => {
+            let payload = payload.as_value().to_string(alloc)?;
+            format!(in alloc; "CallResult|{id}|{payload}")?
+        }
+        Frame::CallError {
+            id,
+            code,
+            description,
+        } => format!(in alloc; "CallError|{id}|{code}|{description}")?,
+        Frame::Broken { id } => format!(in alloc; "Broken|{id}")?,
+        Frame::Ignored => "Ignored".to_string(alloc)?,
+    })
+}
+
+/// The text of a frame of that kind and those parts, as `frame_read` has them.
+pub fn frame_written(alloc: Global, kind: &str, parts: &[String]) -> Result<String> {
+    Ok(match (kind, parts) {
+        ("Call", [id, action, payload]) => {
+            let payload = Value::from_str(alloc, payload.as_str())?;
+            write_call(alloc, id.as_str(), action.as_str(), payload)?
+        }
+        ("CallResult", [id, payload]) => {
+            let payload = Value::from_str(alloc, payload.as_str())?;
+            write_result(alloc, id.as_str(), payload)?
+        }
+        ("CallError", [id, code, description]) => {
+            write_error(alloc, id.as_str(), code.as_str(), description.as_str())?
+        }
+        _ => bail!("no such frame"),
+    })
+}

@@ -1,0 +1,24 @@
+//! The table of requests.
+
+use anyhow::{Result, bail};
+use ocpp_payload::action::Action;
+use ocpp_payload::read_request::read_request;
+use ocpp_types::named::Named;
+use serde_json::Value;
+use std::alloc::Global;
+
+/// What a payload of that action gives: `read`, or the code and the member at fault.
+pub fn request_read(alloc: Global, action: &str, payload: &str) -> Result<String> {
+    let Some(action) = Action::of(action) else {
+        bail!("no such action");
+    };
+    let payload = Value::from_str(alloc, payload)?;
+    match read_request(alloc, action, &payload)? {
+        Ok(_request) => Ok("read".to_string(alloc)?),
+        Err(fault) => {
+            let code = fault.code.name();
+            let field = fault.field.as_str();
+            Ok(format!(in alloc; "{code} {field}")?)
+        }
+    }
+}

@@ -1,0 +1,34 @@
+//! The function of each table.
+
+use crate::enumerations::{class_of_action, name_read};
+use crate::frames::{frame_read, frame_written};
+use crate::requests::request_read;
+use crate::values::{
+    characters, moment_printed, number_of_reading, operators_hosted, tag_key, time_read,
+};
+use anyhow::{Result, bail};
+use std::alloc::Global;
+
+/// What the function of that table gives for those texts.
+pub fn given(alloc: Global, table: &str, texts: &[String]) -> Result<String> {
+    match (table, texts) {
+        ("action_classes", [name]) => class_of_action(alloc, name.as_str()),
+        ("characters", [text]) => characters(alloc, text.as_str()),
+        ("enumerations", [enumeration, name]) => {
+            name_read(alloc, enumeration.as_str(), name.as_str())
+        }
+        ("frames_read", [text]) => frame_read(alloc, text.as_str()),
+        ("frames_written", [kind, texts @ ..]) => frame_written(alloc, kind.as_str(), texts),
+        ("moments", [seconds]) => moment_printed(alloc, seconds.as_str()),
+        ("numbers_of_readings", [unit, text]) => {
+            number_of_reading(alloc, unit.as_str(), text.as_str())
+        }
+        ("operators", names) => operators_hosted(alloc, names),
+        ("requests", [action, payload]) => {
+            request_read(alloc, action.as_str(), payload.as_str())
+        }
+        ("tag_keys", [tag]) => tag_key(alloc, tag.as_str()),
+        ("times", [text]) => time_read(alloc, text.as_str()),
+        _ => bail!("no such table, or another number of texts"),
+    }
+}

@@ -1,0 +1,69 @@
+//! Scripts compared with what they are to write.
+
+use crate::difference::first_difference;
+use crate::replayed::written;
+use crate::script::{lines_of, names, operators_of, wanted_of};
+use crate::stores::StoreMaker;
+use anyhow::{Context, Result};
+use std::rt::Files;
+
+/// How many scripts passed, and how many failed.
+#[derive(Drop)]
+pub struct Tally {
+    pub passed: u64,
+    pub failed: u64,
+}
+
+impl Tally {
+    fn count(&mut self, passes: bool) {
+        if passes {
+            self.passed = self.passed.saturating_add(1);
+        } else {
+            self.failed = self.failed.saturating_add(1);
+        }
+    }
+}
+
+/// Checks the scripts of this folder, each over a new store.
+pub fn check_all<R, M>(rt: &R, stores: &M) -> Result<Tally>
+where
+    R: Files + AllocGlobal + Print + Clone + Drop,
+    M: StoreMaker,
+{
+    let mut tally = Tally {
+        passed: 0,
+        failed: 0,
+    };
+    for name in &names(rt)? {
+        let passes = passes(rt, stores, name.as_str()).context(format_args!("script {name}"))?;
+        tally.count(passes);
+    }
+    Ok(tally)
+}
+
+/// Whether a replay of the script of that name writes what it is to write; if not, prints the
+/// first line that differs.
+fn passes<R, M>(rt: &R, stores: &M, name: &str) -> Result<bool>
+where
+    R: Files + AllocGlobal + Print,
+    M: StoreMaker,
+{
+    let got = got_of(rt, stores, name)?;
+    let wanted = wanted_of(rt, name)?;
+    let Some(difference) = first_difference(wanted.as_str(), got.as_str()) else {
+        return Ok(true);
+    };
+    println!(rt; "{name}, {difference}")?;
+    Ok(false)
+}
+
+/// What a replay of the script of that name writes.
+fn got_of<R, M>(rt: &R, stores: &M, name: &str) -> Result<String>
+where
+    R: Files + AllocGlobal,
+    M: StoreMaker,
+{
+    let operators = operators_of(rt, name)?;
+    let lines = lines_of(rt, name)?;
+    written(rt.alloc(), stores.make()?, operators, lines.as_slice())
+}

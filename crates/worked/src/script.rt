@@ -1,0 +1,52 @@
+//! The files of scripts.
+
+use anyhow::Result;
+use ocpp_types::text::Text;
+use std::alloc::Global;
+use std::fs;
+use std::path::Path;
+use std::rt::Files;
+
+/// The names of the scripts of this folder, in their order.
+pub fn names<R: Files + AllocGlobal + Clone + Drop>(rt: &R) -> Result<Vec<String>> {
+    let mut names = Vec::new(rt.alloc());
+    for entry in fs::read_dir(rt, ".")? {
+        let entry = entry?;
+        if let Some(name) = entry.file_name().strip_suffix(".script") {
+            names.push(name.to_string(rt.alloc())?)?;
+        }
+    }
+    names.sort_unstable();
+    Ok(names)
+}
+
+/// The lines of a script.
+pub fn lines_of<R: Files + AllocGlobal>(rt: &R, name: &str) -> Result<Vec<u8>> {
+    let path = format!(in rt.alloc(); "{name}.script")?;
+    Ok(fs::read(rt, path)?)
+}
+
+/// What a replay of a script is to write.
+pub fn wanted_of<R: Files + AllocGlobal>(rt: &R, name: &str) -> Result<String> {
+    let path = format!(in rt.alloc(); "{name}.expected")?;
+    Ok(fs::read_to_string(rt, path)?)
+}
+
+/// The operators of a script: those of its file, commas between them, or else ACME and BETA.
+pub fn operators_of<R: Files + AllocGlobal>(rt: &R, name: &str) -> Result<Vec<Text>> {
+    let path = format!(in rt.alloc(); "{name}.operators")?;
+    if !Path::new(path.as_str()).exists(rt) {
+        return parts(rt.alloc(), "ACME,BETA");
+    }
+    let text = fs::read_to_string(rt, path)?;
+    parts(rt.alloc(), text.as_str().trim_end_matches('\n'))
+}
+
+/// The parts between commas, empty ones too.
+fn parts(alloc: Global, text: &str) -> Result<Vec<Text>> {
+    let mut parts = Vec::new(alloc);
+    for part in text.split(',') {
+        parts.push(Text::copy_of(alloc, part)?)?;
+    }
+    Ok(parts)
+}
