@@ -1,14 +1,11 @@
 //! A hub over a store that fails at each call in turn, and one that finds no memory.
 
-use crate::scripts::{BOOTED, events, lines_of, operators};
+use crate::scripts::{BOOTED, events, hub_of, run};
 use hub::event::Event;
 use hub::fault::Fault;
 use hub::hub::Hub;
-use hub::out::Out;
-use hub_rows::store::Store;
 use ocpp_types::memory::Mem;
 use station_calls::echo::Echo;
-use station_calls::vendor::VendorHandler;
 use std::alloc::Global;
 use std::test::Fail;
 use store_mem::failing::Failing;
@@ -66,15 +63,13 @@ const CALLS: u64 = 70;
 /// What the events are answered where the call after the next `before` ones fails, and the event
 /// that met the failure is handed again.
 fn answered(alloc: Global, events: &[Event], before: u64) -> Result<String, Fail> {
-    let hosted = operators(alloc, &["ACME", "BETA"])?;
     let store = Failing::new(MemStore::new(alloc), before);
-    let mut hub = Hub::new(alloc, store, hosted, no_vendors(alloc))?;
-    let (outs, taken, fault) = hub.run(events);
-    let mut text = lines_of(alloc, outs.as_slice())?;
-    if fault == Some(Fault::Store) {
-        let (rest, _, _) = hub.run(&events[taken..]);
-        let rest = lines_of(alloc, rest.as_slice())?;
-        text.push_str(rest.as_str())?;
+    let mut hub = hub_of(alloc, store, no_vendors(alloc))?;
+    let first = run(alloc, &mut hub, events)?;
+    let mut text = first.text;
+    if first.fault == Some(Fault::Store) && first.taken <= events.len() {
+        let rest = run(alloc, &mut hub, &events[first.taken..])?;
+        text.push_str(rest.text.as_str())?;
     }
     Ok(text)
 }
@@ -95,62 +90,42 @@ fn an_event_that_met_a_failing_store_can_be_handed_again(rt: HostRuntime) -> Res
 }
 
 #[test]
-fn a_failing_store_is_told(rt: HostRuntime) -> Result<(), Fail> {
+fn a_run_stops_at_a_fault(rt: HostRuntime) -> Result<(), Fail> {
     let alloc = rt.alloc();
-    let events = events(alloc, BOOTED)?;
-    let hosted = operators(alloc, &["ACME"])?;
+    let booted = events(alloc, BOOTED)?;
     let store = Failing::new(MemStore::new(alloc), 1);
-    let mut hub = Hub::new(alloc, store, hosted, no_vendors(alloc))?;
-    let (outs, taken, fault) = hub.run(events.as_slice());
-    assert_eq!(rt; (outs.len(), taken), (0, 0));
-    assert!(rt; fault == Some(Fault::Store));
+    let mut hub = hub_of(alloc, store, no_vendors(alloc))?;
+    let met = run(alloc, &mut hub, booted.as_slice())?;
+    assert!(rt; met.text.is_empty() && met.taken == 0);
+    assert!(rt; met.fault == Some(Fault::Store));
+    let foreign = events(alloc, FOREIGN)?;
+    let met = run(alloc, &mut hub, foreign.as_slice())?;
+    assert_eq!(rt; met.text.as_str(), "ACME ok\n");
+    assert!(rt; met.taken == 1 && met.fault == Some(Fault::NoSuchOperator));
     Ok(())
 }
 
-#[test]
-fn a_run_stops_at_an_operator_that_is_not_hosted(rt: HostRuntime) -> Result<(), Fail> {
-    let alloc = rt.alloc();
-    let mut events = events(alloc, BOOTED)?;
-    for event in foreign(alloc)? {
-        events.push(event)?;
-    }
-    let hosted = operators(alloc, &["ACME"])?;
-    let mut hub = Hub::new(alloc, MemStore::new(alloc), hosted, no_vendors(alloc))?;
-    let (_, taken, fault) = hub.run(events.as_slice());
-    assert_eq!(rt; taken, 4);
-    assert!(rt; fault == Some(Fault::NoSuchOperator));
-    Ok(())
-}
+/// Events of ACME, of ZETA, which isn't hosted, and of ACME.
+const FOREIGN: &str =
+    "1704067200 ACME list tags\n1704067200 ZETA list tags\n1704067200 ACME list tags\n";
 
-/// An event of ZETA, which the hub doesn't host, and one of ACME.
-fn foreign(alloc: Global) -> Mem<Vec<Event>> {
-    events(
-        alloc,
-        "1704067200 ZETA list tags\n1704067200 ACME list tags\n",
-    )
-}
-
-/// Hands the event again where it finds no memory, which it does at most once: one allocation of
+/// Hands each event again where it finds no memory, which happens at most once: one allocation of
 /// this test is refused under `rt try --test --fail-alloc N`.
-fn handed<S: Store + Drop, V: VendorHandler>(
-    hub: &mut Hub<S, V>,
-    event: &Event,
-) -> Result<Vec<Out>, Fault> {
-    match hub.handle(event) {
-        Err(Fault::NoMemory) => hub.handle(event),
-        answer => answer,
+fn handed(alloc: Global, hub: &mut Hub<MemStore, Echo>, event: &[Event]) -> Mem<String> {
+    let first = run(alloc, hub, event)?;
+    match first.fault {
+        Some(Fault::NoMemory) => Ok(run(alloc, hub, event)?.text),
+        _ => Ok(first.text),
     }
 }
 
 #[test]
 fn an_event_that_found_no_memory_can_be_handed_again(rt: HostRuntime) -> Result<(), Fail> {
     let alloc = rt.alloc();
-    let hosted = operators(alloc, &["ACME", "BETA"])?;
-    let mut hub = Hub::new(alloc, MemStore::new(alloc), hosted, no_vendors(alloc))?;
+    let mut hub = hub_of(alloc, MemStore::new(alloc), no_vendors(alloc))?;
     let mut text = String::new(alloc);
-    for event in &events(alloc, SCRIPT)? {
-        let outs = handed(&mut hub, event)?;
-        let lines = lines_of(alloc, outs.as_slice())?;
+    for event in events(alloc, SCRIPT)?.as_slice().chunks(1) {
+        let lines = handed(alloc, &mut hub, event)?;
         text.push_str(lines.as_str())?;
     }
     assert_eq!(rt; text.as_str(), OUTPUT);

@@ -1,8 +1,7 @@
 //! Handlers of vendors' messages, through the hub.
 
-use crate::scripts::{BOOTED, events, lines_of, operators};
+use crate::scripts::{BOOTED, events, hub_of, run};
 use hub::fault::Fault;
-use hub::hub::Hub;
 use ocpp_types::data_transfer_status::DataTransferStatus;
 use ocpp_types::memory::{Mem, NoMemory};
 use ocpp_types::text::Text;
@@ -64,7 +63,8 @@ pub fn handlers(alloc: Global, refuses: bool) -> Mem<Vec<Fixed>> {
 }
 
 /// Messages of the vendors V, W and v.
-pub const MESSAGES: &str = r#"1704067200 ACME frame CP01 [2,"3","DataTransfer",{"vendorId":"V","messageId":"m"}]
+pub const MESSAGES: &str =
+    r#"1704067200 ACME frame CP01 [2,"3","DataTransfer",{"vendorId":"V","messageId":"m"}]
 1704067200 ACME frame CP01 [2,"4","DataTransfer",{"vendorId":"W"}]
 1704067200 ACME frame CP01 [2,"5","DataTransfer",{"vendorId":"v"}]
 "#;
@@ -77,16 +77,13 @@ ACME CP01 send [3,"5",{"status":"UnknownVendorId"}]
 #[test]
 fn a_message_that_found_no_memory_can_be_handed_again(rt: HostRuntime) -> Result<(), Fail> {
     let alloc = rt.alloc();
-    let hosted = operators(alloc, &["ACME"])?;
-    let vendors = handlers(alloc, true)?;
-    let mut hub = Hub::new(alloc, MemStore::new(alloc), hosted, vendors)?;
-    let (_, taken, fault) = hub.run(events(alloc, BOOTED)?.as_slice());
-    assert!(rt; taken == 4 && fault.is_none());
+    let mut hub = hub_of(alloc, MemStore::new(alloc), handlers(alloc, true)?)?;
+    let booted = run(alloc, &mut hub, events(alloc, BOOTED)?.as_slice())?;
+    assert!(rt; booted.taken == 4 && booted.fault.is_none());
     let messages = events(alloc, MESSAGES)?;
-    let (_, taken, fault) = hub.run(messages.as_slice());
-    assert!(rt; taken == 0 && fault == Some(Fault::NoMemory));
-    let (outs, _, _) = hub.run(messages.as_slice());
-    let text = lines_of(alloc, outs.as_slice())?;
-    assert_eq!(rt; text.as_str(), ANSWERS);
+    let met = run(alloc, &mut hub, messages.as_slice())?;
+    assert!(rt; met.taken == 0 && met.fault == Some(Fault::NoMemory));
+    let again = run(alloc, &mut hub, messages.as_slice())?;
+    assert_eq!(rt; again.text.as_str(), ANSWERS);
     Ok(())
 }

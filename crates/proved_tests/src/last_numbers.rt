@@ -2,8 +2,7 @@
 ghost use Rattle.std.specs.Prelude.{IsTrue};
 ghost use Rattle.hub_rows.specs.Transactions.{AreNext};
 
-use crate::scripts::operators;
-use hub::hub::Hub;
+use crate::scripts::{events, hub_of, run};
 use hub_rows::change::{Change, Edit};
 use hub_rows::reading_row::Reading;
 use hub_rows::store::{Store, StoreFault};
@@ -19,7 +18,6 @@ use ocpp_types::reading_context::ReadingContext;
 use ocpp_types::tag_key::TagKey;
 use ocpp_types::text::Text;
 use ocpp_types::value_format::ValueFormat;
-use replay::input::replay;
 use station_calls::echo::Echo;
 use std::alloc::Global;
 use std::test::Fail;
@@ -185,7 +183,8 @@ const SCRIPT: &str = r#"1704067200 ACME connect CP01
 1704067200 ACME list readings CP01
 "#;
 
-const OUTPUT: &str = r#"ACME CP01 send [3,"1",{"currentTime":"2024-01-01T00:00:00Z","interval":300,"status":"Accepted"}]
+const OUTPUT: &str =
+    r#"ACME CP01 send [3,"1",{"currentTime":"2024-01-01T00:00:00Z","interval":300,"status":"Accepted"}]
 ACME CP01 send [3,"2",{"idTagInfo":{"status":"Invalid"},"transactionId":2147483647}]
 ACME CP01 send [4,"3","InternalError","",{}]
 ACME CP01 send [3,"4",{"idTagInfo":{"status":"Invalid"},"transactionId":2147483646}]
@@ -216,14 +215,10 @@ fn near_the_end(alloc: Global, moment: Moment) -> Result<MemStore, StoreFault> {
 fn no_number_follows_the_last(rt: HostRuntime) -> Result<(), Fail> {
     let alloc = rt.alloc();
     let moment = Moment::new(1704067200).expect(&rt, "a moment");
-    let hosted = operators(alloc, &["ACME"])?;
-    let store = near_the_end(alloc, moment)?;
-    let mut vendors = Vec::new(alloc);
-    vendors.push(Echo { alloc })?;
-    let mut hub = Hub::new(alloc, store, hosted, vendors)?;
-    let mut reader = SCRIPT.as_bytes();
-    let mut written = Vec::new(alloc);
-    replay(alloc, &mut hub, &mut reader, &mut written)?;
-    assert_eq!(rt; str::from_utf8(written.as_slice())?, OUTPUT);
+    let vendors: Vec<Echo> = Vec::new(alloc);
+    let mut hub = hub_of(alloc, near_the_end(alloc, moment)?, vendors)?;
+    let events = events(alloc, SCRIPT)?;
+    let met = run(alloc, &mut hub, events.as_slice())?;
+    assert_eq!(rt; met.text.as_str(), OUTPUT);
     Ok(())
 }

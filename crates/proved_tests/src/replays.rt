@@ -2,8 +2,8 @@
 //! is a front of what the whole input is answered.
 
 use crate::faulty::{Failure, FaultyReader, FaultyWriter};
-use crate::handlers::{MESSAGES, handlers};
-use crate::scripts::{BOOTED, BOOTED_OUTPUT, operators};
+use crate::handlers::{Fixed, MESSAGES, handlers};
+use crate::scripts::{BOOTED, BOOTED_OUTPUT, hub_of, operators};
 use hub::hub::Hub;
 use replay::fault::ReplayFault;
 use replay::in_memory::replay_in_memory;
@@ -16,11 +16,7 @@ use store_mem::failing::Failing;
 use store_mem::mem_store::MemStore;
 
 /// How a replay of ACME and BETA ends: `ok`, or the name of its fault.
-fn ended<R: Read, W: Write>(
-    alloc: Global,
-    reader: &mut R,
-    writer: &mut W,
-) -> Result<String, Fail> {
+fn ended<R: Read, W: Write>(alloc: Global, reader: &mut R, writer: &mut W) -> Result<String, Fail> {
     let hosted = operators(alloc, &["ACME", "BETA"])?;
     let vendors: Vec<Echo> = Vec::new(alloc);
     let answer = replay_in_memory(alloc, hosted, vendors, reader, writer);
@@ -104,15 +100,22 @@ fn faults_have_names(rt: HostRuntime) -> Result<(), Fail> {
     Ok(())
 }
 
+fn replayed(
+    alloc: Global,
+    hub: &mut Hub<Failing<MemStore>, Fixed>,
+    script: &str,
+) -> Result<(), ReplayFault> {
+    let mut written = Vec::new(alloc);
+    replay(alloc, hub, &mut script.as_bytes(), &mut written)
+}
+
 #[test]
 fn a_failing_store_and_want_of_memory_are_named(rt: HostRuntime) -> Result<(), Fail> {
     let alloc = rt.alloc();
     let store = Failing::new(MemStore::new(alloc), 4);
-    let vendors = handlers(alloc, true)?;
-    let mut hub = Hub::new(alloc, store, operators(alloc, &["ACME"])?, vendors)?;
+    let mut hub = hub_of(alloc, store, handlers(alloc, true)?)?;
     for (script, name) in [(BOOTED, "Store"), (BOOTED, "ok"), (MESSAGES, "NoMemory")] {
-        let mut written = Vec::new(alloc);
-        let answer = replay(alloc, &mut hub, &mut script.as_bytes(), &mut written);
+        let answer = replayed(alloc, &mut hub, script);
         assert_eq!(rt; named(alloc, answer)?.as_str(), name);
     }
     Ok(())

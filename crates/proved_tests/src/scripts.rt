@@ -1,10 +1,16 @@
-//! Scripts as events, and outputs as lines.
+//! Scripts as events, hubs for them, and outputs as lines. The helpers have no contract: a test that
+//! stands on one is cheap to prove.
 
 use hub::event::Event;
+use hub::fault::Fault;
+use hub::hub::{BadOperators, Hub};
 use hub::out::Out;
+use hub_rows::store::Store;
 use ocpp_types::memory::Mem;
 use ocpp_types::text::Text;
+use station_calls::vendor::VendorHandler;
 use std::alloc::Global;
+use std::test::Fail;
 use ws_server::lines::printing::print_out;
 use ws_server::lines::reading::{Line, read_line};
 
@@ -41,8 +47,47 @@ pub fn events(alloc: Global, script: &str) -> Mem<Vec<Event>> {
     Ok(events)
 }
 
+/// A hub of ACME and BETA.
+pub fn hub_of<S: Store + Drop, V: VendorHandler>(
+    alloc: Global,
+    store: S,
+    vendors: Vec<V>,
+) -> Result<Hub<S, V>, Fail> {
+    let hosted = operators(alloc, &["ACME", "BETA"])?;
+    Ok(made(alloc, store, hosted, vendors)?)
+}
+
+fn made<S: Store + Drop, V: VendorHandler>(
+    alloc: Global,
+    store: S,
+    hosted: Vec<Text>,
+    vendors: Vec<V>,
+) -> Result<Hub<S, V>, BadOperators> {
+    Hub::new(alloc, store, hosted, vendors)
+}
+
+/// What a run of events came to.
+#[derive(Drop)]
+pub struct Ran {
+    /// The lines of the outputs.
+    pub text: String,
+    pub taken: usize,
+    pub fault: Option<Fault>,
+}
+
+/// Runs the events.
+pub fn run<S: Store + Drop, V: VendorHandler>(
+    alloc: Global,
+    hub: &mut Hub<S, V>,
+    events: &[Event],
+) -> Mem<Ran> {
+    let (outs, taken, fault) = hub.run(events);
+    let text = lines_of(alloc, outs.as_slice())?;
+    Ok(Ran { text, taken, fault })
+}
+
 /// The lines of outputs.
-pub fn lines_of(alloc: Global, outs: &[Out]) -> Mem<String> {
+fn lines_of(alloc: Global, outs: &[Out]) -> Mem<String> {
     let mut text = String::new(alloc);
     for out in outs {
         let line = print_out(alloc, out)?;
