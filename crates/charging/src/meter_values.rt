@@ -1,6 +1,6 @@
 //! Readings of a connector's meter (OCPP 1.6, section 4.7; docs/RULES.md, Readings).
-ghost use Rattle.std.specs.Prelude.{◌≡◌, ◌≤◌, IfOk, IfErr};
-ghost use Rattle.hub_rows.specs.Failures.{Rose};
+ghost use Rattle.std.specs.Prelude.{◌≡◌, Err, IfOk};
+ghost use Rattle.hub_rows.specs.Reads.{OnlyReads};
 ghost use Rattle.hub_rows.specs.Lookups.{lookups_at};
 ghost use Rattle.charging.specs.MeterValues.{meter_values_rule, added};
 
@@ -26,13 +26,9 @@ pub fn on_meter_values<S: Store>(
     station: &str,
     request: MeterValues,
 ) -> Result<Decision, StoreFault>
-    ensures was_clean { S.clean store.new → S.clean store.old }
+    ensures reads { OnlyReads S.rows S.failures S.clean store.old store.new (result ≡ Err StoreFault.Failed) }
     ensures decision { S.clean store.new → IfOk result (λ d. d
         ≡ meter_values_rule station.now request (lookups_at op.now (S.rows store.old))) }
-    ensures rows { S.clean store.new → S.rows store.new ≡ S.rows store.old }
-    ensures failed { IfErr result (λ fault. fault ≡ StoreFault.Failed
-        → Rose (S.failures store.old) (S.failures store.new)) }
-    ensures count { S.failures store.old ≤ S.failures store.new }
 {
     if store.station(op, station)?.is_none() {
         return Ok(internal_error());

@@ -1,6 +1,6 @@
 //! Transactions that begin (OCPP 1.6, section 4.8; docs/RULES.md, Transactions).
-ghost use Rattle.std.specs.Prelude.{◌≡◌, ◌≤◌, IfOk, IfErr};
-ghost use Rattle.hub_rows.specs.Failures.{Rose};
+ghost use Rattle.std.specs.Prelude.{◌≡◌, Err, IfOk};
+ghost use Rattle.hub_rows.specs.Reads.{OnlyReads};
 ghost use Rattle.hub_rows.specs.Lookups.{lookups_at};
 ghost use Rattle.charging.specs.Start.{start_rule, start_key, start_of, repeated, new_start, found_start, begun};
 
@@ -33,13 +33,9 @@ pub fn on_start<S: Store>(
     request: StartTransaction,
     moment: Moment,
 ) -> Result<Decision, StoreFault>
-    ensures was_clean { S.clean store.new → S.clean store.old }
+    ensures reads { OnlyReads S.rows S.failures S.clean store.old store.new (result ≡ Err StoreFault.Failed) }
     ensures decision { S.clean store.new → IfOk result (λ d. d
         ≡ start_rule station.now request moment (lookups_at op.now (S.rows store.old))) }
-    ensures rows { S.clean store.new → S.rows store.new ≡ S.rows store.old }
-    ensures failed { IfErr result (λ fault. fault ≡ StoreFault.Failed
-        → Rose (S.failures store.old) (S.failures store.new)) }
-    ensures count { S.failures store.old ≤ S.failures store.new }
 {
     if store.station(op, station)?.is_none() {
         return Ok(internal_error());
@@ -70,13 +66,9 @@ fn found_start<S: Store>(
     id: StartKey,
     moment: Moment,
 ) -> Result<Decision, StoreFault>
-    ensures was_clean { S.clean store.new → S.clean store.old }
+    ensures reads { OnlyReads S.rows S.failures S.clean store.old store.new (result ≡ Err StoreFault.Failed) }
     ensures decision { S.clean store.new → IfOk result (λ d. d
         ≡ found_start station.now request id moment (lookups_at op.now (S.rows store.old))) }
-    ensures rows { S.clean store.new → S.rows store.new ≡ S.rows store.old }
-    ensures failed { IfErr result (λ fault. fault ≡ StoreFault.Failed
-        → Rose (S.failures store.old) (S.failures store.new)) }
-    ensures count { S.failures store.old ≤ S.failures store.new }
 {
     match store.same_start(op, station, &id)? {
         None => new_start(alloc, store, op, station, request, id, moment),
@@ -94,13 +86,9 @@ fn repeated<S: Store>(
     moment: Moment,
     number: u32,
 ) -> Result<Decision, StoreFault>
-    ensures was_clean { S.clean store.new → S.clean store.old }
+    ensures reads { OnlyReads S.rows S.failures S.clean store.old store.new (result ≡ Err StoreFault.Failed) }
     ensures decision { S.clean store.new → IfOk result (λ d. d
         ≡ repeated station.now id.now moment (lookups_at op.now (S.rows store.old)) number) }
-    ensures rows { S.clean store.new → S.rows store.new ≡ S.rows store.old }
-    ensures failed { IfErr result (λ fault. fault ≡ StoreFault.Failed
-        → Rose (S.failures store.old) (S.failures store.new)) }
-    ensures count { S.failures store.old ≤ S.failures store.new }
 {
     let station = Text::copy_of(alloc, station)?;
     let own = TxKey { station, number };
@@ -126,13 +114,9 @@ fn new_start<S: Store>(
     id: StartKey,
     moment: Moment,
 ) -> Result<Decision, StoreFault>
-    ensures was_clean { S.clean store.new → S.clean store.old }
+    ensures reads { OnlyReads S.rows S.failures S.clean store.old store.new (result ≡ Err StoreFault.Failed) }
     ensures decision { S.clean store.new → IfOk result (λ d. d
         ≡ new_start station.now request id moment (lookups_at op.now (S.rows store.old))) }
-    ensures rows { S.clean store.new → S.rows store.new ≡ S.rows store.old }
-    ensures failed { IfErr result (λ fault. fault ≡ StoreFault.Failed
-        → Rose (S.failures store.old) (S.failures store.new)) }
-    ensures count { S.failures store.old ≤ S.failures store.new }
 {
     let last = store.last_numbers(op, station)?.transaction;
     if last >= LAST_NUMBER {

@@ -1,6 +1,6 @@
 //! Transactions that end (OCPP 1.6, section 4.10; docs/RULES.md, Stops).
-ghost use Rattle.std.specs.Prelude.{◌≡◌, ◌≤◌, IfOk, IfErr};
-ghost use Rattle.hub_rows.specs.Failures.{Rose};
+ghost use Rattle.std.specs.Prelude.{◌≡◌, Err, IfOk};
+ghost use Rattle.hub_rows.specs.Reads.{OnlyReads};
 ghost use Rattle.hub_rows.specs.Lookups.{lookups_at};
 ghost use Rattle.charging.specs.Stop.{stop_rule, info_of, stop_change, if_open, ended, stopped, stop_of, number_of};
 
@@ -35,13 +35,9 @@ pub fn on_stop<S: Store>(
     request: StopTransaction,
     moment: Moment,
 ) -> Result<Decision, StoreFault>
-    ensures was_clean { S.clean store.new → S.clean store.old }
+    ensures reads { OnlyReads S.rows S.failures S.clean store.old store.new (result ≡ Err StoreFault.Failed) }
     ensures decision { S.clean store.new → IfOk result (λ d. d
         ≡ stop_rule station.now request moment (lookups_at op.now (S.rows store.old))) }
-    ensures rows { S.clean store.new → S.rows store.new ≡ S.rows store.old }
-    ensures failed { IfErr result (λ fault. fault ≡ StoreFault.Failed
-        → Rose (S.failures store.old) (S.failures store.new)) }
-    ensures count { S.failures store.old ≤ S.failures store.new }
 {
     let id_tag_info = info_of(alloc, store, op, &request.id_tag, moment)?;
     let change = stop_change(alloc, store, op, station, request, moment)?;
@@ -60,13 +56,9 @@ fn info_of<S: Store>(
     tag: &Option<Text>,
     moment: Moment,
 ) -> Result<Option<IdTagInfo>, StoreFault>
-    ensures was_clean { S.clean store.new → S.clean store.old }
+    ensures reads { OnlyReads S.rows S.failures S.clean store.old store.new (result ≡ Err StoreFault.Failed) }
     ensures judged { S.clean store.new → IfOk result (λ i. i
         ≡ info_of tag.now moment (lookups_at op.now (S.rows store.old))) }
-    ensures rows { S.clean store.new → S.rows store.new ≡ S.rows store.old }
-    ensures failed { IfErr result (λ fault. fault ≡ StoreFault.Failed
-        → Rose (S.failures store.old) (S.failures store.new)) }
-    ensures count { S.failures store.old ≤ S.failures store.new }
 {
     match tag {
         None => Ok(None),
@@ -87,13 +79,9 @@ fn stop_change<S: Store>(
     request: StopTransaction,
     moment: Moment,
 ) -> Result<Option<Edit>, StoreFault>
-    ensures was_clean { S.clean store.new → S.clean store.old }
+    ensures reads { OnlyReads S.rows S.failures S.clean store.old store.new (result ≡ Err StoreFault.Failed) }
     ensures change { S.clean store.new → IfOk result (λ c. c
         ≡ stop_change station.now request moment (lookups_at op.now (S.rows store.old))) }
-    ensures rows { S.clean store.new → S.rows store.new ≡ S.rows store.old }
-    ensures failed { IfErr result (λ fault. fault ≡ StoreFault.Failed
-        → Rose (S.failures store.old) (S.failures store.new)) }
-    ensures count { S.failures store.old ≤ S.failures store.new }
 {
     let Some(number) = number_of(request.transaction_id) else {
         return Ok(None);

@@ -1,8 +1,8 @@
 //! Carrying out a plan: room first, then the one change of the store, then what can't fail.
-ghost use Rattle.std.specs.Prelude.{◌≡◌, ◌≢◌, ◌+◌, ◌≤◌, ◌++◌, IfOk, IfErr, OnOk, OnErr, vec_len, vec_capacity};
+ghost use Rattle.std.specs.Prelude.{◌≡◌, Err, ◌≢◌, ◌+◌, ◌≤◌, ◌++◌, IfOk, IfErr, OnOk, OnErr, vec_len, vec_capacity};
 ghost use Rattle.std.specs.Option.{ForSome};
 ghost use Rattle.hub_rows.specs.Changes.{EditFits};
-ghost use Rattle.hub_rows.specs.Failures.{Rose};
+ghost use Rattle.hub_rows.specs.Reads.{IsCounted};
 ghost use Rattle.hub.specs.Committed.{slots_with};
 ghost use Rattle.hub.specs.World.{rows_after};
 
@@ -24,16 +24,13 @@ pub fn commit<S: Store>(
     step: Option<Step>,
 ) -> Result<(), Fault>
     requires { S.clean store.old → ForSome edit (λ e. EditFits op.now e (S.rows store.old)) }
-    ensures was_clean { S.clean store.new → S.clean store.old }
+    ensures counted { IsCounted S.failures S.clean store.old store.new (result ≡ Err Fault.Store) }
     ensures rows { S.clean store.new
         → OnOk result (S.rows store.new ≡ rows_after op.now edit (S.rows store.old)) }
     ensures slots { OnOk result (slots.new.list.items ≡ slots_with step slots.old.list.items) }
     ensures err_rows { S.clean store.new → OnErr result (S.rows store.new ≡ S.rows store.old) }
     ensures err_slots { OnErr result (slots.new.list.items ≡ slots.old.list.items) }
-    ensures failed { IfErr result (λ f. f ≡ Fault.Store
-        → Rose (S.failures store.old) (S.failures store.new)) }
     ensures hosted { IfErr result (λ f. f ≢ Fault.NoSuchOperator) }
-    ensures count { S.failures store.old ≤ S.failures store.new }
 {
     slots.reserve()?;
     apply(store, op, edit)?;
@@ -48,14 +45,11 @@ pub fn commit<S: Store>(
 /// Makes an edit of an operator's records, if there is one.
 fn apply<S: Store>(store: &mut S, op: &Text, edit: Option<Edit>) -> Result<(), Fault>
     requires { S.clean store.old → ForSome edit (λ e. EditFits op.now e (S.rows store.old)) }
-    ensures was_clean { S.clean store.new → S.clean store.old }
+    ensures counted { IsCounted S.failures S.clean store.old store.new (result ≡ Err Fault.Store) }
     ensures rows { S.clean store.new
         → OnOk result (S.rows store.new ≡ rows_after op.now edit (S.rows store.old)) }
     ensures err_rows { S.clean store.new → OnErr result (S.rows store.new ≡ S.rows store.old) }
-    ensures failed { IfErr result (λ f. f ≡ Fault.Store
-        → Rose (S.failures store.old) (S.failures store.new)) }
     ensures hosted { IfErr result (λ f. f ≢ Fault.NoSuchOperator) }
-    ensures count { S.failures store.old ≤ S.failures store.new }
 {
     let Some(edit) = edit else {
         return Ok(());

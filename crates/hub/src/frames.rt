@@ -1,8 +1,8 @@
 //! What a connected station sends (docs/RULES.md, Order of checks).
-ghost use Rattle.std.specs.Prelude.{◌≡◌, ◌≢◌, ◌≤◌, IfOk, IfErr};
+ghost use Rattle.std.specs.Prelude.{◌≡◌, Err, ◌≢◌, IfOk, IfErr};
+ghost use Rattle.hub_rows.specs.Reads.{OnlyReads};
 ghost use Rattle.serde_json.specs.Data.{Data};
 ghost use Rattle.ocpp_frame.specs.Frame.{frame};
-ghost use Rattle.hub_rows.specs.Failures.{Rose};
 ghost use Rattle.hub_rows.specs.Lookups.{lookups_at};
 ghost use Rattle.hub.specs.Planned.{IsPlanned};
 ghost use Rattle.hub.specs.Table.{frame_plan, call_plan, state_plan};
@@ -37,14 +37,10 @@ pub fn plan_text<S: Store, V: VendorHandler>(
     moment: Moment,
     text: &Text,
 ) -> Result<Planned, Fault>
-    ensures was_clean { S.clean book.new.store → S.clean book.old.store }
+    ensures reads { OnlyReads S.rows S.failures S.clean book.old.store book.new.store (result ≡ Err Fault.Store) }
     ensures planned { S.clean book.new.store → IfOk result (λ p. IsPlanned p op.now
         (frame_plan (answer_of V.name V.gives book.old.vendors.items) moment station.now (frame text.now) (lookups_at op.now (S.rows book.old.store)))) }
-    ensures rows { S.clean book.new.store → S.rows book.new.store ≡ S.rows book.old.store }
-    ensures failed { IfErr result (λ f. f ≡ Fault.Store
-        → Rose (S.failures book.old.store) (S.failures book.new.store)) }
     ensures hosted { IfErr result (λ f. f ≢ Fault.NoSuchOperator) }
-    ensures count { S.failures book.old.store ≤ S.failures book.new.store }
     ensures answers { answer_of V.name V.gives book.new.vendors.items ≡ answer_of V.name V.gives book.old.vendors.items }
 {
     match read_frame(alloc, text.as_str())? {
@@ -81,14 +77,10 @@ fn plan_call<S: Store, V: VendorHandler>(
     class: ActionClass,
     payload: &Payload,
 ) -> Result<Planned, Fault>
-    ensures was_clean { S.clean book.new.store → S.clean book.old.store }
+    ensures reads { OnlyReads S.rows S.failures S.clean book.old.store book.new.store (result ≡ Err Fault.Store) }
     ensures planned { S.clean book.new.store → IfOk result (λ p. IsPlanned p op.now
         (call_plan (answer_of V.name V.gives book.old.vendors.items) moment station.now id.now class payload.now (lookups_at op.now (S.rows book.old.store)))) }
-    ensures rows { S.clean book.new.store → S.rows book.new.store ≡ S.rows book.old.store }
-    ensures failed { IfErr result (λ f. f ≡ Fault.Store
-        → Rose (S.failures book.old.store) (S.failures book.new.store)) }
     ensures hosted { IfErr result (λ f. f ≢ Fault.NoSuchOperator) }
-    ensures count { S.failures book.old.store ≤ S.failures book.new.store }
     ensures answers { answer_of V.name V.gives book.new.vendors.items ≡ answer_of V.name V.gives book.old.vendors.items }
 {
     match class {
@@ -125,15 +117,11 @@ fn plan_known<S: Store, V: VendorHandler>(
     action: Action,
     payload: &Payload,
 ) -> Result<Planned, Fault>
-    ensures was_clean { S.clean book.new.store → S.clean book.old.store }
+    ensures reads { OnlyReads S.rows S.failures S.clean book.old.store book.new.store (result ≡ Err Fault.Store) }
     ensures planned { S.clean book.new.store → IfOk result (λ p. IsPlanned p op.now
         (state_plan (answer_of V.name V.gives book.old.vendors.items) moment station.now id.now action payload.now
         ((lookups_at op.now (S.rows book.old.store)).registration station.now) (lookups_at op.now (S.rows book.old.store)))) }
-    ensures rows { S.clean book.new.store → S.rows book.new.store ≡ S.rows book.old.store }
-    ensures failed { IfErr result (λ f. f ≡ Fault.Store
-        → Rose (S.failures book.old.store) (S.failures book.new.store)) }
     ensures hosted { IfErr result (λ f. f ≢ Fault.NoSuchOperator) }
-    ensures count { S.failures book.old.store ≤ S.failures book.new.store }
     ensures answers { answer_of V.name V.gives book.new.vendors.items ≡ answer_of V.name V.gives book.old.vendors.items }
 {
     let Some(registration) = book.store.station(op.as_str(), station.as_str())? else {

@@ -1,7 +1,7 @@
 //! The hub: one event is one step.
-ghost use Rattle.std.specs.Prelude.{◌≡◌, ◌↔◌, ◌<◌, ◌≤◌, ◌++◌, ℕ, List, [], ◌∷◌, length, take, slice_index_or, true, false, IsOk, IfOk, IfErr, IfNone, IfSome, OnOk, OnErr};
+ghost use Rattle.std.specs.Prelude.{◌≡◌, Some, Err, ◌↔◌, ◌<◌, ◌++◌, ℕ, List, [], ◌∷◌, length, take, slice_index_or, true, false, IsOk, IfOk, IfErr, IfNone, IfSome, OnOk, OnErr};
 ghost use Rattle.std.specs.List.{AllWithin};
-ghost use Rattle.hub_rows.specs.Failures.{Rose};
+ghost use Rattle.hub_rows.specs.Reads.{IsCounted};
 ghost use Rattle.hub_rows.specs.Operators.{are_operators};
 
 use crate::commit::{append_ready, commit};
@@ -86,7 +86,7 @@ impl<S: Store + Drop, V: VendorHandler> Hub<S, V> {
     /// `isolated_view` are the isolation theorem for one event: to each operator, the outputs and
     /// what it has afterwards are what its own machine gives for what it was shown.
     pub fn handle(&mut self, event: &Event) -> Result<Vec<Out>, Fault>
-        ensures was_clean { S.clean self.new.book.store → S.clean self.old.book.store }
+        ensures counted { IsCounted S.failures S.clean self.old.book.store self.new.book.store (result ≡ Err Fault.Store) }
         ensures outputs { S.clean self.new.book.store → IfOk result (λ outs. outs.items
             ≡ world_outputs (setting V.name V.gives self.old) (world S.rows self.old) event.now) }
         ensures world { S.clean self.new.book.store → OnOk result (world S.rows self.new
@@ -103,9 +103,6 @@ impl<S: Store + Drop, V: VendorHandler> Hub<S, V> {
         ensures taken { OnOk result (is_taken (setting V.name V.gives self.old) event.now ≡ true) }
         ensures not_hosted { IfErr result (λ f. f ≡ Fault.NoSuchOperator
             → is_taken (setting V.name V.gives self.old) event.now ≡ false) }
-        ensures store_failed { IfErr result (λ f. f ≡ Fault.Store
-            → Rose (S.failures self.old.book.store) (S.failures self.new.book.store)) }
-        ensures count { S.failures self.old.book.store ≤ S.failures self.new.book.store }
     {
         let mut outs = Vec::new(self.alloc);
         self.take(event, &mut outs)?;
@@ -119,7 +116,7 @@ impl<S: Store + Drop, V: VendorHandler> Hub<S, V> {
     /// operator, the outputs and what it has afterwards are what its own machine gives for what
     /// it was shown of the events taken.
     pub fn run(&mut self, events: &[Event]) -> (Vec<Out>, usize, Option<Fault>)
-        ensures was_clean { S.clean self.new.book.store → S.clean self.old.book.store }
+        ensures counted { IsCounted S.failures S.clean self.old.book.store self.new.book.store (result.2 ≡ Some Fault.Store) }
         ensures outputs { S.clean self.new.book.store → result.0.items
             ≡ run_outputs (setting V.name V.gives self.old) (world S.rows self.old) (take result.1 events.now) }
         ensures world { S.clean self.new.book.store → world S.rows self.new
@@ -136,9 +133,6 @@ impl<S: Store + Drop, V: VendorHandler> Hub<S, V> {
         ensures fault { IfSome result.2 (λ _. result.1 < length events.now) }
         ensures not_hosted { IfSome result.2 (λ f. f ≡ Fault.NoSuchOperator
             → (e : Event) → is_taken (setting V.name V.gives self.old) (slice_index_or events.now result.1 e) ≡ false) }
-        ensures store_failed { IfSome result.2 (λ f. f ≡ Fault.Store
-            → Rose (S.failures self.old.book.store) (S.failures self.new.book.store)) }
-        ensures count { S.failures self.old.book.store ≤ S.failures self.new.book.store }
     {
         let mut outs = Vec::new(self.alloc);
         let mut taken = 0;
@@ -157,7 +151,7 @@ impl<S: Store + Drop, V: VendorHandler> Hub<S, V> {
     /// the one change of the store.
     #[tactic(auto, unfolding(crate::specs::Hub::setting, crate::specs::Hub::setting_of))]
     fn take(&mut self, event: &Event, told: &mut Vec<Out>) -> Result<(), Fault>
-        ensures was_clean { S.clean self.new.book.store → S.clean self.old.book.store }
+        ensures counted { IsCounted S.failures S.clean self.old.book.store self.new.book.store (result ≡ Err Fault.Store) }
         ensures told { S.clean self.new.book.store → OnOk result (told.new.items ≡ told.old.items
             ++ world_outputs (setting V.name V.gives self.old) (world S.rows self.old) event.now) }
         ensures world { S.clean self.new.book.store → OnOk result (world S.rows self.new
@@ -169,9 +163,6 @@ impl<S: Store + Drop, V: VendorHandler> Hub<S, V> {
         ensures taken { OnOk result (is_taken (setting V.name V.gives self.old) event.now ≡ true) }
         ensures not_taken { IfErr result (λ f. f ≡ Fault.NoSuchOperator
             → is_taken (setting V.name V.gives self.old) event.now ≡ false) }
-        ensures failed { IfErr result (λ f. f ≡ Fault.Store
-            → Rose (S.failures self.old.book.store) (S.failures self.new.book.store)) }
-        ensures count { S.failures self.old.book.store ≤ S.failures self.new.book.store }
     {
         let op = &event.op;
         if !is_hosted(&self.hosted, op.as_str()) {

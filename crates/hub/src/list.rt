@@ -1,6 +1,6 @@
 //! Listings of an operator's records (docs/RULES.md, Commands).
-ghost use Rattle.std.specs.Prelude.{◌≡◌, ◌≤◌, ◌++◌, map, Ok, Err, IfOk, IfErr, OnOk};
-ghost use Rattle.hub_rows.specs.Failures.{Rose};
+ghost use Rattle.std.specs.Prelude.{◌≡◌, ◌++◌, map, Ok, Err, IfOk, OnOk};
+ghost use Rattle.hub_rows.specs.Reads.{OnlyReads};
 ghost use Rattle.hub_rows.specs.Lookups.{lookups_at};
 ghost use Rattle.hub.specs.Listing.{rows_rule};
 ghost use Rattle.hub.specs.Planned.{IsPlanned};
@@ -26,13 +26,9 @@ pub fn plan_list<S: Store>(
     op: &Text,
     listing: &Listing,
 ) -> Result<Planned, StoreFault>
-    ensures was_clean { S.clean store.new → S.clean store.old }
+    ensures reads { OnlyReads S.rows S.failures S.clean store.old store.new (result ≡ Err StoreFault.Failed) }
     ensures planned { S.clean store.new → IfOk result (λ p. IsPlanned p op.now
         (list_plan (rows_rule listing.now (lookups_at op.now (S.rows store.old))))) }
-    ensures rows { S.clean store.new → S.rows store.new ≡ S.rows store.old }
-    ensures failed { IfErr result (λ fault. fault ≡ StoreFault.Failed
-        → Rose (S.failures store.old) (S.failures store.new)) }
-    ensures count { S.failures store.old ≤ S.failures store.new }
 {
     match listing {
         Listing::Stations => {

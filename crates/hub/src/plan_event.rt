@@ -1,6 +1,6 @@
 //! The plan for an event: the store is asked, nothing is changed.
-ghost use Rattle.std.specs.Prelude.{◌≡◌, ◌≢◌, ◌≤◌, ℕ, List, IfOk, IfErr};
-ghost use Rattle.hub_rows.specs.Failures.{Rose};
+ghost use Rattle.std.specs.Prelude.{◌≡◌, Err, ◌≢◌, ℕ, List, IfOk, IfErr};
+ghost use Rattle.hub_rows.specs.Reads.{OnlyReads};
 ghost use Rattle.hub.specs.Planned.{IsPlanned};
 ghost use Rattle.hub.specs.Hub.{setting_of};
 ghost use Rattle.hub.specs.Table.{plan};
@@ -32,15 +32,11 @@ pub fn plan_event<S: Store, V: VendorHandler>(
     moment: Moment,
     what: &What,
 ) -> Result<Planned, Fault>
-    ensures was_clean { S.clean book.new.store → S.clean book.old.store }
+    ensures reads { OnlyReads S.rows S.failures S.clean book.old.store book.new.store (result ≡ Err Fault.Store) }
     ensures planned { (hosted : List (List ℕ)) → S.clean book.new.store → IfOk result (λ p. IsPlanned p op.now
         (plan (setting_of V.name V.gives hosted book.old.vendors.items) moment what.now
         (facts_at op.now (record { rows = S.rows book.old.store; slots = slots.now.list.items })))) }
-    ensures rows { S.clean book.new.store → S.rows book.new.store ≡ S.rows book.old.store }
-    ensures failed { IfErr result (λ f. f ≡ Fault.Store
-        → Rose (S.failures book.old.store) (S.failures book.new.store)) }
     ensures hosted { IfErr result (λ f. f ≢ Fault.NoSuchOperator) }
-    ensures count { S.failures book.old.store ≤ S.failures book.new.store }
     ensures answers { answer_of V.name V.gives book.new.vendors.items ≡ answer_of V.name V.gives book.old.vendors.items }
 {
     match what {

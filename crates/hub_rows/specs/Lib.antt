@@ -2,6 +2,7 @@ pub mod Operators
 pub mod Keyed
 pub mod Places
 pub mod Failures
+pub mod Reads
 pub mod Rows
 pub mod Tags
 pub mod Transactions

@@ -1,12 +1,12 @@
 //! What a store of records promises.
-ghost use Rattle.std.specs.Prelude.{◌≡◌, ◌≤◌, ℕ, IfOk, IfErr, OnOk, OnErr};
+ghost use Rattle.std.specs.Prelude.{◌≡◌, Err, ℕ, IfOk, OnOk, OnErr};
 ghost use Rattle.hub_rows.specs.Rows.{Rows, WellFormedRows, registration_at};
 ghost use Rattle.hub_rows.specs.Tags.{own_tag_in};
 ghost use Rattle.hub_rows.specs.Keyed.{own};
 ghost use Rattle.hub_rows.specs.Lookups.{connectors_in};
 ghost use Rattle.hub_rows.specs.Transactions.{is_used_in, same_start_in, tx_in, has_open_in, txs_in, readings_in, last_numbers_in};
 ghost use Rattle.hub_rows.specs.Changes.{edited, Fits};
-ghost use Rattle.hub_rows.specs.Failures.{Rose};
+ghost use Rattle.hub_rows.specs.Reads.{OnlyReads, IsCounted};
 ghost use Rattle.hub_rows.specs.declared.store.StoreFault.TheVariants as store_fault;
 
 use crate::change::Change;
@@ -72,23 +72,15 @@ pub trait Store {
 
     /// How a station of an operator is registered, `None` where it has no such station.
     fn station(&mut self, op: &str, station: &str) -> Result<Option<Registration>, StoreFault>
-        ensures was_clean { clean self.new → clean self.old }
+        ensures reads { OnlyReads rows failures clean self.old self.new (result ≡ Err store_fault.Failed) }
         ensures found { clean self.new
-            → IfOk result (λ r. r ≡ registration_at op.now station.now (rows self.old)) }
-        ensures rows { clean self.new → rows self.new ≡ rows self.old }
-        ensures failed { IfErr result (λ fault. fault ≡ store_fault.Failed
-            → Rose (failures self.old) (failures self.new)) }
-        ensures count { failures self.old ≤ failures self.new };
+            → IfOk result (λ r. r ≡ registration_at op.now station.now (rows self.old)) };
 
     /// The id tag of a key of an operator, as it counts: blocked by itself or by its parent.
     fn own_tag(&mut self, op: &str, key: &TagKey) -> Result<Option<Tag>, StoreFault>
-        ensures was_clean { clean self.new → clean self.old }
+        ensures reads { OnlyReads rows failures clean self.old self.new (result ≡ Err store_fault.Failed) }
         ensures found { clean self.new
-            → IfOk result (λ t. t ≡ own_tag_in op.now key.now (rows self.old).tags) }
-        ensures rows { clean self.new → rows self.new ≡ rows self.old }
-        ensures failed { IfErr result (λ fault. fault ≡ store_fault.Failed
-            → Rose (failures self.old) (failures self.new)) }
-        ensures count { failures self.old ≤ failures self.new };
+            → IfOk result (λ t. t ≡ own_tag_in op.now key.now (rows self.old).tags) };
 
     /// Whether the tag of a key is in use: whether a transaction of the operator that began
     /// Accepted with it is open, other than the one left out.
@@ -98,13 +90,9 @@ pub trait Store {
         key: &TagKey,
         except: &Option<TxKey>,
     ) -> Result<bool, StoreFault>
-        ensures was_clean { clean self.new → clean self.old }
+        ensures reads { OnlyReads rows failures clean self.old self.new (result ≡ Err store_fault.Failed) }
         ensures found { clean self.new
-            → IfOk result (λ r. r ≡ is_used_in op.now key.now except.now (rows self.old).transactions) }
-        ensures rows { clean self.new → rows self.new ≡ rows self.old }
-        ensures failed { IfErr result (λ fault. fault ≡ store_fault.Failed
-            → Rose (failures self.old) (failures self.new)) }
-        ensures count { failures self.old ≤ failures self.new };
+            → IfOk result (λ r. r ≡ is_used_in op.now key.now except.now (rows self.old).transactions) };
 
     /// The number of the first transaction of a station with that start.
     fn same_start(
@@ -113,83 +101,51 @@ pub trait Store {
         station: &str,
         start: &StartKey,
     ) -> Result<Option<u32>, StoreFault>
-        ensures was_clean { clean self.new → clean self.old }
+        ensures reads { OnlyReads rows failures clean self.old self.new (result ≡ Err store_fault.Failed) }
         ensures found { clean self.new
-            → IfOk result (λ r. r ≡ same_start_in op.now station.now start.now (rows self.old).transactions) }
-        ensures rows { clean self.new → rows self.new ≡ rows self.old }
-        ensures failed { IfErr result (λ fault. fault ≡ store_fault.Failed
-            → Rose (failures self.old) (failures self.new)) }
-        ensures count { failures self.old ≤ failures self.new };
+            → IfOk result (λ r. r ≡ same_start_in op.now station.now start.now (rows self.old).transactions) };
 
     /// A transaction of a station, by its number.
     fn tx(&mut self, op: &str, station: &str, number: u32) -> Result<Option<TxState>, StoreFault>
-        ensures was_clean { clean self.new → clean self.old }
+        ensures reads { OnlyReads rows failures clean self.old self.new (result ≡ Err store_fault.Failed) }
         ensures found { clean self.new
-            → IfOk result (λ r. r ≡ tx_in op.now station.now number (rows self.old).transactions) }
-        ensures rows { clean self.new → rows self.new ≡ rows self.old }
-        ensures failed { IfErr result (λ fault. fault ≡ store_fault.Failed
-            → Rose (failures self.old) (failures self.new)) }
-        ensures count { failures self.old ≤ failures self.new };
+            → IfOk result (λ r. r ≡ tx_in op.now station.now number (rows self.old).transactions) };
 
     /// Whether a transaction of a station is open.
     fn has_open(&mut self, op: &str, station: &str) -> Result<bool, StoreFault>
-        ensures was_clean { clean self.new → clean self.old }
+        ensures reads { OnlyReads rows failures clean self.old self.new (result ≡ Err store_fault.Failed) }
         ensures found { clean self.new
-            → IfOk result (λ r. r ≡ has_open_in op.now station.now (rows self.old).transactions) }
-        ensures rows { clean self.new → rows self.new ≡ rows self.old }
-        ensures failed { IfErr result (λ fault. fault ≡ store_fault.Failed
-            → Rose (failures self.old) (failures self.new)) }
-        ensures count { failures self.old ≤ failures self.new };
+            → IfOk result (λ r. r ≡ has_open_in op.now station.now (rows self.old).transactions) };
 
     /// The last numbers of a station's transactions and readings, 0 where it has none.
     fn last_numbers(&mut self, op: &str, station: &str) -> Result<LastNumbers, StoreFault>
-        ensures was_clean { clean self.new → clean self.old }
+        ensures reads { OnlyReads rows failures clean self.old self.new (result ≡ Err store_fault.Failed) }
         ensures found { clean self.new
-            → IfOk result (λ r. r ≡ last_numbers_in op.now station.now (rows self.old).transactions (rows self.old).readings) }
-        ensures rows { clean self.new → rows self.new ≡ rows self.old }
-        ensures failed { IfErr result (λ fault. fault ≡ store_fault.Failed
-            → Rose (failures self.old) (failures self.new)) }
-        ensures count { failures self.old ≤ failures self.new };
+            → IfOk result (λ r. r ≡ last_numbers_in op.now station.now (rows self.old).transactions (rows self.old).readings) };
 
     /// The stations of an operator, in the order of their names.
     fn stations(&mut self, op: &str) -> Result<Listed<StationRow>, StoreFault>
-        ensures was_clean { clean self.new → clean self.old }
+        ensures reads { OnlyReads rows failures clean self.old self.new (result ≡ Err store_fault.Failed) }
         ensures found { clean self.new
-            → IfOk result (λ r. r ≡ own (λ r. r.op) op.now (rows self.old).stations) }
-        ensures rows { clean self.new → rows self.new ≡ rows self.old }
-        ensures failed { IfErr result (λ fault. fault ≡ store_fault.Failed
-            → Rose (failures self.old) (failures self.new)) }
-        ensures count { failures self.old ≤ failures self.new };
+            → IfOk result (λ r. r ≡ own (λ r. r.op) op.now (rows self.old).stations) };
 
     /// The id tags of an operator, in the order of their keys.
     fn tags(&mut self, op: &str) -> Result<Listed<TagRow>, StoreFault>
-        ensures was_clean { clean self.new → clean self.old }
+        ensures reads { OnlyReads rows failures clean self.old self.new (result ≡ Err store_fault.Failed) }
         ensures found { clean self.new
-            → IfOk result (λ r. r ≡ own (λ r. r.op) op.now (rows self.old).tags) }
-        ensures rows { clean self.new → rows self.new ≡ rows self.old }
-        ensures failed { IfErr result (λ fault. fault ≡ store_fault.Failed
-            → Rose (failures self.old) (failures self.new)) }
-        ensures count { failures self.old ≤ failures self.new };
+            → IfOk result (λ r. r ≡ own (λ r. r.op) op.now (rows self.old).tags) };
 
     /// The connectors of a station, in the order of their ids.
     fn connectors(&mut self, op: &str, station: &str) -> Result<Listed<ConnectorRow>, StoreFault>
-        ensures was_clean { clean self.new → clean self.old }
+        ensures reads { OnlyReads rows failures clean self.old self.new (result ≡ Err store_fault.Failed) }
         ensures found { clean self.new
-            → IfOk result (λ r. r ≡ connectors_in op.now station.now (rows self.old).connectors) }
-        ensures rows { clean self.new → rows self.new ≡ rows self.old }
-        ensures failed { IfErr result (λ fault. fault ≡ store_fault.Failed
-            → Rose (failures self.old) (failures self.new)) }
-        ensures count { failures self.old ≤ failures self.new };
+            → IfOk result (λ r. r ≡ connectors_in op.now station.now (rows self.old).connectors) };
 
     /// The transactions of a station, in the order of their numbers.
     fn txs(&mut self, op: &str, station: &str) -> Result<Listed<TxRow>, StoreFault>
-        ensures was_clean { clean self.new → clean self.old }
+        ensures reads { OnlyReads rows failures clean self.old self.new (result ≡ Err store_fault.Failed) }
         ensures found { clean self.new
-            → IfOk result (λ r. r ≡ txs_in op.now station.now (rows self.old).transactions) }
-        ensures rows { clean self.new → rows self.new ≡ rows self.old }
-        ensures failed { IfErr result (λ fault. fault ≡ store_fault.Failed
-            → Rose (failures self.old) (failures self.new)) }
-        ensures count { failures self.old ≤ failures self.new };
+            → IfOk result (λ r. r ≡ txs_in op.now station.now (rows self.old).transactions) };
 
     /// The readings of a station in the order of their numbers: all, or those that were sent with
     /// the number of a transaction.
@@ -199,23 +155,16 @@ pub trait Store {
         station: &str,
         transaction: Option<u64>,
     ) -> Result<Listed<ReadingRow>, StoreFault>
-        ensures was_clean { clean self.new → clean self.old }
+        ensures reads { OnlyReads rows failures clean self.old self.new (result ≡ Err store_fault.Failed) }
         ensures found { clean self.new
-            → IfOk result (λ r. r ≡ readings_in op.now station.now transaction (rows self.old).readings) }
-        ensures rows { clean self.new → rows self.new ≡ rows self.old }
-        ensures failed { IfErr result (λ fault. fault ≡ store_fault.Failed
-            → Rose (failures self.old) (failures self.new)) }
-        ensures count { failures self.old ≤ failures self.new };
+            → IfOk result (λ r. r ≡ readings_in op.now station.now transaction (rows self.old).readings) };
 
     /// Makes a change that fits.
     fn apply(&mut self, change: &Change) -> Result<(), StoreFault>
         requires { clean self.old → Fits change.now (rows self.old) }
-        ensures was_clean { clean self.new → clean self.old }
+        ensures counted { IsCounted failures clean self.old self.new (result ≡ Err store_fault.Failed) }
         ensures ok { clean self.new → OnOk result (rows self.new ≡ edited change.now (rows self.old)) }
-        ensures err { clean self.new → OnErr result (rows self.new ≡ rows self.old) }
-        ensures failed { IfErr result (λ fault. fault ≡ store_fault.Failed
-            → Rose (failures self.old) (failures self.new)) }
-        ensures count { failures self.old ≤ failures self.new };
+        ensures err { clean self.new → OnErr result (rows self.new ≡ rows self.old) };
 
     /// The rows of a clean store are well formed.
     ghost well_formed: { (s : Self) → clean s → WellFormedRows (rows s) };

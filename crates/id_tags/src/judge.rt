@@ -1,6 +1,6 @@
 //! Judgement of id tags (OCPP 1.6, sections 4.1 and 7.2; docs/RULES.md, Tag keys and judgement).
-ghost use Rattle.std.specs.Prelude.{◌≡◌, ◌≤◌, IfOk, IfErr};
-ghost use Rattle.hub_rows.specs.Failures.{Rose};
+ghost use Rattle.std.specs.Prelude.{◌≡◌, Err, IfOk};
+ghost use Rattle.hub_rows.specs.Reads.{OnlyReads};
 ghost use Rattle.hub_rows.specs.Lookups.{lookups_at};
 ghost use Rattle.id_tags.specs.Judge.{found_tag, is_in_use, judged, judge_rule, status_of, is_past};
 
@@ -23,13 +23,9 @@ pub enum Purpose {
 
 /// The tag of a key that counts for an operator, `None` where there is none.
 pub fn find_tag<S: Store>(store: &mut S, op: &str, key: &TagKey) -> Result<Option<Tag>, StoreFault>
-    ensures was_clean { S.clean store.new → S.clean store.old }
+    ensures reads { OnlyReads S.rows S.failures S.clean store.old store.new (result ≡ Err StoreFault.Failed) }
     ensures found { S.clean store.new → IfOk result (λ t. t
         ≡ found_tag key.now (lookups_at op.now (S.rows store.old))) }
-    ensures rows { S.clean store.new → S.rows store.new ≡ S.rows store.old }
-    ensures failed { IfErr result (λ fault. fault ≡ StoreFault.Failed
-        → Rose (S.failures store.old) (S.failures store.new)) }
-    ensures count { S.failures store.old ≤ S.failures store.new }
 {
     store.own_tag(op, key)
 }
@@ -45,13 +41,9 @@ pub fn judge<S: Store>(
     moment: Moment,
     purpose: &Purpose,
 ) -> Result<IdTagInfo, StoreFault>
-    ensures was_clean { S.clean store.new → S.clean store.old }
+    ensures reads { OnlyReads S.rows S.failures S.clean store.old store.new (result ≡ Err StoreFault.Failed) }
     ensures judged { S.clean store.new → IfOk result (λ i. i
         ≡ judge_rule moment key.now purpose.now (lookups_at op.now (S.rows store.old))) }
-    ensures rows { S.clean store.new → S.rows store.new ≡ S.rows store.old }
-    ensures failed { IfErr result (λ fault. fault ≡ StoreFault.Failed
-        → Rose (S.failures store.old) (S.failures store.new)) }
-    ensures count { S.failures store.old ≤ S.failures store.new }
 {
     let used = is_in_use(store, op, key, purpose)?;
     let found = find_tag(store, op, key)?;
@@ -65,13 +57,9 @@ fn is_in_use<S: Store>(
     key: &TagKey,
     purpose: &Purpose,
 ) -> Result<bool, StoreFault>
-    ensures was_clean { S.clean store.new → S.clean store.old }
+    ensures reads { OnlyReads S.rows S.failures S.clean store.old store.new (result ≡ Err StoreFault.Failed) }
     ensures found { S.clean store.new → IfOk result (λ u. u
         ≡ is_in_use purpose.now key.now (lookups_at op.now (S.rows store.old))) }
-    ensures rows { S.clean store.new → S.rows store.new ≡ S.rows store.old }
-    ensures failed { IfErr result (λ fault. fault ≡ StoreFault.Failed
-        → Rose (S.failures store.old) (S.failures store.new)) }
-    ensures count { S.failures store.old ≤ S.failures store.new }
 {
     match purpose {
         Purpose::Authorize => Ok(false),

@@ -1,6 +1,6 @@
 //! Tags put and dropped by operators (docs/RULES.md, Tag keys and judgement).
-ghost use Rattle.std.specs.Prelude.{◌≡◌, ◌≤◌, IfOk, IfErr};
-ghost use Rattle.hub_rows.specs.Failures.{Rose};
+ghost use Rattle.std.specs.Prelude.{◌≡◌, Err, IfOk};
+ghost use Rattle.hub_rows.specs.Reads.{OnlyReads};
 ghost use Rattle.hub_rows.specs.Lookups.{lookups_at};
 ghost use Rattle.id_tags.specs.Plan.{put_rule, drop_rule, is_tag, is_parent};
 
@@ -41,13 +41,9 @@ pub fn plan_drop<S: Store>(
     op: &str,
     tag: &str,
 ) -> Result<Result<Edit, Refusal>, StoreFault>
-    ensures was_clean { S.clean store.new → S.clean store.old }
+    ensures reads { OnlyReads S.rows S.failures S.clean store.old store.new (result ≡ Err StoreFault.Failed) }
     ensures plan { S.clean store.new → IfOk result (λ p. p
         ≡ drop_rule tag.now (lookups_at op.now (S.rows store.old))) }
-    ensures rows { S.clean store.new → S.rows store.new ≡ S.rows store.old }
-    ensures failed { IfErr result (λ fault. fault ≡ StoreFault.Failed
-        → Rose (S.failures store.old) (S.failures store.new)) }
-    ensures count { S.failures store.old ≤ S.failures store.new }
 {
     let key = TagKey::of(alloc, tag)?;
     if store.own_tag(op, &key)?.is_none() {

@@ -1,6 +1,6 @@
 //! Boots and heartbeats (OCPP 1.6, sections 4.2 and 4.6; docs/RULES.md, Boots and policies).
-ghost use Rattle.std.specs.Prelude.{◌≡◌, ◌≤◌, IfOk, IfErr};
-ghost use Rattle.hub_rows.specs.Failures.{Rose};
+ghost use Rattle.std.specs.Prelude.{◌≡◌, Err, IfOk};
+ghost use Rattle.hub_rows.specs.Reads.{OnlyReads};
 ghost use Rattle.hub_rows.specs.Lookups.{lookups_at};
 ghost use Rattle.registry.specs.Boot.{boot_rule, boot_of, heartbeat_rule, state_after};
 
@@ -28,13 +28,9 @@ pub fn on_boot<S: Store>(
     texts: BootNotification,
     moment: Moment,
 ) -> Result<Decision, StoreFault>
-    ensures was_clean { S.clean store.new → S.clean store.old }
+    ensures reads { OnlyReads S.rows S.failures S.clean store.old store.new (result ≡ Err StoreFault.Failed) }
     ensures decision { S.clean store.new → IfOk result (λ d. d
         ≡ boot_rule station.now texts moment (lookups_at op.now (S.rows store.old))) }
-    ensures rows { S.clean store.new → S.rows store.new ≡ S.rows store.old }
-    ensures failed { IfErr result (λ fault. fault ≡ StoreFault.Failed
-        → Rose (S.failures store.old) (S.failures store.new)) }
-    ensures count { S.failures store.old ≤ S.failures store.new }
 {
     let registration = store.station(op, station)?;
     Ok(boot_of(alloc, station, texts, moment, registration)?)

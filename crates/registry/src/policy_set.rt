@@ -1,6 +1,6 @@
 //! Policies of stations (docs/RULES.md, Boots and policies).
-ghost use Rattle.std.specs.Prelude.{◌≡◌, ◌≤◌, IfOk, IfErr};
-ghost use Rattle.hub_rows.specs.Failures.{Rose};
+ghost use Rattle.std.specs.Prelude.{◌≡◌, Err, IfOk};
+ghost use Rattle.hub_rows.specs.Reads.{OnlyReads};
 ghost use Rattle.hub_rows.specs.Lookups.{lookups_at};
 ghost use Rattle.registry.specs.PolicySet.{is_kept_from, is_rejected, policy_rule};
 
@@ -24,13 +24,9 @@ pub fn plan_policy<S: Store>(
     policy: Policy,
     interval: u64,
 ) -> Result<Result<Edit, Refusal>, StoreFault>
-    ensures was_clean { S.clean store.new → S.clean store.old }
+    ensures reads { OnlyReads S.rows S.failures S.clean store.old store.new (result ≡ Err StoreFault.Failed) }
     ensures plan { S.clean store.new → IfOk result (λ p. p
         ≡ policy_rule station.now policy interval (lookups_at op.now (S.rows store.old))) }
-    ensures rows { S.clean store.new → S.rows store.new ≡ S.rows store.old }
-    ensures failed { IfErr result (λ fault. fault ≡ StoreFault.Failed
-        → Rose (S.failures store.old) (S.failures store.new)) }
-    ensures count { S.failures store.old ≤ S.failures store.new }
 {
     if store.station(op, station)?.is_none() {
         return Ok(Err(Refusal::NoSuchStation));
@@ -55,13 +51,9 @@ fn is_kept_from<S: Store>(
     station: &str,
     policy: Policy,
 ) -> Result<bool, StoreFault>
-    ensures was_clean { S.clean store.new → S.clean store.old }
+    ensures reads { OnlyReads S.rows S.failures S.clean store.old store.new (result ≡ Err StoreFault.Failed) }
     ensures found { S.clean store.new → IfOk result (λ k. k
         ≡ is_kept_from station.now policy (lookups_at op.now (S.rows store.old))) }
-    ensures rows { S.clean store.new → S.rows store.new ≡ S.rows store.old }
-    ensures failed { IfErr result (λ fault. fault ≡ StoreFault.Failed
-        → Rose (S.failures store.old) (S.failures store.new)) }
-    ensures count { S.failures store.old ≤ S.failures store.new }
 {
     if is_rejected(policy) {
         return store.has_open(op, station);

@@ -1,7 +1,7 @@
 //! New stations (docs/RULES.md, Boots and policies).
-ghost use Rattle.std.specs.Prelude.{◌≡◌, ◌≤◌, ◌&&◌, nat_le, IfOk, IfErr};
+ghost use Rattle.std.specs.Prelude.{◌≡◌, Err, ◌&&◌, nat_le, IfOk};
+ghost use Rattle.hub_rows.specs.Reads.{OnlyReads};
 ghost use Rattle.std.specs.List.{list_all};
-ghost use Rattle.hub_rows.specs.Failures.{Rose};
 ghost use Rattle.hub_rows.specs.Lookups.{lookups_at};
 ghost use Rattle.registry.specs.StationAdded.{add_rule, is_station_name};
 
@@ -30,13 +30,9 @@ pub fn plan_add<S: Store>(
     policy: Policy,
     interval: u64,
 ) -> Result<Result<Edit, Refusal>, StoreFault>
-    ensures was_clean { S.clean store.new → S.clean store.old }
+    ensures reads { OnlyReads S.rows S.failures S.clean store.old store.new (result ≡ Err StoreFault.Failed) }
     ensures plan { S.clean store.new → IfOk result (λ p. p
         ≡ add_rule station.now policy interval (lookups_at op.now (S.rows store.old))) }
-    ensures rows { S.clean store.new → S.rows store.new ≡ S.rows store.old }
-    ensures failed { IfErr result (λ fault. fault ≡ StoreFault.Failed
-        → Rose (S.failures store.old) (S.failures store.new)) }
-    ensures count { S.failures store.old ≤ S.failures store.new }
 {
     if !is_station_name(station) {
         return Ok(Err(Refusal::BadField(FieldName::new("station"))));

@@ -1,6 +1,6 @@
 //! Reports on connectors (OCPP 1.6, section 4.9; docs/RULES.md, Connectors).
-ghost use Rattle.std.specs.Prelude.{◌≡◌, ◌≤◌, IfOk, IfErr};
-ghost use Rattle.hub_rows.specs.Failures.{Rose};
+ghost use Rattle.std.specs.Prelude.{◌≡◌, Err, IfOk};
+ghost use Rattle.hub_rows.specs.Reads.{OnlyReads};
 ghost use Rattle.hub_rows.specs.Lookups.{lookups_at};
 ghost use Rattle.registry.specs.Status.{status_rule, report_of};
 
@@ -24,13 +24,9 @@ pub fn on_status<S: Store>(
     request: StatusNotification,
     moment: Moment,
 ) -> Result<Decision, StoreFault>
-    ensures was_clean { S.clean store.new → S.clean store.old }
+    ensures reads { OnlyReads S.rows S.failures S.clean store.old store.new (result ≡ Err StoreFault.Failed) }
     ensures decision { S.clean store.new → IfOk result (λ d. d
         ≡ status_rule station.now request moment (lookups_at op.now (S.rows store.old))) }
-    ensures rows { S.clean store.new → S.rows store.new ≡ S.rows store.old }
-    ensures failed { IfErr result (λ fault. fault ≡ StoreFault.Failed
-        → Rose (S.failures store.old) (S.failures store.new)) }
-    ensures count { S.failures store.old ≤ S.failures store.new }
 {
     if store.station(op, station)?.is_none() {
         return Ok(internal_error());

@@ -1,6 +1,6 @@
 //! What the decisions on stations' calls promise.
-ghost use Rattle.std.specs.Prelude.{◌≡◌, ◌≤◌, ℕ, IfOk, IfErr};
-ghost use Rattle.hub_rows.specs.Failures.{Rose};
+ghost use Rattle.std.specs.Prelude.{◌≡◌, Err, ℕ, IfOk};
+ghost use Rattle.hub_rows.specs.Reads.{OnlyReads};
 ghost use Rattle.hub_rows.specs.Lookups.{lookups_at};
 ghost use Rattle.hub_rows.specs.Rows.{Rows};
 ghost use Rattle.hub_rows.specs.declared.store.StoreFault.TheVariants as store_fault;
@@ -46,13 +46,9 @@ pub trait CoreHandler {
         request: Authorize,
         moment: Moment,
     ) -> Result<Decision, StoreFault>
-        ensures was_clean { clean self.new → clean self.old }
+        ensures reads { OnlyReads rows failures clean self.old self.new (result ≡ Err store_fault.Failed) }
         ensures decision { clean self.new → IfOk result (λ d. d
             ≡ authorize_rule request moment (lookups_at op.now (rows self.old))) }
-        ensures rows { clean self.new → rows self.new ≡ rows self.old }
-        ensures failed { IfErr result (λ fault. fault ≡ store_fault.Failed
-            → Rose (failures self.old) (failures self.new)) }
-        ensures count { failures self.old ≤ failures self.new }
         ensures answers { answers self.new ≡ answers self.old };
 
     /// A boot (OCPP 1.6, section 4.2).
@@ -64,13 +60,9 @@ pub trait CoreHandler {
         request: BootNotification,
         moment: Moment,
     ) -> Result<Decision, StoreFault>
-        ensures was_clean { clean self.new → clean self.old }
+        ensures reads { OnlyReads rows failures clean self.old self.new (result ≡ Err store_fault.Failed) }
         ensures decision { clean self.new → IfOk result (λ d. d
             ≡ boot_rule station.now request moment (lookups_at op.now (rows self.old))) }
-        ensures rows { clean self.new → rows self.new ≡ rows self.old }
-        ensures failed { IfErr result (λ fault. fault ≡ store_fault.Failed
-            → Rose (failures self.old) (failures self.new)) }
-        ensures count { failures self.old ≤ failures self.new }
         ensures answers { answers self.new ≡ answers self.old };
 
     /// A vendor's message (OCPP 1.6, section 4.3).
@@ -82,12 +74,8 @@ pub trait CoreHandler {
         request: DataTransfer,
         moment: Moment,
     ) -> Result<Decision, StoreFault>
-        ensures was_clean { clean self.new → clean self.old }
+        ensures reads { OnlyReads rows failures clean self.old self.new (result ≡ Err store_fault.Failed) }
         ensures decision { IfOk result (λ d. d ≡ transfer_rule (answers self.old) request) }
-        ensures rows { clean self.new → rows self.new ≡ rows self.old }
-        ensures failed { IfErr result (λ fault. fault ≡ store_fault.Failed
-            → Rose (failures self.old) (failures self.new)) }
-        ensures count { failures self.old ≤ failures self.new }
         ensures answers { answers self.new ≡ answers self.old };
 
     /// A heartbeat (OCPP 1.6, section 4.6).
@@ -98,12 +86,8 @@ pub trait CoreHandler {
         station: &str,
         moment: Moment,
     ) -> Result<Decision, StoreFault>
-        ensures was_clean { clean self.new → clean self.old }
+        ensures reads { OnlyReads rows failures clean self.old self.new (result ≡ Err store_fault.Failed) }
         ensures decision { IfOk result (λ d. d ≡ heartbeat_rule moment) }
-        ensures rows { clean self.new → rows self.new ≡ rows self.old }
-        ensures failed { IfErr result (λ fault. fault ≡ store_fault.Failed
-            → Rose (failures self.old) (failures self.new)) }
-        ensures count { failures self.old ≤ failures self.new }
         ensures answers { answers self.new ≡ answers self.old };
 
     /// Readings of a meter (OCPP 1.6, section 4.7).
@@ -115,13 +99,9 @@ pub trait CoreHandler {
         request: MeterValues,
         moment: Moment,
     ) -> Result<Decision, StoreFault>
-        ensures was_clean { clean self.new → clean self.old }
+        ensures reads { OnlyReads rows failures clean self.old self.new (result ≡ Err store_fault.Failed) }
         ensures decision { clean self.new → IfOk result (λ d. d
             ≡ meter_values_rule station.now request (lookups_at op.now (rows self.old))) }
-        ensures rows { clean self.new → rows self.new ≡ rows self.old }
-        ensures failed { IfErr result (λ fault. fault ≡ store_fault.Failed
-            → Rose (failures self.old) (failures self.new)) }
-        ensures count { failures self.old ≤ failures self.new }
         ensures answers { answers self.new ≡ answers self.old };
 
     /// A transaction has begun (OCPP 1.6, section 4.8).
@@ -133,13 +113,9 @@ pub trait CoreHandler {
         request: StartTransaction,
         moment: Moment,
     ) -> Result<Decision, StoreFault>
-        ensures was_clean { clean self.new → clean self.old }
+        ensures reads { OnlyReads rows failures clean self.old self.new (result ≡ Err store_fault.Failed) }
         ensures decision { clean self.new → IfOk result (λ d. d
             ≡ start_rule station.now request moment (lookups_at op.now (rows self.old))) }
-        ensures rows { clean self.new → rows self.new ≡ rows self.old }
-        ensures failed { IfErr result (λ fault. fault ≡ store_fault.Failed
-            → Rose (failures self.old) (failures self.new)) }
-        ensures count { failures self.old ≤ failures self.new }
         ensures answers { answers self.new ≡ answers self.old };
 
     /// A report on a connector (OCPP 1.6, section 4.9).
@@ -151,13 +127,9 @@ pub trait CoreHandler {
         request: StatusNotification,
         moment: Moment,
     ) -> Result<Decision, StoreFault>
-        ensures was_clean { clean self.new → clean self.old }
+        ensures reads { OnlyReads rows failures clean self.old self.new (result ≡ Err store_fault.Failed) }
         ensures decision { clean self.new → IfOk result (λ d. d
             ≡ status_rule station.now request moment (lookups_at op.now (rows self.old))) }
-        ensures rows { clean self.new → rows self.new ≡ rows self.old }
-        ensures failed { IfErr result (λ fault. fault ≡ store_fault.Failed
-            → Rose (failures self.old) (failures self.new)) }
-        ensures count { failures self.old ≤ failures self.new }
         ensures answers { answers self.new ≡ answers self.old };
 
     /// A transaction has ended (OCPP 1.6, section 4.10).
@@ -169,12 +141,8 @@ pub trait CoreHandler {
         request: StopTransaction,
         moment: Moment,
     ) -> Result<Decision, StoreFault>
-        ensures was_clean { clean self.new → clean self.old }
+        ensures reads { OnlyReads rows failures clean self.old self.new (result ≡ Err store_fault.Failed) }
         ensures decision { clean self.new → IfOk result (λ d. d
             ≡ stop_rule station.now request moment (lookups_at op.now (rows self.old))) }
-        ensures rows { clean self.new → rows self.new ≡ rows self.old }
-        ensures failed { IfErr result (λ fault. fault ≡ store_fault.Failed
-            → Rose (failures self.old) (failures self.new)) }
-        ensures count { failures self.old ≤ failures self.new }
         ensures answers { answers self.new ≡ answers self.old };
 }

@@ -1,6 +1,6 @@
 //! A station's call, decided by the rule of its action.
-ghost use Rattle.std.specs.Prelude.{◌≡◌, ◌≤◌, IfOk, IfErr};
-ghost use Rattle.hub_rows.specs.Failures.{Rose};
+ghost use Rattle.std.specs.Prelude.{◌≡◌, Err, IfOk};
+ghost use Rattle.hub_rows.specs.Reads.{OnlyReads};
 ghost use Rattle.hub_rows.specs.Lookups.{lookups_at};
 ghost use Rattle.station_calls.specs.Decided.{decision};
 ghost use Rattle.station_calls.specs.Vendors.{answer_of};
@@ -24,13 +24,9 @@ pub fn decide<S: Store, V: VendorHandler>(
     moment: Moment,
     request: Request,
 ) -> Result<Decision, StoreFault>
-    ensures was_clean { S.clean book.new.store → S.clean book.old.store }
+    ensures reads { OnlyReads S.rows S.failures S.clean book.old.store book.new.store (result ≡ Err StoreFault.Failed) }
     ensures decision { S.clean book.new.store → IfOk result (λ d. d
         ≡ decision (answer_of V.name V.gives book.old.vendors.items) moment station.now request (lookups_at op.now (S.rows book.old.store))) }
-    ensures rows { S.clean book.new.store → S.rows book.new.store ≡ S.rows book.old.store }
-    ensures failed { IfErr result (λ f. f ≡ StoreFault.Failed
-        → Rose (S.failures book.old.store) (S.failures book.new.store)) }
-    ensures count { S.failures book.old.store ≤ S.failures book.new.store }
     ensures answers { answer_of V.name V.gives book.new.vendors.items ≡ answer_of V.name V.gives book.old.vendors.items }
 {
     let op = op.as_str();

@@ -15,7 +15,7 @@ returns-in-Err-clause-isolated_outputs g c = λ clean a.
     let st : Setting = setting g.V.VendorHandler.name g.V.VendorHandler.gives c.args.self.now in
     let w : World = world g.S.Store.rows c.args.self.now in
     let inv = c.loop-event.invariant in
-    let before = c.in-Err.ensures.was_clean clean in
+    let before = c.in-Err.ensures.counted.was_clean clean in
     let good : WellFormed w = record { rows = g.met.S.Store.well_formed c.args.self.now.book.store (inv.was_clean before); slots = c.args.self.now.slots.sorted } in
     ap (outputs_of a) (c.in-Err.ensures.err_told ∙ inv.outputs before ∙ ap (λ n. run_outputs st w (take n c.args.events.now)) (sym inv.at))
     ∙ run_outputs-own st a w (take c.loop-event.taken c.args.events.now) good
@@ -25,7 +25,7 @@ returns-in-Err-clause-isolated_view g c = λ clean a.
     let st : Setting = setting g.V.VendorHandler.name g.V.VendorHandler.gives c.args.self.now in
     let w : World = world g.S.Store.rows c.args.self.now in
     let inv = c.loop-event.invariant in
-    let before = c.in-Err.ensures.was_clean clean in
+    let before = c.in-Err.ensures.counted.was_clean clean in
     let good : WellFormed w = record { rows = g.met.S.Store.well_formed c.args.self.now.book.store (inv.was_clean before); slots = c.args.self.now.slots.sorted } in
     ap (view a) (c.in-Err.ensures.err_world clean ∙ inv.world before ∙ ap (λ n. world_run st w (take n c.args.events.now)) (sym inv.at))
     ∙ world_run-own st a w (take c.loop-event.taken c.args.events.now) good
@@ -62,13 +62,13 @@ loop-event-preserved g c =
       hosted = AllWithin-more (λ e. is_taken st e ≡ true) es 0 i inv.hosted
           (at_read es (λ e. is_taken st e ≡ true) i c.event-item.result c.loop-event-test.true c.event-item.is
           (ap (λ s. is_taken s c.event-item.result) (sym inv.setting) ∙ c.in-Ok.ensures.taken));
-      was_clean = λ clean. inv.was_clean (c.in-Ok.ensures.was_clean clean);
-      outputs = λ clean. let before = c.in-Ok.ensures.was_clean clean in
+      was_clean = λ clean. inv.was_clean (c.in-Ok.ensures.counted.was_clean clean);
+      outputs = λ clean. let before = c.in-Ok.ensures.counted.was_clean clean in
           outputs_go_on st w es i c.event-item.result at.outs.items c.take.new.told.items mine (world g.S.Store.rows at.self) c.loop-event-test.true c.event-item.is inv.setting (inv.world before) (inv.outputs before) (c.in-Ok.ensures.told clean);
-      world = λ clean. let before = c.in-Ok.ensures.was_clean clean in
+      world = λ clean. let before = c.in-Ok.ensures.counted.was_clean clean in
           world_goes_on st w es i c.event-item.result (world g.S.Store.rows c.take.new.self) mine (world g.S.Store.rows at.self) c.loop-event-test.true c.event-item.is inv.setting (inv.world before) (c.in-Ok.ensures.world clean);
       setting = c.in-Ok.ensures.setting ∙ inv.setting;
-      count = omega (arith, c.in-Ok.ensures.count);
+      count = omega (arith, c.in-Ok.ensures.counted.count);
     }
 
 pub returns-in-Err-clause-setting : goal.returns-in-Err-clause-setting
