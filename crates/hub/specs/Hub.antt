@@ -9,6 +9,13 @@ use Rattle.station_calls.specs.Vendors.{answer_of}
 use Rattle.hub.specs.Table.{Setting}
 use Rattle.hub.specs.World.{World}
 
+-- whether its store is clean, and how often its store has failed, by what the store says of itself
+abbrev pub is_clean : {S V : Type 0} → (S → Type 0) → Hub S V → Type 0
+is_clean clean h = clean h.book.store
+
+abbrev pub failures_of : {S V : Type 0} → (S → ℕ) → Hub S V → ℕ
+failures_of failures h = failures h.book.store
+
 -- the records of its store and its connections, by what the store says of its rows
 abbrev pub world : {S V : Type 0} → (S → Rows) → Hub S V → World
 world rows h = record { rows = rows h.book.store; slots = h.slots.list.items }

@@ -39,7 +39,7 @@ pub struct BadOperators;
 
 impl<S: Store + Drop, V: VendorHandler> Hub<S, V> {
     ghost use Rattle.hub_rows.specs.Rows.{Rows};
-    ghost use Rattle.hub.specs.Hub.{world, setting, setting_of, is_taken};
+    ghost use Rattle.hub.specs.Hub.{world, setting, setting_of, is_taken, is_clean, failures_of};
     ghost use Rattle.hub.specs.Said.{outputs_of};
     ghost use Rattle.hub.specs.World.{world_outputs, world_step, run_outputs, world_run};
     ghost use Rattle.hub.specs.View.{view, seen, operator_run_outputs, operator_run};
@@ -57,7 +57,8 @@ impl<S: Store + Drop, V: VendorHandler> Hub<S, V> {
         ensures succeeds { IsOk result ↔ (are_operators operators.items ≡ true) }
         ensures world { IfOk result (λ h. world S.rows h ≡ record { rows = S.rows store; slots = [] }) }
         ensures setting { IfOk result (λ h. setting V.name V.gives h ≡ setting_of V.name V.gives operators.items vendors.items) }
-        ensures clean { IfOk result (λ h. h.book.store ≡ store) }
+        ensures clean { IfOk result (λ h. is_clean S.clean h ↔ S.clean store) }
+        ensures failures { IfOk result (λ h. failures_of S.failures h ≡ S.failures store) }
     {
         if !are_operators(&operators) {
             return Err(BadOperators);
@@ -86,18 +87,18 @@ impl<S: Store + Drop, V: VendorHandler> Hub<S, V> {
     /// `isolated_view` are the isolation theorem for one event: to each operator, the outputs and
     /// what it has afterwards are what its own machine gives for what it was shown.
     pub fn handle(&mut self, event: &Event) -> Result<Vec<Out>, Fault>
-        ensures counted { IsCounted S.failures S.clean self.old.book.store self.new.book.store (result ≡ Err Fault.Store) }
-        ensures outputs { S.clean self.new.book.store → IfOk result (λ outs. outs.items
+        ensures counted { IsCounted (failures_of S.failures) (is_clean S.clean) self.old self.new (result ≡ Err Fault.Store) }
+        ensures outputs { is_clean S.clean self.new → IfOk result (λ outs. outs.items
             ≡ world_outputs (setting V.name V.gives self.old) (world S.rows self.old) event.now) }
-        ensures world { S.clean self.new.book.store → OnOk result (world S.rows self.new
+        ensures world { is_clean S.clean self.new → OnOk result (world S.rows self.new
             ≡ world_step (setting V.name V.gives self.old) (world S.rows self.old) event.now) }
-        ensures isolated_outputs { S.clean self.new.book.store → IfOk result (λ outs. (a : List ℕ)
+        ensures isolated_outputs { is_clean S.clean self.new → IfOk result (λ outs. (a : List ℕ)
             → outputs_of a outs.items ≡ operator_run_outputs (setting V.name V.gives self.old) a
             (view a (world S.rows self.old)) (seen (setting V.name V.gives self.old) a (world S.rows self.old) (event.now ∷ []))) }
-        ensures isolated_view { S.clean self.new.book.store → OnOk result ((a : List ℕ)
+        ensures isolated_view { is_clean S.clean self.new → OnOk result ((a : List ℕ)
             → view a (world S.rows self.new) ≡ operator_run (setting V.name V.gives self.old) a
             (view a (world S.rows self.old)) (seen (setting V.name V.gives self.old) a (world S.rows self.old) (event.now ∷ []))) }
-        ensures fault { S.clean self.new.book.store
+        ensures fault { is_clean S.clean self.new
             → OnErr result (world S.rows self.new ≡ world S.rows self.old) }
         ensures setting { setting V.name V.gives self.new ≡ setting V.name V.gives self.old }
         ensures taken { OnOk result (is_taken (setting V.name V.gives self.old) event.now ≡ true) }
@@ -116,15 +117,15 @@ impl<S: Store + Drop, V: VendorHandler> Hub<S, V> {
     /// operator, the outputs and what it has afterwards are what its own machine gives for what
     /// it was shown of the events taken.
     pub fn run(&mut self, events: &[Event]) -> (Vec<Out>, usize, Option<Fault>)
-        ensures counted { IsCounted S.failures S.clean self.old.book.store self.new.book.store (result.2 ≡ Some Fault.Store) }
-        ensures outputs { S.clean self.new.book.store → result.0.items
+        ensures counted { IsCounted (failures_of S.failures) (is_clean S.clean) self.old self.new (result.2 ≡ Some Fault.Store) }
+        ensures outputs { is_clean S.clean self.new → result.0.items
             ≡ run_outputs (setting V.name V.gives self.old) (world S.rows self.old) (take result.1 events.now) }
-        ensures world { S.clean self.new.book.store → world S.rows self.new
+        ensures world { is_clean S.clean self.new → world S.rows self.new
             ≡ world_run (setting V.name V.gives self.old) (world S.rows self.old) (take result.1 events.now) }
-        ensures isolated_outputs { S.clean self.new.book.store → (a : List ℕ)
+        ensures isolated_outputs { is_clean S.clean self.new → (a : List ℕ)
             → outputs_of a result.0.items ≡ operator_run_outputs (setting V.name V.gives self.old) a
             (view a (world S.rows self.old)) (seen (setting V.name V.gives self.old) a (world S.rows self.old) (take result.1 events.now)) }
-        ensures isolated_view { S.clean self.new.book.store → (a : List ℕ)
+        ensures isolated_view { is_clean S.clean self.new → (a : List ℕ)
             → view a (world S.rows self.new) ≡ operator_run (setting V.name V.gives self.old) a
             (view a (world S.rows self.old)) (seen (setting V.name V.gives self.old) a (world S.rows self.old) (take result.1 events.now)) }
         ensures setting { setting V.name V.gives self.new ≡ setting V.name V.gives self.old }
@@ -151,13 +152,13 @@ impl<S: Store + Drop, V: VendorHandler> Hub<S, V> {
     /// the one change of the store.
     #[tactic(auto, unfolding(crate::specs::Hub::setting, crate::specs::Hub::setting_of))]
     fn take(&mut self, event: &Event, told: &mut Vec<Out>) -> Result<(), Fault>
-        ensures counted { IsCounted S.failures S.clean self.old.book.store self.new.book.store (result ≡ Err Fault.Store) }
-        ensures told { S.clean self.new.book.store → OnOk result (told.new.items ≡ told.old.items
+        ensures counted { IsCounted (failures_of S.failures) (is_clean S.clean) self.old self.new (result ≡ Err Fault.Store) }
+        ensures told { is_clean S.clean self.new → OnOk result (told.new.items ≡ told.old.items
             ++ world_outputs (setting V.name V.gives self.old) (world S.rows self.old) event.now) }
-        ensures world { S.clean self.new.book.store → OnOk result (world S.rows self.new
+        ensures world { is_clean S.clean self.new → OnOk result (world S.rows self.new
             ≡ world_step (setting V.name V.gives self.old) (world S.rows self.old) event.now) }
         ensures err_told { OnErr result (told.new.items ≡ told.old.items) }
-        ensures err_world { S.clean self.new.book.store
+        ensures err_world { is_clean S.clean self.new
             → OnErr result (world S.rows self.new ≡ world S.rows self.old) }
         ensures setting { setting V.name V.gives self.new ≡ setting V.name V.gives self.old }
         ensures taken { OnOk result (is_taken (setting V.name V.gives self.old) event.now ≡ true) }

@@ -1,7 +1,7 @@
 //! The answers to lines.
-ghost use Rattle.std.specs.Prelude.{◌≡◌, ◌+◌, ◌++◌, ◌<◌, ◌≤◌, ◌-◌, ◌^◌, List, [], ◌∷◌, ℕ, true, OnOk, OnErr, IfOk, IfErr};
-ghost use Rattle.hub_rows.specs.Failures.{Rose};
-ghost use Rattle.hub.specs.Hub.{world, setting, is_taken};
+ghost use Rattle.std.specs.Prelude.{◌≡◌, ◌+◌, ◌++◌, ◌<◌, ◌≤◌, ◌-◌, ◌^◌, List, [], ◌∷◌, ℕ, true, Err, OnOk, OnErr, IfOk, IfErr};
+ghost use Rattle.hub_rows.specs.Reads.{IsCounted};
+ghost use Rattle.hub.specs.Hub.{world, setting, is_taken, is_clean, failures_of};
 ghost use Rattle.hub.specs.World.{world_outputs, world_step};
 ghost use Rattle.ws_server.specs.declared.lines.reading.Line.TheVariants as line;
 ghost use Rattle.ws_server.specs.InputLines.{spelled};
@@ -40,18 +40,16 @@ impl Answers {
     ) -> Result<(), LineFault>
         requires { self.old.number < 2 ^ 64 - 1 }
         ensures number { OnOk result (self.new.number ≡ self.old.number + 1) }
-        ensures was_clean { S.clean hub.new.book.store → S.clean hub.old.book.store }
         ensures setting { setting V.name V.gives hub.new ≡ setting V.name V.gives hub.old }
-        ensures world { S.clean hub.new.book.store → OnOk result ((line : List ℕ) → IsLine held.entry line
+        ensures world { is_clean S.clean hub.new → OnOk result ((line : List ℕ) → IsLine held.entry line
             → world S.rows hub.new ≡ after (setting V.name V.gives hub.old) (world S.rows hub.old) (spelled (setting V.name V.gives hub.old).hosted line)) }
-        ensures text { S.clean hub.new.book.store → OnOk result ((line : List ℕ) → IsLine held.entry line
+        ensures text { is_clean S.clean hub.new → OnOk result ((line : List ℕ) → IsLine held.entry line
             → self.new.text.items ≡ self.old.text.items ++ answer (setting V.name V.gives hub.old) (world S.rows hub.old) self.old.number (spelled (setting V.name V.gives hub.old).hosted line)) }
-        ensures fault_world { S.clean hub.new.book.store → OnErr result ((line : List ℕ) → IsLine held.entry line
+        ensures fault_world { is_clean S.clean hub.new → OnErr result ((line : List ℕ) → IsLine held.entry line
             → IsStep (setting V.name V.gives hub.old) (world S.rows hub.old) (spelled (setting V.name V.gives hub.old).hosted line) (world S.rows hub.new)) }
-        ensures fault_text { S.clean hub.new.book.store → OnErr result ((line : List ℕ) → IsLine held.entry line
+        ensures fault_text { is_clean S.clean hub.new → OnErr result ((line : List ℕ) → IsLine held.entry line
             → Begins self.new.text.items (self.old.text.items ++ answer (setting V.name V.gives hub.old) (world S.rows hub.old) self.old.number (spelled (setting V.name V.gives hub.old).hosted line))) }
-        ensures count { S.failures hub.old.book.store ≤ S.failures hub.new.book.store }
-        ensures store_failed { IfErr result (λ f. f ≡ line_fault.Store → Rose (S.failures hub.old.book.store) (S.failures hub.new.book.store)) }
+        ensures counted { IsCounted (failures_of S.failures) (is_clean S.clean) hub.old hub.new (result ≡ Err line_fault.Store) }
     {
         match read_held(alloc, hub.hosted(), held)? {
             Line::Nothing => {}
@@ -70,19 +68,16 @@ impl Answers {
         event: &Event,
     ) -> Result<(), LineFault>
         ensures number { self.new.number ≡ self.old.number }
-        ensures was_clean { S.clean hub.new.book.store → S.clean hub.old.book.store }
         ensures setting { setting V.name V.gives hub.new ≡ setting V.name V.gives hub.old }
-        ensures world { S.clean hub.new.book.store → OnOk result (world S.rows hub.new
+        ensures world { is_clean S.clean hub.new → OnOk result (world S.rows hub.new
             ≡ world_step (setting V.name V.gives hub.old) (world S.rows hub.old) event.now) }
-        ensures text { S.clean hub.new.book.store → OnOk result (self.new.text.items ≡ self.old.text.items
+        ensures text { is_clean S.clean hub.new → OnOk result (self.new.text.items ≡ self.old.text.items
             ++ told_lines (world_outputs (setting V.name V.gives hub.old) (world S.rows hub.old) event.now)) }
-        ensures fault_world { S.clean hub.new.book.store → OnErr result (IsStep (setting V.name V.gives hub.old) (world S.rows hub.old)
+        ensures fault_world { is_clean S.clean hub.new → OnErr result (IsStep (setting V.name V.gives hub.old) (world S.rows hub.old)
             (line.Event event.now) (world S.rows hub.new)) }
-        ensures fault_text { S.clean hub.new.book.store → OnErr result (Begins self.new.text.items (self.old.text.items
+        ensures fault_text { is_clean S.clean hub.new → OnErr result (Begins self.new.text.items (self.old.text.items
             ++ told_lines (world_outputs (setting V.name V.gives hub.old) (world S.rows hub.old) event.now))) }
-        ensures count { S.failures hub.old.book.store ≤ S.failures hub.new.book.store }
-        ensures store_failed { is_taken (setting V.name V.gives hub.old) event.now ≡ true → IfErr result (λ f. f ≡ line_fault.Store
-            → Rose (S.failures hub.old.book.store) (S.failures hub.new.book.store)) }
+        ensures counted { IsCounted (failures_of S.failures) (is_clean S.clean) hub.old hub.new ((is_taken (setting V.name V.gives hub.old) event.now ≡ true) × (result ≡ Err line_fault.Store)) }
     {
         let outs = hub.handle(event)?;
         push_all(&mut self.text, alloc, outs.as_slice())?;

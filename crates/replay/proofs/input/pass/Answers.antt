@@ -21,12 +21,12 @@ returns-in_err-next-clause-fault_world g c = λ clean. on_err _ _ (progress_stop
 
 pub returns-in_err-line-clause-fault_world : goal.returns-in_err-line-clause-fault_world
 returns-in_err-line-clause-fault_world g c = λ clean. on_err _ _
-    (progress_line_world _ _ _ _ _ _ _ _ _ _ _ _ _ _ _ _ _ c.loop-answers.invariant.progress (c.in_ok-next.ensures.line c.if-branch.true) c.in_err-line.ensures.was_clean clean c.loop-answers.invariant.same
+    (progress_line_world _ _ _ _ _ _ _ _ _ _ _ _ _ _ _ _ _ c.loop-answers.invariant.progress (c.in_ok-next.ensures.line c.if-branch.true) c.in_err-line.ensures.counted.was_clean clean c.loop-answers.invariant.same
     (λ line held. c.in_err-line.ensures.fault_world clean line (c.held.ensures line held)))
 
 pub returns-in_err-line-clause-fault_text : goal.returns-in_err-line-clause-fault_text
 returns-in_err-line-clause-fault_text g c = λ clean. on_err _ _
-    (progress_line_text _ _ _ _ _ _ _ _ _ _ _ _ _ _ _ _ _ c.loop-answers.invariant.progress (c.in_ok-next.ensures.line c.if-branch.true) c.in_err-line.ensures.was_clean clean c.loop-answers.invariant.same
+    (progress_line_text _ _ _ _ _ _ _ _ _ _ _ _ _ _ _ _ _ c.loop-answers.invariant.progress (c.in_ok-next.ensures.line c.if-branch.true) c.in_err-line.ensures.counted.was_clean clean c.loop-answers.invariant.same
     (λ line held. c.in_err-line.ensures.fault_text clean line (c.held.ensures line held)))
 
 pub loop-answers-preserved : goal.loop-answers-preserved
@@ -37,13 +37,13 @@ loop-answers-preserved g c =
     record {
       within = next.within;
       number = omega (arith, line.number, next.fewer c.if-branch.true, inv.number);
-      was_clean = λ clean. inv.was_clean (line.was_clean clean);
-      count = omega (arith, inv.count, line.count);
+      was_clean = λ clean. inv.was_clean (line.counted.was_clean clean);
+      count = omega (arith, inv.count, line.counted.count);
       same = line.setting ∙ inv.same;
       end = next.end (next.unended c.if-branch.true);
       reads = reads_both _ _ _ _ _ _ inv.reads next.count;
       progress = progress_write _ _ _ _ _ _ _ _ _ _ _ _ _ _
-          (progress_line _ _ _ _ _ _ _ _ _ _ _ _ _ _ _ _ _ _ _ inv.progress (next.line c.if-branch.true) line.was_clean inv.same line.number
+          (progress_line _ _ _ _ _ _ _ _ _ _ _ _ _ _ _ _ _ _ _ inv.progress (next.line c.if-branch.true) line.counted.was_clean inv.same line.number
           (λ clean l held. line.world clean l (c.held.ensures l held)) (λ clean l held. line.text clean l (c.held.ensures l held)))
           c.in_ok-write_if_long.ensures.ok;
     }
@@ -53,7 +53,7 @@ returns-in_err-write_if_long-clause-fault_world g c = λ clean.
     let inv = c.loop-answers.invariant in
     let line = c.in_ok-line.ensures in
     on_err _ _ (progress_stop_world _ _ _ _ _ _ _ _ _ _ _ _ _
-    (progress_line _ _ _ _ _ _ _ _ _ _ _ _ _ _ _ _ _ _ _ inv.progress (c.in_ok-next.ensures.line c.if-branch.true) line.was_clean inv.same line.number
+    (progress_line _ _ _ _ _ _ _ _ _ _ _ _ _ _ _ _ _ _ _ inv.progress (c.in_ok-next.ensures.line c.if-branch.true) line.counted.was_clean inv.same line.number
     (λ clean' l held. line.world clean' l (c.held.ensures l held)) (λ clean' l held. line.text clean' l (c.held.ensures l held)))
     (λ x. x) clean)
 
@@ -62,7 +62,7 @@ returns-in_err-write_if_long-clause-fault_text g c = λ clean.
     let inv = c.loop-answers.invariant in
     let line = c.in_ok-line.ensures in
     on_err _ _ (progress_stop_text _ _ _ _ _ _ _ _ _ _ _ _ _ _ _
-    (progress_line _ _ _ _ _ _ _ _ _ _ _ _ _ _ _ _ _ _ _ inv.progress (c.in_ok-next.ensures.line c.if-branch.true) line.was_clean inv.same line.number
+    (progress_line _ _ _ _ _ _ _ _ _ _ _ _ _ _ _ _ _ _ _ inv.progress (c.in_ok-next.ensures.line c.if-branch.true) line.counted.was_clean inv.same line.number
     (λ clean' l held. line.world clean' l (c.held.ensures l held)) (λ clean' l held. line.text clean' l (c.held.ensures l held)))
     (λ x. x) clean c.in_err-write_if_long.ensures.fault)
 

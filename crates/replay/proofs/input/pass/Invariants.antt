@@ -1,7 +1,7 @@
 use Rattle.std.proofs.Common.{◌≡◌, ◌+◌, ◌<◌, ◌≤◌, true}
 use Rattle.std.specs.Prelude.{vec_len}
 use Rattle.std.specs.Io.KnownBytes.{IsAtEnd}
-use Rattle.hub.specs.Hub.{world, setting}
+use Rattle.hub.specs.Hub.{world, setting, is_clean, failures_of}
 use Rattle.replay.specs.Held.{Reads}
 use Rattle.replay.specs.Lines.{to_come, most_turns}
 use Rattle.replay.proofs.Progress.{ProgressOf}
@@ -11,12 +11,12 @@ abbrev pub invariant-loop-answers : goal.invariant-loop-answers
 invariant-loop-answers g l = let st = setting g.V.VendorHandler.name g.V.VendorHandler.gives l.fn.hub in record {
   within : l.lines.start ≤ vec_len l.lines.buffer;
   number : l.answers.number + most_turns l.lines ≤ l.fn.answers.number + most_turns l.fn.lines;
-  was_clean : g.S.Store.clean l.hub.book.store → g.S.Store.clean l.fn.hub.book.store;
-  count : g.S.Store.failures l.fn.hub.book.store ≤ g.S.Store.failures l.hub.book.store;
+  was_clean : is_clean g.S.Store.clean l.hub → is_clean g.S.Store.clean l.fn.hub;
+  count : failures_of g.S.Store.failures l.fn.hub ≤ failures_of g.S.Store.failures l.hub;
   same : setting g.V.VendorHandler.name g.V.VendorHandler.gives l.hub ≡ st;
   end : l.lines.ended ≡ true → (0 < l.lines.left) × IsAtEnd (g.R.Read.remaining l.reader);
   reads : Reads (g.R.Read.remaining l.fn.reader) (g.R.Read.remaining l.reader) l.fn.lines.left l.lines.left;
-  progress : ProgressOf (g.S.Store.clean l.hub.book.store) st (world g.S.Store.rows l.fn.hub) (world g.S.Store.rows l.hub)
+  progress : ProgressOf (is_clean g.S.Store.clean l.hub) st (world g.S.Store.rows l.fn.hub) (world g.S.Store.rows l.hub)
       l.fn.answers.number l.answers.number (g.W.Write.contents l.fn.writer) (g.W.Write.contents l.writer) l.fn.answers.text.items l.answers.text.items
       (to_come l.fn.lines (g.R.Read.remaining l.fn.reader)) (to_come l.lines (g.R.Read.remaining l.reader));
 }
