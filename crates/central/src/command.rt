@@ -2,7 +2,7 @@
 
 use clap::error::ErrorKind;
 use clap::{Arg, ArgMatches, Command, Error};
-use ocpp_types::text::Text;
+use ocpp_types::Text;
 use std::alloc::{AllocError, Global};
 
 /// What a command line asks for.

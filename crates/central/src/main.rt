@@ -5,9 +5,8 @@ mod command;
 mod status;
 
 use command::Plan;
-use replay::in_memory::replay_in_memory;
-use station_calls::echo::Echo;
-use station_calls::vendor::VendorHandler;
+use replay::replay_in_memory;
+use station_calls::{Echo, VendorHandler};
 use std::process::ExitCode;
 use std::{env, io};
 

@@ -1,7 +1,7 @@
 //! The statuses of the program.
 ghost use Rattle.std.specs.Prelude.{◌≡◌, OnOk, OnErr, if◌then◌else◌};
 
-use replay::fault::ReplayFault;
+use replay::ReplayFault;
 
 /// 0 where a replay came to its end, 2 after a fault.
 pub fn of_replay(answer: &Result<(), ReplayFault>) -> u8

@@ -12,7 +12,7 @@ use Rattle.hub_rows.specs.declared.tx_row.StartKey.{StartKey}
 use Rattle.hub_rows.specs.Lookups.{Lookups}
 use Rattle.hub_rows.specs.Transactions.{last_of_all}
 use Rattle.id_tags.specs.Judge.{judge_rule}
-use Rattle.id_tags.specs.declared.judge.Purpose.TheVariants as purpose
+use Rattle.id_tags.specs.declared.judgement.Purpose.TheVariants as purpose
 use Rattle.registry.specs.declared.decision.Decision.{Decision}
 use Rattle.registry.specs.declared.decision.Reply.TheVariants.{Conf}
 use Rattle.registry.specs.InternalError.{internal_error}

@@ -11,7 +11,7 @@ use Rattle.hub_rows.specs.declared.tx_row.Stop.{Stop}
 use Rattle.hub_rows.specs.declared.tx_row.TxState.{TxState}
 use Rattle.hub_rows.specs.Lookups.{Lookups}
 use Rattle.id_tags.specs.Judge.{judge_rule}
-use Rattle.id_tags.specs.declared.judge.Purpose.TheVariants as purpose
+use Rattle.id_tags.specs.declared.judgement.Purpose.TheVariants as purpose
 use Rattle.registry.specs.declared.decision.Decision.{Decision}
 use Rattle.registry.specs.declared.decision.Reply.TheVariants.{Conf}
 use Rattle.charging.specs.Numbers.{has_room}

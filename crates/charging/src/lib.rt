@@ -1,8 +1,13 @@
 //! The rules on charging: how transactions begin and end, and which readings are kept.
 #![tactic(auto)]
 
-pub mod meter_values;
+mod meter_values;
 mod numbers;
-pub mod readings;
-pub mod start;
-pub mod stop;
+mod readings;
+mod start;
+mod stop;
+
+pub use meter_values::on_meter_values;
+pub use readings::readings_of;
+pub use start::on_start;
+pub use stop::on_stop;

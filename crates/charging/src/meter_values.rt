@@ -6,14 +6,10 @@ ghost use Rattle.charging.specs.MeterValues.{meter_values_rule, added};
 
 use crate::numbers::has_room;
 use crate::readings::readings_of;
-use hub_rows::change::Edit;
-use hub_rows::reading_row::Reading;
-use hub_rows::store::{Store, StoreFault};
-use ocpp_payload::conf::Conf;
-use ocpp_payload::request::MeterValues;
-use ocpp_types::listed::Listed;
-use ocpp_types::text::Text;
-use registry::decision::{Decision, Reply, internal_error};
+use hub_rows::{Edit, Reading, Store, StoreFault};
+use ocpp_payload::{Conf, MeterValues};
+use ocpp_types::{Listed, Text};
+use registry::{Decision, Reply, internal_error};
 use std::alloc::Global;
 
 /// The readings of a MeterValues are kept, numbered from the one behind the station's last on. A

@@ -3,10 +3,9 @@
 ghost use Rattle.std.specs.Prelude.{◌≡◌, ◌++◌, IfOk, OnOk};
 ghost use Rattle.charging.specs.Readings.{reading_of, readings_at, readings_of};
 
-use hub_rows::reading_row::Reading;
-use ocpp_payload::readings::{MeterValue, SampledValue};
-use ocpp_types::listed::Listed;
-use ocpp_types::memory::Mem;
+use hub_rows::Reading;
+use ocpp_payload::{MeterValue, SampledValue};
+use ocpp_types::{Listed, Mem};
 use std::alloc::Global;
 
 /// The readings of a message, as they are kept: each sampled value of each meter value, in the

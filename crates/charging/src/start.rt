@@ -5,19 +5,11 @@ ghost use Rattle.hub_rows.specs.Lookups.{lookups_at};
 ghost use Rattle.charging.specs.Start.{start_rule, start_key, start_of, repeated, new_start, found_start, begun};
 
 use crate::numbers::LAST_NUMBER;
-use hub_rows::change::Edit;
-use hub_rows::store::{Store, StoreFault};
-use hub_rows::tx_row::{Start, StartKey, TxKey};
-use id_tags::judge::{Purpose, judge};
-use ocpp_payload::conf::Conf;
-use ocpp_payload::request::StartTransaction;
-use ocpp_types::authorization_status::AuthorizationStatus;
-use ocpp_types::id_tag_info::IdTagInfo;
-use ocpp_types::memory::Mem;
-use ocpp_types::moment::Moment;
-use ocpp_types::tag_key::TagKey;
-use ocpp_types::text::Text;
-use registry::decision::{Decision, Reply, internal_error};
+use hub_rows::{Edit, Start, StartKey, Store, StoreFault, TxKey};
+use id_tags::{Purpose, judge};
+use ocpp_payload::{Conf, StartTransaction};
+use ocpp_types::{AuthorizationStatus, IdTagInfo, Mem, Moment, TagKey, Text};
+use registry::{Decision, Reply, internal_error};
 use std::alloc::Global;
 
 /// A start begins a transaction, numbered from the one behind the station's last on, and is

@@ -6,21 +6,11 @@ ghost use Rattle.charging.specs.Stop.{stop_rule, info_of, stop_change, if_open, 
 
 use crate::numbers::has_room;
 use crate::readings::readings_of;
-use hub_rows::change::Edit;
-use hub_rows::reading_row::Reading;
-use hub_rows::store::{Store, StoreFault};
-use hub_rows::tx_row::{Stop, TxState};
-use id_tags::judge::{Purpose, judge};
-use ocpp_payload::conf::Conf;
-use ocpp_payload::readings::MeterValue;
-use ocpp_payload::request::StopTransaction;
-use ocpp_types::id_tag_info::IdTagInfo;
-use ocpp_types::listed::Listed;
-use ocpp_types::memory::Mem;
-use ocpp_types::moment::Moment;
-use ocpp_types::tag_key::TagKey;
-use ocpp_types::text::Text;
-use registry::decision::{Decision, Reply};
+use hub_rows::{Edit, Reading, Stop, Store, StoreFault, TxState};
+use id_tags::{Purpose, judge};
+use ocpp_payload::{Conf, MeterValue, StopTransaction};
+use ocpp_types::{IdTagInfo, Listed, Mem, Moment, TagKey, Text};
+use registry::{Decision, Reply};
 use std::alloc::Global;
 
 /// A stop ends the open transaction that it names, and keeps the readings that were sent with it,

@@ -11,8 +11,8 @@ use Rattle.ocpp_frame.specs.declared.frame.Frame.{Frame}
 use Rattle.ocpp_frame.specs.declared.frame.Frame.TheVariants.{Call, CallResult, CallError, Broken, Ignored}
 use Rattle.ocpp_frame.specs.Frame.{frame}
 use Rattle.ocpp_payload.specs.declared.action.Action.{Action}
-use Rattle.ocpp_payload.specs.declared.action_class.ActionClass.{ActionClass}
-use Rattle.ocpp_payload.specs.declared.action_class.ActionClass.TheVariants.{Known, NotSupported, NotImplemented}
+use Rattle.ocpp_payload.specs.declared.class_of_action.ActionClass.{ActionClass}
+use Rattle.ocpp_payload.specs.declared.class_of_action.ActionClass.TheVariants.{Known, NotSupported, NotImplemented}
 use Rattle.ocpp_payload.specs.declared.fault.FieldFault.{FieldFault}
 use Rattle.ocpp_payload.specs.declared.request.Request.{Request}
 use Rattle.ocpp_payload.specs.declared.request.Request.TheVariants.{Authorize, BootNotification, DataTransfer, Heartbeat, MeterValues, StartTransaction, StatusNotification, StopTransaction}
@@ -33,7 +33,7 @@ use Rattle.ocpp_payload.specs.declared.request.StopTransaction.{StopTransaction 
 use Rattle.ocpp_payload.specs.declared.request.MeterValues.{MeterValues as ReadingsRequest}
 use Rattle.registry.specs.declared.decision.Reply.TheVariants.{Conf}
 use Rattle.id_tags.specs.Judge.{judge_rule}
-use Rattle.id_tags.specs.declared.judge.Purpose.TheVariants as purpose
+use Rattle.id_tags.specs.declared.judgement.Purpose.TheVariants as purpose
 use Rattle.registry.specs.InternalError.{internal_error}
 use Rattle.charging.specs.Numbers.{has_room}
 use Rattle.charging.specs.Readings.{readings_of}

@@ -11,8 +11,8 @@ use Rattle.ocpp_frame.specs.declared.frame.Frame.TheVariants.{Call, CallResult, 
 use Rattle.ocpp_frame.specs.Frame.{frame}
 use Rattle.ocpp_frame.specs.Written.{result_data, error_data}
 use Rattle.ocpp_payload.specs.declared.action.Action.{Action}
-use Rattle.ocpp_payload.specs.declared.action_class.ActionClass.{ActionClass}
-use Rattle.ocpp_payload.specs.declared.action_class.ActionClass.TheVariants.{Known, NotSupported, NotImplemented}
+use Rattle.ocpp_payload.specs.declared.class_of_action.ActionClass.{ActionClass}
+use Rattle.ocpp_payload.specs.declared.class_of_action.ActionClass.TheVariants.{Known, NotSupported, NotImplemented}
 use Rattle.ocpp_payload.specs.declared.fault.FieldFault.{FieldFault}
 use Rattle.ocpp_payload.specs.declared.request.Request.{Request}
 use Rattle.ocpp_payload.specs.ActionClass.{action_class}

@@ -5,12 +5,10 @@ ghost use Rattle.hub_rows.specs.Lookups.{lookups_at};
 ghost use Rattle.hub.specs.Table.{admin_rule};
 
 use crate::event::Admin;
-use hub_rows::change::Edit;
-use hub_rows::store::{Store, StoreFault};
-use id_tags::plan::{plan_drop, plan_put};
-use ocpp_types::refusal::Refusal;
-use registry::policy_set::plan_policy;
-use registry::station_added::plan_add;
+use hub_rows::{Edit, Store, StoreFault};
+use id_tags::{plan_drop, plan_put};
+use ocpp_types::Refusal;
+use registry::{plan_add, plan_policy};
 use std::alloc::Global;
 
 /// The edit that an operator's request asks for, or the refusal of its rule.

@@ -10,10 +10,8 @@ use crate::fault::Fault;
 use crate::out::Out;
 use crate::planned::Step;
 use crate::slots::Slots;
-use hub_rows::change::{Change, Edit};
-use hub_rows::store::Store;
-use ocpp_types::memory::Mem;
-use ocpp_types::text::Text;
+use hub_rows::{Change, Edit, Store};
+use ocpp_types::{Mem, Text};
 
 /// Makes an edit of an operator's records and a step of its connections, both or none.
 pub fn commit<S: Store>(

@@ -1,9 +1,7 @@
 //! What the hub is handed.
 
-use hub_rows::tag_row::Tag;
-use ocpp_types::moment::Moment;
-use ocpp_types::policy::Policy;
-use ocpp_types::text::Text;
+use hub_rows::Tag;
+use ocpp_types::{Moment, Policy, Text};
 
 /// One event, of one operator. Each carries its moment; moments need not grow.
 #[derive(Drop)]

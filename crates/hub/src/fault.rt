@@ -3,8 +3,8 @@ ghost use Rattle.std.specs.Prelude.{◌≡◌};
 ghost use Rattle.hub.specs.Fault.{fault_of};
 ghost use Rattle.hub.specs.declared.fault.Fault.TheVariants as fault;
 
-use hub_rows::store::StoreFault;
-use ocpp_types::memory::NoMemory;
+use hub_rows::StoreFault;
+use ocpp_types::NoMemory;
 use std::alloc::{AllocError, AllocFailed};
 use thiserror::Error;
 

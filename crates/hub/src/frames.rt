@@ -12,20 +12,12 @@ ghost use Rattle.ocpp_payload.specs.ActionClass.{action_class};
 use crate::fault::Fault;
 use crate::plan::{answer_call, nothing, refuse_call};
 use crate::planned::Planned;
-use hub_rows::store::Store;
-use ocpp_frame::frame::Frame;
-use ocpp_frame::payload::Payload;
-use ocpp_frame::read::read_frame;
-use ocpp_payload::action::Action;
-use ocpp_payload::action_class::{ActionClass, action_class};
-use ocpp_payload::read_request::read_request;
-use ocpp_types::error_code::ErrorCode;
-use ocpp_types::moment::Moment;
-use ocpp_types::text::Text;
-use registry::allowed::is_allowed;
-use station_calls::book::Book;
-use station_calls::decide::decide;
-use station_calls::vendor::VendorHandler;
+use hub_rows::Store;
+use ocpp_frame::{Frame, Payload, read_frame};
+use ocpp_payload::{Action, ActionClass, action_class, read_request};
+use ocpp_types::{ErrorCode, Moment, Text};
+use registry::is_allowed;
+use station_calls::{Book, VendorHandler, decide};
 use std::alloc::Global;
 
 /// The plan for a text of a connected station, by the frame that it is.

@@ -11,11 +11,9 @@ use crate::out::Out;
 use crate::plan_event::plan_event;
 use crate::planned::Planned;
 use crate::slots::Slots;
-use hub_rows::operators::{are_operators, is_hosted};
-use hub_rows::store::Store;
-use ocpp_types::text::Text;
-use station_calls::book::Book;
-use station_calls::vendor::VendorHandler;
+use hub_rows::{Store, are_operators, is_hosted};
+use ocpp_types::Text;
+use station_calls::{Book, VendorHandler};
 use std::alloc::Global;
 use thiserror::Error;
 

@@ -1,17 +1,32 @@
 //! The hub: events of stations and operators to outputs, over a store.
 #![tactic(auto)]
 
-pub mod admin;
-pub mod commit;
-pub mod event;
-pub mod fault;
-pub mod frames;
-pub mod hub;
-pub mod list;
-pub mod out;
-pub mod plan;
-pub mod plan_event;
-pub mod planned;
-pub mod row;
-pub mod slot;
-pub mod slots;
+mod admin;
+mod commit;
+mod event;
+mod fault;
+mod frames;
+mod hub;
+mod list;
+mod out;
+mod plan;
+mod plan_event;
+mod planned;
+mod row;
+mod slot;
+mod slots;
+
+pub use admin::decide_admin;
+pub use commit::{append_ready, commit};
+pub use event::{Admin, Event, Listing, What};
+pub use fault::Fault;
+pub use frames::plan_text;
+pub use hub::{BadOperators, Hub};
+pub use list::plan_list;
+pub use out::Out;
+pub use plan::{answer_call, connect, disconnect, edit, nothing, refuse_call, turned};
+pub use plan_event::plan_event;
+pub use planned::{Planned, Step};
+pub use row::{Row, Shown};
+pub use slot::Slot;
+pub use slots::Slots;

@@ -12,11 +12,8 @@ use crate::out::Out;
 use crate::plan::edit;
 use crate::planned::Planned;
 use crate::row::Shown;
-use hub_rows::store::{Store, StoreFault};
-use ocpp_types::listed::Listed;
-use ocpp_types::memory::Mem;
-use ocpp_types::refusal::Refusal;
-use ocpp_types::text::Text;
+use hub_rows::{Store, StoreFault};
+use ocpp_types::{Listed, Mem, Refusal, Text};
 use std::alloc::Global;
 
 /// The plan for a listing: its rows, in the order of their keys, and then that it is taken.

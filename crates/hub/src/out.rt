@@ -1,8 +1,7 @@
 //! What the hub answers.
 
 use crate::row::Row;
-use ocpp_types::refusal::Refusal;
-use ocpp_types::text::Text;
+use ocpp_types::{Refusal, Text};
 
 /// One output. Each names the operator that it is for.
 #[derive(Drop)]

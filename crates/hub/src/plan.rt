@@ -7,17 +7,11 @@ ghost use Rattle.hub.specs.Said.{TurnedAway};
 use crate::out::Out;
 use crate::planned::{Planned, Step};
 use crate::slot::Slot;
-use hub_rows::change::Edit;
-use hub_rows::station_row::Registration;
-use ocpp_frame::write::{write_error, write_result};
-use ocpp_payload::conf::Conf;
-use ocpp_payload::write_conf::write_conf;
-use ocpp_types::error_code::ErrorCode;
-use ocpp_types::memory::Mem;
-use ocpp_types::named::Named;
-use ocpp_types::refusal::Refusal;
-use ocpp_types::text::Text;
-use registry::decision::{Decision, Reply};
+use hub_rows::{Edit, Registration};
+use ocpp_frame::{write_error, write_result};
+use ocpp_payload::{Conf, write_conf};
+use ocpp_types::{ErrorCode, Mem, Named, Refusal, Text};
+use registry::{Decision, Reply};
 use std::alloc::Global;
 
 /// Nothing is said and nothing changes.

@@ -15,11 +15,9 @@ use crate::list::plan_list;
 use crate::plan::{connect, disconnect, edit, turned};
 use crate::planned::Planned;
 use crate::slots::Slots;
-use hub_rows::store::Store;
-use ocpp_types::moment::Moment;
-use ocpp_types::text::Text;
-use station_calls::book::Book;
-use station_calls::vendor::VendorHandler;
+use hub_rows::Store;
+use ocpp_types::{Moment, Text};
+use station_calls::{Book, VendorHandler};
 use std::alloc::Global;
 
 /// The plan for an event of an operator, whatever else the hub's setting is.

@@ -2,7 +2,7 @@
 
 use crate::out::Out;
 use crate::slot::Slot;
-use hub_rows::change::Edit;
+use hub_rows::Edit;
 
 /// What an event says and changes.
 #[derive(Drop)]

@@ -3,11 +3,7 @@ ghost use Rattle.std.specs.Prelude.{◌≡◌};
 ghost use Rattle.hub.specs.declared.row.Row.{Row};
 ghost use Rattle.hub.specs.declared.row.Row.TheVariants as shown;
 
-use hub_rows::connector_row::ConnectorRow;
-use hub_rows::reading_row::ReadingRow;
-use hub_rows::station_row::StationRow;
-use hub_rows::tag_row::TagRow;
-use hub_rows::tx_row::TxRow;
+use hub_rows::{ConnectorRow, ReadingRow, StationRow, TagRow, TxRow};
 
 /// A row of a listing.
 #[derive(Drop)]

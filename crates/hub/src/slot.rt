@@ -1,8 +1,7 @@
 //! One connected station.
 
-use hub_rows::named_row::NamedRow;
-use hub_rows::ordered::Keyed;
-use ocpp_types::text::Text;
+use hub_rows::{Keyed, NamedRow};
+use ocpp_types::Text;
 use std::cmp::Ordering;
 
 /// A station that is connected.

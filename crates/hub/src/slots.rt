@@ -7,9 +7,8 @@ ghost use Rattle.hub_rows.specs.Keyed.{by_key, put, without};
 ghost use Rattle.hub.specs.Slots.{slot_key, is_connected};
 
 use crate::slot::Slot;
-use hub_rows::named_row::{remove_row, row_of};
-use hub_rows::ordered::put_ready;
-use ocpp_types::memory::Mem;
+use hub_rows::{put_ready, remove_row, row_of};
+use ocpp_types::Mem;
 use std::alloc::Global;
 
 /// The connected stations, in the order of their operators and names.

@@ -5,11 +5,7 @@ use crate::reading_row::Reading;
 use crate::station_row::Boot;
 use crate::tag_row::Tag;
 use crate::tx_row::{Start, Stop};
-use ocpp_types::listed::Listed;
-use ocpp_types::policy::Policy;
-use ocpp_types::state::State;
-use ocpp_types::tag_key::TagKey;
-use ocpp_types::text::Text;
+use ocpp_types::{Listed, Policy, State, TagKey, Text};
 
 /// A change of one operator's records, which a store makes whole or not at all.
 #[derive(Drop)]

@@ -2,9 +2,7 @@
 ghost use Rattle.std.specs.Prelude.{◌≡◌};
 
 use crate::ordered::Keyed;
-use ocpp_types::charge_point_error_code::ChargePointErrorCode;
-use ocpp_types::charge_point_status::ChargePointStatus;
-use ocpp_types::text::{Text, copied};
+use ocpp_types::{ChargePointErrorCode, ChargePointStatus, Text, copied};
 use std::alloc::AllocError;
 use std::cmp::Ordering;
 

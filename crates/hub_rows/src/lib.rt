@@ -1,13 +1,24 @@
 //! The records of all operators, the changes of them, and what a store of them promises.
 #![tactic(auto)]
 
-pub mod change;
-pub mod connector_row;
-pub mod named_row;
-pub mod operators;
-pub mod ordered;
-pub mod reading_row;
-pub mod station_row;
-pub mod store;
-pub mod tag_row;
-pub mod tx_row;
+mod change;
+mod connector_row;
+mod named_row;
+mod operators;
+mod ordered;
+mod reading_row;
+mod station_row;
+mod store;
+mod tag_row;
+mod tx_row;
+
+pub use change::{Change, Edit};
+pub use connector_row::{ConnectorReport, ConnectorRow};
+pub use named_row::{NamedRow, place_of_name, remove_row, row_of};
+pub use operators::{MAX_OPERATOR, are_operators, is_hosted};
+pub use ordered::{Keyed, put_ready, put_row};
+pub use reading_row::{Reading, ReadingRow};
+pub use station_row::{Boot, Registration, StationRow};
+pub use store::{Store, StoreFault};
+pub use tag_row::{Tag, TagRow};
+pub use tx_row::{LastNumbers, Start, StartKey, Stop, TxKey, TxRow, TxState};

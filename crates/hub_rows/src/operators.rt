@@ -3,7 +3,7 @@ ghost use Rattle.std.specs.Prelude.{◌≡◌};
 ghost use Rattle.std.specs.List.{list_all};
 ghost use Rattle.hub_rows.specs.Operators.{is_hosted, is_name_byte, is_operator_name, are_distinct_names, are_operators};
 
-use ocpp_types::text::Text;
+use ocpp_types::Text;
 
 /// The greatest length of an operator's name.
 pub const MAX_OPERATOR: usize = 32;

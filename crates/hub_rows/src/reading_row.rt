@@ -2,13 +2,7 @@
 ghost use Rattle.std.specs.Prelude.{◌≡◌};
 
 use crate::ordered::Keyed;
-use ocpp_types::location::Location;
-use ocpp_types::measurand::Measurand;
-use ocpp_types::phase::Phase;
-use ocpp_types::reading_context::ReadingContext;
-use ocpp_types::text::Text;
-use ocpp_types::unit_of_measure::UnitOfMeasure;
-use ocpp_types::value_format::ValueFormat;
+use ocpp_types::{Location, Measurand, Phase, ReadingContext, Text, UnitOfMeasure, ValueFormat};
 use std::alloc::AllocError;
 use std::cmp::Ordering;
 

@@ -3,11 +3,7 @@ ghost use Rattle.std.specs.Prelude.{◌≡◌};
 
 use crate::named_row::NamedRow;
 use crate::ordered::Keyed;
-use ocpp_types::boot_notification::BootNotification;
-use ocpp_types::moment::Moment;
-use ocpp_types::policy::Policy;
-use ocpp_types::state::State;
-use ocpp_types::text::Text;
+use ocpp_types::{BootNotification, Moment, Policy, State, Text};
 use std::alloc::AllocError;
 use std::cmp::Ordering;
 

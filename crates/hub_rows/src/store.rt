@@ -15,9 +15,7 @@ use crate::reading_row::ReadingRow;
 use crate::station_row::{Registration, StationRow};
 use crate::tag_row::{Tag, TagRow};
 use crate::tx_row::{LastNumbers, StartKey, TxKey, TxRow, TxState};
-use ocpp_types::listed::Listed;
-use ocpp_types::memory::NoMemory;
-use ocpp_types::tag_key::TagKey;
+use ocpp_types::{Listed, NoMemory, TagKey};
 use std::alloc::{AllocError, AllocFailed};
 use thiserror::Error;
 

@@ -3,9 +3,7 @@ ghost use Rattle.std.specs.Prelude.{◌≡◌};
 
 use crate::named_row::NamedRow;
 use crate::ordered::Keyed;
-use ocpp_types::moment::Moment;
-use ocpp_types::tag_key::TagKey;
-use ocpp_types::text::{Text, copied};
+use ocpp_types::{Moment, TagKey, Text, copied};
 use std::alloc::AllocError;
 use std::cmp::Ordering;
 

@@ -2,11 +2,7 @@
 ghost use Rattle.std.specs.Prelude.{◌≡◌};
 
 use crate::ordered::Keyed;
-use ocpp_types::authorization_status::AuthorizationStatus;
-use ocpp_types::moment::Moment;
-use ocpp_types::reason::Reason;
-use ocpp_types::tag_key::TagKey;
-use ocpp_types::text::{Text, copied};
+use ocpp_types::{AuthorizationStatus, Moment, Reason, TagKey, Text, copied};
 use std::alloc::AllocError;
 use std::cmp::Ordering;
 

@@ -5,8 +5,8 @@ use Rattle.ocpp_types.specs.declared.authorization_status.AuthorizationStatus.Th
 use Rattle.ocpp_types.specs.declared.id_tag_info.IdTagInfo.{IdTagInfo}
 use Rattle.hub_rows.specs.declared.tag_row.Tag.{Tag}
 use Rattle.hub_rows.specs.Lookups.{Lookups}
-use Rattle.id_tags.specs.declared.judge.Purpose.{Purpose}
-use Rattle.id_tags.specs.declared.judge.Purpose.TheVariants.{Authorize, Start}
+use Rattle.id_tags.specs.declared.judgement.Purpose.{Purpose}
+use Rattle.id_tags.specs.declared.judgement.Purpose.TheVariants.{Authorize, Start}
 
 -- the operator's own tag, or else one that was granted to it
 abbrev pub first_of : Option Tag → Option Tag → Option Tag

@@ -4,14 +4,8 @@ ghost use Rattle.hub_rows.specs.Reads.{OnlyReads};
 ghost use Rattle.hub_rows.specs.Lookups.{lookups_at};
 ghost use Rattle.id_tags.specs.Plan.{put_rule, drop_rule, is_tag, is_parent};
 
-use hub_rows::change::Edit;
-use hub_rows::store::{Store, StoreFault};
-use hub_rows::tag_row::Tag;
-use ocpp_types::field_name::FieldName;
-use ocpp_types::memory::Mem;
-use ocpp_types::refusal::Refusal;
-use ocpp_types::tag_key::TagKey;
-use ocpp_types::text::{Text, count_characters};
+use hub_rows::{Edit, Store, StoreFault, Tag};
+use ocpp_types::{FieldName, Mem, Refusal, TagKey, Text, count_characters};
 use std::alloc::Global;
 
 /// The greatest number of characters of a tag that is put, and of its parent.

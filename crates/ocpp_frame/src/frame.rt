@@ -1,7 +1,7 @@
 //! What one message is.
 
 use crate::payload::Payload;
-use ocpp_types::text::Text;
+use ocpp_types::Text;
 
 /// One message of OCPP-J (OCPP-J 1.6, section 4.2).
 #[derive(Drop)]

@@ -7,8 +7,7 @@ ghost use Rattle.serde_json.specs.declared.value.Value.{Value};
 
 use crate::frame::Frame;
 use crate::payload::Payload;
-use ocpp_types::memory::{Mem, NoMemory};
-use ocpp_types::text::{Text, count_characters};
+use ocpp_types::{Mem, NoMemory, Text, count_characters};
 use serde_json::{Category, Map, Value};
 use std::alloc::Global;
 

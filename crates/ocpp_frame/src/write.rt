@@ -7,7 +7,7 @@ ghost use Rattle.ocpp_types.specs.Text.{characters};
 ghost use Rattle.ocpp_frame.specs.Written.{call_data, result_data, error_data, IsCompact, IsPayload};
 
 use crate::frame::Frame;
-use ocpp_types::memory::Mem;
+use ocpp_types::Mem;
 use serde_json::{Value, json};
 use std::alloc::{AllocError, Global};
 

@@ -5,8 +5,8 @@ use Rattle.std.specs.Cmp.Lexicographic.{pointwise}
 use Rattle.ocpp_types.specs.Named.{named}
 use Rattle.ocpp_payload.specs.Action.{actions}
 use Rattle.ocpp_payload.specs.declared.action.Action.{Action}
-use Rattle.ocpp_payload.specs.declared.action_class.ActionClass.{ActionClass}
-use Rattle.ocpp_payload.specs.declared.action_class.ActionClass.TheVariants.{Known, NotSupported, NotImplemented}
+use Rattle.ocpp_payload.specs.declared.class_of_action.ActionClass.{ActionClass}
+use Rattle.ocpp_payload.specs.declared.class_of_action.ActionClass.TheVariants.{Known, NotSupported, NotImplemented}
 
 -- the actions of OCPP 1.6 that aren't answered: first those of a station, then those of a central system
 abbrev pub unsupported : List (List ℕ)

@@ -1,6 +1,6 @@
 //! The actions that a station can call.
 
-use ocpp_types::named::Named;
+use ocpp_types::Named;
 
 /// An action of a station that is answered (OCPP 1.6, section 4).
 #[derive(Clone, Copy, Debug, PartialEq, Eq, PartialOrd, Ord, Hash)]

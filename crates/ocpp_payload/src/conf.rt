@@ -1,10 +1,6 @@
 //! What a station is answered.
 
-use ocpp_types::data_transfer_status::DataTransferStatus;
-use ocpp_types::id_tag_info::IdTagInfo;
-use ocpp_types::moment::Moment;
-use ocpp_types::policy::Policy;
-use ocpp_types::text::Text;
+use ocpp_types::{DataTransferStatus, IdTagInfo, Moment, Policy, Text};
 
 /// The answer to a station's request (OCPP 1.6, section 6).
 #[derive(Drop)]

@@ -1,9 +1,7 @@
 //! Why a payload isn't read.
 ghost use Rattle.std.specs.Prelude.{◌≡◌, Err};
 
-use ocpp_types::error_code::ErrorCode;
-use ocpp_types::field_name::FieldName;
-use ocpp_types::memory::NoMemory;
+use ocpp_types::{ErrorCode, FieldName, NoMemory};
 use std::alloc::{AllocError, AllocFailed};
 
 /// The first faulty member of a payload: what is wrong with it, and its name

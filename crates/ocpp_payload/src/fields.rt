@@ -7,7 +7,7 @@ ghost use Rattle.ocpp_payload.specs.Gives.{Gives};
 
 use crate::fault::{ReadError, refused};
 use crate::kind::Kind;
-use ocpp_types::error_code::ErrorCode;
+use ocpp_types::ErrorCode;
 use serde_json::Value;
 use std::alloc::Global;
 

@@ -8,10 +8,7 @@ ghost use Rattle.ocpp_payload.specs.Kind.{typed};
 ghost use Rattle.ocpp_payload.specs.declared.fault.FieldFault.{FieldFault};
 
 use crate::fault::{ReadError, refused};
-use ocpp_types::error_code::ErrorCode;
-use ocpp_types::named::Named;
-use ocpp_types::text::{Text, count_characters};
-use ocpp_types::time::parse_time;
+use ocpp_types::{ErrorCode, Named, Text, count_characters, parse_time};
 use serde_json::Value;
 use std::alloc::Global;
 use std::marker::PhantomData;

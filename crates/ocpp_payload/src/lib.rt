@@ -1,16 +1,32 @@
 //! Requests and answers of OCPP 1.6, read from JSON and written to it.
 #![tactic(auto)]
 
-pub mod action;
-pub mod action_class;
-pub mod conf;
-pub mod fault;
-pub mod fields;
-pub mod kind;
+mod action;
+mod boot_writer;
+mod class_of_action;
+mod conf;
+mod conf_writer;
+mod fault;
+mod fields;
+mod kind;
 mod members;
-pub mod objects;
-pub mod read_request;
-pub mod readings;
-pub mod request;
-pub mod write_boot;
-pub mod write_conf;
+mod objects;
+mod readings;
+mod request;
+mod request_reader;
+
+pub use action::Action;
+pub use boot_writer::write_boot;
+pub use class_of_action::{ActionClass, action_class};
+pub use conf::Conf;
+pub use conf_writer::write_conf;
+pub use fault::{FieldFault, ReadError};
+pub use fields::{optional, required, with_default};
+pub use kind::{AnyText, ConnectorFrom, Int32, Int64, Kind, NameOf, TextOf, Time};
+pub use objects::{ListOf, Readable, SomeOf};
+pub use readings::{MeterValue, SampledValue};
+pub use request::{
+    Authorize, DataTransfer, MeterValues, Request, StartTransaction, StatusNotification,
+    StopTransaction,
+};
+pub use request_reader::read_request;

@@ -4,10 +4,7 @@ ghost use Rattle.serde_json.specs.Data.{string};
 ghost use Rattle.serde_json.specs.View.{view, members_view};
 ghost use Rattle.ocpp_payload.specs.Conf.{put_some, time_data};
 
-use ocpp_types::memory::Mem;
-use ocpp_types::moment::Moment;
-use ocpp_types::text::Text;
-use ocpp_types::time::print_time;
+use ocpp_types::{Mem, Moment, Text, print_time};
 use serde_json::{Map, Value, put};
 use std::alloc::Global;
 

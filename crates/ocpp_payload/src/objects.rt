@@ -9,8 +9,7 @@ ghost use Rattle.ocpp_payload.specs.declared.fault.FieldFault.{FieldFault};
 
 use crate::fault::{ReadError, refused};
 use crate::kind::Kind;
-use ocpp_types::error_code::ErrorCode;
-use ocpp_types::listed::Listed;
+use ocpp_types::{ErrorCode, Listed};
 use serde_json::Value;
 use std::alloc::Global;
 use std::marker::PhantomData;

@@ -7,14 +7,9 @@ use crate::fault::ReadError;
 use crate::fields::{optional, required, with_default};
 use crate::kind::{AnyText, NameOf, Time};
 use crate::objects::{Readable, SomeOf};
-use ocpp_types::listed::Listed;
-use ocpp_types::location::Location;
-use ocpp_types::measurand::Measurand;
-use ocpp_types::phase::Phase;
-use ocpp_types::reading_context::ReadingContext;
-use ocpp_types::text::Text;
-use ocpp_types::unit_of_measure::UnitOfMeasure;
-use ocpp_types::value_format::ValueFormat;
+use ocpp_types::{
+    Listed, Location, Measurand, Phase, ReadingContext, Text, UnitOfMeasure, ValueFormat,
+};
 use serde_json::Value;
 use std::alloc::Global;
 

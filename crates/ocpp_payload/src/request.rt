@@ -1,12 +1,7 @@
 //! What a station asks.
 
 use crate::readings::MeterValue;
-use ocpp_types::boot_notification::BootNotification;
-use ocpp_types::charge_point_error_code::ChargePointErrorCode;
-use ocpp_types::charge_point_status::ChargePointStatus;
-use ocpp_types::listed::Listed;
-use ocpp_types::reason::Reason;
-use ocpp_types::text::Text;
+use ocpp_types::{BootNotification, ChargePointErrorCode, ChargePointStatus, Listed, Reason, Text};
 
 /// A request of a station (OCPP 1.6, section 6).
 #[derive(Drop)]

@@ -1,15 +1,12 @@
 //! A hub over a store that fails at each call in turn, and one that finds no memory.
 
 use crate::scripts::{BOOTED, events, hub_of, run};
-use hub::event::Event;
-use hub::fault::Fault;
-use hub::hub::Hub;
-use ocpp_types::memory::Mem;
-use station_calls::echo::Echo;
+use hub::{Event, Fault, Hub};
+use ocpp_types::Mem;
+use station_calls::Echo;
 use std::alloc::Global;
 use std::test::Fail;
-use store_mem::failing::Failing;
-use store_mem::mem_store::MemStore;
+use store_mem::{Failing, MemStore};
 
 /// A station is added, connects, boots, asks for a tag, charges with it, and asks again after it is
 /// dropped; its readings are listed. Another operator does the same.

@@ -1,15 +1,13 @@
 //! Handlers of vendors' messages, through the hub.
 
 use crate::scripts::{BOOTED, events, hub_of, run};
-use hub::fault::Fault;
-use ocpp_types::data_transfer_status::DataTransferStatus;
-use ocpp_types::memory::{Mem, NoMemory};
-use ocpp_types::text::Text;
-use station_calls::vendor::{VendorAnswer, VendorHandler};
+use hub::Fault;
+use ocpp_types::{DataTransferStatus, Mem, NoMemory, Text};
+use station_calls::{VendorAnswer, VendorHandler};
 use std::alloc::Global;
 use std::cell::Cell;
 use std::test::Fail;
-use store_mem::mem_store::MemStore;
+use store_mem::MemStore;
 
 /// Answers each message of its vendor alike.
 #[derive(Drop)]

@@ -3,25 +3,15 @@ ghost use Rattle.std.specs.Prelude.{IsTrue};
 ghost use Rattle.hub_rows.specs.Transactions.{AreNext};
 
 use crate::scripts::{events, hub_of, run};
-use hub_rows::change::{Change, Edit};
-use hub_rows::reading_row::Reading;
-use hub_rows::store::{Store, StoreFault};
-use hub_rows::tx_row::{Start, StartKey};
-use ocpp_types::authorization_status::AuthorizationStatus;
-use ocpp_types::listed::Listed;
-use ocpp_types::location::Location;
-use ocpp_types::measurand::Measurand;
-use ocpp_types::memory::Mem;
-use ocpp_types::moment::Moment;
-use ocpp_types::policy::Policy;
-use ocpp_types::reading_context::ReadingContext;
-use ocpp_types::tag_key::TagKey;
-use ocpp_types::text::Text;
-use ocpp_types::value_format::ValueFormat;
-use station_calls::echo::Echo;
+use hub_rows::{Change, Edit, Reading, Start, StartKey, Store, StoreFault};
+use ocpp_types::{
+    AuthorizationStatus, Listed, Location, Measurand, Mem, Moment, Policy, ReadingContext, TagKey,
+    Text, ValueFormat,
+};
+use station_calls::Echo;
 use std::alloc::Global;
 use std::test::Fail;
-use store_mem::mem_store::MemStore;
+use store_mem::MemStore;
 
 /// The last number that a transaction or a reading can have.
 const LAST_NUMBER: u32 = 2147483647;

@@ -4,16 +4,13 @@
 use crate::faulty::{Failure, FaultyReader, FaultyWriter};
 use crate::handlers::{Fixed, MESSAGES, handlers};
 use crate::scripts::{BOOTED, BOOTED_OUTPUT, hub_of, operators};
-use hub::hub::Hub;
-use replay::fault::ReplayFault;
-use replay::in_memory::replay_in_memory;
-use replay::input::replay;
-use station_calls::echo::Echo;
+use hub::Hub;
+use replay::{ReplayFault, replay, replay_in_memory};
+use station_calls::Echo;
 use std::alloc::Global;
 use std::io::{ErrorKind, Read, Write};
 use std::test::Fail;
-use store_mem::failing::Failing;
-use store_mem::mem_store::MemStore;
+use store_mem::{Failing, MemStore};
 
 /// How a replay of ACME and BETA ends: `ok`, or the name of its fault.
 fn ended<R: Read, W: Write>(alloc: Global, reader: &mut R, writer: &mut W) -> Result<String, Fail> {

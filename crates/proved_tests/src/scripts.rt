@@ -1,14 +1,10 @@
 //! Scripts as events, hubs for them, and outputs as lines. The helpers have no contract: a test that
 //! stands on one is cheap to prove.
 
-use hub::event::Event;
-use hub::fault::Fault;
-use hub::hub::{BadOperators, Hub};
-use hub::out::Out;
-use hub_rows::store::Store;
-use ocpp_types::memory::Mem;
-use ocpp_types::text::Text;
-use station_calls::vendor::VendorHandler;
+use hub::{BadOperators, Event, Fault, Hub, Out};
+use hub_rows::Store;
+use ocpp_types::{Mem, Text};
+use station_calls::VendorHandler;
 use std::alloc::Global;
 use std::test::Fail;
 use ws_server::lines::printing::print_out;

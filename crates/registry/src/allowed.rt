@@ -2,8 +2,8 @@
 ghost use Rattle.std.specs.Prelude.{◌≡◌};
 ghost use Rattle.registry.specs.Allowed.{is_allowed};
 
-use ocpp_payload::action::Action;
-use ocpp_types::state::State;
+use ocpp_payload::Action;
+use ocpp_types::State;
 
 /// Whether a station in that state may call the action (OCPP 1.6, section 4.2; docs/RULES.md,
 /// Order of checks): before a boot, and after one that was rejected, a boot alone; while its

@@ -5,16 +5,9 @@ ghost use Rattle.hub_rows.specs.Lookups.{lookups_at};
 ghost use Rattle.registry.specs.Boot.{boot_rule, boot_of, heartbeat_rule, state_after};
 
 use crate::decision::{Decision, Reply, internal_error};
-use hub_rows::change::Edit;
-use hub_rows::station_row::{Boot, Registration};
-use hub_rows::store::{Store, StoreFault};
-use ocpp_payload::conf::Conf;
-use ocpp_types::boot_notification::BootNotification;
-use ocpp_types::memory::Mem;
-use ocpp_types::moment::Moment;
-use ocpp_types::policy::Policy;
-use ocpp_types::state::State;
-use ocpp_types::text::Text;
+use hub_rows::{Boot, Edit, Registration, Store, StoreFault};
+use ocpp_payload::Conf;
+use ocpp_types::{BootNotification, Mem, Moment, Policy, State, Text};
 use std::alloc::Global;
 
 /// A boot of a station is answered with the moment, the station's interval and its policy, which

@@ -2,9 +2,9 @@
 ghost use Rattle.std.specs.Prelude.{◌≡◌};
 ghost use Rattle.registry.specs.InternalError.{internal_error};
 
-use hub_rows::change::Edit;
-use ocpp_payload::conf::Conf;
-use ocpp_types::error_code::ErrorCode;
+use hub_rows::Edit;
+use ocpp_payload::Conf;
+use ocpp_types::ErrorCode;
 
 /// What a station's request is answered, and what it changes.
 #[derive(Drop)]

@@ -1,9 +1,16 @@
 //! The rules on stations: which are registered, what they may say, how a boot is answered.
 #![tactic(auto)]
 
-pub mod allowed;
-pub mod boot;
-pub mod decision;
-pub mod policy_set;
-pub mod station_added;
-pub mod status;
+mod allowed;
+mod boot;
+mod decision;
+mod policy_set;
+mod station_added;
+mod status;
+
+pub use allowed::is_allowed;
+pub use boot::{on_boot, on_heartbeat};
+pub use decision::{Decision, Reply, internal_error};
+pub use policy_set::plan_policy;
+pub use station_added::{MAX_INTERVAL, MAX_STATION, plan_add};
+pub use status::on_status;

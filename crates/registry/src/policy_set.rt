@@ -5,12 +5,8 @@ ghost use Rattle.hub_rows.specs.Lookups.{lookups_at};
 ghost use Rattle.registry.specs.PolicySet.{is_kept_from, is_rejected, policy_rule};
 
 use crate::station_added::MAX_INTERVAL;
-use hub_rows::change::Edit;
-use hub_rows::store::{Store, StoreFault};
-use ocpp_types::field_name::FieldName;
-use ocpp_types::policy::Policy;
-use ocpp_types::refusal::Refusal;
-use ocpp_types::text::Text;
+use hub_rows::{Edit, Store, StoreFault};
+use ocpp_types::{FieldName, Policy, Refusal, Text};
 use std::alloc::Global;
 
 /// The edit that sets what a station's next boot is answered, or the first refusal that applies:

@@ -5,13 +5,9 @@ ghost use Rattle.hub_rows.specs.Lookups.{lookups_at};
 ghost use Rattle.registry.specs.Status.{status_rule, report_of};
 
 use crate::decision::{Decision, Reply, internal_error};
-use hub_rows::change::Edit;
-use hub_rows::connector_row::ConnectorReport;
-use hub_rows::store::{Store, StoreFault};
-use ocpp_payload::conf::Conf;
-use ocpp_payload::request::StatusNotification;
-use ocpp_types::moment::Moment;
-use ocpp_types::text::Text;
+use hub_rows::{ConnectorReport, Edit, Store, StoreFault};
+use ocpp_payload::{Conf, StatusNotification};
+use ocpp_types::{Moment, Text};
 use std::alloc::Global;
 
 /// A report on a connector takes the place of the one before. It is of the time that was sent

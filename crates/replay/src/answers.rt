@@ -11,13 +11,10 @@ ghost use Rattle.replay.specs.Run.{Begins, IsOfHosted, IsStep, ended, answer, af
 ghost use Rattle.replay.specs.declared.fault.LineFault.TheVariants as line_fault;
 
 use crate::fault::LineFault;
-use hub::event::Event;
-use hub::hub::Hub;
-use hub::out::Out;
-use hub_rows::store::Store;
-use ocpp_types::memory::Mem;
-use ocpp_types::text::Text;
-use station_calls::vendor::VendorHandler;
+use hub::{Event, Hub, Out};
+use hub_rows::Store;
+use ocpp_types::{Mem, Text};
+use station_calls::VendorHandler;
 use std::alloc::{AllocError, Global};
 use ws_server::lines::printing::print_out;
 use ws_server::lines::reading::{Line, read_line};

@@ -4,8 +4,8 @@ ghost use Rattle.replay.specs.Faults.{line_fault_of, replay_fault_of};
 ghost use Rattle.replay.specs.declared.fault.LineFault.TheVariants as line_fault;
 ghost use Rattle.replay.specs.declared.fault.ReplayFault.TheVariants as replay_fault;
 
-use hub::fault::Fault;
-use ocpp_types::memory::NoMemory;
+use hub::Fault;
+use ocpp_types::NoMemory;
 use std::alloc::AllocError;
 use thiserror::Error;
 

@@ -9,12 +9,12 @@ ghost use Rattle.replay.specs.declared.fault.ReplayFault.TheVariants.{TooLong, B
 
 use crate::fault::ReplayFault;
 use crate::input::replay;
-use hub::hub::Hub;
-use ocpp_types::text::Text;
-use station_calls::vendor::VendorHandler;
+use hub::Hub;
+use ocpp_types::Text;
+use station_calls::VendorHandler;
 use std::alloc::Global;
 use std::io::{Read, Write};
-use store_mem::mem_store::MemStore;
+use store_mem::MemStore;
 
 /// Replays the lines of a reader from no records and no connections, over a store in memory.
 /// Vendors' messages are answered by those handlers.

@@ -12,9 +12,9 @@ use crate::answers::Answers;
 use crate::fault::ReplayFault;
 use crate::lines::Lines;
 use crate::written::{write_if_long, write_last, write_out};
-use hub::hub::Hub;
-use hub_rows::store::Store;
-use station_calls::vendor::VendorHandler;
+use hub::Hub;
+use hub_rows::Store;
+use station_calls::VendorHandler;
 use std::alloc::Global;
 use std::io::{Read, Write};
 

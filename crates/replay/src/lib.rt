@@ -2,8 +2,12 @@
 #![tactic(auto)]
 
 mod answers;
-pub mod fault;
-pub mod in_memory;
-pub mod input;
+mod fault;
+mod in_memory;
+mod input;
 mod lines;
 mod written;
+
+pub use fault::{LineFault, ReplayFault};
+pub use in_memory::replay_in_memory;
+pub use input::{MAX_INPUT, replay};

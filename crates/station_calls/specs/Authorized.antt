@@ -4,7 +4,7 @@ use Rattle.ocpp_types.specs.TagKey.{key_of}
 use Rattle.ocpp_payload.specs.declared.conf.Conf.TheVariants as conf
 use Rattle.ocpp_payload.specs.declared.request.Authorize.{Authorize}
 use Rattle.hub_rows.specs.Lookups.{Lookups}
-use Rattle.id_tags.specs.declared.judge.Purpose.TheVariants as purpose
+use Rattle.id_tags.specs.declared.judgement.Purpose.TheVariants as purpose
 use Rattle.id_tags.specs.Judge.{judge_rule}
 use Rattle.registry.specs.declared.decision.Decision.{Decision}
 use Rattle.registry.specs.declared.decision.Reply.TheVariants.{Conf}

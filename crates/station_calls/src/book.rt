@@ -4,21 +4,15 @@ ghost use Rattle.station_calls.specs.Vendors.{answer_of};
 
 use crate::core_handler::CoreHandler;
 use crate::vendor::{VendorHandler, ask, lent};
-use charging::meter_values::on_meter_values;
-use charging::start::on_start;
-use charging::stop::on_stop;
-use hub_rows::store::{Store, StoreFault};
-use id_tags::judge::{Purpose, judge};
-use ocpp_payload::conf::Conf;
-use ocpp_payload::request::{
-    Authorize, DataTransfer, MeterValues, StartTransaction, StatusNotification, StopTransaction,
+use charging::{on_meter_values, on_start, on_stop};
+use hub_rows::{Store, StoreFault};
+use id_tags::{Purpose, judge};
+use ocpp_payload::{
+    Authorize, Conf, DataTransfer, MeterValues, StartTransaction, StatusNotification,
+    StopTransaction,
 };
-use ocpp_types::boot_notification::BootNotification;
-use ocpp_types::moment::Moment;
-use ocpp_types::tag_key::TagKey;
-use registry::boot::{on_boot, on_heartbeat};
-use registry::decision::{Decision, Reply};
-use registry::status::on_status;
+use ocpp_types::{BootNotification, Moment, TagKey};
+use registry::{Decision, Reply, on_boot, on_heartbeat, on_status};
 use std::alloc::Global;
 
 /// A store and the handlers of vendors' messages.

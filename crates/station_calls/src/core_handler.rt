@@ -13,13 +13,12 @@ ghost use Rattle.station_calls.specs.Authorized.{authorize_rule};
 ghost use Rattle.station_calls.specs.Transfer.{transfer_rule};
 ghost use Rattle.station_calls.specs.Vendors.{Answers};
 
-use hub_rows::store::StoreFault;
-use ocpp_payload::request::{
+use hub_rows::StoreFault;
+use ocpp_payload::{
     Authorize, DataTransfer, MeterValues, StartTransaction, StatusNotification, StopTransaction,
 };
-use ocpp_types::boot_notification::BootNotification;
-use ocpp_types::moment::Moment;
-use registry::decision::Decision;
+use ocpp_types::{BootNotification, Moment};
+use registry::Decision;
 use std::alloc::Global;
 
 /// Decides the calls of stations, one for each action: the reply, and a change of the records of

@@ -3,9 +3,7 @@ ghost use Rattle.std.specs.Prelude.{◌≡◌, IfOk};
 ghost use Rattle.station_calls.specs.Vendors.{text};
 
 use crate::vendor::{VendorAnswer, VendorHandler};
-use ocpp_types::data_transfer_status::DataTransferStatus;
-use ocpp_types::memory::Mem;
-use ocpp_types::text::Text;
+use ocpp_types::{DataTransferStatus, Mem, Text};
 use std::alloc::Global;
 
 /// Answers the messages of `org.example.echo`: one without a `messageId`, or with `echo`, is

@@ -1,8 +1,14 @@
 //! The calls of stations decided: the rules of all actions, and the handlers of vendors' messages.
 #![tactic(auto)]
 
-pub mod book;
-pub mod core_handler;
-pub mod decide;
-pub mod echo;
-pub mod vendor;
+mod book;
+mod calls;
+mod core_handler;
+mod echo;
+mod vendor;
+
+pub use book::Book;
+pub use calls::decide;
+pub use core_handler::CoreHandler;
+pub use echo::Echo;
+pub use vendor::{VendorAnswer, VendorHandler, ask, lent};

@@ -3,9 +3,7 @@ ghost use Rattle.std.specs.Prelude.{◌≡◌, ℕ, List, Option, IfOk};
 ghost use Rattle.std.specs.Str.{bytes_eq};
 ghost use Rattle.station_calls.specs.Vendors.{text, answer_of};
 
-use ocpp_types::data_transfer_status::DataTransferStatus;
-use ocpp_types::memory::Mem;
-use ocpp_types::text::Text;
+use ocpp_types::{DataTransferStatus, Mem, Text};
 
 /// What a vendor's message is answered (OCPP 1.6, DataTransfer.conf).
 #[derive(Drop)]

@@ -4,10 +4,8 @@ ghost use Rattle.std.specs.Str.{bytes_eq};
 ghost use Rattle.hub_rows.specs.Keyed.{own};
 ghost use Rattle.hub_rows.specs.Lookups.{connectors_in};
 
-use hub_rows::connector_row::ConnectorRow;
-use hub_rows::named_row::NamedRow;
-use ocpp_types::listed::Listed;
-use ocpp_types::memory::Mem;
+use hub_rows::{ConnectorRow, NamedRow};
+use ocpp_types::{Listed, Mem};
 use std::alloc::Global;
 
 /// Copies of all rows.

@@ -1,15 +1,11 @@
 //! A store that fails once, to test what stands on a store.
 ghost use Rattle.std.specs.Prelude.{◌≡◌, ◌+◌, Some, OnOk, OnErr};
 
-use hub_rows::change::Change;
-use hub_rows::connector_row::ConnectorRow;
-use hub_rows::reading_row::ReadingRow;
-use hub_rows::station_row::{Registration, StationRow};
-use hub_rows::store::{Store, StoreFault};
-use hub_rows::tag_row::{Tag, TagRow};
-use hub_rows::tx_row::{LastNumbers, StartKey, TxKey, TxRow, TxState};
-use ocpp_types::listed::Listed;
-use ocpp_types::tag_key::TagKey;
+use hub_rows::{
+    Change, ConnectorRow, LastNumbers, ReadingRow, Registration, StartKey, StationRow, Store,
+    StoreFault, Tag, TagRow, TxKey, TxRow, TxState,
+};
+use ocpp_types::{Listed, TagKey};
 
 /// A store that answers one call with Failed, and hands on all others.
 #[derive(Drop)]

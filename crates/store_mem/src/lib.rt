@@ -2,8 +2,8 @@
 #![tactic(auto)]
 
 mod copies;
-pub mod failing;
-pub mod mem_store;
+mod failing;
+mod mem_store;
 mod open;
 mod readings;
 mod started;
@@ -11,3 +11,6 @@ mod station_rows;
 mod stations;
 mod tags;
 mod transactions;
+
+pub use failing::Failing;
+pub use mem_store::MemStore;

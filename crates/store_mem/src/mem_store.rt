@@ -17,20 +17,11 @@ use crate::station_rows::{StationRows, last_number, rows_of};
 use crate::stations::{StationChange, change_station, registration_of};
 use crate::tags::own_tag;
 use crate::transactions::{has_open, same_start, stop_tx, tx_state};
-use hub_rows::change::{Change, Edit};
-use hub_rows::connector_row::ConnectorRow;
-use hub_rows::named_row::remove_row;
-use hub_rows::ordered::put_row;
-use hub_rows::reading_row::{Reading, ReadingRow};
-use hub_rows::station_row::{Registration, StationRow};
-use hub_rows::store::{Store, StoreFault};
-use hub_rows::tag_row::{Tag, TagRow};
-use hub_rows::tx_row::{LastNumbers, Start, StartKey, Stop, TxKey, TxRow, TxState};
-use ocpp_types::listed::Listed;
-use ocpp_types::memory::Mem;
-use ocpp_types::state::State;
-use ocpp_types::tag_key::TagKey;
-use ocpp_types::text::Text;
+use hub_rows::{
+    Change, ConnectorRow, Edit, LastNumbers, Reading, ReadingRow, Registration, Start, StartKey,
+    StationRow, Stop, Store, StoreFault, Tag, TagRow, TxKey, TxRow, TxState, put_row, remove_row,
+};
+use ocpp_types::{Listed, Mem, State, TagKey, Text};
 use std::alloc::Global;
 
 /// Records in memory, in vectors in the order of their keys. It is always clean, and it never

@@ -6,11 +6,8 @@ ghost use Rattle.hub_rows.specs.Keyed.{by_key, without};
 ghost use Rattle.hub_rows.specs.Places.{IsPlace};
 ghost use Rattle.store_mem.specs.Open.{open_key, open_of, is_used, is_use, is_left_out};
 
-use hub_rows::ordered::Keyed;
-use hub_rows::tx_row::{TxKey, TxRow};
-use ocpp_types::memory::Mem;
-use ocpp_types::tag_key::TagKey;
-use ocpp_types::text::Text;
+use hub_rows::{Keyed, TxKey, TxRow};
+use ocpp_types::{Mem, TagKey, Text};
 use std::cmp::Ordering;
 
 /// An open transaction that began Accepted, and the key of its tag.

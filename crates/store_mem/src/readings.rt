@@ -6,10 +6,8 @@ ghost use Rattle.hub_rows.specs.Transactions.{reading_rows, readings_in, is_sent
 ghost use Rattle.store_mem.specs.ByStation.{all_rows, AreGrouped};
 
 use crate::station_rows::{StationRows, append_rows, rows_of};
-use hub_rows::reading_row::{Reading, ReadingRow};
-use ocpp_types::listed::Listed;
-use ocpp_types::memory::Mem;
-use ocpp_types::text::Text;
+use hub_rows::{Reading, ReadingRow};
+use ocpp_types::{Listed, Mem, Text};
 use std::alloc::Global;
 
 #[tactic(auto, using(hub_rows::proofs::Steps::drop_here))]

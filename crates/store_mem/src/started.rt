@@ -11,10 +11,8 @@ ghost use Rattle.store_mem.specs.ByStation.{all_rows, AreGrouped};
 
 use crate::open::{OpenRow, open_of};
 use crate::station_rows::{StationRows, append_rows};
-use hub_rows::ordered::put_ready;
-use hub_rows::tx_row::{Start, TxRow};
-use ocpp_types::memory::Mem;
-use ocpp_types::text::Text;
+use hub_rows::{Start, TxRow, put_ready};
+use ocpp_types::{Mem, Text};
 use std::alloc::Global;
 
 /// The record of a transaction that begins.

@@ -7,11 +7,8 @@ ghost use Rattle.hub_rows.specs.Keyed.{by_key, greatest, numbered_key, put_all, 
 ghost use Rattle.hub_rows.specs.Places.{IsPlace};
 ghost use Rattle.store_mem.specs.ByStation.{number_key, all_rows, AreOf, AreGrouped};
 
-use hub_rows::named_row::{NamedRow, place_of_name};
-use hub_rows::reading_row::ReadingRow;
-use hub_rows::tx_row::TxRow;
-use ocpp_types::memory::Mem;
-use ocpp_types::text::Text;
+use hub_rows::{NamedRow, ReadingRow, TxRow, place_of_name};
+use ocpp_types::{Mem, Text};
 use std::alloc::{AllocError, Global};
 
 /// A row whose key is its operator, its station and a number.

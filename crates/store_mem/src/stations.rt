@@ -6,11 +6,8 @@ ghost use Rattle.hub_rows.specs.Keyed.{by_key, changed};
 ghost use Rattle.hub_rows.specs.Rows.{station_key, registration_in};
 ghost use Rattle.store_mem.specs.Stations.{station_after};
 
-use hub_rows::named_row::{place_of_name, row_of};
-use hub_rows::station_row::{Boot, Registration, StationRow};
-use ocpp_types::policy::Policy;
-use ocpp_types::state::State;
-use ocpp_types::text::Text;
+use hub_rows::{Boot, Registration, StationRow, place_of_name, row_of};
+use ocpp_types::{Policy, State, Text};
 
 /// How a station is registered.
 pub fn registration_of(stations: &[StationRow], op: &str, station: &str) -> Option<Registration>

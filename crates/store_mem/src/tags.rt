@@ -5,11 +5,8 @@ ghost use Rattle.hub_rows.specs.Keyed.{by_key};
 ghost use Rattle.hub_rows.specs.Rows.{tag_key};
 ghost use Rattle.hub_rows.specs.Tags.{own_tag_in, tag_in, is_blocked, is_parent_blocked};
 
-use hub_rows::named_row::row_of;
-use hub_rows::tag_row::{Tag, TagRow};
-use ocpp_types::memory::Mem;
-use ocpp_types::tag_key::TagKey;
-use ocpp_types::text::Text;
+use hub_rows::{Tag, TagRow, row_of};
+use ocpp_types::{Mem, TagKey, Text};
 use std::alloc::Global;
 
 /// The tag of a key as it counts: blocked by itself or by its parent.

@@ -8,8 +8,7 @@ ghost use Rattle.hub_rows.specs.Transactions.{tx_in, same_start_in, has_open_in,
 ghost use Rattle.store_mem.specs.ByStation.{number_key, all_rows, AreGrouped};
 
 use crate::station_rows::{StationRows, place_of_number, rows_of};
-use hub_rows::named_row::place_of_name;
-use hub_rows::tx_row::{StartKey, Stop, TxRow, TxState};
+use hub_rows::{StartKey, Stop, TxRow, TxState, place_of_name};
 
 /// A transaction of a station, by its number.
 pub fn tx_state(

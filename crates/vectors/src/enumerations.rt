@@ -1,23 +1,12 @@
 //! Tables of names.
 
 use anyhow::{Result, bail};
-use ocpp_payload::action::Action;
-use ocpp_payload::action_class::{ActionClass, action_class};
-use ocpp_types::authorization_status::AuthorizationStatus;
-use ocpp_types::charge_point_error_code::ChargePointErrorCode;
-use ocpp_types::charge_point_status::ChargePointStatus;
-use ocpp_types::data_transfer_status::DataTransferStatus;
-use ocpp_types::error_code::ErrorCode;
-use ocpp_types::location::Location;
-use ocpp_types::measurand::Measurand;
-use ocpp_types::named::Named;
-use ocpp_types::phase::Phase;
-use ocpp_types::policy::Policy;
-use ocpp_types::reading_context::ReadingContext;
-use ocpp_types::reason::Reason;
-use ocpp_types::state::State;
-use ocpp_types::unit_of_measure::UnitOfMeasure;
-use ocpp_types::value_format::ValueFormat;
+use ocpp_payload::{Action, ActionClass, action_class};
+use ocpp_types::{
+    AuthorizationStatus, ChargePointErrorCode, ChargePointStatus, DataTransferStatus, ErrorCode,
+    Location, Measurand, Named, Phase, Policy, ReadingContext, Reason, State, UnitOfMeasure,
+    ValueFormat,
+};
 use std::alloc::Global;
 
 /// The name of the value that a name is read as in that enumeration, or `none`.

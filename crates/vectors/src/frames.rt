@@ -1,9 +1,7 @@
 //! Tables of frames.
 
 use anyhow::{Result, bail};
-use ocpp_frame::frame::Frame;
-use ocpp_frame::read::read_frame;
-use ocpp_frame::write::{write_call, write_error, write_result};
+use ocpp_frame::{Frame, read_frame, write_call, write_error, write_result};
 use serde_json::Value;
 use std::alloc::Global;
 

@@ -1,9 +1,8 @@
 //! The table of requests.
 
 use anyhow::{Result, bail};
-use ocpp_payload::action::Action;
-use ocpp_payload::read_request::read_request;
-use ocpp_types::named::Named;
+use ocpp_payload::{Action, read_request};
+use ocpp_types::Named;
 use serde_json::Value;
 use std::alloc::Global;
 

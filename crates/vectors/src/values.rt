@@ -1,14 +1,11 @@
 //! Tables of moments, times, numbers and names.
 
 use anyhow::{Result, bail};
-use hub_rows::operators::are_operators;
-use ocpp_types::moment::Moment;
-use ocpp_types::named::Named;
-use ocpp_types::reading_number::read_micro;
-use ocpp_types::tag_key::TagKey;
-use ocpp_types::text::{Text, count_characters};
-use ocpp_types::time::{parse_time, print_time};
-use ocpp_types::unit_of_measure::UnitOfMeasure;
+use hub_rows::are_operators;
+use ocpp_types::{
+    Moment, Named, TagKey, Text, UnitOfMeasure, count_characters, parse_time, print_time,
+    read_micro,
+};
 use std::alloc::Global;
 
 /// A number of seconds since 1970, printed, or `none` if it is no moment.

@@ -1,12 +1,11 @@
 //! Replays of scripts.
 
 use anyhow::Result;
-use hub::hub::Hub;
-use hub_rows::store::Store;
-use ocpp_types::text::Text;
-use replay::fault::ReplayFault;
-use replay::input::replay;
-use station_calls::echo::Echo;
+use hub::Hub;
+use hub_rows::Store;
+use ocpp_types::Text;
+use replay::{ReplayFault, replay};
+use station_calls::Echo;
 use std::alloc::Global;
 
 /// What a replay of the lines over the store writes, and behind it the fault, if there is one.

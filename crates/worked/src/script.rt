@@ -1,7 +1,7 @@
 //! The files of scripts.
 
 use anyhow::Result;
-use ocpp_types::text::Text;
+use ocpp_types::Text;
 use std::alloc::Global;
 use std::fs;
 use std::path::Path;

@@ -1,8 +1,8 @@
 //! The stores that scripts are replayed over.
 
-use hub_rows::store::Store;
+use hub_rows::Store;
 use std::alloc::Global;
-use store_mem::mem_store::MemStore;
+use store_mem::MemStore;
 
 /// Makes stores with no records.
 pub trait StoreMaker {

@@ -4,12 +4,9 @@ ghost use Rattle.ws_server.specs.EventRef.{owned_event, owned_listing, owned_wha
 ghost use Rattle.ws_server.specs.Words.{parent_of};
 
 use crate::lines::words::expiry_of;
-use hub::event::{Admin, Event, Listing, What};
-use hub_rows::tag_row::Tag;
-use ocpp_types::memory::Mem;
-use ocpp_types::moment::Moment;
-use ocpp_types::policy::Policy;
-use ocpp_types::text::Text;
+use hub::{Admin, Event, Listing, What};
+use hub_rows::Tag;
+use ocpp_types::{Mem, Moment, Policy, Text};
 use std::alloc::Global;
 
 /// An event whose texts are still in its line.

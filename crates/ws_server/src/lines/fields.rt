@@ -2,11 +2,9 @@
 ghost use Rattle.std.specs.Prelude.{◌≡◌, IfOk, codes, string_bytes};
 ghost use Rattle.ws_server.specs.RowLines.{quoted, text_field, signed_field, moment_field, boot_field, mark};
 
-use hub_rows::station_row::Boot;
-use ocpp_payload::write_boot::write_boot;
-use ocpp_types::memory::Mem;
-use ocpp_types::moment::Moment;
-use ocpp_types::text::Text;
+use hub_rows::Boot;
+use ocpp_payload::write_boot;
+use ocpp_types::{Mem, Moment, Text};
 use serde_json::Value;
 use std::alloc::Global;
 

@@ -5,8 +5,7 @@ ghost use Rattle.ws_server.specs.Forms.{what_of, connect_of, disconnect_of, fram
 
 use crate::lines::event_ref::{ListRef, WhatRef};
 use crate::lines::words::{first_word, is_expiry, number_of, only_word};
-use ocpp_types::named::Named;
-use ocpp_types::policy::Policy;
+use ocpp_types::{Named, Policy};
 
 /// What happens at an operator by the text behind `MOMENT OP`, `None` where it has none of the
 /// forms.

@@ -3,10 +3,8 @@ ghost use Rattle.std.specs.Prelude.{◌≡◌, IfOk, option_map, string_bytes};
 ghost use Rattle.ws_server.specs.OutputLines.{line_of, refused_line, refusal_detail};
 
 use crate::lines::rows::print_row;
-use hub::out::Out;
-use ocpp_types::memory::Mem;
-use ocpp_types::refusal::Refusal;
-use ocpp_types::text::Text;
+use hub::Out;
+use ocpp_types::{Mem, Refusal, Text};
 use std::alloc::Global;
 
 /// The line of an output, without a line feed (docs/RULES.md, Lines).

@@ -7,10 +7,9 @@ ghost use Rattle.ws_server.specs.InputLines.{spelled, event_of};
 use crate::lines::event_ref::EventRef;
 use crate::lines::forms::read_what;
 use crate::lines::words::{first_word, moment_at};
-use hub::event::Event;
-use hub_rows::operators::is_hosted;
-use ocpp_types::memory::Mem;
-use ocpp_types::text::Text;
+use hub::Event;
+use hub_rows::is_hosted;
+use ocpp_types::{Mem, Text};
 use std::alloc::Global;
 
 /// What a line of input says.

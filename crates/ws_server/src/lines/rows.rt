@@ -5,19 +5,11 @@ ghost use Rattle.ocpp_types.specs.UnitOfMeasure.{unit_of_measure_name};
 ghost use Rattle.ws_server.specs.RowLines.{row_line, station_line, tag_line, connector_line, tx_line, reading_line, reading_fields, report_fields, start_fields, stop_fields, taken_fields, sampled_fields, value_fields, name_field, micro_of};
 
 use crate::lines::fields::{boot_field, mark, moment_field, quoted, signed_field, text_field};
-use hub::row::Row;
-use hub_rows::connector_row::{ConnectorReport, ConnectorRow};
-use hub_rows::reading_row::{Reading, ReadingRow};
-use hub_rows::station_row::StationRow;
-use hub_rows::tag_row::TagRow;
-use hub_rows::tx_row::{Start, Stop, TxRow};
-use ocpp_types::memory::Mem;
-use ocpp_types::named::Named;
-use ocpp_types::phase::Phase;
-use ocpp_types::reading_number::read_micro;
-use ocpp_types::text::Text;
-use ocpp_types::unit_of_measure::UnitOfMeasure;
-use ocpp_types::value_format::ValueFormat;
+use hub::Row;
+use hub_rows::{
+    ConnectorReport, ConnectorRow, Reading, ReadingRow, Start, StationRow, Stop, TagRow, TxRow,
+};
+use ocpp_types::{Mem, Named, Phase, Text, UnitOfMeasure, ValueFormat, read_micro};
 use std::alloc::Global;
 
 /// The line of a row, without a line feed.

@@ -2,8 +2,7 @@
 ghost use Rattle.std.specs.Prelude.{◌≡◌, option_map};
 ghost use Rattle.ws_server.specs.Words.{first_word, only_word, number_of, moment_at, is_expiry, expiry_of};
 
-use ocpp_types::digits::number_of_digits;
-use ocpp_types::moment::Moment;
+use ocpp_types::{Moment, number_of_digits};
 
 /// The most digits of a number in a line.
 const MAX_DIGITS: usize = 12;

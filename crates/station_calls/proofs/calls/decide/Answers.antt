@@ -4,7 +4,7 @@ use Rattle.hub_rows.specs.Rows.{Rows}
 use Rattle.charging.specs.Start.{start_rule}
 use Rattle.station_calls.specs.Decided.{decision}
 use Rattle.station_calls.specs.Vendors.{Answers, answer_of}
-use Rattle.station_calls.proofs.decide.decide.Goals as goal
+use Rattle.station_calls.proofs.calls.decide.Goals as goal
 
 pub returns-in-StartTransaction-clause-decision : goal.returns-in-StartTransaction-clause-decision
 returns-in-StartTransaction-clause-decision g c =

@@ -7,9 +7,7 @@ ghost use Rattle.ocpp_payload.specs.Boot.{boot_data};
 ghost use Rattle.ocpp_payload.specs.Conf.{put_some};
 
 use crate::members::{put_some, some_text, text_value};
-use ocpp_types::boot_notification::BootNotification;
-use ocpp_types::memory::Mem;
-use ocpp_types::text::Text;
+use ocpp_types::{BootNotification, Mem, Text};
 use serde_json::{Map, Value, put};
 use std::alloc::Global;
 

@@ -3,7 +3,7 @@ ghost use Rattle.std.specs.Prelude.{◌≡◌};
 ghost use Rattle.ocpp_payload.specs.ActionClass.{action_class, is_unsupported};
 
 use crate::action::Action;
-use ocpp_types::named::Named;
+use ocpp_types::Named;
 
 /// What the name of an action stands for.
 #[derive(Clone, Copy, Debug, PartialEq, Eq)]

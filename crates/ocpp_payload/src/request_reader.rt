@@ -13,10 +13,7 @@ use crate::request::{
     Authorize, DataTransfer, MeterValues, Request, StartTransaction, StatusNotification,
     StopTransaction,
 };
-use ocpp_types::boot_notification::BootNotification;
-use ocpp_types::listed::Listed;
-use ocpp_types::memory::{Mem, NoMemory};
-use ocpp_types::reason::Reason;
+use ocpp_types::{BootNotification, Listed, Mem, NoMemory, Reason};
 use serde_json::Value;
 use std::alloc::Global;
 

@@ -8,11 +8,10 @@ ghost use Rattle.station_calls.specs.Vendors.{answer_of};
 use crate::book::Book;
 use crate::core_handler::CoreHandler;
 use crate::vendor::VendorHandler;
-use hub_rows::store::{Store, StoreFault};
-use ocpp_payload::request::Request;
-use ocpp_types::moment::Moment;
-use ocpp_types::text::Text;
-use registry::decision::Decision;
+use hub_rows::{Store, StoreFault};
+use ocpp_payload::Request;
+use ocpp_types::{Moment, Text};
+use registry::Decision;
 use std::alloc::Global;
 
 /// The decision of the rule of each request.

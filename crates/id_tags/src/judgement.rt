@@ -4,13 +4,8 @@ ghost use Rattle.hub_rows.specs.Reads.{OnlyReads};
 ghost use Rattle.hub_rows.specs.Lookups.{lookups_at};
 ghost use Rattle.id_tags.specs.Judge.{found_tag, is_in_use, judged, judge_rule, status_of, is_past};
 
-use hub_rows::store::{Store, StoreFault};
-use hub_rows::tag_row::Tag;
-use hub_rows::tx_row::TxKey;
-use ocpp_types::authorization_status::AuthorizationStatus;
-use ocpp_types::id_tag_info::IdTagInfo;
-use ocpp_types::moment::Moment;
-use ocpp_types::tag_key::TagKey;
+use hub_rows::{Store, StoreFault, Tag, TxKey};
+use ocpp_types::{AuthorizationStatus, IdTagInfo, Moment, TagKey};
 
 /// What a tag is judged for.
 #[derive(Drop)]

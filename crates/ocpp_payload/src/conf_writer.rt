@@ -5,14 +5,7 @@ ghost use Rattle.ocpp_payload.specs.Conf.{conf_data, no_conf, id_tag_info_data, 
 
 use crate::conf::Conf;
 use crate::members::{put_some, some_text, some_time, text_value};
-use ocpp_types::data_transfer_status::DataTransferStatus;
-use ocpp_types::id_tag_info::IdTagInfo;
-use ocpp_types::memory::Mem;
-use ocpp_types::moment::Moment;
-use ocpp_types::named::Named;
-use ocpp_types::policy::Policy;
-use ocpp_types::text::Text;
-use ocpp_types::time::print_time;
+use ocpp_types::{DataTransferStatus, IdTagInfo, Mem, Moment, Named, Policy, Text, print_time};
 use serde_json::{Map, Value, json, put};
 use std::alloc::Global;
 
