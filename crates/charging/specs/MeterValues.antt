@@ -1,10 +1,9 @@
 -- How a MeterValues is answered, and what it changes.
-use Rattle.std.specs.Prelude.{ℕ, ◌+◌, List, length, if◌then◌else◌, Option, Some, None}
+use Rattle.std.specs.Prelude.{ℕ, ◌+◌, List, length, if◌then◌else◌, Some}
 use Rattle.ocpp_payload.specs.declared.conf.Conf.TheVariants as conf
 use Rattle.ocpp_payload.specs.declared.request.MeterValues.{MeterValues}
 use Rattle.hub_rows.specs.declared.change.Edit.TheVariants.{ReadingsAdded}
 use Rattle.hub_rows.specs.declared.reading_row.Reading.{Reading}
-use Rattle.hub_rows.specs.declared.station_row.Registration.{Registration}
 use Rattle.hub_rows.specs.Lookups.{Lookups}
 use Rattle.registry.specs.declared.decision.Decision.{Decision}
 use Rattle.registry.specs.declared.decision.Reply.TheVariants.{Conf}
@@ -12,15 +11,10 @@ use Rattle.registry.specs.InternalError.{internal_error}
 use Rattle.charging.specs.Numbers.{has_room}
 use Rattle.charging.specs.Readings.{readings_of}
 
--- behind the last number that was given
-abbrev pub added : List ℕ → ℕ → List Reading → Decision
-added station last readings =
-    if has_room last (length readings) then record { reply = Conf conf.MeterValues; change = Some (ReadingsAdded station (last + 1) readings) } else internal_error
-
--- by how the station is registered
-abbrev pub readings_from : List ℕ → MeterValues → Lookups → Option Registration → Decision
-readings_from station r l None = internal_error
-readings_from station r l (Some found) = added station (l.last_numbers station).reading (readings_of r.connector_id r.transaction_id r.meter_value)
+-- readings of a station, after the last number that was given
+abbrev pub decision_of_readings : List ℕ → ℕ → List Reading → Decision
+decision_of_readings station last readings =
+    if has_room last (length readings) then record { reply = Conf conf.MeterValues; edit = Some (ReadingsAdded station (last + 1) readings) } else internal_error
 
 abbrev pub meter_values_rule : List ℕ → MeterValues → Lookups → Decision
-meter_values_rule station r l = readings_from station r l (l.registration station)
+meter_values_rule station r l = decision_of_readings station (l.last_numbers station).reading (readings_of r.connector_id r.transaction_id r.meter_value)

@@ -6,7 +6,6 @@ use Rattle.ocpp_types.specs.declared.id_tag_info.IdTagInfo.{IdTagInfo}
 use Rattle.ocpp_payload.specs.declared.conf.Conf.TheVariants as conf
 use Rattle.ocpp_payload.specs.declared.request.StartTransaction.{StartTransaction}
 use Rattle.hub_rows.specs.declared.change.Edit.TheVariants.{TxStarted}
-use Rattle.hub_rows.specs.declared.station_row.Registration.{Registration}
 use Rattle.hub_rows.specs.declared.tx_row.Start.{Start}
 use Rattle.hub_rows.specs.declared.tx_row.StartKey.{StartKey}
 use Rattle.hub_rows.specs.Lookups.{Lookups}
@@ -26,39 +25,34 @@ abbrev pub start_of : StartTransaction → StartKey → ℕ → AuthorizationSta
 start_of r id m status = record { id = id; tag = r.id_tag; reservation = r.reservation_id; status = status; begun = m }
 
 -- a start that has number n; its own transaction is no other use of its tag
-abbrev pub repeated : List ℕ → StartKey → ℕ → Lookups → ℕ → Decision
-repeated station id m l n = record {
+abbrev pub repeat_decision : List ℕ → StartKey → ℕ → Lookups → ℕ → Decision
+repeat_decision station id m l n = record {
   reply = Conf (conf.StartTransaction (judge_rule m id.key (purpose.Start (Some (record { station = station; number = n }))) l) n);
-  change = None;
+  edit = None;
 }
 
 -- transaction n begins
-abbrev pub begun : List ℕ → StartTransaction → StartKey → ℕ → IdTagInfo → ℕ → Decision
-begun station r id m info n = record {
+abbrev pub begin_decision : List ℕ → StartTransaction → StartKey → ℕ → IdTagInfo → ℕ → Decision
+begin_decision station r id m info n = record {
   reply = Conf (conf.StartTransaction info n);
-  change = Some (TxStarted station n (start_of r id m info.status));
+  edit = Some (TxStarted station n (start_of r id m info.status));
 }
 
--- behind the last number that was given
-abbrev pub begun_after : List ℕ → StartTransaction → StartKey → ℕ → Lookups → ℕ → Decision
-begun_after station r id m l last =
-    if nat_le last_of_all last then internal_error else begun station r id m (judge_rule m id.key (purpose.Start None) l) (last + 1)
+-- after the last number that was given
+abbrev pub begin_after : List ℕ → StartTransaction → StartKey → ℕ → Lookups → ℕ → Decision
+begin_after station r id m l last =
+    if nat_le last_of_all last then internal_error else begin_decision station r id m (judge_rule m id.key (purpose.Start None) l) (last + 1)
 
 abbrev pub new_start : List ℕ → StartTransaction → StartKey → ℕ → Lookups → Decision
-new_start station r id m l = begun_after station r id m l (l.last_numbers station).transaction
+new_start station r id m l = begin_after station r id m l (l.last_numbers station).transaction
 
 -- by the number that it has
-abbrev pub if_new : List ℕ → StartTransaction → StartKey → ℕ → Lookups → Option ℕ → Decision
-if_new station r id m l None = new_start station r id m l
-if_new station r id m l (Some n) = repeated station id m l n
+abbrev pub start_by_number : List ℕ → StartTransaction → StartKey → ℕ → Lookups → Option ℕ → Decision
+start_by_number station r id m l None = new_start station r id m l
+start_by_number station r id m l (Some n) = repeat_decision station id m l n
 
-abbrev pub found_start : List ℕ → StartTransaction → StartKey → ℕ → Lookups → Decision
-found_start station r id m l = if_new station r id m l (l.same_start station id)
-
--- by how the station is registered
-abbrev pub start_from : List ℕ → StartTransaction → ℕ → Lookups → Option Registration → Decision
-start_from station r m l None = internal_error
-start_from station r m l (Some found) = found_start station r (start_key r) m l
+abbrev pub start_by_key : List ℕ → StartTransaction → StartKey → ℕ → Lookups → Decision
+start_by_key station r id m l = start_by_number station r id m l (l.same_start station id)
 
 abbrev pub start_rule : List ℕ → StartTransaction → ℕ → Lookups → Decision
-start_rule station r m l = start_from station r m l (l.registration station)
+start_rule station r m l = start_by_key station r (start_key r) m l

@@ -23,34 +23,34 @@ info_of None m l = None
 info_of (Some tag) m l = Some (judge_rule m (key_of tag) purpose.Authorize l)
 
 -- the number that a transaction's id names
-abbrev pub number_of : ℤ → Option ℕ
-number_of (pos n) = Some n
-number_of (negsuc n) = None
+abbrev pub number_of_id : ℤ → Option ℕ
+number_of_id (pos n) = Some n
+number_of_id (negsuc n) = None
 
 -- the stop as it is kept
 abbrev pub stop_of : StopTransaction → ℕ → Stop
 stop_of r m = record { meter_stop = r.meter_stop; at = r.timestamp; reason = r.reason; tag = r.id_tag; moment = m }
 
--- a stop of transaction n with readings behind the last number that was given; readings for which
+-- a stop of transaction n with readings after the last number that was given; readings for which
 -- no numbers are left are left out
-abbrev pub stopped : List ℕ → ℕ → Stop → ℕ → List Reading → Edit
-stopped station n stop last readings = if has_room last (length readings) then TxStopped station n stop (last + 1) readings else TxStopped station n stop 0 []
+abbrev pub stop_edit : List ℕ → ℕ → Stop → ℕ → List Reading → Edit
+stop_edit station n stop last readings = if has_room last (length readings) then TxStopped station n stop (last + 1) readings else TxStopped station n stop 0 []
 
-abbrev pub ended : List ℕ → StopTransaction → ℕ → ℕ → ℕ → ℕ → Edit
-ended station r m n connector last = stopped station n (stop_of r m) last (readings_of connector (Some r.transaction_id) r.transaction_data)
+abbrev pub end_edit : List ℕ → StopTransaction → ℕ → ℕ → ℕ → ℕ → Edit
+end_edit station r m n connector last = stop_edit station n (stop_of r m) last (readings_of connector (Some r.transaction_id) r.transaction_data)
 
 -- by the state of transaction n
-abbrev pub if_open : List ℕ → StopTransaction → ℕ → Lookups → ℕ → Option TxState → Option Edit
-if_open station r m l n None = None
-if_open station r m l n (Some t) = if t.is_open then Some (ended station r m n t.connector (l.last_numbers station).reading) else None
+abbrev pub edit_by_state : List ℕ → StopTransaction → ℕ → Lookups → ℕ → Option TxState → Option Edit
+edit_by_state station r m l n None = None
+edit_by_state station r m l n (Some t) = if t.is_open then Some (end_edit station r m n t.connector (l.last_numbers station).reading) else None
 
 -- by the number that its id names
-abbrev pub change_of : List ℕ → StopTransaction → ℕ → Lookups → Option ℕ → Option Edit
-change_of station r m l None = None
-change_of station r m l (Some n) = if_open station r m l n (l.tx station n)
+abbrev pub edit_by_number : List ℕ → StopTransaction → ℕ → Lookups → Option ℕ → Option Edit
+edit_by_number station r m l None = None
+edit_by_number station r m l (Some n) = edit_by_state station r m l n (l.tx station n)
 
-abbrev pub stop_change : List ℕ → StopTransaction → ℕ → Lookups → Option Edit
-stop_change station r m l = change_of station r m l (number_of r.transaction_id)
+abbrev pub edit_of_stop : List ℕ → StopTransaction → ℕ → Lookups → Option Edit
+edit_of_stop station r m l = edit_by_number station r m l (number_of_id r.transaction_id)
 
 abbrev pub stop_rule : List ℕ → StopTransaction → ℕ → Lookups → Decision
-stop_rule station r m l = record { reply = Conf (conf.StopTransaction (info_of r.id_tag m l)); change = stop_change station r m l }
+stop_rule station r m l = record { reply = Conf (conf.StopTransaction (info_of r.id_tag m l)); edit = edit_of_stop station r m l }

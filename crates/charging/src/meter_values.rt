@@ -2,7 +2,7 @@
 ghost use Rattle.std.specs.Prelude.{◌≡◌, Err, IfOk};
 ghost use Rattle.hub_rows.specs.Reads.{OnlyReads};
 ghost use Rattle.hub_rows.specs.Lookups.{lookups_at};
-ghost use Rattle.charging.specs.MeterValues.{meter_values_rule, added};
+ghost use Rattle.charging.specs.MeterValues.{meter_values_rule, decision_of_readings};
 
 use crate::numbers::has_room;
 use crate::readings::readings_of;
@@ -12,9 +12,8 @@ use ocpp_types::{Listed, Text};
 use registry::{Decision, Reply, internal_error};
 use std::alloc::Global;
 
-/// The readings of a MeterValues are kept, numbered from the one behind the station's last on. A
-/// station that isn't registered gets InternalError, and so does one that has no numbers left for
-/// all of them.
+/// The readings of a MeterValues are kept, numbered from the one after the station's last on. A
+/// station that has no numbers left for all of them gets InternalError.
 pub fn on_meter_values<S: Store>(
     alloc: Global,
     store: &mut S,
@@ -26,9 +25,6 @@ pub fn on_meter_values<S: Store>(
     ensures decision { S.clean store.new → IfOk result (λ d. d
         ≡ meter_values_rule station.now request (lookups_at op.now (S.rows store.old))) }
 {
-    if store.station(op, station)?.is_none() {
-        return Ok(internal_error());
-    }
     let last = store.last_numbers(op, station)?.reading;
     let station = Text::copy_of(alloc, station)?;
     let readings = readings_of(
@@ -37,22 +33,22 @@ pub fn on_meter_values<S: Store>(
         request.transaction_id,
         request.meter_value,
     )?;
-    Ok(added(station, last, readings))
+    Ok(decision_of_readings(station, last, readings))
 }
 
-fn added(station: Text, last: u32, readings: Listed<Reading>) -> Decision
-    ensures { result ≡ added station last readings }
+fn decision_of_readings(station: Text, last: u32, readings: Listed<Reading>) -> Decision
+    ensures { result ≡ decision_of_readings station last readings }
 {
     if !has_room(last, readings.as_slice().len()) {
         return internal_error();
     }
-    let change = Edit::ReadingsAdded {
+    let edit = Edit::ReadingsAdded {
         station,
         first: last + 1,
         readings,
     };
     Decision {
         reply: Reply::Conf(Conf::MeterValues),
-        change: Some(change),
+        edit: Some(edit),
     }
 }

@@ -2,7 +2,7 @@
 ghost use Rattle.std.specs.Prelude.{◌≡◌, Err, IfOk};
 ghost use Rattle.hub_rows.specs.Reads.{OnlyReads};
 ghost use Rattle.hub_rows.specs.Lookups.{lookups_at};
-ghost use Rattle.charging.specs.Start.{start_rule, start_key, start_of, repeated, new_start, found_start, begun};
+ghost use Rattle.charging.specs.Start.{start_rule, start_key, start_of, repeat_decision, new_start, start_by_key, begin_decision};
 
 use crate::numbers::LAST_NUMBER;
 use hub_rows::{Edit, Start, StartKey, Store, StoreFault, TxKey};
@@ -12,11 +12,10 @@ use ocpp_types::{AuthorizationStatus, IdTagInfo, Mem, Moment, TagKey, Text};
 use registry::{Decision, Reply, internal_error};
 use std::alloc::Global;
 
-/// A start begins a transaction, numbered from the one behind the station's last on, and is
-/// answered with that number and the judgement of its tag. The transaction begins whatever the
-/// judgement is. A start that the station sends again is answered with the number that it has, and
-/// changes nothing. A station that isn't registered gets InternalError, and so does one that has no
-/// number left.
+/// A start begins a transaction, whose number is the one after the station's last, and is answered
+/// with that number and the judgement of its tag. The transaction begins whatever the judgement
+/// is. A start that the station sends again is answered with the number that it has, and changes
+/// nothing. A station that has no number left gets InternalError.
 pub fn on_start<S: Store>(
     alloc: Global,
     store: &mut S,
@@ -29,11 +28,8 @@ pub fn on_start<S: Store>(
     ensures decision { S.clean store.new → IfOk result (λ d. d
         ≡ start_rule station.now request moment (lookups_at op.now (S.rows store.old))) }
 {
-    if store.station(op, station)?.is_none() {
-        return Ok(internal_error());
-    }
     let id = start_key(alloc, &request)?;
-    found_start(alloc, store, op, station, request, id, moment)
+    start_by_key(alloc, store, op, station, request, id, moment)
 }
 
 /// What tells a start from others of its station.
@@ -48,8 +44,8 @@ fn start_key(alloc: Global, request: &StartTransaction) -> Mem<StartKey>
     })
 }
 
-/// A start of a station that is registered: one that has a number, or a new one.
-fn found_start<S: Store>(
+/// A start that has a number, or a new one.
+fn start_by_key<S: Store>(
     alloc: Global,
     store: &mut S,
     op: &str,
@@ -60,16 +56,16 @@ fn found_start<S: Store>(
 ) -> Result<Decision, StoreFault>
     ensures reads { OnlyReads S.rows S.failures S.clean store.old store.new (result ≡ Err StoreFault.Failed) }
     ensures decision { S.clean store.new → IfOk result (λ d. d
-        ≡ found_start station.now request id moment (lookups_at op.now (S.rows store.old))) }
+        ≡ start_by_key station.now request id moment (lookups_at op.now (S.rows store.old))) }
 {
     match store.same_start(op, station, &id)? {
         None => new_start(alloc, store, op, station, request, id, moment),
-        Some(number) => repeated(alloc, store, op, station, &id, moment, number),
+        Some(number) => repeat_decision(alloc, store, op, station, &id, moment, number),
     }
 }
 
 /// The answer to a start that has a number.
-fn repeated<S: Store>(
+fn repeat_decision<S: Store>(
     alloc: Global,
     store: &mut S,
     op: &str,
@@ -80,7 +76,7 @@ fn repeated<S: Store>(
 ) -> Result<Decision, StoreFault>
     ensures reads { OnlyReads S.rows S.failures S.clean store.old store.new (result ≡ Err StoreFault.Failed) }
     ensures decision { S.clean store.new → IfOk result (λ d. d
-        ≡ repeated station.now id.now moment (lookups_at op.now (S.rows store.old)) number) }
+        ≡ repeat_decision station.now id.now moment (lookups_at op.now (S.rows store.old)) number) }
 {
     let station = Text::copy_of(alloc, station)?;
     let own = TxKey { station, number };
@@ -92,11 +88,11 @@ fn repeated<S: Store>(
     };
     Ok(Decision {
         reply: Reply::Conf(reply),
-        change: None,
+        edit: None,
     })
 }
 
-/// A new start, whose number is the one behind the station's last.
+/// A new start, whose number is the one after the station's last.
 fn new_start<S: Store>(
     alloc: Global,
     store: &mut S,
@@ -118,11 +114,11 @@ fn new_start<S: Store>(
     let id_tag_info = judge(store, op, &id.key, moment, &purpose)?;
     let station = Text::copy_of(alloc, station)?;
     let number = last + 1;
-    Ok(begun(station, request, id, moment, id_tag_info, number))
+    Ok(begin_decision(station, request, id, moment, id_tag_info, number))
 }
 
 /// The transaction of that number begins.
-fn begun(
+fn begin_decision(
     station: Text,
     request: StartTransaction,
     id: StartKey,
@@ -130,10 +126,10 @@ fn begun(
     id_tag_info: IdTagInfo,
     number: u32,
 ) -> Decision
-    ensures { result ≡ begun station request id moment id_tag_info number }
+    ensures { result ≡ begin_decision station request id moment id_tag_info number }
 {
     let start = start_of(request, id, moment, id_tag_info.status);
-    let change = Edit::TxStarted {
+    let edit = Edit::TxStarted {
         station,
         number,
         start,
@@ -144,7 +140,7 @@ fn begun(
     };
     Decision {
         reply: Reply::Conf(reply),
-        change: Some(change),
+        edit: Some(edit),
     }
 }
 

@@ -2,7 +2,7 @@
 ghost use Rattle.std.specs.Prelude.{◌≡◌, Err, IfOk};
 ghost use Rattle.hub_rows.specs.Reads.{OnlyReads};
 ghost use Rattle.hub_rows.specs.Lookups.{lookups_at};
-ghost use Rattle.charging.specs.Stop.{stop_rule, info_of, stop_change, if_open, ended, stopped, stop_of, number_of};
+ghost use Rattle.charging.specs.Stop.{stop_rule, info_of, edit_of_stop, end_edit, stop_edit, stop_of, number_of_id};
 
 use crate::numbers::has_room;
 use crate::readings::readings_of;
@@ -14,7 +14,7 @@ use registry::{Decision, Reply};
 use std::alloc::Global;
 
 /// A stop ends the open transaction that it names, and keeps the readings that were sent with it,
-/// numbered from the one behind the station's last on. Where no numbers are left for all of them,
+/// numbered from the one after the station's last on. Where no numbers are left for all of them,
 /// the stop is kept without readings. A stop of any other transaction changes nothing. It is
 /// answered in either case, with the judgement of its tag if one was sent.
 pub fn on_stop<S: Store>(
@@ -30,11 +30,11 @@ pub fn on_stop<S: Store>(
         ≡ stop_rule station.now request moment (lookups_at op.now (S.rows store.old))) }
 {
     let id_tag_info = info_of(alloc, store, op, &request.id_tag, moment)?;
-    let change = stop_change(alloc, store, op, station, request, moment)?;
+    let edit = edit_of_stop(alloc, store, op, station, request, moment)?;
     let reply = Conf::StopTransaction { id_tag_info };
     Ok(Decision {
         reply: Reply::Conf(reply),
-        change,
+        edit,
     })
 }
 
@@ -61,7 +61,7 @@ fn info_of<S: Store>(
 }
 
 /// The end of the transaction that a stop names, if it is open.
-fn stop_change<S: Store>(
+fn edit_of_stop<S: Store>(
     alloc: Global,
     store: &mut S,
     op: &str,
@@ -70,10 +70,10 @@ fn stop_change<S: Store>(
     moment: Moment,
 ) -> Result<Option<Edit>, StoreFault>
     ensures reads { OnlyReads S.rows S.failures S.clean store.old store.new (result ≡ Err StoreFault.Failed) }
-    ensures change { S.clean store.new → IfOk result (λ c. c
-        ≡ stop_change station.now request moment (lookups_at op.now (S.rows store.old))) }
+    ensures edit { S.clean store.new → IfOk result (λ e. e
+        ≡ edit_of_stop station.now request moment (lookups_at op.now (S.rows store.old))) }
 {
-    let Some(number) = number_of(request.transaction_id) else {
+    let Some(number) = number_of_id(request.transaction_id) else {
         return Ok(None);
     };
     let tx = store.tx(op, station, number)?;
@@ -88,19 +88,19 @@ fn stop_change<S: Store>(
     };
     let last = store.last_numbers(op, station)?.reading;
     let station = Text::copy_of(alloc, station)?;
-    let change = ended(alloc, station, request, moment, number, connector, last)?;
-    Ok(Some(change))
+    let edit = end_edit(alloc, station, request, moment, number, connector, last)?;
+    Ok(Some(edit))
 }
 
 /// The number that the id of a transaction names. A negative one names none.
-fn number_of(id: i32) -> Option<u32>
-    ensures { result ≡ number_of id }
+fn number_of_id(id: i32) -> Option<u32>
+    ensures { result ≡ number_of_id id }
 {
     u32::try_from(id).ok()
 }
 
 /// The end of a transaction on that connector.
-fn ended(
+fn end_edit(
     alloc: Global,
     station: Text,
     request: StopTransaction,
@@ -109,12 +109,12 @@ fn ended(
     connector: u8,
     last: u32,
 ) -> Mem<Edit>
-    ensures { IfOk result (λ e. e ≡ ended station request moment number connector last) }
+    ensures { IfOk result (λ e. e ≡ end_edit station request moment number connector last) }
 {
     let transaction = Some(request.transaction_id);
     let (stop, values) = parts_of(request, moment);
     let readings = readings_of(alloc, connector, transaction, values)?;
-    Ok(stopped(alloc, station, number, stop, last, readings))
+    Ok(stop_edit(alloc, station, number, stop, last, readings))
 }
 
 /// A stop as it is kept, and what was sent with it.
@@ -131,8 +131,8 @@ fn parts_of(request: StopTransaction, moment: Moment) -> (Stop, Listed<MeterValu
     (stop, request.transaction_data)
 }
 
-/// The change that keeps a stop and its readings, unless no numbers are left for all of them.
-fn stopped(
+/// The edit that keeps a stop and its readings, unless no numbers are left for all of them.
+fn stop_edit(
     alloc: Global,
     station: Text,
     number: u32,
@@ -140,7 +140,7 @@ fn stopped(
     last: u32,
     readings: Listed<Reading>,
 ) -> Edit
-    ensures { result ≡ stopped station number stop last readings }
+    ensures { result ≡ stop_edit station number stop last readings }
 {
     let has_room = has_room(last, readings.as_slice().len());
     let (first, readings) = if has_room {

@@ -37,24 +37,24 @@ use Rattle.id_tags.specs.declared.judgement.Purpose.TheVariants as purpose
 use Rattle.registry.specs.InternalError.{internal_error}
 use Rattle.charging.specs.Numbers.{has_room}
 use Rattle.charging.specs.Readings.{readings_of}
-use Rattle.charging.specs.MeterValues.{meter_values_rule, readings_from}
-use Rattle.charging.specs.Start.{start_rule, start_key, start_from, if_new as if_new_start, begun}
-use Rattle.charging.specs.Stop.{stop_rule, stop_of, number_of, change_of, if_open, ended}
+use Rattle.charging.specs.MeterValues.{meter_values_rule}
+use Rattle.charging.specs.Start.{start_rule, start_key, start_by_number, begin_decision}
+use Rattle.charging.specs.Stop.{stop_rule, stop_of, number_of_id, edit_by_number, edit_by_state, end_edit}
 use Rattle.hub_rows.specs.Rows.{Rows}
 use Rattle.registry.specs.Allowed.{is_allowed}
-use Rattle.registry.specs.Boot.{boot_of}
 use Rattle.ocpp_types.specs.TagKey.{key_of}
 use Rattle.hub_rows.specs.declared.tag_row.Tag.{Tag}
-use Rattle.id_tags.specs.Plan.{put_rule, drop_rule, is_tag, is_parent, if_there as tag_there}
-use Rattle.registry.specs.PolicySet.{policy_rule, if_there, is_kept_from}
-use Rattle.registry.specs.Status.{status_of}
-use Rattle.registry.specs.StationAdded.{add_rule, if_new, is_station_name}
+use Rattle.id_tags.specs.Plan.{put_rule, drop_rule, is_tag, is_parent, drop_edit}
+use Rattle.registry.specs.PolicySet.{policy_rule, policy_edit, is_kept_from}
+use Rattle.registry.specs.StationAdded.{add_rule, new_station_edit, is_station_name}
 use Rattle.hub.specs.declared.event.What.{What}
 use Rattle.hub.specs.declared.event.What.TheVariants as what
 use Rattle.hub.specs.declared.event.Admin.{Admin}
 use Rattle.hub.specs.declared.event.Admin.TheVariants as admin
 use Rattle.station_calls.specs.Vendors.{Answers}
-use Rattle.hub.specs.Table.{Setting, Facts, Plan, plan, connect_plan, disconnect_plan, text_plan, frame_plan, call_plan, state_plan, payload_plan, error_plan, edit_plan, admin_rule, list_plan}
+use Rattle.hub.specs.declared.plan.Plan.{Plan}
+use Rattle.hub.specs.Plans.{connect_plan, disconnect_plan, error_plan, edit_plan, list_plan}
+use Rattle.hub.specs.Table.{Facts, plan, text_plan, frame_plan, call_plan, state_plan, payload_plan, admin_rule}
 use Rattle.hub.specs.Listing.{rows_rule}
 
 -- an edit that an operator's look-ups allow
@@ -76,43 +76,37 @@ PlanFits l p = IfSome p.edit (FitsLookups l)
 room_fits : (last count : ℕ) → has_room last count ≡ true → AreNext last (last + 1) count
 room_fits last count room = inr (record { next = inr refl; from_one = omega arith; to_the_end = omega (arith, leb-true (last + count) last_of_all room) })
 
-start_fits : (station : List ℕ) (r : StartRequest) (m : ℕ) (l : Lookups) → IfSome (start_rule station r m l).change (FitsLookups l)
-start_fits station r m l =
+start_fits : (station : List ℕ) (r : StartRequest) (m : ℕ) (l : Lookups) → IsSome (l.registration station) → IfSome (start_rule station r m l).edit (FitsLookups l)
+start_fits station r m l here =
     let id : StartKey = start_key r in
-    elim (l.registration station) as (λ o. l.registration station ≡ o → IfSome (start_from station r m l o).change (FitsLookups l)) [
-      | None ↦ λ e. tt
-      | Some found ↦ λ e. elim (l.same_start station id) as (λ o. IfSome (if_new_start station r id m l o).change (FitsLookups l)) [
-        | None ↦ let last = (l.last_numbers station).transaction in
-            elim (nat_le last_of_all last) as (λ b. nat_le last_of_all last ≡ b → IfSome (cond b internal_error (begun station r id m (judge_rule m id.key (purpose.Start None) l) (last + 1))).change (FitsLookups l)) [
-              | true ↦ λ full. tt
-              | false ↦ λ room. (ap is_some e, inr (record { next = inr refl; from_one = omega arith; to_the_end = omega (arith, leb-false last_of_all last room) }))
-            ] refl
-        | Some n ↦ tt
-      ]
-    ] refl
+    elim (l.same_start station id) as (λ o. IfSome (start_by_number station r id m l o).edit (FitsLookups l)) [
+      | None ↦ let last = (l.last_numbers station).transaction in
+          elim (nat_le last_of_all last) as (λ b. nat_le last_of_all last ≡ b → IfSome (cond b internal_error (begin_decision station r id m (judge_rule m id.key (purpose.Start None) l) (last + 1))).edit (FitsLookups l)) [
+            | true ↦ λ full. tt
+            | false ↦ λ room. (here, inr (record { next = inr refl; from_one = omega arith; to_the_end = omega (arith, leb-false last_of_all last room) }))
+          ] refl
+      | Some n ↦ tt
+    ]
 
-meter_values_fit : (station : List ℕ) (r : ReadingsRequest) (l : Lookups) → IfSome (meter_values_rule station r l).change (FitsLookups l)
-meter_values_fit station r l =
+meter_values_fit : (station : List ℕ) (r : ReadingsRequest) (l : Lookups) → IsSome (l.registration station) → IfSome (meter_values_rule station r l).edit (FitsLookups l)
+meter_values_fit station r l here =
     let readings : List Reading = readings_of r.connector_id r.transaction_id r.meter_value in
     let last = (l.last_numbers station).reading in
-    elim (l.registration station) as (λ o. l.registration station ≡ o → IfSome (readings_from station r l o).change (FitsLookups l)) [
-      | None ↦ λ e. tt
-      | Some found ↦ λ e. elim (has_room last (length readings)) as (λ b. has_room last (length readings) ≡ b → IfSome (cond b (record { reply = Conf conf.MeterValues; change = Some (ReadingsAdded station (last + 1) readings) }) internal_error).change (FitsLookups l)) [
-        | true ↦ λ room. (ap is_some e, room_fits last (length readings) room)
-        | false ↦ λ full. tt
-      ] refl
+    elim (has_room last (length readings)) as (λ b. has_room last (length readings) ≡ b → IfSome (cond b (record { reply = Conf conf.MeterValues; edit = Some (ReadingsAdded station (last + 1) readings) }) internal_error).edit (FitsLookups l)) [
+      | true ↦ λ room. (here, room_fits last (length readings) room)
+      | false ↦ λ full. tt
     ] refl
 
-stop_fits : (station : List ℕ) (r : StopRequest) (m : ℕ) (l : Lookups) → IfSome (stop_rule station r m l).change (FitsLookups l)
+stop_fits : (station : List ℕ) (r : StopRequest) (m : ℕ) (l : Lookups) → IfSome (stop_rule station r m l).edit (FitsLookups l)
 stop_fits station r m l =
     let last = (l.last_numbers station).reading in
-    elim (number_of r.transaction_id) as (λ o. IfSome (change_of station r m l o) (FitsLookups l)) [
+    elim (number_of_id r.transaction_id) as (λ o. IfSome (edit_by_number station r m l o) (FitsLookups l)) [
       | None ↦ tt
-      | Some n ↦ elim (l.tx station n) as (λ o. l.tx station n ≡ o → IfSome (if_open station r m l n o) (FitsLookups l)) [
+      | Some n ↦ elim (l.tx station n) as (λ o. l.tx station n ≡ o → IfSome (edit_by_state station r m l n o) (FitsLookups l)) [
         | None ↦ λ e. tt
         | Some t ↦ λ e.
             let readings : List Reading = readings_of t.connector (Some r.transaction_id) r.transaction_data in
-            elim t.is_open as (λ b. t.is_open ≡ b → IfSome (cond b (Some (ended station r m n t.connector last)) None) (FitsLookups l)) [
+            elim t.is_open as (λ b. t.is_open ≡ b → IfSome (cond b (Some (end_edit station r m n t.connector last)) None) (FitsLookups l)) [
               | true ↦ λ open_now.
                   let fits : IsOpen (l.tx station n) = subst IsOpen (sym e) open_now in
                   elim (has_room last (length readings)) as (λ b. has_room last (length readings) ≡ b → FitsLookups l (cond b (TxStopped station n (stop_of r m) (last + 1) readings) (TxStopped station n (stop_of r m) 0 []))) [
@@ -124,50 +118,43 @@ stop_fits station r m l =
       ] refl
     ]
 
-payload_fits : (answers : Answers) (m : ℕ) (station id : List ℕ) (r : Result Request FieldFault) (l : Lookups) → PlanFits l (payload_plan answers m station id r l)
-payload_fits answers m station id (Ok (Authorize r)) l = tt
-payload_fits answers m station id (Ok (BootNotification texts)) l =
-    elim (l.registration station) as (λ o. l.registration station ≡ o → IfSome (boot_of station texts m o).change (FitsLookups l)) [
-      | None ↦ λ e. tt
-      | Some r ↦ λ e. ap is_some e
-    ] refl
-payload_fits answers m station id (Ok (DataTransfer r)) l = tt
-payload_fits answers m station id (Ok Heartbeat) l = tt
-payload_fits answers m station id (Ok (MeterValues r)) l = meter_values_fit station r l
-payload_fits answers m station id (Ok (StartTransaction r)) l = start_fits station r m l
-payload_fits answers m station id (Ok (StatusNotification r)) l =
-    elim (l.registration station) as (λ o. l.registration station ≡ o → IfSome (status_of station r m o).change (FitsLookups l)) [
-      | None ↦ λ e. tt
-      | Some found ↦ λ e. ap is_some e
-    ] refl
-payload_fits answers m station id (Ok (StopTransaction r)) l = stop_fits station r m l
-payload_fits answers m station id (Err fault) l = tt
+-- the station is registered so
+payload_fits : (answers : Answers) (station : List ℕ) (g : Registration) (id : List ℕ) (r : Result Request FieldFault) (m : ℕ) (l : Lookups) → IsSome (l.registration station) → PlanFits l (payload_plan answers station g id r m l)
+payload_fits answers station g id (Ok (Authorize r)) m l here = tt
+payload_fits answers station g id (Ok (BootNotification texts)) m l here = here
+payload_fits answers station g id (Ok (DataTransfer r)) m l here = tt
+payload_fits answers station g id (Ok Heartbeat) m l here = tt
+payload_fits answers station g id (Ok (MeterValues r)) m l here = meter_values_fit station r l here
+payload_fits answers station g id (Ok (StartTransaction r)) m l here = start_fits station r m l here
+payload_fits answers station g id (Ok (StatusNotification r)) m l here = here
+payload_fits answers station g id (Ok (StopTransaction r)) m l here = stop_fits station r m l
+payload_fits answers station g id (Err fault) m l here = tt
 
-state_fits : (answers : Answers) (m : ℕ) (station id : List ℕ) (action : Action) (payload : Data) (o : Option Registration) (l : Lookups) → PlanFits l (state_plan answers m station id action payload o l)
-state_fits answers m station id action payload None l = tt
-state_fits answers m station id action payload (Some r) l =
-    elim (is_allowed r.state action) as (λ b. PlanFits l (cond b (payload_plan answers m station id (request action payload) l) (error_plan station id code.SecurityError []))) [
-      | true ↦ payload_fits answers m station id (request action payload) l
+state_fits : (answers : Answers) (station : List ℕ) (o : Option Registration) (id : List ℕ) (action : Action) (payload : Data) (m : ℕ) (l : Lookups) → l.registration station ≡ o → PlanFits l (state_plan answers station o id action payload m l)
+state_fits answers station None id action payload m l is = tt
+state_fits answers station (Some g) id action payload m l is =
+    elim (is_allowed g.state action) as (λ b. PlanFits l (cond b (payload_plan answers station g id (request action payload) m l) (error_plan station id code.SecurityError []))) [
+      | true ↦ payload_fits answers station g id (request action payload) m l (ap is_some is)
       | false ↦ tt
     ]
 
-call_fits : (answers : Answers) (m : ℕ) (station id : List ℕ) (class : ActionClass) (payload : Data) (l : Lookups) → PlanFits l (call_plan answers m station id class payload l)
-call_fits answers m station id (Known action) payload l = state_fits answers m station id action payload (l.registration station) l
-call_fits answers m station id NotSupported payload l = tt
-call_fits answers m station id NotImplemented payload l = tt
+call_fits : (answers : Answers) (station id : List ℕ) (class : ActionClass) (payload : Data) (m : ℕ) (l : Lookups) → PlanFits l (call_plan answers station id class payload m l)
+call_fits answers station id (Known action) payload m l = state_fits answers station (l.registration station) id action payload m l refl
+call_fits answers station id NotSupported payload m l = tt
+call_fits answers station id NotImplemented payload m l = tt
 
-frame_fits : (answers : Answers) (m : ℕ) (station : List ℕ) (f : Frame) (l : Lookups) → PlanFits l (frame_plan answers m station f l)
-frame_fits answers m station (Call id action payload) l = call_fits answers m station id (action_class action) payload l
-frame_fits answers m station (CallResult id payload) l = tt
-frame_fits answers m station (CallError id c description) l = tt
-frame_fits answers m station (Broken id) l = tt
-frame_fits answers m station Ignored l = tt
+frame_fits : (answers : Answers) (station : List ℕ) (f : Frame) (m : ℕ) (l : Lookups) → PlanFits l (frame_plan answers station f m l)
+frame_fits answers station (Call id action payload) m l = call_fits answers station id (action_class action) payload m l
+frame_fits answers station (CallResult id payload) m l = tt
+frame_fits answers station (CallError id c description) m l = tt
+frame_fits answers station (Broken id) m l = tt
+frame_fits answers station Ignored m l = tt
 
 add_fits : (station : List ℕ) (policy : Policy) (interval : ℕ) (l : Lookups) → PlanFits l (edit_plan (add_rule station policy interval l))
 add_fits station policy interval l =
-    elim (is_station_name station) as (λ b. PlanFits l (edit_plan (cond b (cond (nat_le interval 86_400) (if_new station policy interval (l.registration station)) (Err (BadField (codes "interval")))) (Err (BadField (codes "station")))))) [
-      | true ↦ elim (nat_le interval 86_400) as (λ b. PlanFits l (edit_plan (cond b (if_new station policy interval (l.registration station)) (Err (BadField (codes "interval")))))) [
-        | true ↦ elim (l.registration station) as (λ o. l.registration station ≡ o → PlanFits l (edit_plan (if_new station policy interval o))) [
+    elim (is_station_name station) as (λ b. PlanFits l (edit_plan (cond b (cond (nat_le interval 86_400) (new_station_edit station policy interval (l.registration station)) (Err (BadField (codes "interval")))) (Err (BadField (codes "station")))))) [
+      | true ↦ elim (nat_le interval 86_400) as (λ b. PlanFits l (edit_plan (cond b (new_station_edit station policy interval (l.registration station)) (Err (BadField (codes "interval")))))) [
+        | true ↦ elim (l.registration station) as (λ o. l.registration station ≡ o → PlanFits l (edit_plan (new_station_edit station policy interval o))) [
           | None ↦ λ e. e
           | Some r ↦ λ e. tt
         ] refl
@@ -179,7 +166,7 @@ add_fits station policy interval l =
 policy_fits : (station : List ℕ) (policy : Policy) (interval : ℕ) (l : Lookups) → PlanFits l (edit_plan (policy_rule station policy interval l))
 policy_fits station policy interval l =
     let kept : Bool = is_kept_from station policy l in
-    elim (l.registration station) as (λ o. l.registration station ≡ o → PlanFits l (edit_plan (if_there station policy interval kept o))) [
+    elim (l.registration station) as (λ o. l.registration station ≡ o → PlanFits l (edit_plan (policy_edit station policy interval kept o))) [
       | None ↦ λ e. tt
       | Some r ↦ λ e. elim (nat_le interval 86_400) as (λ b. PlanFits l (edit_plan (cond b (cond kept (Err HasOpenTransactions) (Ok (edit_of.PolicySet station policy interval))) (Err (BadField (codes "interval")))))) [
         | true ↦ elim kept as (λ b. PlanFits l (edit_plan (cond b (Err HasOpenTransactions) (Ok (edit_of.PolicySet station policy interval))))) [ true ↦ tt | false ↦ ap is_some e ]
@@ -195,7 +182,7 @@ put_fits t l =
     ]
 
 drop_fits : (text : List ℕ) (l : Lookups) → PlanFits l (edit_plan (drop_rule text l))
-drop_fits text l = elim (l.own_tag (key_of text)) as (λ o. PlanFits l (edit_plan (tag_there (key_of text) o))) [ None ↦ tt | Some t ↦ tt ]
+drop_fits text l = elim (l.own_tag (key_of text)) as (λ o. PlanFits l (edit_plan (drop_edit (key_of text) o))) [ None ↦ tt | Some t ↦ tt ]
 
 admin_fits : (a : Admin) (l : Lookups) → PlanFits l (edit_plan (admin_rule a l))
 admin_fits (admin.StationAdd station policy interval) l = add_fits station policy interval l
@@ -203,12 +190,12 @@ admin_fits (admin.StationPolicy station policy interval) l = policy_fits station
 admin_fits (admin.TagPut tag) l = put_fits tag l
 admin_fits (admin.TagDrop tag) l = drop_fits tag l
 
-pub plan_fits : (setting : Setting) (m : ℕ) (what : What) (f : Facts) → PlanFits f.lookups (plan setting m what f)
-plan_fits setting m (what.Connect station) f = elim (f.lookups.registration station) as (λ o. PlanFits f.lookups (connect_plan station o)) [ None ↦ tt | Some r ↦ tt ]
-plan_fits setting m (what.Disconnect station) f = elim (f.connected station) as (λ c. PlanFits f.lookups (disconnect_plan station c)) [ true ↦ tt | false ↦ tt ]
-plan_fits setting m (what.Frame station text) f = elim (f.connected station) as (λ c. PlanFits f.lookups (text_plan setting.answers m station text c f.lookups)) [ true ↦ frame_fits setting.answers m station (frame text) f.lookups | false ↦ tt ]
-plan_fits setting m (what.Admin a) f = admin_fits a f.lookups
-plan_fits setting m (what.List listing) f = elim (rows_rule listing f.lookups) as (λ r. PlanFits f.lookups (list_plan r)) [ Ok rows ↦ tt | Err refusal ↦ tt ]
+pub plan_fits : (answers : Answers) (what : What) (m : ℕ) (f : Facts) → PlanFits f.lookups (plan answers what m f)
+plan_fits answers (what.Connect station) m f = elim (f.lookups.registration station) as (λ o. PlanFits f.lookups (connect_plan station o)) [ None ↦ tt | Some r ↦ tt ]
+plan_fits answers (what.Disconnect station) m f = elim (f.slot station).is_connected as (λ c. PlanFits f.lookups (disconnect_plan station c)) [ true ↦ tt | false ↦ tt ]
+plan_fits answers (what.Frame station text) m f = elim (f.slot station).is_connected as (λ c. PlanFits f.lookups (text_plan answers station text m c f.lookups)) [ true ↦ frame_fits answers station (frame text) m f.lookups | false ↦ tt ]
+plan_fits answers (what.Admin a) m f = admin_fits a f.lookups
+plan_fits answers (what.List listing) m f = elim (rows_rule listing f.lookups) as (λ r. PlanFits f.lookups (list_plan r)) [ Ok rows ↦ tt | Err refusal ↦ tt ]
 
 -- what the look-ups over the rows allow, the rows allow
 edit_fits : (b : List ℕ) (rows : Rows) (e : Edit) → FitsLookups (lookups_at b rows) e → EditFits b e rows

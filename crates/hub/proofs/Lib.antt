@@ -1,4 +1,5 @@
 pub mod ConfLaws
+pub mod SlotLaws
 pub mod Fitting
 pub mod Committing
 pub mod Isolation

@@ -3,8 +3,7 @@ use Rattle.std.proofs.Common.{◌≡◌, ℕ, List, [], ◌∷◌, ◌++◌, ◌
 use Rattle.std.proofs.lemmas.List.{take_more}
 use Rattle.hub.specs.declared.event.Event.{Event}
 use Rattle.hub.specs.declared.out.Out.{Out}
-use Rattle.hub.specs.Table.{Setting}
-use Rattle.hub.specs.World.{World, world_outputs, world_step, run_outputs, world_run}
+use Rattle.hub.specs.World.{Setting, World, world_outputs, world_step, run_outputs, world_run}
 
 world_run-push : (setting : Setting) (w : World) (es : List Event) (e : Event) → world_run setting w (es ++ e ∷ []) ≡ world_step setting (world_run setting w es) e
 world_run-push setting w [] e = refl

@@ -1,11 +1,9 @@
 pub mod Fault
 pub mod Slots
-pub mod Said
 pub mod Listing
+pub mod Plans
 pub mod Table
 pub mod World
-pub mod Planned
 pub mod View
 pub mod WellFormed
-pub mod Committed
 pub mod Hub

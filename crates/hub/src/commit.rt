@@ -1,43 +1,46 @@
 //! Carrying out a plan: room first, then the one change of the store, then what can't fail.
-ghost use Rattle.std.specs.Prelude.{◌≡◌, Err, ◌≢◌, ◌+◌, ◌≤◌, ◌++◌, IfOk, IfErr, OnOk, OnErr, vec_len, vec_capacity};
+ghost use Rattle.std.specs.Prelude.{◌≡◌, Err, ◌≢◌, ◌+◌, ◌≤◌, ◌++◌, map, IfOk, IfErr, OnOk, OnErr, vec_len, vec_capacity};
 ghost use Rattle.std.specs.Option.{ForSome};
 ghost use Rattle.hub_rows.specs.Changes.{EditFits};
 ghost use Rattle.hub_rows.specs.Reads.{IsCounted};
-ghost use Rattle.hub.specs.Committed.{slots_with};
-ghost use Rattle.hub.specs.World.{rows_after};
+ghost use Rattle.hub.specs.Slots.{slots_after};
+ghost use Rattle.hub.specs.World.{rows_after, said_to};
 
 use crate::fault::Fault;
-use crate::out::Out;
-use crate::planned::Step;
+use crate::out::{Out, Said};
+use crate::plan::Move;
 use crate::slots::Slots;
 use hub_rows::{Change, Edit, Store};
-use ocpp_types::{Mem, Text};
+use ocpp_types::{Listed, Mem, Text};
+use std::alloc::Global;
 
-/// Makes an edit of an operator's records and a step of its connections, both or none.
+/// Makes an edit of an operator's records and a move of a slot of it, both or none.
 pub fn commit<S: Store>(
     store: &mut S,
     slots: &mut Slots,
     op: &Text,
     edit: Option<Edit>,
-    step: Option<Step>,
+    moves: Option<Move>,
 ) -> Result<(), Fault>
     requires { S.clean store.old → ForSome edit (λ e. EditFits op.now e (S.rows store.old)) }
     ensures counted { IsCounted S.failures S.clean store.old store.new (result ≡ Err Fault.Store) }
     ensures rows { S.clean store.new
         → OnOk result (S.rows store.new ≡ rows_after op.now edit (S.rows store.old)) }
-    ensures slots { OnOk result (slots.new.list.items ≡ slots_with step slots.old.list.items) }
+    ensures slots { OnOk result (slots.new.list.items ≡ slots_after op.now moves slots.old.list.items) }
     ensures err_rows { S.clean store.new → OnErr result (S.rows store.new ≡ S.rows store.old) }
     ensures err_slots { OnErr result (slots.new.list.items ≡ slots.old.list.items) }
     ensures hosted { IfErr result (λ f. f ≢ Fault.NoSuchOperator) }
 {
-    slots.reserve()?;
-    apply(store, op, edit)?;
-    match step {
-        Some(Step::Connect(slot)) => slots.connect(slot),
-        Some(Step::Disconnect(slot)) => slots.disconnect(&slot),
-        None => {}
+    match moves {
+        Some(moves) => {
+            let slot = slots.slot_after(op, moves)?;
+            slots.reserve()?;
+            apply(store, op, edit)?;
+            slots.put(slot);
+            Ok(())
+        }
+        None => apply(store, op, edit),
     }
-    Ok(())
 }
 
 /// Makes an edit of an operator's records, if there is one.
@@ -64,6 +67,20 @@ fn change_of(op: &Text, edit: Edit) -> Mem<Change>
         op: op.clone()?,
         edit,
     })
+}
+
+/// What is said, as outputs for an operator.
+pub fn outs_for(alloc: Global, op: &Text, said: Listed<Said>) -> Mem<Vec<Out>>
+    ensures { IfOk result (λ outs. outs.items ≡ map (said_to op.now) said) }
+{
+    let mut outs = Vec::new(alloc);
+    for said in said.into_vec() {
+        outs.push(Out {
+            op: op.clone()?,
+            said,
+        })?;
+    }
+    Ok(outs)
 }
 
 /// Adds outputs at the end of a list that has room for them, which can't fail.

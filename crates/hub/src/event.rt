@@ -3,12 +3,19 @@
 use hub_rows::Tag;
 use ocpp_types::{Moment, Policy, Text};
 
-/// One event, of one operator. Each carries its moment; moments need not grow.
+/// One event. Each carries its moment; moments need not grow.
 #[derive(Drop)]
-pub struct Event {
-    pub op: Text,
-    pub moment: Moment,
-    pub what: What,
+pub enum Event {
+    /// Something happens at an operator.
+    At {
+        op: Text,
+        moment: Moment,
+        what: What,
+    },
+    /// Time has passed, for all operators.
+    Tick {
+        moment: Moment,
+    },
 }
 
 /// What happens at an operator.

@@ -1,17 +1,14 @@
 //! What a connected station sends (docs/RULES.md, Order of checks).
 ghost use Rattle.std.specs.Prelude.{◌≡◌, Err, ◌≢◌, IfOk, IfErr};
 ghost use Rattle.hub_rows.specs.Reads.{OnlyReads};
-ghost use Rattle.serde_json.specs.Data.{Data};
-ghost use Rattle.ocpp_frame.specs.Frame.{frame};
 ghost use Rattle.hub_rows.specs.Lookups.{lookups_at};
-ghost use Rattle.hub.specs.Planned.{IsPlanned};
+ghost use Rattle.ocpp_frame.specs.Frame.{frame};
+ghost use Rattle.station_calls.specs.Book.{book_rows, book_failures, book_answers, IsCleanBook};
 ghost use Rattle.hub.specs.Table.{frame_plan, call_plan, state_plan};
-ghost use Rattle.station_calls.specs.Vendors.{answer_of};
-ghost use Rattle.ocpp_payload.specs.ActionClass.{action_class};
 
 use crate::fault::Fault;
-use crate::plan::{answer_call, nothing, refuse_call};
-use crate::planned::Planned;
+use crate::plan::Plan;
+use crate::plans::{decided_plan, error_plan};
 use hub_rows::Store;
 use ocpp_frame::{Frame, Payload, read_frame};
 use ocpp_payload::{Action, ActionClass, action_class, read_request};
@@ -26,14 +23,14 @@ pub fn plan_text<S: Store, V: VendorHandler>(
     book: &mut Book<S, V>,
     op: &Text,
     station: &Text,
-    moment: Moment,
     text: &Text,
-) -> Result<Planned, Fault>
-    ensures reads { OnlyReads S.rows S.failures S.clean book.old.store book.new.store (result ≡ Err Fault.Store) }
-    ensures planned { S.clean book.new.store → IfOk result (λ p. IsPlanned p op.now
-        (frame_plan (answer_of V.name V.gives book.old.vendors.items) moment station.now (frame text.now) (lookups_at op.now (S.rows book.old.store)))) }
+    moment: Moment,
+) -> Result<Plan, Fault>
+    ensures reads { OnlyReads (book_rows S.rows) (book_failures S.failures) (IsCleanBook S.clean) book.old book.new (result ≡ Err Fault.Store) }
+    ensures plan { IsCleanBook S.clean book.new → IfOk result (λ p. p
+        ≡ frame_plan (book_answers V.name V.gives book.old) station.now (frame text.now) moment (lookups_at op.now (book_rows S.rows book.old))) }
     ensures hosted { IfErr result (λ f. f ≢ Fault.NoSuchOperator) }
-    ensures answers { answer_of V.name V.gives book.new.vendors.items ≡ answer_of V.name V.gives book.old.vendors.items }
+    ensures answers { book_answers V.name V.gives book.new ≡ book_answers V.name V.gives book.old }
 {
     match read_frame(alloc, text.as_str())? {
         Frame::Call {
@@ -42,18 +39,14 @@ pub fn plan_text<S: Store, V: VendorHandler>(
             payload,
         } => {
             let class = action_class(action.as_str());
-            plan_call(alloc, book, op, station, moment, &id, class, &payload)
+            plan_call(alloc, book, op, station, &id, class, &payload, moment)
         }
-        Frame::Broken { id } => Ok(refuse_call(
-            alloc,
-            op,
-            station,
-            &id,
-            ErrorCode::FormationViolation,
-            "",
-        )?),
+        Frame::Broken { id } => {
+            let code = ErrorCode::FormationViolation;
+            Ok(error_plan(alloc, station, &id, code, "")?)
+        }
         Frame::CallResult { .. } | Frame::CallError { .. } | Frame::Ignored => {
-            Ok(nothing(alloc, op))
+            Ok(Plan::nothing(alloc))
         }
     }
 }
@@ -64,38 +57,25 @@ fn plan_call<S: Store, V: VendorHandler>(
     book: &mut Book<S, V>,
     op: &Text,
     station: &Text,
-    moment: Moment,
     id: &Text,
     class: ActionClass,
     payload: &Payload,
-) -> Result<Planned, Fault>
-    ensures reads { OnlyReads S.rows S.failures S.clean book.old.store book.new.store (result ≡ Err Fault.Store) }
-    ensures planned { S.clean book.new.store → IfOk result (λ p. IsPlanned p op.now
-        (call_plan (answer_of V.name V.gives book.old.vendors.items) moment station.now id.now class payload.now (lookups_at op.now (S.rows book.old.store)))) }
+    moment: Moment,
+) -> Result<Plan, Fault>
+    ensures reads { OnlyReads (book_rows S.rows) (book_failures S.failures) (IsCleanBook S.clean) book.old book.new (result ≡ Err Fault.Store) }
+    ensures plan { IsCleanBook S.clean book.new → IfOk result (λ p. p
+        ≡ call_plan (book_answers V.name V.gives book.old) station.now id.now class payload.now moment (lookups_at op.now (book_rows S.rows book.old))) }
     ensures hosted { IfErr result (λ f. f ≢ Fault.NoSuchOperator) }
-    ensures answers { answer_of V.name V.gives book.new.vendors.items ≡ answer_of V.name V.gives book.old.vendors.items }
+    ensures answers { book_answers V.name V.gives book.new ≡ book_answers V.name V.gives book.old }
 {
-    match class {
+    let code = match class {
         ActionClass::Known(action) => {
-            plan_known(alloc, book, op, station, moment, id, action, payload)
+            return plan_known(alloc, book, op, station, id, action, payload, moment);
         }
-        ActionClass::NotSupported => Ok(refuse_call(
-            alloc,
-            op,
-            station,
-            id,
-            ErrorCode::NotSupported,
-            "",
-        )?),
-        ActionClass::NotImplemented => Ok(refuse_call(
-            alloc,
-            op,
-            station,
-            id,
-            ErrorCode::NotImplemented,
-            "",
-        )?),
-    }
+        ActionClass::NotSupported => ErrorCode::NotSupported,
+        ActionClass::NotImplemented => ErrorCode::NotImplemented,
+    };
+    Ok(error_plan(alloc, station, id, code, "")?)
 }
 
 /// The plan for a call of a supported action: first the station's state, then the payload.
@@ -104,29 +84,29 @@ fn plan_known<S: Store, V: VendorHandler>(
     book: &mut Book<S, V>,
     op: &Text,
     station: &Text,
-    moment: Moment,
     id: &Text,
     action: Action,
     payload: &Payload,
-) -> Result<Planned, Fault>
-    ensures reads { OnlyReads S.rows S.failures S.clean book.old.store book.new.store (result ≡ Err Fault.Store) }
-    ensures planned { S.clean book.new.store → IfOk result (λ p. IsPlanned p op.now
-        (state_plan (answer_of V.name V.gives book.old.vendors.items) moment station.now id.now action payload.now
-        ((lookups_at op.now (S.rows book.old.store)).registration station.now) (lookups_at op.now (S.rows book.old.store)))) }
+    moment: Moment,
+) -> Result<Plan, Fault>
+    ensures reads { OnlyReads (book_rows S.rows) (book_failures S.failures) (IsCleanBook S.clean) book.old book.new (result ≡ Err Fault.Store) }
+    ensures plan { IsCleanBook S.clean book.new → IfOk result (λ p. p
+        ≡ state_plan (book_answers V.name V.gives book.old) station.now ((lookups_at op.now (book_rows S.rows book.old)).registration station.now)
+        id.now action payload.now moment (lookups_at op.now (book_rows S.rows book.old))) }
     ensures hosted { IfErr result (λ f. f ≢ Fault.NoSuchOperator) }
-    ensures answers { answer_of V.name V.gives book.new.vendors.items ≡ answer_of V.name V.gives book.old.vendors.items }
+    ensures answers { book_answers V.name V.gives book.new ≡ book_answers V.name V.gives book.old }
 {
     let Some(registration) = book.store.station(op.as_str(), station.as_str())? else {
-        return Ok(refuse_call(alloc, op, station, id, ErrorCode::InternalError, "")?);
+        return Ok(error_plan(alloc, station, id, ErrorCode::InternalError, "")?);
     };
     if !is_allowed(registration.state, action) {
-        return Ok(refuse_call(alloc, op, station, id, ErrorCode::SecurityError, "")?);
+        return Ok(error_plan(alloc, station, id, ErrorCode::SecurityError, "")?);
     }
     match read_request(alloc, action, payload.as_value())? {
         Ok(request) => {
-            let decision = decide(alloc, book, op, station, moment, request)?;
-            Ok(answer_call(alloc, op, station, id, decision)?)
+            let decision = decide(alloc, book, op, station, registration, request, moment)?;
+            Ok(decided_plan(alloc, station, id, decision)?)
         }
-        Err(fault) => Ok(refuse_call(alloc, op, station, id, fault.code, fault.field.as_str())?),
+        Err(fault) => Ok(error_plan(alloc, station, id, fault.code, fault.field.as_str())?),
     }
 }

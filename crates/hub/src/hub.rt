@@ -4,23 +4,23 @@ ghost use Rattle.std.specs.List.{AllWithin};
 ghost use Rattle.hub_rows.specs.Reads.{IsCounted};
 ghost use Rattle.hub_rows.specs.Operators.{are_operators};
 
-use crate::commit::{append_ready, commit};
-use crate::event::Event;
+use crate::commit::{append_ready, commit, outs_for};
+use crate::event::{Event, What};
 use crate::fault::Fault;
 use crate::out::Out;
+use crate::plan::Plan;
 use crate::plan_event::plan_event;
-use crate::planned::Planned;
 use crate::slots::Slots;
 use hub_rows::{Store, are_operators, is_hosted};
-use ocpp_types::Text;
+use ocpp_types::{Moment, Text};
 use station_calls::{Book, VendorHandler};
 use std::alloc::Global;
 use thiserror::Error;
 
 /// Records and connections of all hosted operators.
 ///
-/// A contract sees it through two words: `world` (the rows of its store and the connected
-/// stations) and `setting` (the hosted operators and the answers to vendors' messages).
+/// A contract sees it through two words: `world` (the rows of its store and the slots of its
+/// stations) and `setting` (which operators are hosted, and the answers to vendors' messages).
 #[derive(Drop)]
 pub struct Hub<S, V> {
     alloc: Global,
@@ -38,10 +38,11 @@ pub struct BadOperators;
 impl<S: Store + Drop, V: VendorHandler> Hub<S, V> {
     ghost use Rattle.hub_rows.specs.Rows.{Rows};
     ghost use Rattle.hub.specs.Hub.{world, setting, setting_of, is_taken, is_clean, failures_of};
-    ghost use Rattle.hub.specs.Said.{outputs_of};
-    ghost use Rattle.hub.specs.World.{world_outputs, world_step, run_outputs, world_run};
+    ghost use Rattle.hub_rows.specs.Operators.{is_hosted};
+    ghost use Rattle.hub.specs.World.{outputs_of, world_outputs, world_step, run_outputs, world_run};
     ghost use Rattle.hub.specs.View.{view, seen, operator_run_outputs, operator_run};
     ghost use Rattle.hub.specs.declared.event.Event.{Event};
+    ghost use Rattle.hub.specs.declared.event.Event.TheVariants as event;
 
     /// A hub over a store, with no station connected. It takes no memory. Where the operators
     /// can't be hosted the store and the handlers are dropped.
@@ -72,7 +73,7 @@ impl<S: Store + Drop, V: VendorHandler> Hub<S, V> {
     /// The hosted operators.
     #[tactic(auto, unfolding(crate::specs::Hub::setting, crate::specs::Hub::setting_of))]
     pub fn hosted(&self) -> &[Text]
-        ensures { result.now ≡ (setting V.name V.gives self.now).hosted }
+        ensures { is_hosted result.now ≡ (setting V.name V.gives self.now).is_hosted }
     {
         &self.hosted
     }
@@ -146,9 +147,7 @@ impl<S: Store + Drop, V: VendorHandler> Hub<S, V> {
         (outs, taken, None)
     }
 
-    /// Takes one event, and adds its outputs to those told. Room for all that grows is made before
-    /// the one change of the store.
-    #[tactic(auto, unfolding(crate::specs::Hub::setting, crate::specs::Hub::setting_of))]
+    /// Takes one event, and adds its outputs to those told.
     fn take(&mut self, event: &Event, told: &mut Vec<Out>) -> Result<(), Fault>
         ensures counted { IsCounted (failures_of S.failures) (is_clean S.clean) self.old self.new (result ≡ Err Fault.Store) }
         ensures told { is_clean S.clean self.new → OnOk result (told.new.items ≡ told.old.items
@@ -163,25 +162,43 @@ impl<S: Store + Drop, V: VendorHandler> Hub<S, V> {
         ensures not_taken { IfErr result (λ f. f ≡ Fault.NoSuchOperator
             → is_taken (setting V.name V.gives self.old) event.now ≡ false) }
     {
-        let op = &event.op;
+        match event {
+            Event::At { op, moment, what } => self.take_at(op, *moment, what, told),
+            Event::Tick { .. } => Ok(()),
+        }
+    }
+
+    /// Takes an event of an operator. Room for all that grows is made before the one change of the
+    /// store.
+    #[tactic(auto, unfolding(crate::specs::Hub::setting))]
+    fn take_at(
+        &mut self,
+        op: &Text,
+        moment: Moment,
+        what: &What,
+        told: &mut Vec<Out>,
+    ) -> Result<(), Fault>
+        ensures counted { IsCounted (failures_of S.failures) (is_clean S.clean) self.old self.new (result ≡ Err Fault.Store) }
+        ensures told { is_clean S.clean self.new → OnOk result (told.new.items ≡ told.old.items
+            ++ world_outputs (setting V.name V.gives self.old) (world S.rows self.old) (event.At op.now moment what.now)) }
+        ensures world { is_clean S.clean self.new → OnOk result (world S.rows self.new
+            ≡ world_step (setting V.name V.gives self.old) (world S.rows self.old) (event.At op.now moment what.now)) }
+        ensures err_told { OnErr result (told.new.items ≡ told.old.items) }
+        ensures err_world { is_clean S.clean self.new
+            → OnErr result (world S.rows self.new ≡ world S.rows self.old) }
+        ensures setting { setting V.name V.gives self.new ≡ setting V.name V.gives self.old }
+        ensures taken { OnOk result ((setting V.name V.gives self.old).is_hosted op.now ≡ true) }
+        ensures not_taken { IfErr result (λ f. f ≡ Fault.NoSuchOperator
+            → (setting V.name V.gives self.old).is_hosted op.now ≡ false) }
+    {
         if !is_hosted(&self.hosted, op.as_str()) {
             return Err(Fault::NoSuchOperator);
         }
-        let planned = plan_event(
-            self.alloc,
-            &mut self.book,
-            &self.slots,
-            op,
-            event.moment,
-            &event.what,
-        )?;
-        told.reserve(planned.outs.len())?;
-        let Planned {
-            mut outs,
-            edit,
-            step,
-        } = planned;
-        commit(&mut self.book.store, &mut self.slots, op, edit, step)?;
+        let plan = plan_event(self.alloc, &mut self.book, &self.slots, op, what, moment)?;
+        let Plan { said, edit, moves } = plan;
+        let mut outs = outs_for(self.alloc, op, said)?;
+        told.reserve(outs.len())?;
+        commit(&mut self.book.store, &mut self.slots, op, edit, moves)?;
         append_ready(told, &mut outs);
         Ok(())
     }

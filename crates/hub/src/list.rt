@@ -3,14 +3,11 @@ ghost use Rattle.std.specs.Prelude.{◌≡◌, ◌++◌, map, Ok, Err, IfOk, OnO
 ghost use Rattle.hub_rows.specs.Reads.{OnlyReads};
 ghost use Rattle.hub_rows.specs.Lookups.{lookups_at};
 ghost use Rattle.hub.specs.Listing.{rows_rule};
-ghost use Rattle.hub.specs.Planned.{IsPlanned};
-ghost use Rattle.hub.specs.Said.{said_to, Shown};
-ghost use Rattle.hub.specs.Table.{list_plan};
+ghost use Rattle.hub.specs.Plans.{list_plan};
 
 use crate::event::Listing;
-use crate::out::Out;
-use crate::plan::edit;
-use crate::planned::Planned;
+use crate::out::Said;
+use crate::plan::Plan;
 use crate::row::Shown;
 use hub_rows::{Store, StoreFault};
 use ocpp_types::{Listed, Mem, Refusal, Text};
@@ -22,75 +19,72 @@ pub fn plan_list<S: Store>(
     store: &mut S,
     op: &Text,
     listing: &Listing,
-) -> Result<Planned, StoreFault>
+) -> Result<Plan, StoreFault>
     ensures reads { OnlyReads S.rows S.failures S.clean store.old store.new (result ≡ Err StoreFault.Failed) }
-    ensures planned { S.clean store.new → IfOk result (λ p. IsPlanned p op.now
-        (list_plan (rows_rule listing.now (lookups_at op.now (S.rows store.old))))) }
+    ensures plan { S.clean store.new → IfOk result (λ p. p
+        ≡ list_plan (rows_rule listing.now (lookups_at op.now (S.rows store.old)))) }
 {
     match listing {
         Listing::Stations => {
             let rows = store.stations(op.as_str())?;
-            Ok(list(alloc, op, rows)?)
+            Ok(show(alloc, rows)?)
         }
         Listing::Tags => {
             let rows = store.tags(op.as_str())?;
-            Ok(list(alloc, op, rows)?)
+            Ok(show(alloc, rows)?)
         }
         Listing::Connectors { station } => {
             if store.station(op.as_str(), station.as_str())?.is_none() {
-                return Ok(no_station(alloc, op)?);
+                return Ok(no_station(alloc)?);
             }
             let rows = store.connectors(op.as_str(), station.as_str())?;
-            Ok(list(alloc, op, rows)?)
+            Ok(show(alloc, rows)?)
         }
         Listing::Transactions { station } => {
             if store.station(op.as_str(), station.as_str())?.is_none() {
-                return Ok(no_station(alloc, op)?);
+                return Ok(no_station(alloc)?);
             }
             let rows = store.txs(op.as_str(), station.as_str())?;
-            Ok(list(alloc, op, rows)?)
+            Ok(show(alloc, rows)?)
         }
         Listing::Readings {
             station,
             transaction,
         } => {
             if store.station(op.as_str(), station.as_str())?.is_none() {
-                return Ok(no_station(alloc, op)?);
+                return Ok(no_station(alloc)?);
             }
             let rows = store.readings(op.as_str(), station.as_str(), *transaction)?;
-            Ok(list(alloc, op, rows)?)
+            Ok(show(alloc, rows)?)
         }
     }
 }
 
-fn no_station(alloc: Global, op: &Text) -> Mem<Planned>
-    ensures { IfOk result (λ p. IsPlanned p op.now (list_plan (Err Refusal.NoSuchStation))) }
+fn no_station(alloc: Global) -> Mem<Plan>
+    ensures { IfOk result (λ p. p ≡ list_plan (Err Refusal.NoSuchStation)) }
 {
-    edit(alloc, op, Err(Refusal::NoSuchStation))
+    Plan::only(alloc, Said::Refused(Refusal::NoSuchStation))
 }
 
 /// The plan that shows rows.
-fn list<R: Shown>(alloc: Global, op: &Text, rows: Listed<R>) -> Mem<Planned>
-    ensures { IfOk result (λ p. IsPlanned p op.now (list_plan (Ok (map R.as_row rows)))) }
+fn show<R: Shown>(alloc: Global, rows: Listed<R>) -> Mem<Plan>
+    ensures { IfOk result (λ p. p ≡ list_plan (Ok (map R.as_row rows))) }
 {
-    let mut outs = Vec::new(alloc);
-    show(&mut outs, op, rows)?;
-    outs.push(Out::Accepted { op: op.clone()? })?;
-    Ok(Planned {
-        outs,
+    let mut said = Listed::new(alloc);
+    add_rows(&mut said, rows)?;
+    said.push(Said::Accepted)?;
+    Ok(Plan {
+        said,
         edit: None,
-        step: None,
+        moves: None,
     })
 }
 
-fn show<R: Shown>(outs: &mut Vec<Out>, op: &Text, rows: Listed<R>) -> Mem<()>
-    ensures { OnOk result (outs.new.items ≡ outs.old.items ++ map (said_to op.now) (map Shown (map R.as_row rows))) }
+fn add_rows<R: Shown>(said: &mut Listed<Said>, rows: Listed<R>) -> Mem<()>
+    ensures { OnOk result (said.new ≡ said.old ++ map Said.Row (map R.as_row rows)) }
 {
     for row in rows.into_vec() {
-        outs.push(Out::Row {
-            op: op.clone()?,
-            row: row.into_row(),
-        })?;
+        said.push(Said::Row(row.into_row()))?;
     }
     Ok(())
 }

@@ -3,18 +3,25 @@
 use crate::row::Row;
 use ocpp_types::{Refusal, Text};
 
-/// One output. Each names the operator that it is for.
+/// One output: what is said, and the operator that it is for.
 #[derive(Drop)]
-pub enum Out {
+pub struct Out {
+    pub op: Text,
+    pub said: Said,
+}
+
+/// What is said to an operator, or to a station of it.
+#[derive(Drop)]
+pub enum Said {
     /// A text to a station.
-    Send { op: Text, station: Text, text: Text },
+    Send { station: Text, text: Text },
     /// A connect of a station that isn't registered, or a frame of one that isn't connected, is
     /// turned away.
-    Turned { op: Text, station: Text },
+    Turned { station: Text },
     /// A request of the operator is refused, and has changed nothing.
-    Refused { op: Text, refusal: Refusal },
+    Refused(Refusal),
     /// A row of a listing.
-    Row { op: Text, row: Row },
+    Row(Row),
     /// A request of the operator is taken.
-    Accepted { op: Text },
+    Accepted,
 }

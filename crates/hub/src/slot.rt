@@ -1,14 +1,15 @@
-//! One connected station.
+//! The slot of one station.
 
 use hub_rows::{Keyed, NamedRow};
 use ocpp_types::Text;
 use std::cmp::Ordering;
 
-/// A station that is connected.
+/// What is kept of a station's connections while the hub lives.
 #[derive(Drop)]
 pub struct Slot {
     pub op: Text,
     pub station: Text,
+    pub is_connected: bool,
 }
 
 impl Keyed for Slot {

@@ -1,17 +1,17 @@
-//! All connected stations.
-ghost use Rattle.std.specs.Prelude.{◌≡◌, ◌<◌, ◌≤◌, [], OnOk, OnErr, vec_len, vec_capacity};
+//! The slots of all stations.
+ghost use Rattle.std.specs.Prelude.{◌≡◌, ◌<◌, [], IfOk, OnOk, vec_len, vec_capacity};
 ghost use Rattle.std.specs.List.Sorted.{IsStrictlySortedBy};
-ghost use Rattle.std.specs.Str.{bytes_eq};
 ghost use Rattle.std.proofs.Props.{props};
-ghost use Rattle.hub_rows.specs.Keyed.{by_key, put, without};
-ghost use Rattle.hub.specs.Slots.{slot_key, is_connected};
+ghost use Rattle.hub_rows.specs.Keyed.{by_key, put};
+ghost use Rattle.hub.specs.Slots.{slot_key, slot_in, slot_after};
 
+use crate::plan::Move;
 use crate::slot::Slot;
-use hub_rows::{put_ready, remove_row, row_of};
-use ocpp_types::Mem;
+use hub_rows::{put_ready, row_of};
+use ocpp_types::{Mem, Text};
 use std::alloc::Global;
 
-/// The connected stations, in the order of their operators and names.
+/// The slots of all stations that were ever connected, in the order of their operators and names.
 #[derive(Drop)]
 pub struct Slots {
     pub list: Vec<Slot>,
@@ -19,7 +19,7 @@ pub struct Slots {
 }
 
 impl Slots {
-    /// No station is connected; it takes no memory yet.
+    /// No slots; it takes no memory yet.
     pub fn new(alloc: Global) -> Slots
         ensures { result.list.items ≡ [] }
     {
@@ -30,12 +30,15 @@ impl Slots {
 
     /// Whether a station is connected.
     pub fn is_connected(&self, op: &str, station: &str) -> bool
-        ensures { result ≡ is_connected op.now station.now self.now.list.items }
+        ensures { result ≡ (slot_in op.now station.now self.now.list.items).is_connected }
     {
-        row_of(&self.list, op, station).is_some()
+        match row_of(&self.list, op, station) {
+            Some(slot) => slot.is_connected,
+            None => false,
+        }
     }
 
-    /// Makes room for one more station.
+    /// Makes room for one more slot.
     pub fn reserve(&mut self) -> Mem<()>
         ensures room { OnOk result (vec_len self.new.list < vec_capacity self.new.list) }
         ensures same { self.new.list.items ≡ self.old.list.items }
@@ -44,19 +47,23 @@ impl Slots {
         Ok(())
     }
 
-    /// A station is connected, for which there is room.
-    pub fn connect(&mut self, slot: Slot)
+    /// The slot of a station after a move.
+    pub fn slot_after(&self, op: &Text, moves: Move) -> Mem<Slot>
+        ensures { IfOk result (λ s. s ≡ slot_after moves.step (slot_in op.now moves.station self.now.list.items)) }
+    {
+        let is_connected = moves.step.connects();
+        Ok(Slot {
+            op: op.clone()?,
+            station: moves.station,
+            is_connected,
+        })
+    }
+
+    /// A slot takes the place of the one of its station. There is room for it.
+    pub fn put(&mut self, slot: Slot)
         requires { vec_len self.old.list < vec_capacity self.old.list }
         ensures { self.new.list.items ≡ put (by_key slot_key) slot self.old.list.items }
     {
         put_ready(&mut self.list, slot);
-    }
-
-    /// A station is no longer connected.
-    pub fn disconnect(&mut self, slot: &Slot)
-        ensures { self.new.list.items ≡ without (λ s. s.op) slot.now.op
-            (λ s. bytes_eq s.station slot.now.station) self.old.list.items }
-    {
-        remove_row(&mut self.list, slot.op.as_str(), slot.station.as_str());
     }
 }

@@ -9,13 +9,13 @@ use Rattle.id_tags.specs.declared.judgement.Purpose.{Purpose}
 use Rattle.id_tags.specs.declared.judgement.Purpose.TheVariants.{Authorize, Start}
 
 -- the operator's own tag, or else one that was granted to it
-abbrev pub first_of : Option Tag → Option Tag → Option Tag
-first_of (Some own) granted = Some own
-first_of None granted = granted
+abbrev pub own_or_granted : Option Tag → Option Tag → Option Tag
+own_or_granted (Some own) granted = Some own
+own_or_granted None granted = granted
 
 -- the tag of a key that counts; no tags are granted yet
 abbrev pub found_tag : List ℕ → Lookups → Option Tag
-found_tag key l = first_of (l.own_tag key) None
+found_tag key l = own_or_granted (l.own_tag key) None
 
 -- whether a moment is at the expiry or past it
 abbrev pub is_past : ℕ → Option ℕ → Bool
@@ -27,12 +27,12 @@ abbrev pub is_in_use : Purpose → List ℕ → Lookups → Bool
 is_in_use Authorize key l = false
 is_in_use (Start except) key l = l.is_used key except
 
-abbrev pub status_of : ℕ → Bool → Tag → AuthorizationStatus
-status_of m used t = if t.blocked then Blocked else (if is_past m t.expiry then Expired else (if used then ConcurrentTx else Accepted))
+abbrev pub tag_status : ℕ → Bool → Tag → AuthorizationStatus
+tag_status m used t = if t.blocked then Blocked else (if is_past m t.expiry then Expired else (if used then ConcurrentTx else Accepted))
 
-abbrev pub judged : ℕ → Bool → Option Tag → IdTagInfo
-judged m used None = record { expiry_date = None; parent_id_tag = None; status = Invalid }
-judged m used (Some t) = record { expiry_date = t.expiry; parent_id_tag = t.parent; status = status_of m used t }
+abbrev pub info_of_tag : ℕ → Bool → Option Tag → IdTagInfo
+info_of_tag m used None = record { expiry_date = None; parent_id_tag = None; status = Invalid }
+info_of_tag m used (Some t) = record { expiry_date = t.expiry; parent_id_tag = t.parent; status = tag_status m used t }
 
 abbrev pub judge_rule : ℕ → List ℕ → Purpose → Lookups → IdTagInfo
-judge_rule m key purpose l = judged m (is_in_use purpose key l) (found_tag key l)
+judge_rule m key purpose l = info_of_tag m (is_in_use purpose key l) (found_tag key l)

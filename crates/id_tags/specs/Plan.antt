@@ -21,9 +21,9 @@ abbrev pub put_rule : Tag → Result Edit Refusal
 put_rule t =
     if is_tag t.text then (if is_parent t.parent then Ok (TagPut (key_of t.text) t) else Err (BadField (codes "parent"))) else Err (BadField (codes "tag"))
 
-abbrev pub if_there : List ℕ → Option Tag → Result Edit Refusal
-if_there key None = Err NoSuchTag
-if_there key (Some t) = Ok (TagDropped key)
+abbrev pub drop_edit : List ℕ → Option Tag → Result Edit Refusal
+drop_edit key None = Err NoSuchTag
+drop_edit key (Some t) = Ok (TagDropped key)
 
 abbrev pub drop_rule : List ℕ → Lookups → Result Edit Refusal
-drop_rule text l = if_there (key_of text) (l.own_tag (key_of text))
+drop_rule text l = drop_edit (key_of text) (l.own_tag (key_of text))

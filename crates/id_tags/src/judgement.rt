@@ -1,8 +1,8 @@
 //! Judgement of id tags (OCPP 1.6, sections 4.1 and 7.2; docs/RULES.md, Tag keys and judgement).
-ghost use Rattle.std.specs.Prelude.{◌≡◌, Err, IfOk};
+ghost use Rattle.std.specs.Prelude.{◌≡◌, Some, Err, IfOk};
 ghost use Rattle.hub_rows.specs.Reads.{OnlyReads};
 ghost use Rattle.hub_rows.specs.Lookups.{lookups_at};
-ghost use Rattle.id_tags.specs.Judge.{found_tag, is_in_use, judged, judge_rule, status_of, is_past};
+ghost use Rattle.id_tags.specs.Judge.{found_tag, is_in_use, info_of_tag, judge_rule, tag_status, is_past};
 
 use hub_rows::{Store, StoreFault, Tag, TxKey};
 use ocpp_types::{AuthorizationStatus, IdTagInfo, Moment, TagKey};
@@ -40,9 +40,15 @@ pub fn judge<S: Store>(
     ensures judged { S.clean store.new → IfOk result (λ i. i
         ≡ judge_rule moment key.now purpose.now (lookups_at op.now (S.rows store.old))) }
 {
+    let Some(tag) = find_tag(store, op, key)? else {
+        return Ok(IdTagInfo {
+            expiry_date: None,
+            parent_id_tag: None,
+            status: AuthorizationStatus::Invalid,
+        });
+    };
     let used = is_in_use(store, op, key, purpose)?;
-    let found = find_tag(store, op, key)?;
-    Ok(judged(moment, used, found))
+    Ok(info_of_tag(moment, used, tag))
 }
 
 /// Whether the tag of a key is in use as far as the purpose asks.
@@ -62,28 +68,20 @@ fn is_in_use<S: Store>(
     }
 }
 
-fn judged(moment: Moment, used: bool, found: Option<Tag>) -> IdTagInfo
-    ensures { result ≡ judged moment used found }
+/// What is told of a tag that was found.
+fn info_of_tag(moment: Moment, used: bool, tag: Tag) -> IdTagInfo
+    ensures { result ≡ info_of_tag moment used (Some tag) }
 {
-    match found {
-        None => IdTagInfo {
-            expiry_date: None,
-            parent_id_tag: None,
-            status: AuthorizationStatus::Invalid,
-        },
-        Some(tag) => {
-            let status = status_of(moment, used, &tag);
-            IdTagInfo {
-                expiry_date: tag.expiry,
-                parent_id_tag: tag.parent,
-                status,
-            }
-        }
+    let status = tag_status(moment, used, &tag);
+    IdTagInfo {
+        expiry_date: tag.expiry,
+        parent_id_tag: tag.parent,
+        status,
     }
 }
 
-fn status_of(moment: Moment, used: bool, tag: &Tag) -> AuthorizationStatus
-    ensures { result ≡ status_of moment used tag.now }
+fn tag_status(moment: Moment, used: bool, tag: &Tag) -> AuthorizationStatus
+    ensures { result ≡ tag_status moment used tag.now }
 {
     if tag.blocked {
         return AuthorizationStatus::Blocked;

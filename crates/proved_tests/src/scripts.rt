@@ -3,12 +3,11 @@
 
 use hub::{BadOperators, Event, Fault, Hub, Out};
 use hub_rows::Store;
+use lines::{Line, print_out, read_line};
 use ocpp_types::{Mem, Text};
 use station_calls::VendorHandler;
 use std::alloc::Global;
 use std::test::Fail;
-use ws_server::lines::printing::print_out;
-use ws_server::lines::reading::{Line, read_line};
 
 /// ACME's station CP01 is added, connects, boots and sends a heartbeat.
 pub const BOOTED: &str = r#"1704067200 ACME station add CP01 Accepted 300

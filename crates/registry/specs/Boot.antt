@@ -1,5 +1,5 @@
 -- How boots and heartbeats are answered, and what they change.
-use Rattle.std.specs.Prelude.{ℕ, List, Option, Some, None}
+use Rattle.std.specs.Prelude.{ℕ, List, Some, None}
 use Rattle.ocpp_types.specs.declared.boot_notification.BootNotification.{BootNotification}
 use Rattle.ocpp_types.specs.declared.policy.Policy.{Policy}
 use Rattle.ocpp_types.specs.declared.policy.Policy.TheVariants as policy
@@ -8,10 +8,8 @@ use Rattle.ocpp_types.specs.declared.state.State.TheVariants as state
 use Rattle.ocpp_payload.specs.declared.conf.Conf.TheVariants as conf
 use Rattle.hub_rows.specs.declared.change.Edit.TheVariants.{BootSeen}
 use Rattle.hub_rows.specs.declared.station_row.Registration.{Registration}
-use Rattle.hub_rows.specs.Lookups.{Lookups}
 use Rattle.registry.specs.declared.decision.Decision.{Decision}
 use Rattle.registry.specs.declared.decision.Reply.TheVariants.{Conf}
-use Rattle.registry.specs.InternalError.{internal_error}
 
 -- the state that a boot leads to
 abbrev pub state_after : Policy → State
@@ -19,16 +17,12 @@ state_after policy.Accepted = state.Accepted
 state_after policy.Pending = state.Pending
 state_after policy.Rejected = state.Rejected
 
--- by how the station is registered
-abbrev pub boot_of : List ℕ → BootNotification → ℕ → Option Registration → Decision
-boot_of station texts m None = internal_error
-boot_of station texts m (Some r) = record {
+-- of a station, by how it is registered
+abbrev pub boot_rule : List ℕ → Registration → BootNotification → ℕ → Decision
+boot_rule station r texts m = record {
   reply = Conf (conf.BootNotification m r.interval r.policy);
-  change = Some (BootSeen station (record { texts = texts; moment = m }) (state_after r.policy));
+  edit = Some (BootSeen station (record { texts = texts; moment = m }) (state_after r.policy));
 }
 
-abbrev pub boot_rule : List ℕ → BootNotification → ℕ → Lookups → Decision
-boot_rule station texts m l = boot_of station texts m (l.registration station)
-
 abbrev pub heartbeat_rule : ℕ → Decision
-heartbeat_rule m = record { reply = Conf (conf.Heartbeat m); change = None }
+heartbeat_rule m = record { reply = Conf (conf.Heartbeat m); edit = None }

@@ -5,4 +5,4 @@ use Rattle.registry.specs.declared.decision.Decision.{Decision}
 use Rattle.registry.specs.declared.decision.Reply.TheVariants.{Error}
 
 abbrev pub internal_error : Decision
-internal_error = record { reply = Error InternalError; change = None }
+internal_error = record { reply = Error InternalError; edit = None }

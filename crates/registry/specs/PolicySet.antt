@@ -19,10 +19,10 @@ abbrev pub is_kept_from : List ℕ → Policy → Lookups → Bool
 is_kept_from station policy l = is_rejected policy && l.has_open station
 
 -- by whether an open transaction keeps it from the policy, and by how it is registered
-abbrev pub if_there : List ℕ → Policy → ℕ → Bool → Option Registration → Result Edit Refusal
-if_there station policy interval kept None = Err NoSuchStation
-if_there station policy interval kept (Some r) =
+abbrev pub policy_edit : List ℕ → Policy → ℕ → Bool → Option Registration → Result Edit Refusal
+policy_edit station policy interval kept None = Err NoSuchStation
+policy_edit station policy interval kept (Some r) =
     if nat_le interval 86_400 then (if kept then Err HasOpenTransactions else Ok (edit.PolicySet station policy interval)) else Err (BadField (codes "interval"))
 
 abbrev pub policy_rule : List ℕ → Policy → ℕ → Lookups → Result Edit Refusal
-policy_rule station policy interval l = if_there station policy interval (is_kept_from station policy l) (l.registration station)
+policy_rule station policy interval l = policy_edit station policy interval (is_kept_from station policy l) (l.registration station)

@@ -13,10 +13,10 @@ use Rattle.hub_rows.specs.Lookups.{Lookups}
 abbrev pub is_station_name : List ℕ → Bool
 is_station_name text = nat_le 1 (length text) && nat_le (length text) 48 && list_all (λ c. nat_le 33 c && nat_le c 126) text
 
-abbrev pub if_new : List ℕ → Policy → ℕ → Option Registration → Result Edit Refusal
-if_new station policy interval None = Ok (edit.StationAdded station policy interval)
-if_new station policy interval (Some r) = Err StationExists
+abbrev pub new_station_edit : List ℕ → Policy → ℕ → Option Registration → Result Edit Refusal
+new_station_edit station policy interval None = Ok (edit.StationAdded station policy interval)
+new_station_edit station policy interval (Some r) = Err StationExists
 
 abbrev pub add_rule : List ℕ → Policy → ℕ → Lookups → Result Edit Refusal
 add_rule station policy interval l =
-    if is_station_name station then (if nat_le interval 86_400 then if_new station policy interval (l.registration station) else Err (BadField (codes "interval"))) else Err (BadField (codes "station"))
+    if is_station_name station then (if nat_le interval 86_400 then new_station_edit station policy interval (l.registration station) else Err (BadField (codes "interval"))) else Err (BadField (codes "station"))

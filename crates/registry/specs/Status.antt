@@ -1,14 +1,11 @@
 -- How reports on connectors are answered, and what they change.
-use Rattle.std.specs.Prelude.{ℕ, ◌*◌, pos, List, Option, Some, None, unwrap_or}
+use Rattle.std.specs.Prelude.{ℕ, ◌*◌, pos, List, Some, unwrap_or}
 use Rattle.ocpp_payload.specs.declared.conf.Conf.TheVariants as conf
 use Rattle.ocpp_payload.specs.declared.request.StatusNotification.{StatusNotification}
 use Rattle.hub_rows.specs.declared.change.Edit.TheVariants.{ConnectorSeen}
 use Rattle.hub_rows.specs.declared.connector_row.ConnectorReport.{ConnectorReport}
-use Rattle.hub_rows.specs.declared.station_row.Registration.{Registration}
-use Rattle.hub_rows.specs.Lookups.{Lookups}
 use Rattle.registry.specs.declared.decision.Decision.{Decision}
 use Rattle.registry.specs.declared.decision.Reply.TheVariants.{Conf}
-use Rattle.registry.specs.InternalError.{internal_error}
 
 -- the report is of the time that was sent, or else of the moment, in milliseconds
 abbrev pub report_of : StatusNotification → ℕ → ConnectorReport
@@ -21,12 +18,8 @@ report_of r m = record {
   vendor_error_code = r.vendor_error_code;
 }
 
-abbrev pub status_of : List ℕ → StatusNotification → ℕ → Option Registration → Decision
-status_of station r m None = internal_error
-status_of station r m (Some found) = record {
+abbrev pub status_rule : List ℕ → StatusNotification → ℕ → Decision
+status_rule station r m = record {
   reply = Conf conf.StatusNotification;
-  change = Some (ConnectorSeen station r.connector_id (report_of r m));
+  edit = Some (ConnectorSeen station r.connector_id (report_of r m));
 }
-
-abbrev pub status_rule : List ℕ → StatusNotification → ℕ → Lookups → Decision
-status_rule station r m l = status_of station r m (l.registration station)

@@ -6,12 +6,12 @@ use hub_rows::Edit;
 use ocpp_payload::Conf;
 use ocpp_types::ErrorCode;
 
-/// What a station's request is answered, and what it changes.
+/// What a station's request is answered, and what it changes of the records.
 #[derive(Drop)]
 pub struct Decision {
     pub reply: Reply,
-    /// A change of the records of the station's operator.
-    pub change: Option<Edit>,
+    /// An edit of the records of the station's operator.
+    pub edit: Option<Edit>,
 }
 
 /// The answer to a request.
@@ -30,6 +30,6 @@ pub fn internal_error() -> Decision
 {
     Decision {
         reply: Reply::Error(ErrorCode::InternalError),
-        change: None,
+        edit: None,
     }
 }

@@ -2,12 +2,13 @@
 use Rattle.std.proofs.Common.{◌≡◌, ◌<◌, ℕ, List, Bool, true, false, cond, refl, subst, arith}
 use Rattle.std.specs.Prelude.{Option, Some, None}
 use Rattle.hub.specs.declared.event.Event.{Event as HubEvent}
-use Rattle.hub_rows.specs.Operators.{is_hosted}
-use Rattle.ws_server.specs.declared.lines.reading.Line.{Line}
-use Rattle.ws_server.specs.declared.lines.reading.Line.TheVariants as line
-use Rattle.ws_server.specs.InputLines.{spelled, spelled_text, said, event_of, is_utf8}
-use Rattle.ws_server.specs.Forms.{what_of}
-use Rattle.ws_server.specs.Words.{first_word, moment_at, ◌>>=◌}
+use Rattle.hub.specs.declared.event.Event.TheVariants as event
+use Rattle.hub.specs.Hub.{is_of_hosted}
+use Rattle.lines.specs.declared.input_line.Line.{Line}
+use Rattle.lines.specs.declared.input_line.Line.TheVariants as line
+use Rattle.lines.specs.InputLines.{spelled, spelled_text, event_or_bad, event_of, is_utf8}
+use Rattle.lines.specs.Forms.{what_of}
+use Rattle.lines.specs.Words.{first_word, moment_at, ◌>>=◌}
 use Rattle.std.specs.Prelude.{nat_lt, ◌==◌, length}
 use Rattle.std.specs.Io.BufRead.{strip_last}
 use Rattle.replay.specs.Run.{IsOfHosted}
@@ -23,45 +24,45 @@ when_gives P true x g b e = g refl b e
 same_event : (x e : HubEvent) → Some x ≡ Some e → x ≡ e
 same_event x e is = cc
 
-event_hosted : (hosted : List (List ℕ)) (text : List ℕ) (e : HubEvent) → event_of hosted text ≡ Some e → is_hosted hosted e.op ≡ true
+event_hosted : (hosted : List ℕ → Bool) (text : List ℕ) (e : HubEvent) → event_of hosted text ≡ Some e → is_of_hosted hosted e ≡ true
 unfolding event_of
 event_hosted hosted text =
-    let P : HubEvent → Type 0 = λ e. is_hosted hosted e.op ≡ true in
+    let P : HubEvent → Type 0 = λ e. is_of_hosted hosted e ≡ true in
     bind_gives P (first_word text) _ (λ first. bind_gives P (moment_at first.0) _ (λ moment. bind_gives P (first_word first.1) _ (λ op.
-    when_gives P (is_hosted hosted op.0) _ (λ taken. bind_gives P (what_of op.1) _ (λ w e is.
-    subst P (same_event (record { op = op.0; moment = moment; what = w }) e is) taken)))))
+    when_gives P (hosted op.0) _ (λ taken. bind_gives P (what_of op.1) _ (λ w e is.
+    subst P (same_event (event.At op.0 moment w) e is) taken)))))
 
-line_event : (x : Option HubEvent) (e : HubEvent) → line.Event e ≡ said x → x ≡ Some e
+line_event : (x : Option HubEvent) (e : HubEvent) → line.Event e ≡ event_or_bad x → x ≡ Some e
 line_event None e is = absurd (cc)
 line_event (Some x) e is = cc
 
 -- an event that a line spells is of a hosted operator
-spelled_hosted : (hosted : List (List ℕ)) (bytes : List ℕ) (e : HubEvent) → line.Event e ≡ spelled hosted bytes → is_hosted hosted e.op ≡ true
+spelled_hosted : (hosted : List ℕ → Bool) (bytes : List ℕ) (e : HubEvent) → line.Event e ≡ spelled hosted bytes → is_of_hosted hosted e ≡ true
 unfolding spelled
 spelled_hosted hosted bytes e =
-    elim (nat_lt 1_048_576 (length bytes)) as (λ t. line.Event e ≡ cond t line.Bad (spelled_text hosted (strip_last 13 bytes)) → is_hosted hosted e.op ≡ true) [
+    elim (nat_lt 1_048_576 (length bytes)) as (λ t. line.Event e ≡ cond t line.Bad (spelled_text hosted (strip_last 13 bytes)) → is_of_hosted hosted e ≡ true) [
       | true ↦ λ is. absurd (cc)
       | false ↦ text_hosted (strip_last 13 bytes)
     ]
   where
-    text_hosted : (text : List ℕ) → line.Event e ≡ spelled_text hosted text → is_hosted hosted e.op ≡ true
+    text_hosted : (text : List ℕ) → line.Event e ≡ spelled_text hosted text → is_of_hosted hosted e ≡ true
     text_hosted text =
-        elim (length text == 0) as (λ t. line.Event e ≡ cond t line.Nothing (cond (is_utf8 text) (said (event_of hosted text)) line.Bad) → is_hosted hosted e.op ≡ true) [
+        elim (length text == 0) as (λ t. line.Event e ≡ cond t line.Nothing (cond (is_utf8 text) (event_or_bad (event_of hosted text)) line.Bad) → is_of_hosted hosted e ≡ true) [
           | true ↦ λ is. absurd (cc)
-          | false ↦ elim (is_utf8 text) as (λ t. line.Event e ≡ cond t (said (event_of hosted text)) line.Bad → is_hosted hosted e.op ≡ true) [
+          | false ↦ elim (is_utf8 text) as (λ t. line.Event e ≡ cond t (event_or_bad (event_of hosted text)) line.Bad → is_of_hosted hosted e ≡ true) [
             | true ↦ λ is. event_hosted hosted text e (line_event (event_of hosted text) e is)
             | false ↦ λ is. absurd (cc)
           ]
         ]
 
-of_hosted : (hosted : List (List ℕ)) (said : Line) → ((e : HubEvent) → line.Event e ≡ said → is_hosted hosted e.op ≡ true) → IsOfHosted hosted said
+of_hosted : (hosted : List ℕ → Bool) (said : Line) → ((e : HubEvent) → line.Event e ≡ said → is_of_hosted hosted e ≡ true) → IsOfHosted hosted said
 of_hosted hosted line.Nothing f = tt
 of_hosted hosted (line.Event e) f = f e refl
 of_hosted hosted line.Bad f = tt
 
-pub spelled_of_hosted : (hosted : List (List ℕ)) (bytes : List ℕ) → IsOfHosted hosted (spelled hosted bytes)
+pub spelled_of_hosted : (hosted : List ℕ → Bool) (bytes : List ℕ) → IsOfHosted hosted (spelled hosted bytes)
 spelled_of_hosted hosted bytes = of_hosted hosted (spelled hosted bytes) (spelled_hosted hosted bytes)
 
-pub long_bad : (hosted : List (List ℕ)) (bytes : List ℕ) → 1_048_576 < length bytes → line.Bad ≡ spelled hosted bytes
+pub long_bad : (hosted : List ℕ → Bool) (bytes : List ℕ) → 1_048_576 < length bytes → line.Bad ≡ spelled hosted bytes
 unfolding spelled
 long_bad hosted bytes h = grind arith

@@ -3,9 +3,8 @@ use Rattle.std.proofs.Common.{subst, ◌≡◌, ◌∙◌, sym, ap, ◌+◌, ◌
 use Rattle.std.specs.Prelude.{Option, Some, None, IfSome}
 use Rattle.std.specs.Io.KnownBytes.{Appends, Keeps}
 use Rattle.std.proofs.Math.Seq.{take-append_seam}
-use Rattle.hub.specs.Table.{Setting}
-use Rattle.hub.specs.World.{World}
-use Rattle.ws_server.specs.InputLines.{spelled}
+use Rattle.hub.specs.World.{Setting, World}
+use Rattle.lines.specs.InputLines.{spelled}
 use Rattle.replay.specs.Held.{lines_of}
 use Rattle.replay.specs.Lines.{HandsOut, IsDone, lines_from}
 use Rattle.replay.specs.Run.{Begins, IsStep, IsReached, Stands, Falls, AppendsFront, answer, answers_to, after, world_after, output_of}
@@ -28,27 +27,27 @@ unfolding world_after
 progress_none clean st w k begin text None = tt
 progress_none clean st w k begin text (Some all) = record { done = []; lines = refl; world = λ c. refl; written = λ c start whole s. s }
 
-world_more : (st : Setting) (w : World) (ls : List (List ℕ)) (l : List ℕ) → world_after st w (ls ++ l ∷ []) ≡ after st (world_after st w ls) (spelled st.hosted l)
+world_more : (st : Setting) (w : World) (ls : List (List ℕ)) (l : List ℕ) → world_after st w (ls ++ l ∷ []) ≡ after st (world_after st w ls) (spelled st.is_hosted l)
 unfolding world_after
 world_more st w [] l = refl
-world_more st w (x ∷ xs) l = world_more st (after st w (spelled st.hosted x)) xs l
+world_more st w (x ∷ xs) l = world_more st (after st w (spelled st.is_hosted x)) xs l
 
-answers_more : (st : Setting) (w : World) (k : ℕ) (l : List ℕ) (rest : List (List ℕ)) (text : List ℕ) → text ++ answers_to st w k (l ∷ rest) ≡ (text ++ answer st w k (spelled st.hosted l)) ++ answers_to st (after st w (spelled st.hosted l)) (k + 1) rest
+answers_more : (st : Setting) (w : World) (k : ℕ) (l : List ℕ) (rest : List (List ℕ)) (text : List ℕ) → text ++ answers_to st w k (l ∷ rest) ≡ (text ++ answer st w k (spelled st.is_hosted l)) ++ answers_to st (after st w (spelled st.is_hosted l)) (k + 1) rest
 unfolding answers_to
-answers_more st w k l rest text = sym (append_assoc text (answer st w k (spelled st.hosted l)) (answers_to st (after st w (spelled st.hosted l)) (k + 1) rest))
+answers_more st w k l rest text = sym (append_assoc text (answer st w k (spelled st.is_hosted l)) (answers_to st (after st w (spelled st.is_hosted l)) (k + 1) rest))
 
 -- a line is answered
 line_done : (clean clean' : Type 0) (st mine : Setting) (w v v' : World) (k n n' : ℕ) (begin now : Option (List ℕ)) (text text' text'' : List ℕ) (all rest : List (List ℕ)) (l : List ℕ) →
     Progress clean st w v k n begin now text text' all (l ∷ rest) → (clean' → clean) → mine ≡ st → n' ≡ n + 1 →
-    (clean' → v' ≡ after mine v (spelled mine.hosted l)) → (clean' → text'' ≡ text' ++ answer mine v n (spelled mine.hosted l)) →
+    (clean' → v' ≡ after mine v (spelled mine.is_hosted l)) → (clean' → text'' ≡ text' ++ answer mine v n (spelled mine.is_hosted l)) →
     Progress clean' st w v' k n' begin now text text'' all rest
 line_done clean clean' st mine w v v' k n n' begin now text text' text'' all rest l p back alike number to_world to_text =
-    let step : clean' → v' ≡ after st v (spelled st.hosted l) = λ c. to_world c ∙ ap (λ s. after s v (spelled s.hosted l)) alike in
-    let told : clean' → text'' ≡ text' ++ answer st v n (spelled st.hosted l) = λ c. to_text c ∙ ap (λ s. text' ++ answer s v n (spelled s.hosted l)) alike in
+    let step : clean' → v' ≡ after st v (spelled st.is_hosted l) = λ c. to_world c ∙ ap (λ s. after s v (spelled s.is_hosted l)) alike in
+    let told : clean' → text'' ≡ text' ++ answer st v n (spelled st.is_hosted l) = λ c. to_text c ∙ ap (λ s. text' ++ answer s v n (spelled s.is_hosted l)) alike in
     record {
       done = p.done ++ l ∷ [];
       lines = p.lines ∙ sym (append_assoc p.done (l ∷ []) rest);
-      world = λ c. step c ∙ ap (λ x. after st x (spelled st.hosted l)) (p.world (back c)) ∙ sym (world_more st w p.done l);
+      world = λ c. step c ∙ ap (λ x. after st x (spelled st.is_hosted l)) (p.world (back c)) ∙ sym (world_more st w p.done l);
       written = λ c start whole s.
           let before = subst (λ t. Stands start now t whole) (answers_more st v n l rest text') (p.written (back c) start whole s) in
           subst (λ t. Stands start now t whole) (λ i. sym (told c) i ++ answers_to st (sym (step c) i) (sym number i) rest) before;
@@ -56,7 +55,7 @@ line_done clean clean' st mine w v v' k n n' begin now text text' text'' all res
 
 pub progress_line : (clean clean' : Type 0) (st mine : Setting) (w v v' : World) (k n n' : ℕ) (begin now : Option (List ℕ)) (text text' text'' : List ℕ) (all ahead rest : Option (List (List ℕ))) (P : List ℕ → Type 0) →
     ProgressOf clean st w v k n begin now text text' all ahead → HandsOut ahead rest P → (clean' → clean) → mine ≡ st → n' ≡ n + 1 →
-    (clean' → (l : List ℕ) → P l → v' ≡ after mine v (spelled mine.hosted l)) → (clean' → (l : List ℕ) → P l → text'' ≡ text' ++ answer mine v n (spelled mine.hosted l)) →
+    (clean' → (l : List ℕ) → P l → v' ≡ after mine v (spelled mine.is_hosted l)) → (clean' → (l : List ℕ) → P l → text'' ≡ text' ++ answer mine v n (spelled mine.is_hosted l)) →
     ProgressOf clean' st w v' k n' begin now text text'' all rest
 progress_line clean clean' st mine w v v' k n n' begin now text text' text'' None ahead rest P p h back alike number to_world to_text = tt
 progress_line clean clean' st mine w v v' k n n' begin now text text' text'' (Some all) None rest P p h back alike number to_world to_text = absurd p
@@ -104,14 +103,14 @@ progress_stop_text clean clean' st w v k n begin now new text text' text'' (Some
 progress_stop_text clean clean' st w v k n begin now new text text' text'' (Some all) (Some ahead) p back c f = λ start whole s. f start (answers_to st v n ahead) whole (p.written (back c) start whole s)
 
 -- it stops in a line
-line_reached : (st mine : Setting) (w v v' : World) (all done rest : List (List ℕ)) (l : List ℕ) → all ≡ done ++ l ∷ rest → v ≡ world_after st w done → mine ≡ st → IsStep mine v (spelled mine.hosted l) v' → IsReached st w all v'
+line_reached : (st mine : Setting) (w v v' : World) (all done rest : List (List ℕ)) (l : List ℕ) → all ≡ done ++ l ∷ rest → v ≡ world_after st w done → mine ≡ st → IsStep mine v (spelled mine.is_hosted l) v' → IsReached st w all v'
 line_reached st mine w v v' all done rest l lines world alike (inl same) = reached st w v' all done (l ∷ rest) lines (same ∙ world)
 line_reached st mine w v v' all done rest l lines world alike (inr step) =
     reached st w v' all (done ++ l ∷ []) rest (lines ∙ sym (append_assoc done (l ∷ []) rest))
-    (step ∙ ap (λ s. after s v (spelled s.hosted l)) alike ∙ ap (λ u. after st u (spelled st.hosted l)) world ∙ sym (world_more st w done l))
+    (step ∙ ap (λ s. after s v (spelled s.is_hosted l)) alike ∙ ap (λ u. after st u (spelled st.is_hosted l)) world ∙ sym (world_more st w done l))
 
 pub progress_line_world : (clean clean' : Type 0) (st mine : Setting) (w v v' : World) (k n : ℕ) (begin now : Option (List ℕ)) (text text' : List ℕ) (all ahead rest : Option (List (List ℕ))) (P : List ℕ → Type 0) →
-    ProgressOf clean st w v k n begin now text text' all ahead → HandsOut ahead rest P → (clean' → clean) → clean' → mine ≡ st → ((l : List ℕ) → P l → IsStep mine v (spelled mine.hosted l) v') → IfSome all (λ ls. IsReached st w ls v')
+    ProgressOf clean st w v k n begin now text text' all ahead → HandsOut ahead rest P → (clean' → clean) → clean' → mine ≡ st → ((l : List ℕ) → P l → IsStep mine v (spelled mine.is_hosted l) v') → IfSome all (λ ls. IsReached st w ls v')
 progress_line_world clean clean' st mine w v v' k n begin now text text' None ahead rest P p h back c alike f = tt
 progress_line_world clean clean' st mine w v v' k n begin now text text' (Some all) None rest P p h back c alike f = absurd p
 progress_line_world clean clean' st mine w v v' k n begin now text text' (Some all) (Some ahead) None P p h back c alike f = absurd h
@@ -122,7 +121,7 @@ begins_more : (text front more : List ℕ) → Begins text front → Begins text
 begins_more text front more b = record { more = b.more ++ more; is = sym (append_assoc text b.more more) ∙ ap (λ t. t ++ more) b.is }
 
 pub progress_line_text : (clean clean' : Type 0) (st mine : Setting) (w v : World) (k n : ℕ) (begin now : Option (List ℕ)) (text text' text'' : List ℕ) (all ahead rest : Option (List (List ℕ))) (P : List ℕ → Type 0) →
-    ProgressOf clean st w v k n begin now text text' all ahead → HandsOut ahead rest P → (clean' → clean) → clean' → mine ≡ st → ((l : List ℕ) → P l → Begins text'' (text' ++ answer mine v n (spelled mine.hosted l))) →
+    ProgressOf clean st w v k n begin now text text' all ahead → HandsOut ahead rest P → (clean' → clean) → clean' → mine ≡ st → ((l : List ℕ) → P l → Begins text'' (text' ++ answer mine v n (spelled mine.is_hosted l))) →
     IfSome all (λ ls. (start : Option (List ℕ)) (whole : List ℕ) → Stands start begin (text ++ answers_to st w k ls) whole → Falls start now text'' whole)
 progress_line_text clean clean' st mine w v k n begin now text text' text'' None ahead rest P p h back c alike f = tt
 progress_line_text clean clean' st mine w v k n begin now text text' text'' (Some all) None rest P p h back c alike f = absurd p
@@ -130,8 +129,8 @@ progress_line_text clean clean' st mine w v k n begin now text text' text'' (Som
 progress_line_text clean clean' st mine w v k n begin now text text' text'' (Some all) (Some ahead) (Some rest) P p h back c alike f = λ start whole s.
     let l = h.0 in
     let before = subst (λ ls. Stands start now (text' ++ answers_to st v n ls) whole) h.1 (p.written (back c) start whole s) in
-    let told : Begins text'' (text' ++ answer st v n (spelled st.hosted l)) = subst (λ x. Begins text'' (text' ++ answer x v n (spelled x.hosted l))) alike (f l h.2) in
-    stands_begins start now text'' _ whole (begins_more text'' _ (answers_to st (after st v (spelled st.hosted l)) (n + 1) rest) told) (subst (λ t. Stands start now t whole) (answers_more st v n l rest text') before)
+    let told : Begins text'' (text' ++ answer st v n (spelled st.is_hosted l)) = subst (λ x. Begins text'' (text' ++ answer x v n (spelled x.is_hosted l))) alike (f l h.2) in
+    stands_begins start now text'' _ whole (begins_more text'' _ (answers_to st (after st v (spelled st.is_hosted l)) (n + 1) rest) told) (subst (λ t. Stands start now t whole) (answers_more st v n l rest text') before)
 
 -- all is written, and the writer's last call fails
 pub falls_kept : (now new last : Option (List ℕ)) (text text' : List ℕ) → text' ≡ [] → Keeps new last → ((start : Option (List ℕ)) (more whole : List ℕ) → Stands start now (text ++ more) whole → Stands start new more whole) →

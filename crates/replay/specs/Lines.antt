@@ -1,7 +1,7 @@
 -- The lines of an input that are still to come.
 use Rattle.std.specs.Prelude.{◌≡◌, ℕ, ◌+◌, ◌-◌, Bool, true, false, List, [], ◌∷◌, ◌++◌, Option, Some, None, drop, if◌then◌else◌, vec_len}
 use Rattle.replay.specs.Held.{lines_of}
-use Rattle.replay.specs.declared.lines.Lines.{Lines}
+use Rattle.replay.specs.declared.input_lines.Lines.{Lines}
 
 -- the bytes that were read and not handed out
 abbrev pub unread : Lines → List ℕ

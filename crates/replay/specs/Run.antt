@@ -1,15 +1,14 @@
 -- What is written for an input, by lines, events and the steps of the machine.
-use Rattle.std.specs.Prelude.{◌≡◌, ℕ, ◌+◌, List, [], ◌∷◌, ◌++◌, ◌⊎◌, true, Option, Some, None, flat_map, take, codes}
+use Rattle.std.specs.Prelude.{◌≡◌, ℕ, Bool, ◌+◌, List, [], ◌∷◌, ◌++◌, ◌⊎◌, true, Option, Some, None, flat_map, take, codes}
 use Rattle.std.specs.Fmt.{decimal}
 use Rattle.std.specs.Io.KnownBytes.{Appends}
-use Rattle.hub_rows.specs.Operators.{is_hosted}
 use Rattle.hub.specs.declared.out.Out.{Out}
-use Rattle.hub.specs.Table.{Setting}
-use Rattle.hub.specs.World.{World, world_outputs, world_step}
-use Rattle.ws_server.specs.declared.lines.reading.Line.{Line}
-use Rattle.ws_server.specs.declared.lines.reading.Line.TheVariants.{Nothing, Event, Bad}
-use Rattle.ws_server.specs.InputLines.{spelled}
-use Rattle.ws_server.specs.OutputLines.{line_of}
+use Rattle.hub.specs.Hub.{is_of_hosted}
+use Rattle.hub.specs.World.{Setting, World, world_outputs, world_step}
+use Rattle.lines.specs.declared.input_line.Line.{Line}
+use Rattle.lines.specs.declared.input_line.Line.TheVariants.{Nothing, Event, Bad}
+use Rattle.lines.specs.InputLines.{spelled}
+use Rattle.lines.specs.OutputLines.{line_of}
 use Rattle.replay.specs.Held.{lines_of}
 
 -- the text is the front of the whole
@@ -42,9 +41,9 @@ after st w (Event e) = world_step st w e
 after st w Bad = w
 
 -- an event that a line says is of a hosted operator
-abbrev pub IsOfHosted : List (List ℕ) → Line → Type 0
+abbrev pub IsOfHosted : (List ℕ → Bool) → Line → Type 0
 IsOfHosted hosted Nothing = Unit {0}
-IsOfHosted hosted (Event e) = is_hosted hosted e.op ≡ true
+IsOfHosted hosted (Event e) = is_of_hosted hosted e ≡ true
 IsOfHosted hosted Bad = Unit {0}
 
 -- the line was taken, or not
@@ -54,12 +53,12 @@ IsStep st w said v = (v ≡ w) ⊎ (v ≡ after st w said)
 -- what lines are answered, the first of them line k
 unfoldable pub answers_to : Setting → World → ℕ → List (List ℕ) → List ℕ
 answers_to st w k [] = []
-answers_to st w k (l ∷ ls) = answer st w k (spelled st.hosted l) ++ answers_to st (after st w (spelled st.hosted l)) (k + 1) ls
+answers_to st w k (l ∷ ls) = answer st w k (spelled st.is_hosted l) ++ answers_to st (after st w (spelled st.is_hosted l)) (k + 1) ls
 
 -- the world after lines
 unfoldable pub world_after : Setting → World → List (List ℕ) → World
 world_after st w [] = w
-world_after st w (l ∷ ls) = world_after st (after st w (spelled st.hosted l)) ls
+world_after st w (l ∷ ls) = world_after st (after st w (spelled st.is_hosted l)) ls
 
 -- what is written for an input: what its lines are answered, from a world on
 abbrev pub output_of : Setting → World → List ℕ → List ℕ

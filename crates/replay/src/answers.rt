@@ -1,11 +1,12 @@
 //! The answers to lines.
 ghost use Rattle.std.specs.Prelude.{◌≡◌, ◌+◌, ◌++◌, ◌<◌, ◌≤◌, ◌-◌, ◌^◌, List, [], ◌∷◌, ℕ, true, Err, OnOk, OnErr, IfOk, IfErr};
+ghost use Rattle.hub_rows.specs.Operators.{is_hosted};
 ghost use Rattle.hub_rows.specs.Reads.{IsCounted};
 ghost use Rattle.hub.specs.Hub.{world, setting, is_taken, is_clean, failures_of};
 ghost use Rattle.hub.specs.World.{world_outputs, world_step};
-ghost use Rattle.ws_server.specs.declared.lines.reading.Line.TheVariants as line;
-ghost use Rattle.ws_server.specs.InputLines.{spelled};
-ghost use Rattle.ws_server.specs.OutputLines.{line_of};
+ghost use Rattle.lines.specs.declared.input_line.Line.TheVariants as line;
+ghost use Rattle.lines.specs.InputLines.{spelled};
+ghost use Rattle.lines.specs.OutputLines.{line_of};
 ghost use Rattle.replay.specs.Held.{IsLine};
 ghost use Rattle.replay.specs.Run.{Begins, IsOfHosted, IsStep, ended, answer, after, told_lines, bad_line};
 ghost use Rattle.replay.specs.declared.fault.LineFault.TheVariants as line_fault;
@@ -13,11 +14,10 @@ ghost use Rattle.replay.specs.declared.fault.LineFault.TheVariants as line_fault
 use crate::fault::LineFault;
 use hub::{Event, Hub, Out};
 use hub_rows::Store;
+use lines::{Line, print_out, read_line};
 use ocpp_types::{Mem, Text};
 use station_calls::VendorHandler;
 use std::alloc::{AllocError, Global};
-use ws_server::lines::printing::print_out;
-use ws_server::lines::reading::{Line, read_line};
 
 /// The number of the next line, and the text that is still to be written.
 #[derive(Drop)]
@@ -39,13 +39,13 @@ impl Answers {
         ensures number { OnOk result (self.new.number ≡ self.old.number + 1) }
         ensures setting { setting V.name V.gives hub.new ≡ setting V.name V.gives hub.old }
         ensures world { is_clean S.clean hub.new → OnOk result ((line : List ℕ) → IsLine held.entry line
-            → world S.rows hub.new ≡ after (setting V.name V.gives hub.old) (world S.rows hub.old) (spelled (setting V.name V.gives hub.old).hosted line)) }
+            → world S.rows hub.new ≡ after (setting V.name V.gives hub.old) (world S.rows hub.old) (spelled (setting V.name V.gives hub.old).is_hosted line)) }
         ensures text { is_clean S.clean hub.new → OnOk result ((line : List ℕ) → IsLine held.entry line
-            → self.new.text.items ≡ self.old.text.items ++ answer (setting V.name V.gives hub.old) (world S.rows hub.old) self.old.number (spelled (setting V.name V.gives hub.old).hosted line)) }
+            → self.new.text.items ≡ self.old.text.items ++ answer (setting V.name V.gives hub.old) (world S.rows hub.old) self.old.number (spelled (setting V.name V.gives hub.old).is_hosted line)) }
         ensures fault_world { is_clean S.clean hub.new → OnErr result ((line : List ℕ) → IsLine held.entry line
-            → IsStep (setting V.name V.gives hub.old) (world S.rows hub.old) (spelled (setting V.name V.gives hub.old).hosted line) (world S.rows hub.new)) }
+            → IsStep (setting V.name V.gives hub.old) (world S.rows hub.old) (spelled (setting V.name V.gives hub.old).is_hosted line) (world S.rows hub.new)) }
         ensures fault_text { is_clean S.clean hub.new → OnErr result ((line : List ℕ) → IsLine held.entry line
-            → Begins self.new.text.items (self.old.text.items ++ answer (setting V.name V.gives hub.old) (world S.rows hub.old) self.old.number (spelled (setting V.name V.gives hub.old).hosted line))) }
+            → Begins self.new.text.items (self.old.text.items ++ answer (setting V.name V.gives hub.old) (world S.rows hub.old) self.old.number (spelled (setting V.name V.gives hub.old).is_hosted line))) }
         ensures counted { IsCounted (failures_of S.failures) (is_clean S.clean) hub.old hub.new (result ≡ Err line_fault.Store) }
     {
         match read_held(alloc, hub.hosted(), held)? {
@@ -85,8 +85,8 @@ impl Answers {
 /// What a line says, where one that isn't held is too long.
 #[tactic(auto, using(crate::proofs::Hosted::long_bad, crate::proofs::Hosted::spelled_of_hosted))]
 fn read_held(alloc: Global, hosted: &[Text], held: Option<&[u8]>) -> Mem<Line>
-    ensures hosted { IfOk result (λ said. IsOfHosted hosted.now said) }
-    ensures said { IfOk result (λ said. (line : List ℕ) → IsLine held.entry line → said ≡ spelled hosted.now line) }
+    ensures hosted { IfOk result (λ said. IsOfHosted (is_hosted hosted.now) said) }
+    ensures said { IfOk result (λ said. (line : List ℕ) → IsLine held.entry line → said ≡ spelled (is_hosted hosted.now) line) }
 {
     match held {
         Some(line) => read_line(alloc, hosted, line),

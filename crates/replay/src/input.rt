@@ -10,7 +10,7 @@ ghost use Rattle.replay.specs.declared.fault.ReplayFault.TheVariants as replay_f
 
 use crate::answers::Answers;
 use crate::fault::ReplayFault;
-use crate::lines::Lines;
+use crate::input_lines::Lines;
 use crate::written::{write_if_long, write_last, write_out};
 use hub::Hub;
 use hub_rows::Store;

@@ -5,7 +5,7 @@ mod answers;
 mod fault;
 mod in_memory;
 mod input;
-mod lines;
+mod input_lines;
 mod written;
 
 pub use fault::{LineFault, ReplayFault};

@@ -10,4 +10,4 @@ use Rattle.registry.specs.declared.decision.Decision.{Decision}
 use Rattle.registry.specs.declared.decision.Reply.TheVariants.{Conf}
 
 abbrev pub authorize_rule : Authorize → ℕ → Lookups → Decision
-authorize_rule r m l = record { reply = Conf (conf.Authorize (judge_rule m (key_of r.id_tag) purpose.Authorize l)); change = None }
+authorize_rule r m l = record { reply = Conf (conf.Authorize (judge_rule m (key_of r.id_tag) purpose.Authorize l)); edit = None }

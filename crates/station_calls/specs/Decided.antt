@@ -2,6 +2,7 @@
 use Rattle.std.specs.Prelude.{ℕ, List}
 use Rattle.ocpp_payload.specs.declared.request.Request.{Request}
 use Rattle.ocpp_payload.specs.declared.request.Request.TheVariants as request_of
+use Rattle.hub_rows.specs.declared.station_row.Registration.{Registration}
 use Rattle.hub_rows.specs.Lookups.{Lookups}
 use Rattle.registry.specs.declared.decision.Decision.{Decision}
 use Rattle.registry.specs.Boot.{boot_rule, heartbeat_rule}
@@ -13,12 +14,13 @@ use Rattle.station_calls.specs.Authorized.{authorize_rule}
 use Rattle.station_calls.specs.Transfer.{transfer_rule}
 use Rattle.station_calls.specs.Vendors.{Answers}
 
-abbrev pub decision : Answers → ℕ → List ℕ → Request → Lookups → Decision
-decision answers m station (request_of.Authorize r) l = authorize_rule r m l
-decision answers m station (request_of.BootNotification texts) l = boot_rule station texts m l
-decision answers m station (request_of.DataTransfer r) l = transfer_rule answers r
-decision answers m station request_of.Heartbeat l = heartbeat_rule m
-decision answers m station (request_of.MeterValues r) l = meter_values_rule station r l
-decision answers m station (request_of.StartTransaction r) l = start_rule station r m l
-decision answers m station (request_of.StatusNotification r) l = status_rule station r m l
-decision answers m station (request_of.StopTransaction r) l = stop_rule station r m l
+-- of a station, by how it is registered
+abbrev pub decision : Answers → List ℕ → Registration → Request → ℕ → Lookups → Decision
+decision answers station g (request_of.Authorize r) m l = authorize_rule r m l
+decision answers station g (request_of.BootNotification texts) m l = boot_rule station g texts m
+decision answers station g (request_of.DataTransfer r) m l = transfer_rule answers r
+decision answers station g request_of.Heartbeat m l = heartbeat_rule m
+decision answers station g (request_of.MeterValues r) m l = meter_values_rule station r l
+decision answers station g (request_of.StartTransaction r) m l = start_rule station r m l
+decision answers station g (request_of.StatusNotification r) m l = status_rule station r m
+decision answers station g (request_of.StopTransaction r) m l = stop_rule station r m l

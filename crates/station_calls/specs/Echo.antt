@@ -4,13 +4,13 @@ use Rattle.std.specs.Str.{bytes_eq}
 use Rattle.ocpp_types.specs.declared.data_transfer_status.DataTransferStatus.TheVariants.{Accepted, UnknownMessageId}
 use Rattle.station_calls.specs.declared.vendor.VendorAnswer.{VendorAnswer}
 
-abbrev pub echoed : Option (List ℕ) → VendorAnswer
-echoed content = record { status = Accepted; content = content }
+abbrev pub echo_answer : Option (List ℕ) → VendorAnswer
+echo_answer content = record { status = Accepted; content = content }
 
 abbrev pub unknown_message : VendorAnswer
 unknown_message = record { status = UnknownMessageId; content = None }
 
 -- without a name, or named `echo`, the content comes back
 abbrev pub echo : Option (List ℕ) → Option (List ℕ) → VendorAnswer
-echo None content = echoed content
-echo (Some message) content = if bytes_eq message (codes "echo") then echoed content else unknown_message
+echo None content = echo_answer content
+echo (Some message) content = if bytes_eq message (codes "echo") then echo_answer content else unknown_message

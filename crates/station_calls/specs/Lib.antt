@@ -3,3 +3,4 @@ pub mod Echo
 pub mod Transfer
 pub mod Authorized
 pub mod Decided
+pub mod Book

@@ -7,8 +7,8 @@ use Rattle.registry.specs.declared.decision.Reply.TheVariants.{Conf}
 use Rattle.station_calls.specs.declared.vendor.VendorAnswer.{VendorAnswer}
 use Rattle.station_calls.specs.Vendors.{Answers}
 
-abbrev pub transferred : VendorAnswer → Decision
-transferred a = record { reply = Conf (conf.DataTransfer a.status a.content); change = None }
+abbrev pub transfer_decision : VendorAnswer → Decision
+transfer_decision a = record { reply = Conf (conf.DataTransfer a.status a.content); edit = None }
 
 abbrev pub transfer_rule : Answers → DataTransfer → Decision
-transfer_rule answers r = transferred (answers r.vendor_id r.message_id r.content)
+transfer_rule answers r = transfer_decision (answers r.vendor_id r.message_id r.content)

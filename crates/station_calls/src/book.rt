@@ -1,11 +1,11 @@
 //! The rules of every action, over a store and the handlers of vendors.
 ghost use Rattle.std.specs.Prelude.{◌≡◌};
-ghost use Rattle.station_calls.specs.Vendors.{answer_of};
+ghost use Rattle.station_calls.specs.Book.{book_rows, book_failures, book_answers, IsCleanBook};
 
 use crate::core_handler::CoreHandler;
 use crate::vendor::{VendorHandler, ask, lent};
 use charging::{on_meter_values, on_start, on_stop};
-use hub_rows::{Store, StoreFault};
+use hub_rows::{Registration, Store, StoreFault};
 use id_tags::{Purpose, judge};
 use ocpp_payload::{
     Authorize, Conf, DataTransfer, MeterValues, StartTransaction, StatusNotification,
@@ -33,13 +33,13 @@ impl<S, V> Book<S, V> {
 }
 
 impl<S: Store, V: VendorHandler> CoreHandler for Book<S, V> {
-    ghost rows = { λ b. S.rows b.store };
+    ghost rows = { book_rows S.rows };
 
-    ghost failures = { λ b. S.failures b.store };
+    ghost failures = { book_failures S.failures };
 
-    ghost clean = { λ b. S.clean b.store };
+    ghost clean = { IsCleanBook S.clean };
 
-    ghost answers = { λ b. answer_of V.name V.gives b.vendors.items };
+    ghost answers = { book_answers V.name V.gives };
 
     fn on_authorize(
         &mut self,
@@ -53,19 +53,20 @@ impl<S: Store, V: VendorHandler> CoreHandler for Book<S, V> {
         let id_tag_info = judge(&mut self.store, op, &key, moment, &Purpose::Authorize)?;
         Ok(Decision {
             reply: Reply::Conf(Conf::Authorize { id_tag_info }),
-            change: None,
+            edit: None,
         })
     }
 
     fn on_boot_notification(
         &mut self,
         alloc: Global,
-        op: &str,
+        _op: &str,
         station: &str,
+        registration: Registration,
         request: BootNotification,
         moment: Moment,
     ) -> Result<Decision, StoreFault> {
-        on_boot(alloc, &mut self.store, op, station, request, moment)
+        Ok(on_boot(alloc, station, registration, request, moment)?)
     }
 
     fn on_data_transfer(
@@ -84,7 +85,7 @@ impl<S: Store, V: VendorHandler> CoreHandler for Book<S, V> {
                 status: answer.status,
                 content: answer.content,
             }),
-            change: None,
+            edit: None,
         })
     }
 
@@ -101,12 +102,12 @@ impl<S: Store, V: VendorHandler> CoreHandler for Book<S, V> {
     fn on_status_notification(
         &mut self,
         alloc: Global,
-        op: &str,
+        _op: &str,
         station: &str,
         request: StatusNotification,
         moment: Moment,
     ) -> Result<Decision, StoreFault> {
-        on_status(alloc, &mut self.store, op, station, request, moment)
+        Ok(on_status(alloc, station, request, moment)?)
     }
 
     fn on_meter_values(

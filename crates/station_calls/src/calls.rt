@@ -2,38 +2,39 @@
 ghost use Rattle.std.specs.Prelude.{◌≡◌, Err, IfOk};
 ghost use Rattle.hub_rows.specs.Reads.{OnlyReads};
 ghost use Rattle.hub_rows.specs.Lookups.{lookups_at};
+ghost use Rattle.station_calls.specs.Book.{book_rows, book_failures, book_answers, IsCleanBook};
 ghost use Rattle.station_calls.specs.Decided.{decision};
-ghost use Rattle.station_calls.specs.Vendors.{answer_of};
 
 use crate::book::Book;
 use crate::core_handler::CoreHandler;
 use crate::vendor::VendorHandler;
-use hub_rows::{Store, StoreFault};
+use hub_rows::{Registration, Store, StoreFault};
 use ocpp_payload::Request;
 use ocpp_types::{Moment, Text};
 use registry::Decision;
 use std::alloc::Global;
 
-/// The decision of the rule of each request.
+/// The decision of the rule of each request, of a station that is registered so.
 pub fn decide<S: Store, V: VendorHandler>(
     alloc: Global,
     book: &mut Book<S, V>,
     op: &Text,
     station: &Text,
-    moment: Moment,
+    registration: Registration,
     request: Request,
+    moment: Moment,
 ) -> Result<Decision, StoreFault>
-    ensures reads { OnlyReads S.rows S.failures S.clean book.old.store book.new.store (result ≡ Err StoreFault.Failed) }
-    ensures decision { S.clean book.new.store → IfOk result (λ d. d
-        ≡ decision (answer_of V.name V.gives book.old.vendors.items) moment station.now request (lookups_at op.now (S.rows book.old.store))) }
-    ensures answers { answer_of V.name V.gives book.new.vendors.items ≡ answer_of V.name V.gives book.old.vendors.items }
+    ensures reads { OnlyReads (book_rows S.rows) (book_failures S.failures) (IsCleanBook S.clean) book.old book.new (result ≡ Err StoreFault.Failed) }
+    ensures decision { IsCleanBook S.clean book.new → IfOk result (λ d. d
+        ≡ decision (book_answers V.name V.gives book.old) station.now registration request moment (lookups_at op.now (book_rows S.rows book.old))) }
+    ensures answers { book_answers V.name V.gives book.new ≡ book_answers V.name V.gives book.old }
 {
     let op = op.as_str();
     let station = station.as_str();
     match request {
         Request::Authorize(request) => book.on_authorize(alloc, op, station, request, moment),
         Request::BootNotification(request) => {
-            book.on_boot_notification(alloc, op, station, request, moment)
+            book.on_boot_notification(alloc, op, station, registration, request, moment)
         }
         Request::DataTransfer(request) => {
             book.on_data_transfer(alloc, op, station, request, moment)

@@ -13,7 +13,7 @@ ghost use Rattle.station_calls.specs.Authorized.{authorize_rule};
 ghost use Rattle.station_calls.specs.Transfer.{transfer_rule};
 ghost use Rattle.station_calls.specs.Vendors.{Answers};
 
-use hub_rows::StoreFault;
+use hub_rows::{Registration, StoreFault};
 use ocpp_payload::{
     Authorize, DataTransfer, MeterValues, StartTransaction, StatusNotification, StopTransaction,
 };
@@ -21,8 +21,9 @@ use ocpp_types::{BootNotification, Moment};
 use registry::Decision;
 use std::alloc::Global;
 
-/// Decides the calls of stations, one for each action: the reply, and a change of the records of
-/// the station's operator, which is for the caller to make. A decision leaves the records.
+/// Decides the calls of registered stations, one for each action: the reply, and an edit of the
+/// records of the station's operator, which is for the caller to make. A decision leaves the
+/// records.
 pub trait CoreHandler {
     /// The rows that it decides by.
     ghost rows: { Self → Rows };
@@ -50,18 +51,18 @@ pub trait CoreHandler {
             ≡ authorize_rule request moment (lookups_at op.now (rows self.old))) }
         ensures answers { answers self.new ≡ answers self.old };
 
-    /// A boot (OCPP 1.6, section 4.2).
+    /// A boot, of a station that is registered so (OCPP 1.6, section 4.2).
     fn on_boot_notification(
         &mut self,
         alloc: Global,
         op: &str,
         station: &str,
+        registration: Registration,
         request: BootNotification,
         moment: Moment,
     ) -> Result<Decision, StoreFault>
         ensures reads { OnlyReads rows failures clean self.old self.new (result ≡ Err store_fault.Failed) }
-        ensures decision { clean self.new → IfOk result (λ d. d
-            ≡ boot_rule station.now request moment (lookups_at op.now (rows self.old))) }
+        ensures decision { IfOk result (λ d. d ≡ boot_rule station.now registration request moment) }
         ensures answers { answers self.new ≡ answers self.old };
 
     /// A vendor's message (OCPP 1.6, section 4.3).
@@ -127,8 +128,7 @@ pub trait CoreHandler {
         moment: Moment,
     ) -> Result<Decision, StoreFault>
         ensures reads { OnlyReads rows failures clean self.old self.new (result ≡ Err store_fault.Failed) }
-        ensures decision { clean self.new → IfOk result (λ d. d
-            ≡ status_rule station.now request moment (lookups_at op.now (rows self.old))) }
+        ensures decision { IfOk result (λ d. d ≡ status_rule station.now request moment) }
         ensures answers { answers self.new ≡ answers self.old };
 
     /// A transaction has ended (OCPP 1.6, section 4.10).

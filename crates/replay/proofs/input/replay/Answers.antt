@@ -1,7 +1,6 @@
 use Rattle.std.proofs.Common.{◌≡◌, [], refl}
 use Rattle.hub.specs.Hub.{world, setting}
-use Rattle.hub.specs.Table.{Setting}
-use Rattle.hub.specs.World.{World}
+use Rattle.hub.specs.World.{Setting, World}
 use Rattle.replay.specs.Lines.{unread}
 use Rattle.replay.proofs.Progress.{all_to_come, appends_all, appends_front}
 use Rattle.replay.proofs.input.replay.Goals as goal

@@ -1,10 +1,8 @@
 use Rattle.std.proofs.Common.{◌∙◌, ◌++◌, [], ◌∷◌, ap, sym, append-nil}
-use Rattle.hub.specs.Said.{outputs_of}
 use Rattle.hub.specs.Hub.{world, setting}
-use Rattle.hub.specs.Table.{Setting}
 use Rattle.hub.specs.View.{view}
 use Rattle.hub.specs.WellFormed.{WellFormed}
-use Rattle.hub.specs.World.{World, world_outputs}
+use Rattle.hub.specs.World.{Setting, World, outputs_of, world_outputs}
 use Rattle.hub.proofs.Isolation.{run_outputs-own, world_run-own}
 use Rattle.hub.proofs.hub.Hub.handle.Goals as goal
 

@@ -1,11 +1,9 @@
 use Rattle.std.proofs.Common.{◌≡◌, ◌∙◌, ◌+◌, true, take, ap, sym, arith}
 use Rattle.std.proofs.lemmas.List.Elements.{AllWithin-more, at_read}
-use Rattle.hub.specs.Said.{outputs_of}
 use Rattle.hub.specs.Hub.{world, setting, is_taken}
-use Rattle.hub.specs.Table.{Setting}
 use Rattle.hub.specs.View.{view}
 use Rattle.hub.specs.WellFormed.{WellFormed}
-use Rattle.hub.specs.World.{World, run_outputs, world_run}
+use Rattle.hub.specs.World.{Setting, World, outputs_of, run_outputs, world_run}
 use Rattle.hub.proofs.Isolation.{run_outputs-own, world_run-own}
 use Rattle.hub.proofs.Runs.{outputs_go_on, world_goes_on}
 use Rattle.hub.proofs.hub.Hub.run.Goals as goal

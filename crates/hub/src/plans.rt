@@ -1,0 +1,123 @@
+//! Plans from facts: one small function for each kind of event (docs/RULES.md).
+ghost use Rattle.std.specs.Prelude.{◌≡◌, IfOk};
+ghost use Rattle.hub.specs.Plans.{turned_plan, connect_plan, disconnect_plan, sent_plan, error_plan, error_text, conf_text, reply_text, decided_plan, edit_plan};
+
+use crate::out::Said;
+use crate::plan::{Plan, Step};
+use hub_rows::{Edit, Registration};
+use ocpp_frame::{write_error, write_result};
+use ocpp_payload::{Conf, write_conf};
+use ocpp_types::{ErrorCode, Mem, Named, Refusal, Text};
+use registry::{Decision, Reply};
+use std::alloc::Global;
+
+/// A station is turned away.
+pub fn turned_plan(alloc: Global, station: &Text) -> Mem<Plan>
+    ensures { IfOk result (λ p. p ≡ turned_plan station.now) }
+{
+    Plan::only(
+        alloc,
+        Said::Turned {
+            station: station.clone()?,
+        },
+    )
+}
+
+/// A station connects: it is turned away where it isn't registered.
+pub fn connect_plan(alloc: Global, station: &Text, registration: Option<Registration>) -> Mem<Plan>
+    ensures { IfOk result (λ p. p ≡ connect_plan station.now registration) }
+{
+    match registration {
+        Some(_) => Plan::moving(alloc, station, Step::Connect),
+        None => turned_plan(alloc, station),
+    }
+}
+
+/// A station's connection ends, if it is connected.
+pub fn disconnect_plan(alloc: Global, station: &Text, is_connected: bool) -> Mem<Plan>
+    ensures { IfOk result (λ p. p ≡ disconnect_plan station.now is_connected) }
+{
+    if is_connected {
+        Plan::moving(alloc, station, Step::Disconnect)
+    } else {
+        Ok(Plan::nothing(alloc))
+    }
+}
+
+fn sent_plan(alloc: Global, station: &Text, text: Text) -> Mem<Plan>
+    ensures { IfOk result (λ p. p ≡ sent_plan station.now text) }
+{
+    Plan::only(
+        alloc,
+        Said::Send {
+            station: station.clone()?,
+            text,
+        },
+    )
+}
+
+fn error_text(alloc: Global, id: &Text, code: ErrorCode, description: &str) -> Mem<Text>
+    ensures { IfOk result (λ t. t ≡ error_text id.now code description.now) }
+{
+    let text = write_error(alloc, id.as_str(), code.name(), description)?;
+    Ok(Text::from(text))
+}
+
+fn conf_text(alloc: Global, id: &Text, conf: &Conf) -> Mem<Text>
+    ensures { IfOk result (λ t. t ≡ conf_text id.now conf.now) }
+{
+    let payload = write_conf(alloc, conf)?;
+    let text = write_result(alloc, id.as_str(), payload)?;
+    Ok(Text::from(text))
+}
+
+fn reply_text(alloc: Global, id: &Text, reply: &Reply) -> Mem<Text>
+    ensures { IfOk result (λ t. t ≡ reply_text id.now reply.now) }
+{
+    match reply {
+        Reply::Conf(conf) => conf_text(alloc, id, conf),
+        Reply::Error(code) => error_text(alloc, id, *code, ""),
+    }
+}
+
+/// A call is answered with an error.
+pub fn error_plan(
+    alloc: Global,
+    station: &Text,
+    id: &Text,
+    code: ErrorCode,
+    description: &str,
+) -> Mem<Plan>
+    ensures { IfOk result (λ p. p ≡ error_plan station.now id.now code description.now) }
+{
+    let text = error_text(alloc, id, code, description)?;
+    sent_plan(alloc, station, text)
+}
+
+/// A call is answered as a rule decided.
+pub fn decided_plan(alloc: Global, station: &Text, id: &Text, decision: Decision) -> Mem<Plan>
+    ensures { IfOk result (λ p. p ≡ decided_plan station.now id.now decision) }
+{
+    let text = reply_text(alloc, id, &decision.reply)?;
+    let plan = sent_plan(alloc, station, text)?;
+    Ok(Plan {
+        edit: decision.edit,
+        ..plan
+    })
+}
+
+/// A request of the operator is taken, with its edit, or refused.
+pub fn edit_plan(alloc: Global, answer: Result<Edit, Refusal>) -> Mem<Plan>
+    ensures { IfOk result (λ p. p ≡ edit_plan answer) }
+{
+    match answer {
+        Ok(edit) => {
+            let plan = Plan::only(alloc, Said::Accepted)?;
+            Ok(Plan {
+                edit: Some(edit),
+                ..plan
+            })
+        }
+        Err(refusal) => Plan::only(alloc, Said::Refused(refusal)),
+    }
+}

@@ -1,0 +1,5 @@
+pub mod Words
+pub mod Forms
+pub mod InputLines
+pub mod RowLines
+pub mod OutputLines

@@ -1,0 +1,35 @@
+-- The line of each output.
+use Rattle.std.specs.Prelude.{ℕ, List, ◌++◌, codes, Option, Some, None}
+use Rattle.std.specs.Fmt.{decimal}
+use Rattle.hub.specs.declared.out.Out.{Out}
+use Rattle.hub.specs.declared.out.Said.{Said}
+use Rattle.hub.specs.declared.out.Said.TheVariants.{Send, Turned, Refused, Row, Accepted}
+use Rattle.lines.specs.RowLines.{row_line}
+use Rattle.ocpp_types.specs.Refusal.{refusal_number, refusal_name}
+use Rattle.ocpp_types.specs.declared.refusal.Refusal.{Refusal}
+use Rattle.ocpp_types.specs.declared.refusal.Refusal.TheVariants.{NoSuchStation, StationExists, NoSuchTag, BadField, HasOpenTransactions}
+
+-- what stands after the name of a refusal
+abbrev pub refusal_detail : Refusal → Option (List ℕ)
+refusal_detail NoSuchStation = None
+refusal_detail StationExists = None
+refusal_detail NoSuchTag = None
+refusal_detail HasOpenTransactions = None
+refusal_detail (BadField field) = Some field
+
+-- `OP refused NUMBER NAME`, with the detail where there is one
+abbrev pub refused_line : List ℕ → Refusal → Option (List ℕ) → List ℕ
+refused_line op refusal None = op ++ (codes " refused " ++ (decimal (refusal_number refusal) ++ (codes " " ++ refusal_name refusal)))
+refused_line op refusal (Some detail) = op ++ (codes " refused " ++ (decimal (refusal_number refusal) ++ (codes " " ++ (refusal_name refusal ++ (codes " " ++ detail)))))
+
+-- what is said to an operator or a station, without a line feed
+abbrev pub said_line : List ℕ → Said → List ℕ
+said_line op (Send station text) = op ++ (codes " " ++ (station ++ (codes " send " ++ text)))
+said_line op (Turned station) = op ++ (codes " " ++ (station ++ codes " turned"))
+said_line op (Refused refusal) = refused_line op refusal (refusal_detail refusal)
+said_line op (Row r) = row_line op r
+said_line op Accepted = op ++ codes " ok"
+
+-- the line of an output, without a line feed
+unfoldable pub line_of : Out → List ℕ
+line_of o = said_line o.op o.said

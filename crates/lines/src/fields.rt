@@ -1,0 +1,73 @@
+//! The fields of a listing's line (docs/TABLES.md, Listing lines).
+ghost use Rattle.std.specs.Prelude.{◌≡◌, IfOk, codes, string_bytes};
+ghost use Rattle.lines.specs.RowLines.{quoted, text_field, signed_field, moment_field, boot_field, mark};
+
+use hub_rows::Boot;
+use ocpp_payload::write_boot;
+use ocpp_types::{Mem, Moment, Text};
+use serde_json::Value;
+use std::alloc::Global;
+
+/// A text of a peer, as JSON.
+pub fn quoted(alloc: Global, text: &Text) -> Mem<String>
+    ensures { IfOk result (λ s. string_bytes s ≡ quoted text.now) }
+{
+    let value = Value::String(String::from_str(alloc, text.as_str())?);
+    Ok(value.to_string(alloc)?)
+}
+
+fn dash(alloc: Global) -> Mem<String>
+    ensures { IfOk result (λ s. string_bytes s ≡ codes "-") }
+{
+    Ok(String::from_str(alloc, "-")?)
+}
+
+/// A text that may be missing.
+pub fn text_field(alloc: Global, text: &Option<Text>) -> Mem<String>
+    ensures { IfOk result (λ s. string_bytes s ≡ text_field text.now) }
+{
+    match text {
+        Some(text) => quoted(alloc, text),
+        None => dash(alloc),
+    }
+}
+
+/// A number that may be missing.
+pub fn signed_field(alloc: Global, number: Option<i128>) -> Mem<String>
+    ensures { IfOk result (λ s. string_bytes s ≡ signed_field number) }
+{
+    match number {
+        Some(number) => Ok(format!(in alloc; "{number}")?),
+        None => dash(alloc),
+    }
+}
+
+/// A moment that may be missing.
+pub fn moment_field(alloc: Global, moment: Option<Moment>) -> Mem<String>
+    ensures { IfOk result (λ s. string_bytes s ≡ moment_field moment) }
+{
+    match moment {
+        Some(moment) => {
+            let seconds = moment.seconds();
+            Ok(format!(in alloc; "{seconds}")?)
+        }
+        None => dash(alloc),
+    }
+}
+
+/// The texts of a station's last boot.
+pub fn boot_field(alloc: Global, boot: &Option<Boot>) -> Mem<String>
+    ensures { IfOk result (λ s. string_bytes s ≡ boot_field boot.now) }
+{
+    match boot {
+        Some(boot) => Ok(write_boot(alloc, &boot.texts)?.to_string(alloc)?),
+        None => dash(alloc),
+    }
+}
+
+/// Whether a tag is blocked.
+pub fn mark(blocked: bool) -> &'static str
+    ensures { result.now ≡ mark blocked }
+{
+    if blocked { "1" } else { "0" }
+}

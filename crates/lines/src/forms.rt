@@ -1,0 +1,260 @@
+//! The forms of the lines of an operator (docs/RULES.md, Lines).
+ghost use Rattle.std.specs.Prelude.{◌≡◌, IfOk, option_map};
+ghost use Rattle.lines.specs.Words.{only_word, parent_of};
+ghost use Rattle.lines.specs.Forms.{what_of, connect_of, disconnect_of, frame_of, station_of, station_add_of, station_policy_of, policy_words, tag_of, tag_put_of, tag_drop_of, mark_of, list_of, list_of_station, connectors_of, transactions_of, readings_of, readings_with};
+
+use crate::words::{expiry_of, first_word, is_expiry, number_of, only_word};
+use hub::{Admin, Listing, What};
+use hub_rows::Tag;
+use ocpp_types::{Mem, Named, Policy, Text};
+use std::alloc::Global;
+
+/// What happens at an operator by the text after `MOMENT OP`, `None` where it has none of the
+/// forms.
+#[tactic(auto, unfolding(crate::specs::Forms::what_of))]
+pub fn read_what(alloc: Global, text: &str) -> Mem<Option<What>>
+    ensures { IfOk result (λ w. w ≡ what_of text.now) }
+{
+    let Some((word, rest)) = first_word(text) else {
+        return Ok(None);
+    };
+    match word {
+        "connect" => connect(alloc, rest),
+        "disconnect" => disconnect(alloc, rest),
+        "frame" => frame(alloc, rest),
+        "station" => station(alloc, rest),
+        "tag" => tag(alloc, rest),
+        "list" => list(alloc, rest),
+        _ => Ok(None),
+    }
+}
+
+/// The whole text as a name, where it is one word.
+fn name_of(alloc: Global, rest: &str) -> Mem<Option<Text>>
+    ensures { IfOk result (λ n. n ≡ only_word rest.now) }
+{
+    match only_word(rest) {
+        Some(word) => Ok(Some(Text::copy_of(alloc, word)?)),
+        None => Ok(None),
+    }
+}
+
+fn connect(alloc: Global, rest: &str) -> Mem<Option<What>>
+    ensures { IfOk result (λ w. w ≡ connect_of rest.now) }
+{
+    let Some(station) = name_of(alloc, rest)? else {
+        return Ok(None);
+    };
+    Ok(Some(What::Connect { station }))
+}
+
+fn disconnect(alloc: Global, rest: &str) -> Mem<Option<What>>
+    ensures { IfOk result (λ w. w ≡ disconnect_of rest.now) }
+{
+    let Some(station) = name_of(alloc, rest)? else {
+        return Ok(None);
+    };
+    Ok(Some(What::Disconnect { station }))
+}
+
+fn frame(alloc: Global, rest: &str) -> Mem<Option<What>>
+    ensures { IfOk result (λ w. w ≡ frame_of rest.now) }
+{
+    let Some((station, text)) = first_word(rest) else {
+        return Ok(None);
+    };
+    Ok(Some(What::Frame {
+        station: Text::copy_of(alloc, station)?,
+        text: Text::copy_of(alloc, text)?,
+    }))
+}
+
+fn station(alloc: Global, rest: &str) -> Mem<Option<What>>
+    ensures { IfOk result (λ w. w ≡ station_of rest.now) }
+{
+    let Some((word, rest)) = first_word(rest) else {
+        return Ok(None);
+    };
+    match word {
+        "add" => station_add(alloc, rest),
+        "policy" => station_policy(alloc, rest),
+        _ => Ok(None),
+    }
+}
+
+fn station_add(alloc: Global, rest: &str) -> Mem<Option<What>>
+    ensures { IfOk result (λ w. w ≡ station_add_of rest.now) }
+{
+    let Some((station, policy, interval)) = policy_words(rest) else {
+        return Ok(None);
+    };
+    Ok(Some(What::Admin(Admin::StationAdd {
+        station: Text::copy_of(alloc, station)?,
+        policy,
+        interval,
+    })))
+}
+
+fn station_policy(alloc: Global, rest: &str) -> Mem<Option<What>>
+    ensures { IfOk result (λ w. w ≡ station_policy_of rest.now) }
+{
+    let Some((station, policy, interval)) = policy_words(rest) else {
+        return Ok(None);
+    };
+    Ok(Some(What::Admin(Admin::StationPolicy {
+        station: Text::copy_of(alloc, station)?,
+        policy,
+        interval,
+    })))
+}
+
+/// `ST POLICY INTERVAL`
+fn policy_words(rest: &str) -> Option<(&str, Policy, u64)>
+    ensures { option_map (λ p. (p.0.now, (p.1, p.2))) result ≡ policy_words rest.now }
+{
+    let (station, rest) = first_word(rest)?;
+    let (policy, rest) = first_word(rest)?;
+    let policy = Policy::of(policy)?;
+    let interval = number_of(rest)?;
+    Some((station, policy, interval))
+}
+
+fn tag(alloc: Global, rest: &str) -> Mem<Option<What>>
+    ensures { IfOk result (λ w. w ≡ tag_of rest.now) }
+{
+    let Some((word, rest)) = first_word(rest) else {
+        return Ok(None);
+    };
+    match word {
+        "put" => tag_put(alloc, rest),
+        "drop" => tag_drop(alloc, rest),
+        _ => Ok(None),
+    }
+}
+
+fn tag_put(alloc: Global, rest: &str) -> Mem<Option<What>>
+    ensures { IfOk result (λ w. w ≡ tag_put_of rest.now) }
+{
+    let Some((tag, rest)) = first_word(rest) else {
+        return Ok(None);
+    };
+    let Some((parent, rest)) = first_word(rest) else {
+        return Ok(None);
+    };
+    let Some((mark, rest)) = first_word(rest) else {
+        return Ok(None);
+    };
+    let Some(blocked) = mark_of(mark) else {
+        return Ok(None);
+    };
+    if !is_expiry(rest) {
+        return Ok(None);
+    }
+    let tag = Tag {
+        text: Text::copy_of(alloc, tag)?,
+        parent: parent_of(alloc, parent)?,
+        blocked,
+        expiry: expiry_of(rest),
+    };
+    Ok(Some(What::Admin(Admin::TagPut { tag })))
+}
+
+/// A parent, or none for `-`.
+fn parent_of(alloc: Global, word: &str) -> Mem<Option<Text>>
+    ensures { IfOk result (λ p. p ≡ parent_of word.now) }
+{
+    if word == "-" {
+        return Ok(None);
+    }
+    Ok(Some(Text::copy_of(alloc, word)?))
+}
+
+fn tag_drop(alloc: Global, rest: &str) -> Mem<Option<What>>
+    ensures { IfOk result (λ w. w ≡ tag_drop_of rest.now) }
+{
+    let Some(tag) = name_of(alloc, rest)? else {
+        return Ok(None);
+    };
+    Ok(Some(What::Admin(Admin::TagDrop { tag })))
+}
+
+/// Whether a tag is blocked, `0` or `1`.
+fn mark_of(word: &str) -> Option<bool>
+    ensures { result ≡ mark_of word.now }
+{
+    match word {
+        "0" => Some(false),
+        "1" => Some(true),
+        _ => None,
+    }
+}
+
+fn list(alloc: Global, rest: &str) -> Mem<Option<What>>
+    ensures { IfOk result (λ w. w ≡ list_of rest.now) }
+{
+    match rest {
+        "stations" => Ok(Some(What::List(Listing::Stations))),
+        "tags" => Ok(Some(What::List(Listing::Tags))),
+        _ => list_of_station(alloc, rest),
+    }
+}
+
+fn list_of_station(alloc: Global, rest: &str) -> Mem<Option<What>>
+    ensures { IfOk result (λ w. w ≡ list_of_station rest.now) }
+{
+    let Some((word, rest)) = first_word(rest) else {
+        return Ok(None);
+    };
+    match word {
+        "connectors" => connectors(alloc, rest),
+        "transactions" => transactions(alloc, rest),
+        "readings" => readings(alloc, rest),
+        _ => Ok(None),
+    }
+}
+
+fn connectors(alloc: Global, rest: &str) -> Mem<Option<What>>
+    ensures { IfOk result (λ w. w ≡ connectors_of rest.now) }
+{
+    let Some(station) = name_of(alloc, rest)? else {
+        return Ok(None);
+    };
+    Ok(Some(What::List(Listing::Connectors { station })))
+}
+
+fn transactions(alloc: Global, rest: &str) -> Mem<Option<What>>
+    ensures { IfOk result (λ w. w ≡ transactions_of rest.now) }
+{
+    let Some(station) = name_of(alloc, rest)? else {
+        return Ok(None);
+    };
+    Ok(Some(What::List(Listing::Transactions { station })))
+}
+
+fn readings(alloc: Global, rest: &str) -> Mem<Option<What>>
+    ensures { IfOk result (λ w. w ≡ readings_of rest.now) }
+{
+    let Some(station) = name_of(alloc, rest)? else {
+        return readings_with(alloc, rest);
+    };
+    Ok(Some(What::List(Listing::Readings {
+        station,
+        transaction: None,
+    })))
+}
+
+/// The readings sent with the number of a transaction.
+fn readings_with(alloc: Global, rest: &str) -> Mem<Option<What>>
+    ensures { IfOk result (λ w. w ≡ readings_with rest.now) }
+{
+    let Some((station, rest)) = first_word(rest) else {
+        return Ok(None);
+    };
+    let Some(number) = number_of(rest) else {
+        return Ok(None);
+    };
+    Ok(Some(What::List(Listing::Readings {
+        station: Text::copy_of(alloc, station)?,
+        transaction: Some(number),
+    })))
+}

@@ -1,0 +1,12 @@
+//! Lines: events read from them, outputs printed as them.
+#![tactic(auto)]
+
+mod fields;
+mod forms;
+mod input_line;
+mod output_line;
+mod rows;
+mod words;
+
+pub use input_line::{Line, MAX_LINE, read_line};
+pub use output_line::print_out;

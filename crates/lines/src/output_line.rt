@@ -1,0 +1,48 @@
+//! Lines of output (docs/RULES.md, Lines).
+ghost use Rattle.std.specs.Prelude.{◌≡◌, IfOk, option_map, string_bytes};
+ghost use Rattle.lines.specs.OutputLines.{line_of, refused_line, refusal_detail};
+
+use crate::rows::print_row;
+use hub::{Out, Said};
+use ocpp_types::{Mem, Refusal, Text};
+use std::alloc::Global;
+
+/// The line of an output, without a line feed (docs/RULES.md, Lines).
+#[tactic(auto, unfolding(crate::specs::OutputLines::line_of))]
+pub fn print_out(alloc: Global, out: &Out) -> Mem<String>
+    ensures { IfOk result (λ s. string_bytes s ≡ line_of out.now) }
+{
+    let op = &out.op;
+    let line = match &out.said {
+        Said::Send { station, text } => format!(in alloc; "{op} {station} send {text}")?,
+        Said::Turned { station } => format!(in alloc; "{op} {station} turned")?,
+        Said::Refused(refusal) => print_refused(alloc, op, refusal)?,
+        Said::Row(row) => print_row(alloc, op, row)?,
+        Said::Accepted => format!(in alloc; "{op} ok")?,
+    };
+    Ok(line)
+}
+
+fn print_refused(alloc: Global, op: &Text, refusal: &Refusal) -> Mem<String>
+    ensures { IfOk result (λ s. string_bytes s
+        ≡ refused_line op.now refusal.now (refusal_detail refusal.now)) }
+{
+    let number = refusal.number();
+    let name = refusal.name();
+    match detail(refusal) {
+        Some(detail) => Ok(format!(in alloc; "{op} refused {number} {name} {detail}")?),
+        None => Ok(format!(in alloc; "{op} refused {number} {name}")?),
+    }
+}
+
+fn detail(refusal: &Refusal) -> Option<&'static str>
+    ensures { option_map (λ d. d.now) result ≡ refusal_detail refusal.now }
+{
+    match refusal {
+        Refusal::NoSuchStation
+        | Refusal::StationExists
+        | Refusal::NoSuchTag
+        | Refusal::HasOpenTransactions => None,
+        Refusal::BadField(field) => Some(field.as_str()),
+    }
+}

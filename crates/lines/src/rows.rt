@@ -1,0 +1,188 @@
+//! Lines of listings (docs/TABLES.md, Listing lines).
+ghost use Rattle.std.specs.Prelude.{◌≡◌, IfOk, option_map, string_bytes};
+ghost use Rattle.ocpp_types.specs.Phase.{phase_name};
+ghost use Rattle.ocpp_types.specs.UnitOfMeasure.{unit_of_measure_name};
+ghost use Rattle.lines.specs.RowLines.{row_line, station_line, tag_line, connector_line, tx_line, reading_line, reading_fields, report_fields, start_fields, stop_fields, taken_fields, sampled_fields, value_fields, name_field, micro_of};
+
+use crate::fields::{boot_field, mark, moment_field, quoted, signed_field, text_field};
+use hub::Row;
+use hub_rows::{
+    ConnectorReport, ConnectorRow, Reading, ReadingRow, Start, StationRow, Stop, TagRow, TxRow,
+};
+use ocpp_types::{Mem, Named, Phase, Text, UnitOfMeasure, ValueFormat, read_micro};
+use std::alloc::Global;
+
+/// The line of a row, without a line feed.
+pub fn print_row(alloc: Global, op: &Text, row: &Row) -> Mem<String>
+    ensures { IfOk result (λ s. string_bytes s ≡ row_line op.now row.now) }
+{
+    match row {
+        Row::Station(row) => print_station(alloc, op, row),
+        Row::Tag(row) => print_tag(alloc, op, row),
+        Row::Connector(row) => print_connector(alloc, op, row),
+        Row::Transaction(row) => print_transaction(alloc, op, row),
+        Row::Reading(row) => print_reading(alloc, op, row),
+    }
+}
+
+fn print_station(alloc: Global, op: &Text, row: &StationRow) -> Mem<String>
+    ensures { IfOk result (λ s. string_bytes s ≡ station_line op.now row.now) }
+{
+    let station = row.station.as_str();
+    let state = row.state.name();
+    let policy = row.policy.name();
+    let interval = row.interval;
+    let boot = boot_field(alloc, &row.boot)?;
+    Ok(format!(in alloc; "{op} row station {station} {state} {policy} {interval} {boot}")?)
+}
+
+fn print_tag(alloc: Global, op: &Text, row: &TagRow) -> Mem<String>
+    ensures { IfOk result (λ s. string_bytes s ≡ tag_line op.now row.now) }
+{
+    let text = quoted(alloc, &row.tag.text)?;
+    let parent = text_field(alloc, &row.tag.parent)?;
+    let blocked = mark(row.tag.blocked);
+    let expiry = moment_field(alloc, row.tag.expiry)?;
+    Ok(format!(in alloc; "{op} row tag {text} {parent} {blocked} {expiry}")?)
+}
+
+fn print_connector(alloc: Global, op: &Text, row: &ConnectorRow) -> Mem<String>
+    ensures { IfOk result (λ s. string_bytes s ≡ connector_line op.now row.now) }
+{
+    let station = row.station.as_str();
+    let connector = row.connector;
+    let report = print_report(alloc, &row.report)?;
+    Ok(format!(in alloc; "{op} row connector {station} {connector} {report}")?)
+}
+
+fn print_report(alloc: Global, report: &ConnectorReport) -> Mem<String>
+    ensures { IfOk result (λ s. string_bytes s ≡ report_fields report.now) }
+{
+    let status = report.status.name();
+    let error = report.error_code.name();
+    let at = report.at;
+    let info = text_field(alloc, &report.info)?;
+    let vendor = text_field(alloc, &report.vendor_id)?;
+    let code = text_field(alloc, &report.vendor_error_code)?;
+    Ok(format!(in alloc; "{status} {error} {at} {info} {vendor} {code}")?)
+}
+
+fn print_transaction(alloc: Global, op: &Text, row: &TxRow) -> Mem<String>
+    ensures { IfOk result (λ s. string_bytes s ≡ tx_line op.now row.now) }
+{
+    let station = row.station.as_str();
+    let number = row.number;
+    let start = print_start(alloc, &row.start)?;
+    let stop = print_stop(alloc, &row.stop)?;
+    Ok(format!(in alloc; "{op} row transaction {station} {number} {start} {stop}")?)
+}
+
+fn print_start(alloc: Global, start: &Start) -> Mem<String>
+    ensures { IfOk result (λ s. string_bytes s ≡ start_fields start.now) }
+{
+    let connector = start.id.connector;
+    let tag = quoted(alloc, &start.tag)?;
+    let status = start.status.name();
+    let meter = start.id.meter_start;
+    let at = start.id.at;
+    let reservation = signed_field(alloc, widened(start.reservation))?;
+    Ok(format!(in alloc; "{connector} {tag} {status} {meter} {at} {reservation}")?)
+}
+
+fn print_stop(alloc: Global, stop: &Option<Stop>) -> Mem<String>
+    ensures { IfOk result (λ s. string_bytes s ≡ stop_fields stop.now) }
+{
+    let Some(stop) = stop else {
+        return Ok(String::from_str(alloc, "- - - -")?);
+    };
+    let meter = stop.meter_stop;
+    let at = stop.at;
+    let reason = stop.reason.name();
+    let tag = text_field(alloc, &stop.tag)?;
+    Ok(format!(in alloc; "{meter} {at} {reason} {tag}")?)
+}
+
+fn print_reading(alloc: Global, op: &Text, row: &ReadingRow) -> Mem<String>
+    ensures { IfOk result (λ s. string_bytes s ≡ reading_line op.now row.now) }
+{
+    let station = row.station.as_str();
+    let number = row.number;
+    let reading = print_fields(alloc, &row.reading)?;
+    Ok(format!(in alloc; "{op} row reading {station} {number} {reading}")?)
+}
+
+#[tactic(auto, unfolding(crate::specs::RowLines::reading_fields))]
+fn print_fields(alloc: Global, reading: &Reading) -> Mem<String>
+    ensures { IfOk result (λ s. string_bytes s ≡ reading_fields reading.now) }
+{
+    let taken = print_taken(alloc, reading)?;
+    let sampled = print_sampled(alloc, reading)?;
+    let value = print_value(alloc, reading)?;
+    Ok(format!(in alloc; "{taken} {sampled} {value}")?)
+}
+
+fn print_taken(alloc: Global, reading: &Reading) -> Mem<String>
+    ensures { IfOk result (λ s. string_bytes s ≡ taken_fields reading.now) }
+{
+    let connector = reading.connector;
+    let transaction = signed_field(alloc, widened(reading.transaction))?;
+    let at = reading.at;
+    Ok(format!(in alloc; "{connector} {transaction} {at}")?)
+}
+
+fn print_value(alloc: Global, reading: &Reading) -> Mem<String>
+    ensures { IfOk result (λ s. string_bytes s ≡ value_fields reading.now) }
+{
+    let micro = signed_field(alloc, micro_of(reading))?;
+    let text = quoted(alloc, &reading.text)?;
+    Ok(format!(in alloc; "{micro} {text}")?)
+}
+
+fn print_sampled(alloc: Global, reading: &Reading) -> Mem<String>
+    ensures { IfOk result (λ s. string_bytes s ≡ sampled_fields reading.now) }
+{
+    let context = reading.context.name();
+    let format = reading.format.name();
+    let measurand = reading.measurand.name();
+    let phase = phase_field(reading.phase);
+    let location = reading.location.name();
+    let unit = unit_field(reading.unit);
+    Ok(format!(in alloc; "{context} {format} {measurand} {phase} {location} {unit}")?)
+}
+
+fn phase_field(phase: Option<Phase>) -> &'static str
+    ensures { result.now ≡ name_field (option_map phase_name phase) }
+{
+    match phase {
+        Some(phase) => phase.name(),
+        None => "-",
+    }
+}
+
+fn unit_field(unit: Option<UnitOfMeasure>) -> &'static str
+    ensures { result.now ≡ name_field (option_map unit_of_measure_name unit) }
+{
+    match unit {
+        Some(unit) => unit.name(),
+        None => "-",
+    }
+}
+
+/// The number of a reading, which signed data has none of.
+fn micro_of(reading: &Reading) -> Option<i128>
+    ensures { result ≡ micro_of reading.now.format reading.now.text reading.now.unit }
+{
+    match reading.format {
+        ValueFormat::Raw => read_micro(reading.text.as_str(), reading.unit),
+        ValueFormat::SignedData => None,
+    }
+}
+
+fn widened(number: Option<i32>) -> Option<i128>
+    ensures { result ≡ number }
+{
+    match number {
+        Some(number) => Some(number as i128),
+        None => None,
+    }
+}

@@ -1,0 +1,59 @@
+//! The words of a line.
+ghost use Rattle.std.specs.Prelude.{◌≡◌, option_map};
+ghost use Rattle.lines.specs.Words.{first_word, only_word, number_of, moment_at, is_expiry, expiry_of};
+
+use ocpp_types::{Moment, number_of_digits};
+
+/// The most digits of a number in a line.
+const MAX_DIGITS: usize = 12;
+
+/// The first word of a text, and what follows the one space behind it. `None` where the text has
+/// no space or begins with one.
+pub fn first_word(text: &str) -> Option<(&str, &str)>
+    ensures { option_map (λ p. (p.0.now, p.1.now)) result ≡ first_word text.now }
+{
+    let (word, rest) = text.split_once(' ')?;
+    if word.is_empty() {
+        return None;
+    }
+    Some((word, rest))
+}
+
+/// The whole text, where it is one word.
+pub fn only_word(text: &str) -> Option<&str>
+    ensures { option_map (λ w. w.now) result ≡ only_word text.now }
+{
+    match text.split_once(' ') {
+        Some(_) => None,
+        None if text.is_empty() => None,
+        None => Some(text),
+    }
+}
+
+/// The moment of a text of 1 to 12 decimal digits, `None` past the year 9999.
+pub fn moment_at(text: &str) -> Option<Moment>
+    ensures { result ≡ moment_at text.now }
+{
+    Moment::new(number_of(text)?)
+}
+
+/// Whether a word is an expiry: `-` or a moment.
+pub fn is_expiry(word: &str) -> bool
+    ensures { result ≡ is_expiry word.now }
+{
+    word == "-" || moment_at(word).is_some()
+}
+
+/// An expiry, none for `-`.
+pub fn expiry_of(word: &str) -> Option<Moment>
+    ensures { result ≡ expiry_of word.now }
+{
+    if word == "-" { None } else { moment_at(word) }
+}
+
+/// The number that a text of 1 to 12 decimal digits is.
+pub fn number_of(text: &str) -> Option<u64>
+    ensures { result ≡ number_of text.now }
+{
+    number_of_digits(text, MAX_DIGITS)
+}

@@ -1,4 +1,0 @@
-use Rattle.ws_server.proofs.lines.rows.print_reading.Goals as goal
-
-pub returns : goal.returns
-returns c = (rw (c.as_str-station.ensures, c.in_ok-reading.ensures) at c.in_ok-format.ensures.ok)

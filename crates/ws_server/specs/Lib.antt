@@ -1,6 +1,0 @@
-pub mod Words
-pub mod EventRef
-pub mod Forms
-pub mod InputLines
-pub mod RowLines
-pub mod OutputLines

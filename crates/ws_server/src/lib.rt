@@ -1,4 +1,0 @@
-//! The program layer of the central system: lines of input and output.
-#![tactic(auto)]
-
-pub mod lines;
