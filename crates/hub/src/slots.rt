@@ -52,11 +52,7 @@ impl Slots {
         ensures { IfOk result (λ s. s ≡ slot_after moves.step (slot_in op.now moves.station self.now.list.items)) }
     {
         let is_connected = moves.step.connects();
-        Ok(Slot {
-            op: op.clone()?,
-            station: moves.station,
-            is_connected,
-        })
+        slot_of(op, moves.station, is_connected)
     }
 
     /// A slot takes the place of the one of its station. There is room for it.
@@ -66,4 +62,14 @@ impl Slots {
     {
         put_ready(&mut self.list, slot);
     }
+}
+
+fn slot_of(op: &Text, station: Text, is_connected: bool) -> Mem<Slot>
+    ensures { IfOk result (λ s. s ≡ record { op = op.now; station = station; is_connected = is_connected }) }
+{
+    Ok(Slot {
+        op: op.clone()?,
+        station,
+        is_connected,
+    })
 }

@@ -11,20 +11,20 @@ use Rattle.ocpp_types.specs.declared.policy.Policy.{Policy}
 use Rattle.lines.specs.Words.{first_word, only_word, number_of, parent_of, is_expiry, expiry_of, ◌>>=◌}
 
 -- `connect ST`
-abbrev pub connect_of : List ℕ → Option What
-connect_of rest = do
+abbrev pub connect_form : List ℕ → Option What
+connect_form rest = do
   station ← only_word rest
   Some (what.Connect station)
 
 -- `disconnect ST`
-abbrev pub disconnect_of : List ℕ → Option What
-disconnect_of rest = do
+abbrev pub disconnect_form : List ℕ → Option What
+disconnect_form rest = do
   station ← only_word rest
   Some (what.Disconnect station)
 
 -- `frame ST TEXT`
-abbrev pub frame_of : List ℕ → Option What
-frame_of rest = do
+abbrev pub frame_form : List ℕ → Option What
+frame_form rest = do
   station ← first_word rest
   Some (what.Frame station.0 station.1)
 
@@ -38,14 +38,14 @@ policy_words rest = do
   Some (station.0, (policy, interval))
 
 -- `station add ST POLICY INTERVAL`
-abbrev pub station_add_of : List ℕ → Option What
-station_add_of rest = do
+abbrev pub station_add_form : List ℕ → Option What
+station_add_form rest = do
   words ← policy_words rest
   Some (what.Admin (admin.StationAdd words.0 words.1.0 words.1.1))
 
 -- `station policy ST POLICY INTERVAL`
-abbrev pub station_policy_of : List ℕ → Option What
-station_policy_of rest = do
+abbrev pub station_policy_form : List ℕ → Option What
+station_policy_form rest = do
   words ← policy_words rest
   Some (what.Admin (admin.StationPolicy words.0 words.1.0 words.1.1))
 
@@ -54,8 +54,8 @@ abbrev pub mark_of : List ℕ → Option Bool
 mark_of = named ((codes "0", false) ∷ (codes "1", true) ∷ [])
 
 -- `tag put TAG PARENT|- 0|1 EXPIRY|-`
-abbrev pub tag_put_of : List ℕ → Option What
-tag_put_of rest = do
+abbrev pub tag_put_form : List ℕ → Option What
+tag_put_form rest = do
   tag ← first_word rest
   parent ← first_word tag.1
   mark ← first_word parent.1
@@ -63,8 +63,8 @@ tag_put_of rest = do
   if is_expiry mark.1 then Some (what.Admin (admin.TagPut (record { text = tag.0; parent = parent_of parent.0; blocked = blocked; expiry = expiry_of mark.1 }))) else None
 
 -- `tag drop TAG`
-abbrev pub tag_drop_of : List ℕ → Option What
-tag_drop_of rest = do
+abbrev pub tag_drop_form : List ℕ → Option What
+tag_drop_form rest = do
   tag ← only_word rest
   Some (what.Admin (admin.TagDrop tag))
 
@@ -76,49 +76,49 @@ by_word forms text = do
   form word.1
 
 -- the forms after `station`
-abbrev pub station_of : List ℕ → Option What
-station_of = by_word ((codes "add", station_add_of) ∷ (codes "policy", station_policy_of) ∷ [])
+abbrev pub station_form : List ℕ → Option What
+station_form = by_word ((codes "add", station_add_form) ∷ (codes "policy", station_policy_form) ∷ [])
 
 -- the forms after `tag`
-abbrev pub tag_of : List ℕ → Option What
-tag_of = by_word ((codes "put", tag_put_of) ∷ (codes "drop", tag_drop_of) ∷ [])
+abbrev pub tag_form : List ℕ → Option What
+tag_form = by_word ((codes "put", tag_put_form) ∷ (codes "drop", tag_drop_form) ∷ [])
 
 -- `connectors ST`
-abbrev pub connectors_of : List ℕ → Option What
-connectors_of rest = do
+abbrev pub connectors_form : List ℕ → Option What
+connectors_form rest = do
   station ← only_word rest
   Some (what.List (listing.Connectors station))
 
 -- `transactions ST`
-abbrev pub transactions_of : List ℕ → Option What
-transactions_of rest = do
+abbrev pub transactions_form : List ℕ → Option What
+transactions_form rest = do
   station ← only_word rest
   Some (what.List (listing.Transactions station))
 
 -- `readings ST N`
-abbrev pub readings_with : List ℕ → Option What
-readings_with rest = do
+abbrev pub numbered_readings_form : List ℕ → Option What
+numbered_readings_form rest = do
   station ← first_word rest
   n ← number_of station.1
   Some (what.List (listing.Readings station.0 (Some n)))
 
 -- `readings ST`, or with a number
-abbrev pub readings_by : Option (List ℕ) → List ℕ → Option What
-readings_by (Some station) rest = Some (what.List (listing.Readings station None))
-readings_by None rest = readings_with rest
+abbrev pub readings_by_words : Option (List ℕ) → List ℕ → Option What
+readings_by_words (Some station) rest = Some (what.List (listing.Readings station None))
+readings_by_words None rest = numbered_readings_form rest
 
-abbrev pub readings_of : List ℕ → Option What
-readings_of rest = readings_by (only_word rest) rest
+abbrev pub readings_form : List ℕ → Option What
+readings_form rest = readings_by_words (only_word rest) rest
 
 -- the listings of a station
-abbrev pub list_of_station : List ℕ → Option What
-list_of_station = by_word ((codes "connectors", connectors_of) ∷ (codes "transactions", transactions_of) ∷ (codes "readings", readings_of) ∷ [])
+abbrev pub station_list_form : List ℕ → Option What
+station_list_form = by_word ((codes "connectors", connectors_form) ∷ (codes "transactions", transactions_form) ∷ (codes "readings", readings_form) ∷ [])
 
 -- the forms after `list`
-abbrev pub list_of : List ℕ → Option What
-list_of rest =
-    if bytes_eq rest (codes "stations") then Some (what.List listing.Stations) else (if bytes_eq rest (codes "tags") then Some (what.List listing.Tags) else list_of_station rest)
+abbrev pub list_form : List ℕ → Option What
+list_form rest =
+    if bytes_eq rest (codes "stations") then Some (what.List listing.Stations) else (if bytes_eq rest (codes "tags") then Some (what.List listing.Tags) else station_list_form rest)
 
 -- the forms after `MOMENT OP`
 unfoldable pub what_of : List ℕ → Option What
-what_of = by_word ((codes "connect", connect_of) ∷ (codes "disconnect", disconnect_of) ∷ (codes "frame", frame_of) ∷ (codes "station", station_of) ∷ (codes "tag", tag_of) ∷ (codes "list", list_of) ∷ [])
+what_of = by_word ((codes "connect", connect_form) ∷ (codes "disconnect", disconnect_form) ∷ (codes "frame", frame_form) ∷ (codes "station", station_form) ∷ (codes "tag", tag_form) ∷ (codes "list", list_form) ∷ [])

@@ -1,7 +1,7 @@
 //! The forms of the lines of an operator (docs/RULES.md, Lines).
 ghost use Rattle.std.specs.Prelude.{◌≡◌, IfOk, option_map};
 ghost use Rattle.lines.specs.Words.{only_word, parent_of};
-ghost use Rattle.lines.specs.Forms.{what_of, connect_of, disconnect_of, frame_of, station_of, station_add_of, station_policy_of, policy_words, tag_of, tag_put_of, tag_drop_of, mark_of, list_of, list_of_station, connectors_of, transactions_of, readings_of, readings_with};
+ghost use Rattle.lines.specs.Forms.{what_of, connect_form, disconnect_form, frame_form, station_form, station_add_form, station_policy_form, policy_words, tag_form, tag_put_form, tag_drop_form, mark_of, list_form, station_list_form, connectors_form, transactions_form, readings_form, numbered_readings_form};
 
 use crate::words::{expiry_of, first_word, is_expiry, number_of, only_word};
 use hub::{Admin, Listing, What};
@@ -40,7 +40,7 @@ fn name_of(alloc: Global, rest: &str) -> Mem<Option<Text>>
 }
 
 fn connect(alloc: Global, rest: &str) -> Mem<Option<What>>
-    ensures { IfOk result (λ w. w ≡ connect_of rest.now) }
+    ensures { IfOk result (λ w. w ≡ connect_form rest.now) }
 {
     let Some(station) = name_of(alloc, rest)? else {
         return Ok(None);
@@ -49,7 +49,7 @@ fn connect(alloc: Global, rest: &str) -> Mem<Option<What>>
 }
 
 fn disconnect(alloc: Global, rest: &str) -> Mem<Option<What>>
-    ensures { IfOk result (λ w. w ≡ disconnect_of rest.now) }
+    ensures { IfOk result (λ w. w ≡ disconnect_form rest.now) }
 {
     let Some(station) = name_of(alloc, rest)? else {
         return Ok(None);
@@ -58,7 +58,7 @@ fn disconnect(alloc: Global, rest: &str) -> Mem<Option<What>>
 }
 
 fn frame(alloc: Global, rest: &str) -> Mem<Option<What>>
-    ensures { IfOk result (λ w. w ≡ frame_of rest.now) }
+    ensures { IfOk result (λ w. w ≡ frame_form rest.now) }
 {
     let Some((station, text)) = first_word(rest) else {
         return Ok(None);
@@ -70,7 +70,7 @@ fn frame(alloc: Global, rest: &str) -> Mem<Option<What>>
 }
 
 fn station(alloc: Global, rest: &str) -> Mem<Option<What>>
-    ensures { IfOk result (λ w. w ≡ station_of rest.now) }
+    ensures { IfOk result (λ w. w ≡ station_form rest.now) }
 {
     let Some((word, rest)) = first_word(rest) else {
         return Ok(None);
@@ -83,7 +83,7 @@ fn station(alloc: Global, rest: &str) -> Mem<Option<What>>
 }
 
 fn station_add(alloc: Global, rest: &str) -> Mem<Option<What>>
-    ensures { IfOk result (λ w. w ≡ station_add_of rest.now) }
+    ensures { IfOk result (λ w. w ≡ station_add_form rest.now) }
 {
     let Some((station, policy, interval)) = policy_words(rest) else {
         return Ok(None);
@@ -96,7 +96,7 @@ fn station_add(alloc: Global, rest: &str) -> Mem<Option<What>>
 }
 
 fn station_policy(alloc: Global, rest: &str) -> Mem<Option<What>>
-    ensures { IfOk result (λ w. w ≡ station_policy_of rest.now) }
+    ensures { IfOk result (λ w. w ≡ station_policy_form rest.now) }
 {
     let Some((station, policy, interval)) = policy_words(rest) else {
         return Ok(None);
@@ -120,7 +120,7 @@ fn policy_words(rest: &str) -> Option<(&str, Policy, u64)>
 }
 
 fn tag(alloc: Global, rest: &str) -> Mem<Option<What>>
-    ensures { IfOk result (λ w. w ≡ tag_of rest.now) }
+    ensures { IfOk result (λ w. w ≡ tag_form rest.now) }
 {
     let Some((word, rest)) = first_word(rest) else {
         return Ok(None);
@@ -133,7 +133,7 @@ fn tag(alloc: Global, rest: &str) -> Mem<Option<What>>
 }
 
 fn tag_put(alloc: Global, rest: &str) -> Mem<Option<What>>
-    ensures { IfOk result (λ w. w ≡ tag_put_of rest.now) }
+    ensures { IfOk result (λ w. w ≡ tag_put_form rest.now) }
 {
     let Some((tag, rest)) = first_word(rest) else {
         return Ok(None);
@@ -170,7 +170,7 @@ fn parent_of(alloc: Global, word: &str) -> Mem<Option<Text>>
 }
 
 fn tag_drop(alloc: Global, rest: &str) -> Mem<Option<What>>
-    ensures { IfOk result (λ w. w ≡ tag_drop_of rest.now) }
+    ensures { IfOk result (λ w. w ≡ tag_drop_form rest.now) }
 {
     let Some(tag) = name_of(alloc, rest)? else {
         return Ok(None);
@@ -190,17 +190,17 @@ fn mark_of(word: &str) -> Option<bool>
 }
 
 fn list(alloc: Global, rest: &str) -> Mem<Option<What>>
-    ensures { IfOk result (λ w. w ≡ list_of rest.now) }
+    ensures { IfOk result (λ w. w ≡ list_form rest.now) }
 {
     match rest {
         "stations" => Ok(Some(What::List(Listing::Stations))),
         "tags" => Ok(Some(What::List(Listing::Tags))),
-        _ => list_of_station(alloc, rest),
+        _ => station_list_form(alloc, rest),
     }
 }
 
-fn list_of_station(alloc: Global, rest: &str) -> Mem<Option<What>>
-    ensures { IfOk result (λ w. w ≡ list_of_station rest.now) }
+fn station_list_form(alloc: Global, rest: &str) -> Mem<Option<What>>
+    ensures { IfOk result (λ w. w ≡ station_list_form rest.now) }
 {
     let Some((word, rest)) = first_word(rest) else {
         return Ok(None);
@@ -214,7 +214,7 @@ fn list_of_station(alloc: Global, rest: &str) -> Mem<Option<What>>
 }
 
 fn connectors(alloc: Global, rest: &str) -> Mem<Option<What>>
-    ensures { IfOk result (λ w. w ≡ connectors_of rest.now) }
+    ensures { IfOk result (λ w. w ≡ connectors_form rest.now) }
 {
     let Some(station) = name_of(alloc, rest)? else {
         return Ok(None);
@@ -223,7 +223,7 @@ fn connectors(alloc: Global, rest: &str) -> Mem<Option<What>>
 }
 
 fn transactions(alloc: Global, rest: &str) -> Mem<Option<What>>
-    ensures { IfOk result (λ w. w ≡ transactions_of rest.now) }
+    ensures { IfOk result (λ w. w ≡ transactions_form rest.now) }
 {
     let Some(station) = name_of(alloc, rest)? else {
         return Ok(None);
@@ -232,10 +232,10 @@ fn transactions(alloc: Global, rest: &str) -> Mem<Option<What>>
 }
 
 fn readings(alloc: Global, rest: &str) -> Mem<Option<What>>
-    ensures { IfOk result (λ w. w ≡ readings_of rest.now) }
+    ensures { IfOk result (λ w. w ≡ readings_form rest.now) }
 {
     let Some(station) = name_of(alloc, rest)? else {
-        return readings_with(alloc, rest);
+        return numbered_readings_form(alloc, rest);
     };
     Ok(Some(What::List(Listing::Readings {
         station,
@@ -244,8 +244,8 @@ fn readings(alloc: Global, rest: &str) -> Mem<Option<What>>
 }
 
 /// The readings sent with the number of a transaction.
-fn readings_with(alloc: Global, rest: &str) -> Mem<Option<What>>
-    ensures { IfOk result (λ w. w ≡ readings_with rest.now) }
+fn numbered_readings_form(alloc: Global, rest: &str) -> Mem<Option<What>>
+    ensures { IfOk result (λ w. w ≡ numbered_readings_form rest.now) }
 {
     let Some((station, rest)) = first_word(rest) else {
         return Ok(None);

@@ -6,9 +6,9 @@ use Rattle.ocpp_types.specs.declared.data_transfer_status.DataTransferStatus.The
 use Rattle.station_calls.specs.declared.vendor.VendorAnswer.{VendorAnswer}
 
 -- the text behind a reference, if there is one
-abbrev pub text : Option (Bor (List ℕ)) → Option (List ℕ)
-text None = None
-text (Some b) = Some b.now
+abbrev pub lent_text : Option (Bor (List ℕ)) → Option (List ℕ)
+lent_text None = None
+lent_text (Some b) = Some b.now
 
 -- the answers to a vendor's messages, by vendor, message and content
 abbrev pub Answers : Type 0

@@ -1,6 +1,6 @@
 //! A vendor's handler that sends back what it gets.
 ghost use Rattle.std.specs.Prelude.{◌≡◌, IfOk};
-ghost use Rattle.station_calls.specs.Vendors.{text};
+ghost use Rattle.station_calls.specs.Vendors.{lent_text};
 
 use crate::vendor::{VendorAnswer, VendorHandler};
 use ocpp_types::{DataTransferStatus, Mem, Text};
@@ -40,7 +40,7 @@ impl VendorHandler for Echo {
 }
 
 fn copied(alloc: Global, content: Option<&str>) -> Mem<Option<Text>>
-    ensures { IfOk result (λ copy. copy ≡ text content.entry) }
+    ensures { IfOk result (λ copy. copy ≡ lent_text content.entry) }
 {
     match content {
         Some(content) => Ok(Some(Text::copy_of(alloc, content)?)),

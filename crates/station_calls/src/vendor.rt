@@ -1,7 +1,7 @@
 //! Messages of vendors (OCPP 1.6, section 4.3; docs/RULES.md, Vendor messages).
 ghost use Rattle.std.specs.Prelude.{◌≡◌, ℕ, List, Option, IfOk};
 ghost use Rattle.std.specs.Str.{bytes_eq};
-ghost use Rattle.station_calls.specs.Vendors.{text, answer_of};
+ghost use Rattle.station_calls.specs.Vendors.{lent_text, answer_of};
 
 use ocpp_types::{DataTransferStatus, Mem, Text};
 
@@ -30,7 +30,7 @@ pub trait VendorHandler: Drop {
 
     /// Answers a message by its `messageId` and its `data`, which may be missing.
     fn answer(&self, message: Option<&str>, content: Option<&str>) -> Mem<VendorAnswer>
-        ensures { IfOk result (λ a. a ≡ gives self.now (text message.entry) (text content.entry)) };
+        ensures { IfOk result (λ a. a ≡ gives self.now (lent_text message.entry) (lent_text content.entry)) };
 }
 
 impl VendorHandler for Box<dyn VendorHandler> {
@@ -61,7 +61,7 @@ pub fn ask<V: VendorHandler>(
     message: Option<&str>,
     content: Option<&str>,
 ) -> Mem<VendorAnswer>
-    ensures { IfOk result (λ a. a ≡ answer_of V.name V.gives vendors.now vendor.now (text message.entry) (text content.entry)) }
+    ensures { IfOk result (λ a. a ≡ answer_of V.name V.gives vendors.now vendor.now (lent_text message.entry) (lent_text content.entry)) }
 {
     for handler in vendors {
         if is_of(handler, vendor) {
@@ -76,7 +76,7 @@ pub fn ask<V: VendorHandler>(
 
 /// A text that may be missing, lent.
 pub fn lent(given: &Option<Text>) -> Option<&str>
-    ensures { text result ≡ given.now }
+    ensures { lent_text result ≡ given.now }
 {
     match given {
         None => None,

@@ -2,6 +2,7 @@ use Rattle.std.proofs.Common.{◌≡◌, ◌∙◌, ◌++◌, ap, map, sym, subs
 use Rattle.std.specs.Option.{ForSome}
 use Rattle.hub_rows.specs.Rows.{Rows}
 use Rattle.hub_rows.specs.Changes.{EditFits}
+use Rattle.hub_rows.specs.Operators.{is_hosted}
 use Rattle.hub.specs.Hub.{world, setting}
 use Rattle.hub.specs.Slots.{slots_after}
 use Rattle.hub.specs.World.{Setting, World, said_to, rows_after, plan_at, world_by}
@@ -35,3 +36,23 @@ returns-clause-world g c = λ clean.
       slots = c.in_ok-commit.ensures.slots i;
     })
     ∙ ap (λ q. world_by b q w) (c.in_ok-plan.ensures.plan before)
+
+pub returns-in_err-plan-clause-setting : goal.returns-in_err-plan-clause-setting
+unfolding setting
+returns-in_err-plan-clause-setting g c = λ i. record { is_hosted = is_hosted c.args.self.now.hosted.items; answers = c.plan_event.ensures.answers i }
+
+pub returns-in_err-outs-clause-setting : goal.returns-in_err-outs-clause-setting
+unfolding setting
+returns-in_err-outs-clause-setting g c = λ i. record { is_hosted = is_hosted c.args.self.now.hosted.items; answers = c.plan_event.ensures.answers i }
+
+pub returns-in_err-reserve-clause-setting : goal.returns-in_err-reserve-clause-setting
+unfolding setting
+returns-in_err-reserve-clause-setting g c = λ i. record { is_hosted = is_hosted c.args.self.now.hosted.items; answers = c.plan_event.ensures.answers i }
+
+pub returns-in_err-commit-clause-setting : goal.returns-in_err-commit-clause-setting
+unfolding setting
+returns-in_err-commit-clause-setting g c = λ i. record { is_hosted = is_hosted c.args.self.now.hosted.items; answers = c.plan_event.ensures.answers i }
+
+pub returns-clause-setting : goal.returns-clause-setting
+unfolding setting
+returns-clause-setting g c = λ i. record { is_hosted = is_hosted c.args.self.now.hosted.items; answers = c.plan_event.ensures.answers i }

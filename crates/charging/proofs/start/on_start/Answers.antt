@@ -1,0 +1,9 @@
+use Rattle.std.proofs.Common.{◌≡◌, IfOk, subst}
+use Rattle.hub_rows.specs.Lookups.{lookups_at}
+use Rattle.charging.specs.Start.{start_by_key}
+use Rattle.charging.proofs.start.on_start.Goals as goal
+
+pub returns-clause-decision : goal.returns-clause-decision
+returns-clause-decision g c = λ clean.
+    subst (λ k. IfOk c.start_by_key.result (λ d. d ≡ start_by_key c.args.station.now c.args.request k c.args.moment (lookups_at c.args.op.now (g.S.Store.rows c.args.store.now))))
+    c.in_ok-id.ensures (c.start_by_key.ensures.decision clean)
