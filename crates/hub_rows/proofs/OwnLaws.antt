@@ -1,21 +1,30 @@
 -- What a change does to the rows of each operator.
-use Rattle.std.specs.Prelude.{◌≡◌, ◌≢◌, ℕ, ◌+◌, List, [], ◌∷◌, None, refl, ◌&&◌, not, find}
+use Rattle.std.specs.Prelude.{◌≡◌, ◌≢◌, ℕ, ℤ, ◌+◌, List, [], ◌∷◌, Option, None, Some, true, ◌&&◌, ◌||◌, not, is_none, filter, find}
+use Rattle.std.proofs.Common.{refl, ap, ◌∙◌}
 use Rattle.std.proofs.lemmas.List.Kept.{IsStrictlySortedBy-filter}
+use Rattle.std.specs.List.{AllByRecursion, list_any}
 use Rattle.std.specs.Option.{option_map}
 use Rattle.std.specs.Str.{bytes_eq}
 use Rattle.hub_rows.specs.declared.change.Edit.{Edit}
 use Rattle.hub_rows.specs.declared.change.Edit.TheVariants.{StationAdded, BootSeen, PolicySet, ConnectorSeen, TagPut, TagDropped, TxStarted, TxStopped, ReadingsAdded}
 use Rattle.hub_rows.specs.declared.station_row.StationRow.{StationRow}
 use Rattle.hub_rows.specs.Rows.{Rows, WellFormedRows, station_key, station_rest, connector_key, connector_rest, tag_key, tag_rest, tx_key, tx_rest, reading_key, reading_rest, registration_of}
-use Rattle.std.specs.List.{AllByRecursion}
+use Rattle.hub_rows.specs.declared.tag_row.TagRow.{TagRow}
+use Rattle.hub_rows.specs.declared.tx_row.TxRow.{TxRow}
+use Rattle.hub_rows.specs.declared.tx_row.TxKey.{TxKey}
 use Rattle.hub_rows.specs.declared.reading_row.Reading.{Reading}
-use Rattle.hub_rows.specs.Keyed.{by_key, put_all, changed, own, greatest}
-use Rattle.hub_rows.specs.Changes.{edit, new_station, booted, with_policy, reported, tag_row, tx_row, stopped, with_readings}
+use Rattle.hub_rows.specs.declared.reading_row.ReadingRow.{ReadingRow}
+use Rattle.ocpp_types.specs.TagKey.{key_of}
+use Rattle.ocpp_types.specs.declared.authorization_status.AuthorizationStatus.{AuthorizationStatus}
+use Rattle.ocpp_types.specs.declared.authorization_status.AuthorizationStatus.TheVariants.{Accepted, Blocked, Expired, Invalid, ConcurrentTx}
+use Rattle.hub_rows.specs.Keyed.{by_key, put_all, changed, own, those, greatest}
+use Rattle.hub_rows.specs.Changes.{edit, new_station, with_boot, with_policy, connector_row, tag_row, tx_row, with_stop, with_readings}
 use Rattle.hub_rows.specs.Own.{own_rows, own_edit}
-use Rattle.hub_rows.specs.Tags.{tag_in, effective_tag}
-use Rattle.hub_rows.specs.Transactions.{is_open, is_use, is_tx, is_started, is_reading, state_of, numbers_of, reading_rows}
-use Rattle.hub_rows.specs.Lookups.{lookups_at, own_lookups}
-use Rattle.hub_rows.proofs.ListLaws.{by_key_total, sorted-put, sorted-changed, own-put, own-put_other, own-without, own-without_other, own-changed, own-changed_other, own-put_all, own-put_all_other, sorted-put_all, found-own, those-own, any_of-own}
+use Rattle.hub_rows.specs.Tags.{tag_in, is_blocked, is_parent_blocked, own_tag_in}
+use Rattle.hub_rows.specs.Transactions.{is_accepted, is_left_out, is_use, is_tx, is_sent_with, is_reading, is_used_in, readings_in, numbers_of, reading_rows}
+use Rattle.hub_rows.specs.Lookups.{lookups_at}
+use Rattle.hub_rows.specs.OwnLookups.{own_blocked, own_parent_blocked, own_tag, own_accepted, own_left_out, own_use, own_start, own_tx, own_state, own_sent_with, own_reading, own_lookups}
+use Rattle.hub_rows.proofs.ListLaws.{by_key_total, sorted-put, sorted-changed, own-put, own-put_other, own-without, own-without_other, own-changed, own-changed_other, own-put_all, own-put_all_other, sorted-put_all, found-own, those-own, any_of-own, and-true}
 
 -- the readings of operator b are its own
 rows_of : (b station : List ℕ) (first : ℕ) (readings : List Reading) (P : List ℕ → Type 0) → P b → AllByRecursion (λ r. P r.op) (reading_rows b station first readings)
@@ -33,11 +42,11 @@ pub own_rows-edit : (a : List ℕ) (e : Edit) (rows : Rows) → WellFormedRows r
 own_rows-edit a (StationAdded station policy interval) rows good =
     λ i. record (own_rows a rows) { stations = own-put (λ r. r.op) station_rest a (new_station a station policy interval) rows.stations good.stations refl i }
 own_rows-edit a (BootSeen station boot state) rows good =
-    λ i. record (own_rows a rows) { stations = own-changed (λ r. r.op) a (λ r. bytes_eq r.station station) (booted boot state) rows.stations (λ r. refl) i }
+    λ i. record (own_rows a rows) { stations = own-changed (λ r. r.op) a (λ r. bytes_eq r.station station) (with_boot boot state) rows.stations (λ r. refl) i }
 own_rows-edit a (PolicySet station policy interval) rows good =
     λ i. record (own_rows a rows) { stations = own-changed (λ r. r.op) a (λ r. bytes_eq r.station station) (with_policy policy interval) rows.stations (λ r. refl) i }
 own_rows-edit a (ConnectorSeen station connector report) rows good =
-    λ i. record (own_rows a rows) { connectors = own-put (λ r. r.op) connector_rest a (reported a station connector report) rows.connectors good.connectors refl i }
+    λ i. record (own_rows a rows) { connectors = own-put (λ r. r.op) connector_rest a (connector_row a station connector report) rows.connectors good.connectors refl i }
 own_rows-edit a (TagPut key tag) rows good =
     λ i. record (own_rows a rows) { tags = own-put (λ r. r.op) tag_rest a (tag_row a key tag) rows.tags good.tags refl i }
 own_rows-edit a (TagDropped key) rows good =
@@ -45,7 +54,7 @@ own_rows-edit a (TagDropped key) rows good =
 own_rows-edit a (TxStarted station number start) rows good =
     λ i. record (own_rows a rows) { transactions = own-put (λ r. r.op) tx_rest a (tx_row a station number start) rows.transactions good.transactions refl i }
 own_rows-edit a (TxStopped station number stop first readings) rows good =
-    λ i. record (own_rows a rows) { transactions = own-changed (λ r. r.op) a (is_tx station number) (stopped stop) rows.transactions (λ r. refl) i; readings = own-readings a station first readings rows good i }
+    λ i. record (own_rows a rows) { transactions = own-changed (λ r. r.op) a (is_tx station number) (with_stop stop) rows.transactions (λ r. refl) i; readings = own-readings a station first readings rows good i }
 own_rows-edit a (ReadingsAdded station first readings) rows good =
     λ i. record (own_rows a rows) { readings = own-readings a station first readings rows good i }
 
@@ -54,11 +63,11 @@ pub own_rows-edit_other : (a b : List ℕ) (e : Edit) (rows : Rows) → b ≢ a 
 own_rows-edit_other a b (StationAdded station policy interval) rows other =
     λ i. record (own_rows a rows) { stations = own-put_other (λ r. r.op) station_rest a (new_station b station policy interval) rows.stations other i }
 own_rows-edit_other a b (BootSeen station boot state) rows other =
-    λ i. record (own_rows a rows) { stations = own-changed_other (λ r. r.op) a b (λ r. bytes_eq r.station station) (booted boot state) rows.stations (λ r. refl) other i }
+    λ i. record (own_rows a rows) { stations = own-changed_other (λ r. r.op) a b (λ r. bytes_eq r.station station) (with_boot boot state) rows.stations (λ r. refl) other i }
 own_rows-edit_other a b (PolicySet station policy interval) rows other =
     λ i. record (own_rows a rows) { stations = own-changed_other (λ r. r.op) a b (λ r. bytes_eq r.station station) (with_policy policy interval) rows.stations (λ r. refl) other i }
 own_rows-edit_other a b (ConnectorSeen station connector report) rows other =
-    λ i. record (own_rows a rows) { connectors = own-put_other (λ r. r.op) connector_rest a (reported b station connector report) rows.connectors other i }
+    λ i. record (own_rows a rows) { connectors = own-put_other (λ r. r.op) connector_rest a (connector_row b station connector report) rows.connectors other i }
 own_rows-edit_other a b (TagPut key tag) rows other =
     λ i. record (own_rows a rows) { tags = own-put_other (λ r. r.op) tag_rest a (tag_row b key tag) rows.tags other i }
 own_rows-edit_other a b (TagDropped key) rows other =
@@ -66,7 +75,7 @@ own_rows-edit_other a b (TagDropped key) rows other =
 own_rows-edit_other a b (TxStarted station number start) rows other =
     λ i. record (own_rows a rows) { transactions = own-put_other (λ r. r.op) tx_rest a (tx_row b station number start) rows.transactions other i }
 own_rows-edit_other a b (TxStopped station number stop first readings) rows other =
-    λ i. record (own_rows a rows) { transactions = own-changed_other (λ r. r.op) a b (is_tx station number) (stopped stop) rows.transactions (λ r. refl) other i; readings = own-readings_other a b station first readings rows other i }
+    λ i. record (own_rows a rows) { transactions = own-changed_other (λ r. r.op) a b (is_tx station number) (with_stop stop) rows.transactions (λ r. refl) other i; readings = own-readings_other a b station first readings rows other i }
 own_rows-edit_other a b (ReadingsAdded station first readings) rows other =
     λ i. record (own_rows a rows) { readings = own-readings_other a b station first readings rows other i }
 
@@ -90,11 +99,11 @@ well_formed-edit b (StationAdded station policy interval) rows good = record {
   transactions = good.transactions;
   readings = good.readings;
 }
-well_formed-edit b (BootSeen station boot state) rows good = stations-changed b station (booted boot state) (λ r. refl) rows good
+well_formed-edit b (BootSeen station boot state) rows good = stations-changed b station (with_boot boot state) (λ r. refl) rows good
 well_formed-edit b (PolicySet station policy interval) rows good = stations-changed b station (with_policy policy interval) (λ r. refl) rows good
 well_formed-edit b (ConnectorSeen station connector report) rows good = record {
   stations = good.stations;
-  connectors = sorted-put (by_key connector_key) (by_key_total connector_key) (reported b station connector report) rows.connectors good.connectors;
+  connectors = sorted-put (by_key connector_key) (by_key_total connector_key) (connector_row b station connector report) rows.connectors good.connectors;
   tags = good.tags;
   transactions = good.transactions;
   readings = good.readings;
@@ -124,7 +133,7 @@ well_formed-edit b (TxStopped station number stop first readings) rows good = re
   stations = good.stations;
   connectors = good.connectors;
   tags = good.tags;
-  transactions = sorted-changed tx_key (λ r. r.op) b (is_tx station number) (stopped stop) (λ r. refl) rows.transactions good.transactions;
+  transactions = sorted-changed tx_key (λ r. r.op) b (is_tx station number) (with_stop stop) (λ r. refl) rows.transactions good.transactions;
   readings = sorted-put_all (by_key reading_key) (by_key_total reading_key) (reading_rows b station first readings) rows.readings good.readings;
 }
 well_formed-edit b (ReadingsAdded station first readings) rows good = record {
@@ -135,24 +144,71 @@ well_formed-edit b (ReadingsAdded station first readings) rows good = record {
   readings = sorted-put_all (by_key reading_key) (by_key_total reading_key) (reading_rows b station first readings) rows.readings good.readings;
 }
 
+-- ---- look-ups
+
+-- all rows of an operator are its own
+own-those : {R : Type 0} (op : R → List ℕ) (a : List ℕ) (rows : List R) → those op a (λ r. true) rows ≡ own op a rows
+own-those op a rows = λ i. filter (λ r. and-true (bytes_eq (op r) a) i) rows
+
+-- the tests of one's own rows are those of the rows of all
+same_blocked : (o : Option TagRow) → is_blocked o ≡ own_blocked o
+same_blocked None = refl
+same_blocked (Some r) = refl
+
+same_parent : (a : List ℕ) (tags : List TagRow) (parent : Option (List ℕ)) → is_parent_blocked (λ key. is_blocked (tag_in a key tags)) parent ≡ own_parent_blocked (own (λ r. r.op) a tags) parent
+same_parent a tags None = refl
+same_parent a tags (Some parent) = ap is_blocked (found-own (λ r. r.op) a (λ r. bytes_eq r.key (key_of parent)) tags) ∙ same_blocked (find (λ r. bytes_eq r.key (key_of parent)) (own (λ r. r.op) a tags))
+
+same_tag : (a key : List ℕ) (tags : List TagRow) → own_tag_in a key tags ≡ own_tag key (own (λ r. r.op) a tags)
+same_tag a key tags = λ i. option_map (λ r. record r.tag { blocked = r.tag.blocked || same_parent a tags r.tag.parent i }) (found-own (λ r. r.op) a (λ r. bytes_eq r.key key) tags i)
+
+same_accepted : (s : AuthorizationStatus) → is_accepted s ≡ own_accepted s
+same_accepted Accepted = refl
+same_accepted Blocked = refl
+same_accepted Expired = refl
+same_accepted Invalid = refl
+same_accepted ConcurrentTx = refl
+
+same_left_out : (except : Option TxKey) (r : TxRow) → is_left_out except r ≡ own_left_out except r
+same_left_out None r = refl
+same_left_out (Some k) r = refl
+
+same_use : (key : List ℕ) (except : Option TxKey) (r : TxRow) → is_use key except r ≡ own_use key except r
+same_use key except r = λ i. (is_none r.stop && same_accepted r.start.status i) && (bytes_eq r.start.id.key key && not (same_left_out except r i))
+
+same_sent_with : (n : Option ℕ) (transaction : Option ℤ) → is_sent_with n transaction ≡ own_sent_with n transaction
+same_sent_with None transaction = refl
+same_sent_with (Some n) None = refl
+same_sent_with (Some n) (Some transaction) = refl
+
+same_reading : (station : List ℕ) (n : Option ℕ) (r : ReadingRow) → is_reading station n r ≡ own_reading station n r
+same_reading station n r = ap (λ t. bytes_eq r.station station && t) (same_sent_with n r.reading.transaction)
+
 -- what an operator looks up is what it finds among its own rows
 pub same_lookups : (a : List ℕ) (rows : Rows) → lookups_at a rows ≡ own_lookups (own_rows a rows)
 same_lookups a rows =
-    let tag : (key : List ℕ) → tag_in a key rows.tags ≡ find (λ r. bytes_eq r.key key) (own (λ r. r.op) a rows.tags) = (λ key. found-own (λ r. r.op) a (λ r. bytes_eq r.key key) rows.tags) in
+    let txs : List TxRow = own (λ r. r.op) a rows.transactions in
+    let readings : List ReadingRow = own (λ r. r.op) a rows.readings in
+    let used : (key : List ℕ) (except : Option TxKey) → is_used_in a key except rows.transactions ≡ list_any (own_use key except) txs
+    = (λ key except. any_of-own (λ r. r.op) a (is_use key except) rows.transactions ∙ (λ i. list_any (λ r. same_use key except r i) txs)) in
+    let those_readings : (station : List ℕ) (n : Option ℕ) → readings_in a station n rows.readings ≡ filter (own_reading station n) readings
+    = (λ station n. those-own (λ r. r.op) a (is_reading station n) rows.readings ∙ (λ i. filter (λ r. same_reading station n r i) readings)) in
+    let all_readings : (station : List ℕ) → readings_in a station None rows.readings ≡ filter (λ r. bytes_eq r.station station) readings
+    = (λ station. those-own (λ r. r.op) a (is_reading station None) rows.readings ∙ (λ i. filter (λ r. and-true (bytes_eq r.station station) i) readings)) in
     λ i. record {
       registration = λ station. option_map registration_of (found-own (λ r. r.op) a (λ r. bytes_eq r.station station) rows.stations i);
-      own_tag = λ key. effective_tag (λ k. tag k i) key;
-      is_used = λ key except. any_of-own (λ r. r.op) a (is_use key except) rows.transactions i;
-      same_start = λ station k. option_map (λ r. r.number) (found-own (λ r. r.op) a (is_started station k) rows.transactions i);
-      tx = λ station number. option_map state_of (found-own (λ r. r.op) a (is_tx station number) rows.transactions i);
-      has_open = λ station. any_of-own (λ r. r.op) a (λ r. bytes_eq r.station station && is_open r) rows.transactions i;
+      own_tag = λ key. same_tag a key rows.tags i;
+      is_used = λ key except. used key except i;
+      same_start = λ station k. option_map (λ r. r.number) (found-own (λ r. r.op) a (own_start station k) rows.transactions i);
+      tx = λ station number. option_map own_state (found-own (λ r. r.op) a (own_tx station number) rows.transactions i);
+      has_open = λ station. any_of-own (λ r. r.op) a (λ r. bytes_eq r.station station && is_none r.stop) rows.transactions i;
       last_numbers = λ station. record {
         transaction = greatest (numbers_of (λ r. r.number) (those-own (λ r. r.op) a (λ r. bytes_eq r.station station) rows.transactions i));
-        reading = greatest (numbers_of (λ r. r.number) (those-own (λ r. r.op) a (is_reading station None) rows.readings i));
+        reading = greatest (numbers_of (λ r. r.number) (all_readings station i));
       };
-      stations = own (λ r. r.op) a rows.stations;
-      tags = own (λ r. r.op) a rows.tags;
+      stations = own-those (λ r. r.op) a rows.stations i;
+      tags = own-those (λ r. r.op) a rows.tags i;
       connectors = λ station. those-own (λ r. r.op) a (λ r. bytes_eq r.station station) rows.connectors i;
       txs = λ station. those-own (λ r. r.op) a (λ r. bytes_eq r.station station) rows.transactions i;
-      readings = λ station n. those-own (λ r. r.op) a (is_reading station n) rows.readings i;
+      readings = λ station n. those_readings station n i;
     }

@@ -28,16 +28,16 @@ abbrev pub new_station : List ℕ → List ℕ → Policy → ℕ → StationRow
 new_station b station policy interval = record { op = b; station = station; policy = policy; interval = interval; state = Fresh; boot = None }
 
 -- a station that has booted
-abbrev pub booted : Boot → State → StationRow → StationRow
-booted boot state r = record r { state = state; boot = Some boot }
+abbrev pub with_boot : Boot → State → StationRow → StationRow
+with_boot boot state r = record r { state = state; boot = Some boot }
 
 -- a station whose next boot is answered otherwise
 abbrev pub with_policy : Policy → ℕ → StationRow → StationRow
 with_policy policy interval r = record r { policy = policy; interval = interval }
 
 -- a connector, as it was reported
-abbrev pub reported : List ℕ → List ℕ → ℕ → ConnectorReport → ConnectorRow
-reported b station connector report = record { op = b; station = station; connector = connector; report = report }
+abbrev pub connector_row : List ℕ → List ℕ → ℕ → ConnectorReport → ConnectorRow
+connector_row b station connector report = record { op = b; station = station; connector = connector; report = report }
 
 -- a tag of an operator
 abbrev pub tag_row : List ℕ → List ℕ → Tag → TagRow
@@ -48,8 +48,8 @@ abbrev pub tx_row : List ℕ → List ℕ → ℕ → Start → TxRow
 tx_row b station number start = record { op = b; station = station; number = number; start = start; stop = None }
 
 -- a transaction that has ended
-abbrev pub stopped : Stop → TxRow → TxRow
-stopped stop r = record r { stop = Some stop }
+abbrev pub with_stop : Stop → TxRow → TxRow
+with_stop stop r = record r { stop = Some stop }
 
 -- readings of a station behind those of its rows
 abbrev pub with_readings : List ℕ → List ℕ → ℕ → List Reading → List ReadingRow → List ReadingRow
@@ -58,17 +58,17 @@ with_readings b station first readings rows = put_all (by_key reading_key) (read
 -- an edit of the rows of operator b
 abbrev pub edit : List ℕ → Edit → Rows → Rows
 edit b (StationAdded station policy interval) rows = record rows { stations = put (by_key station_key) (new_station b station policy interval) rows.stations }
-edit b (BootSeen station boot state) rows = record rows { stations = changed (λ r. r.op) b (λ r. bytes_eq r.station station) (booted boot state) rows.stations }
+edit b (BootSeen station boot state) rows = record rows { stations = changed (λ r. r.op) b (λ r. bytes_eq r.station station) (with_boot boot state) rows.stations }
 edit b (PolicySet station policy interval) rows = record rows { stations = changed (λ r. r.op) b (λ r. bytes_eq r.station station) (with_policy policy interval) rows.stations }
-edit b (ConnectorSeen station connector report) rows = record rows { connectors = put (by_key connector_key) (reported b station connector report) rows.connectors }
+edit b (ConnectorSeen station connector report) rows = record rows { connectors = put (by_key connector_key) (connector_row b station connector report) rows.connectors }
 edit b (TagPut key tag) rows = record rows { tags = put (by_key tag_key) (tag_row b key tag) rows.tags }
 edit b (TagDropped key) rows = record rows { tags = without (λ r. r.op) b (λ r. bytes_eq r.key key) rows.tags }
 edit b (TxStarted station number start) rows = record rows { transactions = put (by_key tx_key) (tx_row b station number start) rows.transactions }
-edit b (TxStopped station number stop first readings) rows = record rows { transactions = changed (λ r. r.op) b (is_tx station number) (stopped stop) rows.transactions; readings = with_readings b station first readings rows.readings }
+edit b (TxStopped station number stop first readings) rows = record rows { transactions = changed (λ r. r.op) b (is_tx station number) (with_stop stop) rows.transactions; readings = with_readings b station first readings rows.readings }
 edit b (ReadingsAdded station first readings) rows = record rows { readings = with_readings b station first readings rows.readings }
 
-abbrev pub edited : Change → Rows → Rows
-edited change = edit change.op change.edit
+abbrev pub after_change : Change → Rows → Rows
+after_change change = edit change.op change.edit
 
 abbrev pub IsOpen : Option TxState → Type 0
 IsOpen None = ⊥

@@ -9,3 +9,4 @@ pub mod Transactions
 pub mod Changes
 pub mod Own
 pub mod Lookups
+pub mod OwnLookups

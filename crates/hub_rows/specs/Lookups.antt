@@ -1,7 +1,5 @@
 -- What rules may ask of one operator's records.
-use Rattle.std.specs.Prelude.{ℕ, List, Option, None, Bool, ◌&&◌, filter, find}
-use Rattle.std.specs.List.{list_any}
-use Rattle.std.specs.Option.{option_map}
+use Rattle.std.specs.Prelude.{ℕ, List, Option, Bool, true}
 use Rattle.std.specs.Str.{bytes_eq}
 use Rattle.hub_rows.specs.declared.station_row.StationRow.{StationRow}
 use Rattle.hub_rows.specs.declared.station_row.Registration.{Registration}
@@ -14,10 +12,10 @@ use Rattle.hub_rows.specs.declared.tx_row.TxState.{TxState}
 use Rattle.hub_rows.specs.declared.tx_row.StartKey.{StartKey}
 use Rattle.hub_rows.specs.declared.tx_row.LastNumbers.{LastNumbers}
 use Rattle.hub_rows.specs.declared.reading_row.ReadingRow.{ReadingRow}
-use Rattle.hub_rows.specs.Keyed.{own, those, greatest}
-use Rattle.hub_rows.specs.Rows.{Rows, registration_of, registration_at}
-use Rattle.hub_rows.specs.Tags.{effective_tag, own_tag_in}
-use Rattle.hub_rows.specs.Transactions.{is_open, is_use, is_tx, is_started, is_reading, state_of, numbers_of, is_used_in, same_start_in, tx_in, has_open_in, txs_in, readings_in, last_numbers_in}
+use Rattle.hub_rows.specs.Keyed.{those}
+use Rattle.hub_rows.specs.Rows.{Rows, registration_at}
+use Rattle.hub_rows.specs.Tags.{own_tag_in}
+use Rattle.hub_rows.specs.Transactions.{is_used_in, same_start_in, tx_in, has_open_in, txs_in, readings_in, last_numbers_in}
 
 pub record Lookups : Type 0 where
   -- how a station is registered
@@ -42,6 +40,14 @@ pub record Lookups : Type 0 where
   -- of all transactions, or of those sent with a number
   pub readings : List ℕ → Option ℕ → List ReadingRow
 
+-- the stations of operator b, among those of all
+abbrev pub stations_in : List ℕ → List StationRow → List StationRow
+stations_in b stations = those (λ r. r.op) b (λ r. true) stations
+
+-- its tags
+abbrev pub tags_in : List ℕ → List TagRow → List TagRow
+tags_in b tags = those (λ r. r.op) b (λ r. true) tags
+
 -- the connectors of a station of operator b, among those of all
 abbrev pub connectors_in : List ℕ → List ℕ → List ConnectorRow → List ConnectorRow
 connectors_in b station connectors = those (λ r. r.op) b (λ r. bytes_eq r.station station) connectors
@@ -56,29 +62,9 @@ lookups_at b rows = record {
   tx = λ station number. tx_in b station number rows.transactions;
   has_open = λ station. has_open_in b station rows.transactions;
   last_numbers = λ station. last_numbers_in b station rows.transactions rows.readings;
-  stations = own (λ r. r.op) b rows.stations;
-  tags = own (λ r. r.op) b rows.tags;
+  stations = stations_in b rows.stations;
+  tags = tags_in b rows.tags;
   connectors = λ station. connectors_in b station rows.connectors;
   txs = λ station. txs_in b station rows.transactions;
   readings = λ station n. readings_in b station n rows.readings;
-}
-
--- over the rows of that operator alone
-abbrev pub own_lookups : Rows → Lookups
-own_lookups rows = record {
-  registration = λ station. option_map registration_of (find (λ r. bytes_eq r.station station) rows.stations);
-  own_tag = λ key. effective_tag (λ k. find (λ r. bytes_eq r.key k) rows.tags) key;
-  is_used = λ key except. list_any (is_use key except) rows.transactions;
-  same_start = λ station k. option_map (λ r. r.number) (find (is_started station k) rows.transactions);
-  tx = λ station number. option_map state_of (find (is_tx station number) rows.transactions);
-  has_open = λ station. list_any (λ r. bytes_eq r.station station && is_open r) rows.transactions;
-  last_numbers = λ station. record {
-    transaction = greatest (numbers_of (λ r. r.number) (filter (λ r. bytes_eq r.station station) rows.transactions));
-    reading = greatest (numbers_of (λ r. r.number) (filter (is_reading station None) rows.readings));
-  };
-  stations = rows.stations;
-  tags = rows.tags;
-  connectors = λ station. filter (λ r. bytes_eq r.station station) rows.connectors;
-  txs = λ station. filter (λ r. bytes_eq r.station station) rows.transactions;
-  readings = λ station n. filter (is_reading station n) rows.readings;
 }

@@ -1,12 +1,12 @@
 -- The rows of one operator by themselves.
-use Rattle.std.specs.Prelude.{ℕ, List, if◌then◌else◌, map, filter, not}
+use Rattle.std.specs.Prelude.{ℕ, List, if◌then◌else◌, ◌&&◌, ◌==◌, map, filter, not}
 use Rattle.std.specs.Str.{bytes_eq}
 use Rattle.hub_rows.specs.declared.change.Edit.{Edit}
 use Rattle.hub_rows.specs.declared.change.Edit.TheVariants.{StationAdded, BootSeen, PolicySet, ConnectorSeen, TagPut, TagDropped, TxStarted, TxStopped, ReadingsAdded}
 use Rattle.hub_rows.specs.Keyed.{put, put_all, by_key, own}
 use Rattle.hub_rows.specs.Rows.{Rows, station_rest, connector_rest, tag_rest, tx_rest, reading_rest}
-use Rattle.hub_rows.specs.Changes.{new_station, booted, with_policy, reported, tag_row, tx_row, stopped}
-use Rattle.hub_rows.specs.Transactions.{is_tx, reading_rows}
+use Rattle.hub_rows.specs.Changes.{new_station, with_boot, with_policy, connector_row, tag_row, tx_row, with_stop}
+use Rattle.hub_rows.specs.Transactions.{reading_rows}
 
 abbrev pub own_rows : List ℕ → Rows → Rows
 own_rows a rows = record { stations = own (λ r. r.op) a rows.stations; connectors = own (λ r. r.op) a rows.connectors; tags = own (λ r. r.op) a rows.tags; transactions = own (λ r. r.op) a rows.transactions; readings = own (λ r. r.op) a rows.readings }
@@ -14,11 +14,11 @@ own_rows a rows = record { stations = own (λ r. r.op) a rows.stations; connecto
 -- an edit of the rows of one operator, by what tells them apart
 abbrev pub own_edit : List ℕ → Edit → Rows → Rows
 own_edit a (StationAdded station policy interval) rows = record rows { stations = put (by_key station_rest) (new_station a station policy interval) rows.stations }
-own_edit a (BootSeen station boot state) rows = record rows { stations = map (λ r. if bytes_eq r.station station then booted boot state r else r) rows.stations }
+own_edit a (BootSeen station boot state) rows = record rows { stations = map (λ r. if bytes_eq r.station station then with_boot boot state r else r) rows.stations }
 own_edit a (PolicySet station policy interval) rows = record rows { stations = map (λ r. if bytes_eq r.station station then with_policy policy interval r else r) rows.stations }
-own_edit a (ConnectorSeen station connector report) rows = record rows { connectors = put (by_key connector_rest) (reported a station connector report) rows.connectors }
+own_edit a (ConnectorSeen station connector report) rows = record rows { connectors = put (by_key connector_rest) (connector_row a station connector report) rows.connectors }
 own_edit a (TagPut key tag) rows = record rows { tags = put (by_key tag_rest) (tag_row a key tag) rows.tags }
 own_edit a (TagDropped key) rows = record rows { tags = filter (λ r. not (bytes_eq r.key key)) rows.tags }
 own_edit a (TxStarted station number start) rows = record rows { transactions = put (by_key tx_rest) (tx_row a station number start) rows.transactions }
-own_edit a (TxStopped station number stop first readings) rows = record rows { transactions = map (λ r. if is_tx station number r then stopped stop r else r) rows.transactions; readings = put_all (by_key reading_rest) (reading_rows a station first readings) rows.readings }
+own_edit a (TxStopped station number stop first readings) rows = record rows { transactions = map (λ r. if bytes_eq r.station station && r.number == number then with_stop stop r else r) rows.transactions; readings = put_all (by_key reading_rest) (reading_rows a station first readings) rows.readings }
 own_edit a (ReadingsAdded station first readings) rows = record rows { readings = put_all (by_key reading_rest) (reading_rows a station first readings) rows.readings }

@@ -2,10 +2,9 @@
 ghost use Rattle.std.specs.Prelude.{◌≡◌, Err, ℕ, IfOk, OnOk, OnErr};
 ghost use Rattle.hub_rows.specs.Rows.{Rows, WellFormedRows, registration_at};
 ghost use Rattle.hub_rows.specs.Tags.{own_tag_in};
-ghost use Rattle.hub_rows.specs.Keyed.{own};
-ghost use Rattle.hub_rows.specs.Lookups.{connectors_in};
+ghost use Rattle.hub_rows.specs.Lookups.{stations_in, tags_in, connectors_in};
 ghost use Rattle.hub_rows.specs.Transactions.{is_used_in, same_start_in, tx_in, has_open_in, txs_in, readings_in, last_numbers_in};
-ghost use Rattle.hub_rows.specs.Changes.{edited, Fits};
+ghost use Rattle.hub_rows.specs.Changes.{after_change, Fits};
 ghost use Rattle.hub_rows.specs.Reads.{OnlyReads, IsCounted};
 ghost use Rattle.hub_rows.specs.declared.store.StoreFault.TheVariants as store_fault;
 
@@ -125,13 +124,13 @@ pub trait Store {
     fn stations(&mut self, op: &str) -> Result<Listed<StationRow>, StoreFault>
         ensures reads { OnlyReads rows failures clean self.old self.new (result ≡ Err store_fault.Failed) }
         ensures found { clean self.new
-            → IfOk result (λ r. r ≡ own (λ r. r.op) op.now (rows self.old).stations) };
+            → IfOk result (λ r. r ≡ stations_in op.now (rows self.old).stations) };
 
     /// The id tags of an operator, in the order of their keys.
     fn tags(&mut self, op: &str) -> Result<Listed<TagRow>, StoreFault>
         ensures reads { OnlyReads rows failures clean self.old self.new (result ≡ Err store_fault.Failed) }
         ensures found { clean self.new
-            → IfOk result (λ r. r ≡ own (λ r. r.op) op.now (rows self.old).tags) };
+            → IfOk result (λ r. r ≡ tags_in op.now (rows self.old).tags) };
 
     /// The connectors of a station, in the order of their ids.
     fn connectors(&mut self, op: &str, station: &str) -> Result<Listed<ConnectorRow>, StoreFault>
@@ -161,7 +160,7 @@ pub trait Store {
     fn apply(&mut self, change: &Change) -> Result<(), StoreFault>
         requires { clean self.old → Fits change.now (rows self.old) }
         ensures counted { IsCounted failures clean self.old self.new (result ≡ Err store_fault.Failed) }
-        ensures ok { clean self.new → OnOk result (rows self.new ≡ edited change.now (rows self.old)) }
+        ensures ok { clean self.new → OnOk result (rows self.new ≡ after_change change.now (rows self.old)) }
         ensures err { clean self.new → OnErr result (rows self.new ≡ rows self.old) };
 
     /// The rows of a clean store are well formed.

@@ -12,7 +12,7 @@ use Rattle.std.proofs.lemmas.List.Kept.{IsStrictlySortedBy-filter}
 use Rattle.hub_rows.specs.declared.tx_row.TxRow.{TxRow}
 use Rattle.hub_rows.specs.declared.tx_row.TxKey.{TxKey}
 use Rattle.hub_rows.specs.declared.tx_row.Stop.{Stop}
-use Rattle.hub_rows.specs.Changes.{stopped}
+use Rattle.hub_rows.specs.Changes.{with_stop}
 use Rattle.hub_rows.specs.Keyed.{by_key, key_cmp, put, without, changed, those, greatest}
 use Rattle.hub_rows.specs.Rows.{tx_key}
 use Rattle.hub_rows.specs.Transactions.{counts, is_tx, is_left_out, is_used_in}
@@ -20,11 +20,11 @@ use Rattle.hub_rows.proofs.ListLaws.{by_key_total, all-filter, all-weaker, put-f
 use Rattle.std.proofs.lemmas.Cmp.{tied_itself}
 use Rattle.store_mem.proofs.StationRowsLaws.{second}
 use Rattle.store_mem.specs.declared.open.OpenRow.{OpenRow}
-use Rattle.store_mem.specs.Open.{open_key, open_of, opens_of, is_used, is_left_out as is_left_out_of}
+use Rattle.store_mem.specs.Open.{open_key, open_of, opens_of, is_excepted, has_use}
 
 -- ---- what is looked for
 
-same_left_out : (except : Option TxKey) (r : TxRow) → is_left_out except r ≡ is_left_out_of except (open_of r)
+same_left_out : (except : Option TxKey) (r : TxRow) → is_left_out except r ≡ is_excepted except (open_of r)
 same_left_out None r = refl
 same_left_out (Some k) r = refl
 
@@ -32,10 +32,10 @@ and_false : (b : Bool) → b && false ≡ false
 and_false true = refl
 and_false false = refl
 
-pub used-opens : (b key : List ℕ) (except : Option TxKey) (txs : List TxRow) → is_used_in b key except txs ≡ is_used b key except (opens_of txs)
+pub used-opens : (b key : List ℕ) (except : Option TxKey) (txs : List TxRow) → is_used_in b key except txs ≡ has_use b key except (opens_of txs)
 used-opens b key except [] = refl
 used-opens b key except (r ∷ txs) =
-    elim (counts r) as (λ t. ((bytes_eq r.op b && (t && (bytes_eq r.start.id.key key && not (is_left_out except r)))) || is_used_in b key except txs) ≡ is_used b key except (map open_of (cond t (r ∷ filter counts txs) (filter counts txs)))) [
+    elim (counts r) as (λ t. ((bytes_eq r.op b && (t && (bytes_eq r.start.id.key key && not (is_left_out except r)))) || is_used_in b key except txs) ≡ has_use b key except (map open_of (cond t (r ∷ filter counts txs) (filter counts txs)))) [
       | true ↦ λ i. (bytes_eq r.op b && (bytes_eq r.start.id.key key && not (same_left_out except r i))) || used-opens b key except txs i
       | false ↦ ap (λ t. t || is_used_in b key except txs) (and_false (bytes_eq r.op b)) ∙ used-opens b key except txs
     ]
@@ -111,18 +111,18 @@ opens-put r (x ∷ txs) sorted new =
 
 -- ---- a transaction that ends
 
-pub opens-stopped : (b st : List ℕ) (n : ℕ) (stop : Stop) (txs : List TxRow) → opens_of (changed (λ r. r.op) b (is_tx st n) (stopped stop) txs) ≡ without (λ o. o.op) b (λ o. bytes_eq o.station st && o.number == n) (opens_of txs)
+pub opens-stopped : (b st : List ℕ) (n : ℕ) (stop : Stop) (txs : List TxRow) → opens_of (changed (λ r. r.op) b (is_tx st n) (with_stop stop) txs) ≡ without (λ o. o.op) b (λ o. bytes_eq o.station st && o.number == n) (opens_of txs)
 opens-stopped b st n stop [] = refl
 opens-stopped b st n stop (r ∷ txs) =
     let keep : List OpenRow → List OpenRow = without (λ o. o.op) b (λ o. bytes_eq o.station st && o.number == n) in
-    let more : opens_of (changed (λ y. y.op) b (is_tx st n) (stopped stop) txs) ≡ keep (opens_of txs) = opens-stopped b st n stop txs in
+    let more : opens_of (changed (λ y. y.op) b (is_tx st n) (with_stop stop) txs) ≡ keep (opens_of txs) = opens-stopped b st n stop txs in
     elim (bytes_eq r.op b && (bytes_eq r.station st && r.number == n)) as (λ t. (bytes_eq r.op b && (bytes_eq r.station st && r.number == n)) ≡ t
-    → opens_of (cond t (stopped stop r) r ∷ changed (λ y. y.op) b (is_tx st n) (stopped stop) txs) ≡ keep (opens_of (r ∷ txs))) [
+    → opens_of (cond t (with_stop stop r) r ∷ changed (λ y. y.op) b (is_tx st n) (with_stop stop) txs) ≡ keep (opens_of (r ∷ txs))) [
       | true ↦ λ e. more ∙ elim (counts r) as (λ t. keep (opens_of txs) ≡ keep (map open_of (cond t (r ∷ filter counts txs) (filter counts txs)))) [
         | true ↦ sym (ap (λ t. cond (not t) (open_of r ∷ keep (opens_of txs)) (keep (opens_of txs))) e)
         | false ↦ refl
       ]
-      | false ↦ λ e. elim (counts r) as (λ t. map open_of (cond t (r ∷ filter counts (changed (λ y. y.op) b (is_tx st n) (stopped stop) txs)) (filter counts (changed (λ y. y.op) b (is_tx st n) (stopped stop) txs))) ≡ keep (map open_of (cond t (r ∷ filter counts txs) (filter counts txs)))) [
+      | false ↦ λ e. elim (counts r) as (λ t. map open_of (cond t (r ∷ filter counts (changed (λ y. y.op) b (is_tx st n) (with_stop stop) txs)) (filter counts (changed (λ y. y.op) b (is_tx st n) (with_stop stop) txs))) ≡ keep (map open_of (cond t (r ∷ filter counts txs) (filter counts txs)))) [
         | true ↦ ap (λ os. open_of r ∷ os) more ∙ sym (ap (λ t. cond (not t) (open_of r ∷ keep (opens_of txs)) (keep (opens_of txs))) e)
         | false ↦ more
       ]

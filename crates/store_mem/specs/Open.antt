@@ -17,12 +17,15 @@ open_of r = record { op = r.op; station = r.station; number = r.number; key = r.
 abbrev pub opens_of : List TxRow → List OpenRow
 opens_of txs = map open_of (filter counts txs)
 
-abbrev pub is_left_out : Option TxKey → OpenRow → Bool
-is_left_out None o = false
-is_left_out (Some k) o = bytes_eq o.station k.station && o.number == k.number
+-- the transaction that is left out
+abbrev pub is_excepted : Option TxKey → OpenRow → Bool
+is_excepted None o = false
+is_excepted (Some k) o = bytes_eq o.station k.station && o.number == k.number
 
-abbrev pub is_use : List ℕ → Option TxKey → OpenRow → Bool
-is_use key except o = bytes_eq o.key key && not (is_left_out except o)
+-- a use of the tag of a key, by another transaction
+abbrev pub uses_tag : List ℕ → Option TxKey → OpenRow → Bool
+uses_tag key except o = bytes_eq o.key key && not (is_excepted except o)
 
-abbrev pub is_used : List ℕ → List ℕ → Option TxKey → List OpenRow → Bool
-is_used b key except opens = any_of (λ o. o.op) b (is_use key except) opens
+-- whether the tag of a key is in use at a station of operator b
+abbrev pub has_use : List ℕ → List ℕ → Option TxKey → List OpenRow → Bool
+has_use b key except opens = any_of (λ o. o.op) b (uses_tag key except) opens

@@ -1,7 +1,7 @@
 //! Copies of rows, for lists that are asked for whole.
-ghost use Rattle.std.specs.Prelude.{◌≡◌, IfOk};
+ghost use Rattle.std.specs.Prelude.{◌≡◌, true, IfOk};
 ghost use Rattle.std.specs.Str.{bytes_eq};
-ghost use Rattle.hub_rows.specs.Keyed.{own};
+ghost use Rattle.hub_rows.specs.Keyed.{those};
 ghost use Rattle.hub_rows.specs.Lookups.{connectors_in};
 
 use hub_rows::{ConnectorRow, NamedRow};
@@ -25,7 +25,7 @@ pub fn copies<R: Clone + Drop>(alloc: Global, rows: &[R]) -> Mem<Listed<R>>
 #[tactic(auto, using(hub_rows::proofs::Steps::drop_here))]
 pub fn own_copies<R: NamedRow + Clone>(alloc: Global, rows: &[R], op: &str) -> Mem<Listed<R>>
     requires { (row copy : R) → R.is_clone row copy → copy ≡ row }
-    ensures { IfOk result (λ l. l ≡ own R.op op.now rows.now) }
+    ensures { IfOk result (λ l. l ≡ those R.op op.now (λ r. true) rows.now) }
 {
     let mut list = Listed::new(alloc);
     for row in rows {

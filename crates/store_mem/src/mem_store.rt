@@ -3,7 +3,7 @@ ghost use Rattle.std.specs.Prelude.{◌≡◌, length, OnOk, OnErr};
 ghost use Rattle.std.proofs.Props.{props};
 ghost use Rattle.hub_rows.specs.Keyed.{changed};
 ghost use Rattle.hub_rows.specs.Rows.{WellFormedRows, no_rows};
-ghost use Rattle.hub_rows.specs.Changes.{edit, stopped};
+ghost use Rattle.hub_rows.specs.Changes.{edit, with_stop};
 ghost use Rattle.hub_rows.specs.Transactions.{AreNext, last_numbers_in, is_tx};
 ghost use Rattle.hub_rows.specs.declared.change.Edit.TheVariants.{TxStarted, ReadingsAdded};
 ghost use Rattle.store_mem.specs.ByStation.{all_rows, AreGrouped, rows_in};
@@ -78,7 +78,7 @@ impl MemStore {
 
     /// Stops a transaction, which can't fail.
     fn stop_tx(&mut self, op: &Text, station: &Text, number: u32, stop: Stop)
-        ensures { ⟦<MemStore as Store>⟧.rows self.new ≡ record (⟦<MemStore as Store>⟧.rows self.old) { transactions = changed (λ r. r.op) op.now (is_tx station.now number) (stopped stop) (all_rows self.old.transactions.items) } }
+        ensures { ⟦<MemStore as Store>⟧.rows self.new ≡ record (⟦<MemStore as Store>⟧.rows self.old) { transactions = changed (λ r. r.op) op.now (is_tx station.now number) (with_stop stop) (all_rows self.old.transactions.items) } }
     {
         let op = op.as_str();
         let station = station.as_str();

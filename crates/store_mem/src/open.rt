@@ -4,7 +4,7 @@ ghost use Rattle.std.specs.List.Sorted.{IsStrictlySortedBy};
 ghost use Rattle.std.specs.Str.{bytes_eq};
 ghost use Rattle.hub_rows.specs.Keyed.{by_key, without};
 ghost use Rattle.hub_rows.specs.Places.{IsPlace};
-ghost use Rattle.store_mem.specs.Open.{open_key, open_of, is_used, is_use, is_left_out};
+ghost use Rattle.store_mem.specs.Open.{open_key, open_of, has_use, uses_tag, is_excepted};
 
 use hub_rows::{Keyed, TxKey, TxRow};
 use ocpp_types::{Mem, TagKey, Text};
@@ -45,7 +45,7 @@ pub fn open_of(row: &TxRow) -> Mem<OpenRow>
 /// Whether the tag of a key is in use at a station of an operator.
 #[tactic(auto, using(hub_rows::proofs::Steps::drop_here))]
 pub fn is_used(opens: &[OpenRow], op: &str, key: &TagKey, except: &Option<TxKey>) -> bool
-    ensures { result ≡ is_used op.now key.now except.now opens.now }
+    ensures { result ≡ has_use op.now key.now except.now opens.now }
 {
     for row in opens {
         if row.op.as_str() == op && is_use(row, key, except) {
@@ -56,13 +56,13 @@ pub fn is_used(opens: &[OpenRow], op: &str, key: &TagKey, except: &Option<TxKey>
 }
 
 fn is_use(row: &OpenRow, key: &TagKey, except: &Option<TxKey>) -> bool
-    ensures { result ≡ is_use key.now except.now row.now }
+    ensures { result ≡ uses_tag key.now except.now row.now }
 {
     row.key.as_str() == key.as_str() && !is_left_out(row, except)
 }
 
 fn is_left_out(row: &OpenRow, except: &Option<TxKey>) -> bool
-    ensures { result ≡ is_left_out except.now row.now }
+    ensures { result ≡ is_excepted except.now row.now }
 {
     match except {
         Some(except) => {

@@ -2,7 +2,7 @@
 ghost use Rattle.std.specs.Prelude.{◌≡◌, ◌==◌, if◌then◌else◌, map, find, option_map};
 ghost use Rattle.std.specs.List.{list_any};
 ghost use Rattle.std.specs.List.Sorted.{IsStrictlySortedBy};
-ghost use Rattle.hub_rows.specs.Changes.{stopped};
+ghost use Rattle.hub_rows.specs.Changes.{with_stop};
 ghost use Rattle.hub_rows.specs.Keyed.{by_key, changed};
 ghost use Rattle.hub_rows.specs.Transactions.{tx_in, same_start_in, has_open_in, is_open, is_start, is_tx};
 ghost use Rattle.store_mem.specs.ByStation.{number_key, all_rows, AreGrouped};
@@ -92,7 +92,7 @@ pub fn stop_tx(
     requires { AreGrouped (λ r. r.op) (λ r. r.station) (λ r. r.number) groups.old.items }
     ensures groups { AreGrouped (λ r. r.op) (λ r. r.station) (λ r. r.number) groups.new.items }
     ensures rows { all_rows groups.new.items
-        ≡ changed (λ r. r.op) op.now (is_tx station.now number) (stopped stop) (all_rows groups.old.items) }
+        ≡ changed (λ r. r.op) op.now (is_tx station.now number) (with_stop stop) (all_rows groups.old.items) }
 {
     if let Ok(place) = place_of_name(groups.as_slice(), op, station) {
         stop_in_group(&mut groups[place], number, stop);
@@ -104,7 +104,7 @@ fn stop_in_group(group: &mut StationRows<TxRow>, number: u32, stop: Stop)
     ensures op { group.new.op ≡ group.old.op }
     ensures station { group.new.station ≡ group.old.station }
     ensures rows { group.new.rows.items
-        ≡ map (λ r. if r.number == number then stopped stop r else r) group.old.rows.items }
+        ≡ map (λ r. if r.number == number then with_stop stop r else r) group.old.rows.items }
 {
     if let Ok(place) = place_of_number(group.rows.as_slice(), number) {
         stop_row(&mut group.rows[place], stop);
@@ -112,7 +112,7 @@ fn stop_in_group(group: &mut StationRows<TxRow>, number: u32, stop: Stop)
 }
 
 fn stop_row(row: &mut TxRow, stop: Stop)
-    ensures { row.new ≡ stopped stop row.old }
+    ensures { row.new ≡ with_stop stop row.old }
 {
     row.stop = Some(stop);
 }

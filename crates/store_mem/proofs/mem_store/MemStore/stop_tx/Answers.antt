@@ -2,7 +2,7 @@ use Rattle.std.proofs.Common.{◌==◌, ◌&&◌, List, refl, ap, sym, subst, �
 use Rattle.std.specs.List.Sorted.{IsStrictlySortedBy}
 use Rattle.std.specs.Str.{bytes_eq}
 use Rattle.hub_rows.specs.declared.tx_row.TxRow.{TxRow}
-use Rattle.hub_rows.specs.Changes.{stopped}
+use Rattle.hub_rows.specs.Changes.{with_stop}
 use Rattle.hub_rows.specs.Keyed.{by_key, without}
 use Rattle.hub_rows.specs.Rows.{Rows, WellFormedRows, tx_key}
 use Rattle.hub_rows.specs.Transactions.{is_tx}
@@ -30,7 +30,7 @@ invariant_of-self c =
         stations = s.good.stations;
         connectors = s.good.connectors;
         tags = s.good.tags;
-        transactions = sorted-changed tx_key (λ r. r.op) b (is_tx st n) (stopped c.args.stop) (λ r. refl) txs s.good.transactions;
+        transactions = sorted-changed tx_key (λ r. r.op) b (is_tx st n) (with_stop c.args.stop) (λ r. refl) txs s.good.transactions;
         readings = s.good.readings;
       });
       by_station = (c.stop_tx.ensures.groups, s.by_station.1);
