@@ -1,14 +1,12 @@
 -- What a change does to the rows of each operator.
 use Rattle.std.specs.Prelude.{◌≡◌, ◌≢◌, ℕ, ℤ, ◌+◌, List, [], ◌∷◌, Option, None, Some, true, ◌&&◌, ◌||◌, not, is_none, filter, find}
 use Rattle.std.proofs.Common.{refl, ap, ◌∙◌}
-use Rattle.std.proofs.lemmas.List.Kept.{IsStrictlySortedBy-filter}
 use Rattle.std.specs.List.{AllByRecursion, list_any}
 use Rattle.std.specs.Option.{option_map}
 use Rattle.std.specs.Str.{bytes_eq}
 use Rattle.hub_rows.specs.declared.change.Edit.{Edit}
 use Rattle.hub_rows.specs.declared.change.Edit.TheVariants.{StationAdded, BootSeen, PolicySet, ConnectorSeen, TagPut, TagDropped, TxStarted, TxStopped, ReadingsAdded}
-use Rattle.hub_rows.specs.declared.station_row.StationRow.{StationRow}
-use Rattle.hub_rows.specs.Rows.{Rows, WellFormedRows, station_key, station_rest, connector_key, connector_rest, tag_key, tag_rest, tx_key, tx_rest, reading_key, reading_rest, registration_of}
+use Rattle.hub_rows.specs.Rows.{Rows, WellFormedRows, station_rest, connector_rest, tag_rest, tx_rest, reading_rest, registration_of}
 use Rattle.hub_rows.specs.declared.tag_row.TagRow.{TagRow}
 use Rattle.hub_rows.specs.declared.tx_row.TxRow.{TxRow}
 use Rattle.hub_rows.specs.declared.tx_row.TxKey.{TxKey}
@@ -17,14 +15,14 @@ use Rattle.hub_rows.specs.declared.reading_row.ReadingRow.{ReadingRow}
 use Rattle.ocpp_types.specs.TagKey.{key_of}
 use Rattle.ocpp_types.specs.declared.authorization_status.AuthorizationStatus.{AuthorizationStatus}
 use Rattle.ocpp_types.specs.declared.authorization_status.AuthorizationStatus.TheVariants.{Accepted, Blocked, Expired, Invalid, ConcurrentTx}
-use Rattle.hub_rows.specs.Keyed.{by_key, put_all, changed, own, those, greatest}
+use Rattle.hub_rows.specs.Keyed.{by_key, put_all, own, those, greatest}
 use Rattle.hub_rows.specs.Changes.{edit, new_station, with_boot, with_policy, connector_row, tag_row, tx_row, with_stop, with_readings}
 use Rattle.hub_rows.specs.Own.{own_rows, own_edit}
 use Rattle.hub_rows.specs.Tags.{tag_in, is_blocked, is_parent_blocked, own_tag_in}
 use Rattle.hub_rows.specs.Transactions.{is_accepted, is_left_out, is_use, is_tx, is_sent_with, is_reading, is_used_in, readings_in, numbers_of, reading_rows}
 use Rattle.hub_rows.specs.Lookups.{lookups_at}
 use Rattle.hub_rows.specs.OwnLookups.{own_blocked, own_parent_blocked, own_tag, own_accepted, own_left_out, own_use, own_start, own_tx, own_state, own_sent_with, own_reading, own_lookups}
-use Rattle.hub_rows.proofs.ListLaws.{by_key_total, sorted-put, sorted-changed, own-put, own-put_other, own-without, own-without_other, own-changed, own-changed_other, own-put_all, own-put_all_other, sorted-put_all, found-own, those-own, any_of-own, and-true}
+use Rattle.hub_rows.proofs.ListLaws.{own-put, own-put_other, own-without, own-without_other, own-changed, own-changed_other, own-put_all, own-put_all_other, found-own, those-own, any_of-own, and-true}
 
 -- the readings of operator b are its own
 rows_of : (b station : List ℕ) (first : ℕ) (readings : List Reading) (P : List ℕ → Type 0) → P b → AllByRecursion (λ r. P r.op) (reading_rows b station first readings)
@@ -78,71 +76,6 @@ own_rows-edit_other a b (TxStopped station number stop first readings) rows othe
     λ i. record (own_rows a rows) { transactions = own-changed_other (λ r. r.op) a b (is_tx station number) (with_stop stop) rows.transactions (λ r. refl) other i; readings = own-readings_other a b station first readings rows other i }
 own_rows-edit_other a b (ReadingsAdded station first readings) rows other =
     λ i. record (own_rows a rows) { readings = own-readings_other a b station first readings rows other i }
-
--- a change of stations that keeps their keys
-stations-changed : (b station : List ℕ) (f : StationRow → StationRow) → ((r : StationRow) → station_key (f r) ≡ station_key r) → (rows : Rows) → WellFormedRows rows
-    → WellFormedRows (record rows { stations = changed (λ r. r.op) b (λ r. bytes_eq r.station station) f rows.stations })
-stations-changed b station f stays rows good = record {
-  stations = sorted-changed station_key (λ r. r.op) b (λ r. bytes_eq r.station station) f stays rows.stations good.stations;
-  connectors = good.connectors;
-  tags = good.tags;
-  transactions = good.transactions;
-  readings = good.readings;
-}
-
--- the order of the keys is kept
-pub well_formed-edit : (b : List ℕ) (e : Edit) (rows : Rows) → WellFormedRows rows → WellFormedRows (edit b e rows)
-well_formed-edit b (StationAdded station policy interval) rows good = record {
-  stations = sorted-put (by_key station_key) (by_key_total station_key) (new_station b station policy interval) rows.stations good.stations;
-  connectors = good.connectors;
-  tags = good.tags;
-  transactions = good.transactions;
-  readings = good.readings;
-}
-well_formed-edit b (BootSeen station boot state) rows good = stations-changed b station (with_boot boot state) (λ r. refl) rows good
-well_formed-edit b (PolicySet station policy interval) rows good = stations-changed b station (with_policy policy interval) (λ r. refl) rows good
-well_formed-edit b (ConnectorSeen station connector report) rows good = record {
-  stations = good.stations;
-  connectors = sorted-put (by_key connector_key) (by_key_total connector_key) (connector_row b station connector report) rows.connectors good.connectors;
-  tags = good.tags;
-  transactions = good.transactions;
-  readings = good.readings;
-}
-well_formed-edit b (TagPut key tag) rows good = record {
-  stations = good.stations;
-  connectors = good.connectors;
-  tags = sorted-put (by_key tag_key) (by_key_total tag_key) (tag_row b key tag) rows.tags good.tags;
-  transactions = good.transactions;
-  readings = good.readings;
-}
-well_formed-edit b (TagDropped key) rows good = record {
-  stations = good.stations;
-  connectors = good.connectors;
-  tags = IsStrictlySortedBy-filter (by_key tag_key) (λ r. not (bytes_eq r.op b && bytes_eq r.key key)) rows.tags good.tags;
-  transactions = good.transactions;
-  readings = good.readings;
-}
-well_formed-edit b (TxStarted station number start) rows good = record {
-  stations = good.stations;
-  connectors = good.connectors;
-  tags = good.tags;
-  transactions = sorted-put (by_key tx_key) (by_key_total tx_key) (tx_row b station number start) rows.transactions good.transactions;
-  readings = good.readings;
-}
-well_formed-edit b (TxStopped station number stop first readings) rows good = record {
-  stations = good.stations;
-  connectors = good.connectors;
-  tags = good.tags;
-  transactions = sorted-changed tx_key (λ r. r.op) b (is_tx station number) (with_stop stop) (λ r. refl) rows.transactions good.transactions;
-  readings = sorted-put_all (by_key reading_key) (by_key_total reading_key) (reading_rows b station first readings) rows.readings good.readings;
-}
-well_formed-edit b (ReadingsAdded station first readings) rows good = record {
-  stations = good.stations;
-  connectors = good.connectors;
-  tags = good.tags;
-  transactions = good.transactions;
-  readings = sorted-put_all (by_key reading_key) (by_key_total reading_key) (reading_rows b station first readings) rows.readings good.readings;
-}
 
 -- ---- look-ups
 

@@ -2,13 +2,7 @@
 use Rattle.std.specs.Prelude.{◌≡◌, ℕ, List, [], ◌∷◌, ◌++◌}
 use Rattle.std.specs.List.{AllByRecursion}
 use Rattle.std.specs.List.Sorted.{IsStrictlySortedBy}
-use Rattle.hub_rows.specs.declared.station_row.StationRow.{StationRow}
-use Rattle.hub_rows.specs.declared.connector_row.ConnectorRow.{ConnectorRow}
-use Rattle.hub_rows.specs.declared.tag_row.TagRow.{TagRow}
-use Rattle.hub_rows.specs.declared.tx_row.TxRow.{TxRow}
-use Rattle.hub_rows.specs.declared.reading_row.ReadingRow.{ReadingRow}
 use Rattle.hub_rows.specs.Keyed.{by_key}
-use Rattle.hub_rows.specs.Rows.{Rows}
 use Rattle.store_mem.specs.declared.station_rows.StationRows.{StationRows}
 
 -- what tells the rows of one station apart
@@ -36,7 +30,3 @@ module _ {R : Type 0} (op station : R → List ℕ) (number : R → ℕ) where
   pub record AreGrouped (ss : List (StationRows R)) : Type 0 where
     pub sorted : IsStrictlySortedBy (by_key group_key) ss
     pub each : AllByRecursion IsGroup ss
-
--- the rows of a store that keeps transactions and readings so
-abbrev pub rows_in : List StationRow → List ConnectorRow → List TagRow → List (StationRows TxRow) → List (StationRows ReadingRow) → Rows
-rows_in stations connectors tags transactions readings = record { stations = stations; connectors = connectors; tags = tags; transactions = all_rows transactions; readings = all_rows readings }

@@ -1,3 +1,4 @@
 pub mod Stations
 pub mod ByStation
+pub mod Lists
 pub mod Open

@@ -3,6 +3,7 @@
 
 mod copies;
 mod failing;
+mod lists;
 mod mem_store;
 mod open;
 mod readings;

@@ -6,10 +6,11 @@ ghost use Rattle.hub_rows.specs.Rows.{WellFormedRows, no_rows};
 ghost use Rattle.hub_rows.specs.Changes.{edit, with_stop};
 ghost use Rattle.hub_rows.specs.Transactions.{AreNext, last_numbers_in, is_tx};
 ghost use Rattle.hub_rows.specs.declared.change.Edit.TheVariants.{TxStarted, ReadingsAdded};
-ghost use Rattle.store_mem.specs.ByStation.{all_rows, AreGrouped, rows_in};
+ghost use Rattle.store_mem.specs.Lists.{rows_in, AreByStation};
 ghost use Rattle.store_mem.specs.Open.{opens_of};
 
 use crate::copies::{connectors_of, copies, own_copies};
+use crate::lists::Lists;
 use crate::open::{OpenRow, close, is_used};
 use crate::readings::{add_readings, readings_of};
 use crate::started::{start_tx, started};
@@ -24,21 +25,16 @@ use hub_rows::{
 use ocpp_types::{Listed, Mem, State, TagKey, Text};
 use std::alloc::Global;
 
-/// Records in memory, in vectors in the order of their keys. It is always clean, and it never
-/// fails but for want of memory.
+/// Records in memory. It is always clean, and it never fails but for want of memory.
 #[derive(Drop)]
 pub struct MemStore {
     alloc: Global,
-    stations: Vec<StationRow>,
-    connectors: Vec<ConnectorRow>,
-    tags: Vec<TagRow>,
-    transactions: Vec<StationRows<TxRow>>,
+    lists: Lists,
     /// The transactions by which tags are in use.
     opens: Vec<OpenRow>,
-    readings: Vec<StationRows<ReadingRow>>,
-    ghost good: { WellFormedRows (rows_in stations.items connectors.items tags.items transactions.items readings.items) } by { Prim.hlevel props },
-    ghost by_station: { AreGrouped (λ r. r.op) (λ r. r.station) (λ r. r.number) transactions.items × AreGrouped (λ r. r.op) (λ r. r.station) (λ r. r.number) readings.items } by { Prim.hlevel props },
-    ghost in_use: { opens.items ≡ opens_of (all_rows transactions.items) } by { Prim.hlevel props },
+    ghost good: { WellFormedRows (rows_in lists) } by { Prim.hlevel props },
+    ghost by_station: { AreByStation lists } by { Prim.hlevel props },
+    ghost in_use: { opens.items ≡ opens_of (rows_in lists).transactions } by { Prim.hlevel props },
 }
 
 impl MemStore {
@@ -48,12 +44,8 @@ impl MemStore {
     {
         MemStore {
             alloc,
-            stations: Vec::new(alloc),
-            connectors: Vec::new(alloc),
-            tags: Vec::new(alloc),
-            transactions: Vec::new(alloc),
+            lists: Lists::new(alloc),
             opens: Vec::new(alloc),
-            readings: Vec::new(alloc),
         }
     }
 }
@@ -61,14 +53,14 @@ impl MemStore {
 impl MemStore {
     /// Adds a transaction behind those of its station.
     fn start_tx(&mut self, op: &Text, station: &Text, number: u32, start: &Start) -> Mem<()>
-        requires { AreNext (last_numbers_in op.now station.now (all_rows self.old.transactions.items) (all_rows self.old.readings.items)).transaction number 1 }
+        requires { AreNext (last_numbers_in op.now station.now (rows_in self.old.lists).transactions (rows_in self.old.lists).readings).transaction number 1 }
         ensures ok { OnOk result (⟦<MemStore as Store>⟧.rows self.new ≡ edit op.now (TxStarted station.now number start.now) (⟦<MemStore as Store>⟧.rows self.old)) }
         ensures err { OnErr result (⟦<MemStore as Store>⟧.rows self.new ≡ ⟦<MemStore as Store>⟧.rows self.old) }
     {
         let row = started(op, station, number, start)?;
         start_tx(
             self.alloc,
-            &mut self.transactions,
+            &mut self.lists.transactions,
             &mut self.opens,
             op,
             station,
@@ -78,11 +70,11 @@ impl MemStore {
 
     /// Stops a transaction, which can't fail.
     fn stop_tx(&mut self, op: &Text, station: &Text, number: u32, stop: Stop)
-        ensures { ⟦<MemStore as Store>⟧.rows self.new ≡ record (⟦<MemStore as Store>⟧.rows self.old) { transactions = changed (λ r. r.op) op.now (is_tx station.now number) (with_stop stop) (all_rows self.old.transactions.items) } }
+        ensures { ⟦<MemStore as Store>⟧.rows self.new ≡ record (⟦<MemStore as Store>⟧.rows self.old) { transactions = changed (λ r. r.op) op.now (is_tx station.now number) (with_stop stop) (rows_in self.old.lists).transactions } }
     {
         let op = op.as_str();
         let station = station.as_str();
-        stop_tx(&mut self.transactions, op, station, number, stop);
+        stop_tx(&mut self.lists.transactions, op, station, number, stop);
         close(&mut self.opens, op, station, number);
     }
 
@@ -94,16 +86,23 @@ impl MemStore {
         first: u32,
         readings: &[Reading],
     ) -> Mem<()>
-        requires { AreNext (last_numbers_in op.now station.now (all_rows self.old.transactions.items) (all_rows self.old.readings.items)).reading first (length readings.now) }
+        requires { AreNext (last_numbers_in op.now station.now (rows_in self.old.lists).transactions (rows_in self.old.lists).readings).reading first (length readings.now) }
         ensures ok { OnOk result (⟦<MemStore as Store>⟧.rows self.new ≡ edit op.now (ReadingsAdded station.now first readings.now) (⟦<MemStore as Store>⟧.rows self.old)) }
         ensures err { OnErr result (⟦<MemStore as Store>⟧.rows self.new ≡ ⟦<MemStore as Store>⟧.rows self.old) }
     {
-        add_readings(self.alloc, &mut self.readings, op, station, first, readings)
+        add_readings(
+            self.alloc,
+            &mut self.lists.readings,
+            op,
+            station,
+            first,
+            readings,
+        )
     }
 }
 
 impl Store for MemStore {
-    ghost rows = { λ s. rows_in s.stations.items s.connectors.items s.tags.items s.transactions.items s.readings.items };
+    ghost rows = { λ s. rows_in s.lists };
 
     ghost failures = { λ _. 0 };
 
@@ -112,11 +111,11 @@ impl Store for MemStore {
     ghost well_formed = { λ s _. s.good };
 
     fn station(&mut self, op: &str, station: &str) -> Result<Option<Registration>, StoreFault> {
-        Ok(registration_of(&self.stations, op, station))
+        Ok(registration_of(&self.lists.stations, op, station))
     }
 
     fn own_tag(&mut self, op: &str, key: &TagKey) -> Result<Option<Tag>, StoreFault> {
-        Ok(own_tag(self.alloc, &self.tags, op, key)?)
+        Ok(own_tag(self.alloc, &self.lists.tags, op, key)?)
     }
 
     fn is_used(
@@ -134,38 +133,38 @@ impl Store for MemStore {
         station: &str,
         start: &StartKey,
     ) -> Result<Option<u32>, StoreFault> {
-        Ok(same_start(&self.transactions, op, station, start))
+        Ok(same_start(&self.lists.transactions, op, station, start))
     }
 
     fn tx(&mut self, op: &str, station: &str, number: u32) -> Result<Option<TxState>, StoreFault> {
-        Ok(tx_state(&self.transactions, op, station, number))
+        Ok(tx_state(&self.lists.transactions, op, station, number))
     }
 
     fn has_open(&mut self, op: &str, station: &str) -> Result<bool, StoreFault> {
-        Ok(has_open(&self.transactions, op, station))
+        Ok(has_open(&self.lists.transactions, op, station))
     }
 
     fn last_numbers(&mut self, op: &str, station: &str) -> Result<LastNumbers, StoreFault> {
         Ok(LastNumbers {
-            transaction: last_number(rows_of(&self.transactions, op, station)),
-            reading: last_number(rows_of(&self.readings, op, station)),
+            transaction: last_number(rows_of(&self.lists.transactions, op, station)),
+            reading: last_number(rows_of(&self.lists.readings, op, station)),
         })
     }
 
     fn stations(&mut self, op: &str) -> Result<Listed<StationRow>, StoreFault> {
-        Ok(own_copies(self.alloc, &self.stations, op)?)
+        Ok(own_copies(self.alloc, &self.lists.stations, op)?)
     }
 
     fn tags(&mut self, op: &str) -> Result<Listed<TagRow>, StoreFault> {
-        Ok(own_copies(self.alloc, &self.tags, op)?)
+        Ok(own_copies(self.alloc, &self.lists.tags, op)?)
     }
 
     fn connectors(&mut self, op: &str, station: &str) -> Result<Listed<ConnectorRow>, StoreFault> {
-        Ok(connectors_of(self.alloc, &self.connectors, op, station)?)
+        Ok(connectors_of(self.alloc, &self.lists.connectors, op, station)?)
     }
 
     fn txs(&mut self, op: &str, station: &str) -> Result<Listed<TxRow>, StoreFault> {
-        Ok(copies(self.alloc, rows_of(&self.transactions, op, station))?)
+        Ok(copies(self.alloc, rows_of(&self.lists.transactions, op, station))?)
     }
 
     fn readings(
@@ -174,7 +173,7 @@ impl Store for MemStore {
         station: &str,
         transaction: Option<u64>,
     ) -> Result<Listed<ReadingRow>, StoreFault> {
-        Ok(readings_of(self.alloc, &self.readings, op, station, transaction)?)
+        Ok(readings_of(self.alloc, &self.lists.readings, op, station, transaction)?)
     }
 
     fn apply(&mut self, change: &Change) -> Result<(), StoreFault> {
@@ -192,7 +191,7 @@ impl Store for MemStore {
                     state: State::Fresh,
                     boot: None,
                 };
-                put_row(&mut self.stations, row)?;
+                put_row(&mut self.lists.stations, row)?;
             }
             Edit::BootSeen {
                 station,
@@ -202,7 +201,7 @@ impl Store for MemStore {
                 let boot = boot.clone()?;
                 let state = *state;
                 let booted = StationChange::Booted { boot, state };
-                change_station(&mut self.stations, &change.op, station, booted);
+                change_station(&mut self.lists.stations, &change.op, station, booted);
             }
             Edit::PolicySet {
                 station,
@@ -212,7 +211,7 @@ impl Store for MemStore {
                 let policy = *policy;
                 let interval = *interval;
                 let set = StationChange::PolicySet { policy, interval };
-                change_station(&mut self.stations, &change.op, station, set);
+                change_station(&mut self.lists.stations, &change.op, station, set);
             }
             Edit::ConnectorSeen {
                 station,
@@ -225,7 +224,7 @@ impl Store for MemStore {
                     connector: *connector,
                     report: report.clone()?,
                 };
-                put_row(&mut self.connectors, row)?;
+                put_row(&mut self.lists.connectors, row)?;
             }
             Edit::TagPut { key, tag } => {
                 let row = TagRow {
@@ -233,10 +232,10 @@ impl Store for MemStore {
                     key: key.clone()?,
                     tag: tag.clone()?,
                 };
-                put_row(&mut self.tags, row)?;
+                put_row(&mut self.lists.tags, row)?;
             }
             Edit::TagDropped { key } => {
-                remove_row(&mut self.tags, change.op.as_str(), key.as_str());
+                remove_row(&mut self.lists.tags, change.op.as_str(), key.as_str());
             }
             Edit::TxStarted {
                 station,

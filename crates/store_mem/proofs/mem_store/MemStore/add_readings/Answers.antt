@@ -1,22 +1,20 @@
-use Rattle.std.proofs.Common.{List}
 use Rattle.hub_rows.specs.declared.change.Edit.TheVariants.{ReadingsAdded}
-use Rattle.hub_rows.specs.declared.reading_row.ReadingRow.{ReadingRow}
 use Rattle.hub_rows.specs.Changes.{with_readings}
 use Rattle.hub_rows.specs.Rows.{Rows, WellFormedRows}
-use Rattle.hub_rows.proofs.OwnLaws.{well_formed-edit}
-use Rattle.store_mem.specs.ByStation.{all_rows, rows_in}
+use Rattle.hub_rows.proofs.WellFormedLaws.{well_formed-edit}
+use Rattle.store_mem.specs.ByStation.{all_rows}
+use Rattle.store_mem.specs.Lists.{rows_in}
 use Rattle.store_mem.proofs.Kept.{by_result}
 use Rattle.store_mem.proofs.mem_store.MemStore.add_readings.Goals as goal
 
 pub invariant_of-self : goal.invariant_of-self
 invariant_of-self c =
     let s = c.args.self.now in
-    let rows : Rows = rows_in s.stations.items s.connectors.items s.tags.items s.transactions.items s.readings.items in
-    let all : List ReadingRow = all_rows s.readings.items in
+    let rows : Rows = rows_in s.lists in
     let b = c.args.op.now in
     let st = c.args.station.now in
     record {
-      good = by_result (λ xs. WellFormedRows (record rows { readings = xs })) c.add_readings.result (all_rows c.add_readings.new.groups.items) (with_readings b st c.args.first c.args.readings.now all) all
+      good = by_result (λ xs. WellFormedRows (record rows { readings = xs })) c.add_readings.result (all_rows c.add_readings.new.groups.items) (with_readings b st c.args.first c.args.readings.now rows.readings) rows.readings
           (well_formed-edit b (ReadingsAdded st c.args.first c.args.readings.now) rows s.good) s.good c.add_readings.ensures.ok c.add_readings.ensures.err;
       by_station = (s.by_station.0, c.add_readings.ensures.groups);
       in_use = s.in_use;

@@ -7,32 +7,28 @@ use Rattle.hub_rows.specs.Keyed.{by_key, without}
 use Rattle.hub_rows.specs.Rows.{Rows, WellFormedRows, tx_key}
 use Rattle.hub_rows.specs.Transactions.{is_tx}
 use Rattle.hub_rows.proofs.ListLaws.{sorted-changed}
+use Rattle.hub_rows.proofs.WellFormedLaws.{well_formed-transactions}
 use Rattle.store_mem.specs.Open.{open_key, opens_of}
-use Rattle.store_mem.specs.ByStation.{all_rows, rows_in}
+use Rattle.store_mem.specs.Lists.{rows_in}
 use Rattle.store_mem.proofs.OpenLaws.{sorted-opens, opens-stopped}
 use Rattle.store_mem.proofs.mem_store.MemStore.stop_tx.Goals as goal
 
 pub close-requires : goal.close-requires
 close-requires c =
     let s = c.args.self.now in
-    subst (IsStrictlySortedBy (by_key open_key)) (sym s.in_use) (sorted-opens (all_rows s.transactions.items) s.good.transactions)
+    subst (IsStrictlySortedBy (by_key open_key)) (sym s.in_use) (sorted-opens ((rows_in s.lists).transactions) s.good.transactions)
 
 pub invariant_of-self : goal.invariant_of-self
 invariant_of-self c =
     let s = c.args.self.now in
-    let rows : Rows = rows_in s.stations.items s.connectors.items s.tags.items s.transactions.items s.readings.items in
-    let txs : List TxRow = all_rows s.transactions.items in
+    let rows : Rows = rows_in s.lists in
+    let txs : List TxRow = rows.transactions in
     let b = c.as_str-op.result.now in
     let st = c.as_str-station.result.now in
     let n = c.args.number in
     record {
-      good = subst (λ xs. WellFormedRows (record rows { transactions = xs })) (sym c.stop_tx.ensures.rows) (record {
-        stations = s.good.stations;
-        connectors = s.good.connectors;
-        tags = s.good.tags;
-        transactions = sorted-changed tx_key (λ r. r.op) b (is_tx st n) (with_stop c.args.stop) (λ r. refl) txs s.good.transactions;
-        readings = s.good.readings;
-      });
+      good = subst (λ xs. WellFormedRows (record rows { transactions = xs })) (sym c.stop_tx.ensures.rows)
+          (well_formed-transactions rows s.good _ (sorted-changed tx_key (λ r. r.op) b (is_tx st n) (with_stop c.args.stop) (λ r. refl) txs s.good.transactions));
       by_station = (c.stop_tx.ensures.groups, s.by_station.1);
       in_use = c.close.ensures ∙ ap (without (λ o. o.op) b (λ o. bytes_eq o.station st && o.number == n)) s.in_use
           ∙ sym (opens-stopped b st n c.args.stop txs) ∙ ap opens_of (sym c.stop_tx.ensures.rows);
