@@ -1,6 +1,6 @@
 -- What one operator sees of a shared list after an edit of it.
-use Rattle.std.specs.Prelude.{◌≡◌, ◌≢◌, ℕ, List, [], ◌∷◌, Bool, true, false, cond, ◌&&◌, ◌||◌, ◌==◌, not, filter, map, find}
-use Rattle.std.proofs.Common.{◌+◌, ◌<◌, ◌++◌, length, take, drop, refl, sym, ◌∙◌, ap, arith, add-one}
+use Rattle.std.specs.Prelude.{◌≡◌, ◌≢◌, ℕ, Option, Some, IsSome, List, [], ◌∷◌, Bool, true, false, cond, ◌&&◌, ◌||◌, ◌==◌, not, filter, map, find}
+use Rattle.std.proofs.Common.{◌+◌, ◌<◌, ◌++◌, length, take, drop, refl, sym, ◌∙◌, ap, subst, arith, add-one}
 use Rattle.std.proofs.Math.ListN.{set}
 use Rattle.std.proofs.lemmas.List.{set_split}
 use Rattle.std.specs.Ordering.{match_ordering, ordering_then, ordering_reverse, is_eq}
@@ -14,7 +14,7 @@ use Rattle.std.proofs.lemmas.Map.Text.{is_eq-slice_cmp}
 use Rattle.std.specs.Str.{bytes_eq}
 use Rattle.std.specs.List.{AllByRecursion, list_any}
 use Rattle.std.specs.List.Sorted.{IsStrictlySortedBy}
-use Rattle.std.proofs.lemmas.Bool.{cond-true, cond-false, false_from_ne_true}
+use Rattle.std.proofs.lemmas.Bool.{cond-true, cond-false, false_from_ne_true, true≢false}
 use Rattle.std.proofs.lemmas.Cmp.{tied_itself, lists_total, nat_list_cmp_total, on_total}
 use Rattle.hub_rows.specs.Keyed.{text_cmp, key_cmp, put, put_all, by_key, own, without, changed, found, those, any_of}
 
@@ -191,6 +191,10 @@ pub all-changed : {R : Type 0} (P : R → Type 0) (op : R → List ℕ) (b : Lis
 all-changed P op b test f [] stays all = tt
 all-changed P op b test f (x ∷ xs) stays all = (elim (bytes_eq (op x) b && test x) as (λ t. P (cond t (f x) x)) [ true ↦ stays x all.0 | false ↦ all.0 ], all-changed P op b test f xs stays all.1)
 
+pub all-put_all : {R : Type 0} (cmp : R → R → Ordering) (P : R → Type 0) (rs xs : List R) → AllByRecursion P rs → AllByRecursion P xs → AllByRecursion P (put_all cmp rs xs)
+all-put_all cmp P [] xs new all = all
+all-put_all cmp P (r ∷ rs) xs new all = all-put_all cmp P rs (put cmp r xs) new.1 (all-put cmp P r xs new.0 all)
+
 -- a change that keeps keys keeps their order
 pub sorted-changed : {R : Type 0} (key : R → List (List ℕ)) (op : R → List ℕ) (b : List ℕ) (test : R → Bool) (f : R → R) → ((r : R) → key (f r) ≡ key r) → (xs : List R) → IsStrictlySortedBy (by_key key) xs → IsStrictlySortedBy (by_key key) (changed op b test f xs)
 unfolding IsStrictlySortedBy
@@ -226,3 +230,36 @@ pub three_parts : (a b c d : List ℕ) (m n : ℕ) → bytes_eq a c && (bytes_eq
 three_parts a b c d m n =
     sym (and-is_eq (text_cmp a c) (ordering_then (text_cmp b d) (ordering_then (text_cmp (m ∷ []) (n ∷ [])) Equal))
     ∙ (λ i. is_eq-slice_cmp a c i && (and-is_eq (text_cmp b d) (ordering_then (text_cmp (m ∷ []) (n ∷ [])) Equal) ∙ (λ j. is_eq-slice_cmp b d j && sym (one_part m n) j)) i))
+
+-- ---- what is found
+
+some_or : {R : Type 0} (b : Bool) (x : R) (o : Option R) → IsSome o → IsSome (cond b (Some x) o)
+some_or true x o some = refl
+some_or false x o some = some
+
+some_then : {R : Type 0} (b : Bool) (x y : R) (o p : Option R) → (IsSome o → IsSome p) → IsSome (cond b (Some x) o) → IsSome (cond b (Some y) p)
+some_then true x y o p then some = refl
+some_then false x y o p then some = then some
+
+-- a row is found still after one is put, and after a change that the test answers alike
+pub some-put : {R : Type 0} (cmp : R → R → Ordering) (t : R → Bool) → RespectsTies cmp t → (r : R) (xs : List R) → IsSome (find t xs) → IsSome (find t (put cmp r xs))
+some-put cmp t ties r [] some = absurd (true≢false (sym some))
+some-put cmp t ties r (x ∷ xs) some =
+    elim (cmp r x) as (λ o. cmp r x ≡ o → IsSome (find t (match_ordering o (r ∷ x ∷ xs) (r ∷ xs) (x ∷ put cmp r xs)))) [
+      | Less ↦ λ e. some_or (t r) r (find t (x ∷ xs)) some
+      | Equal ↦ λ e. subst (λ b. IsSome (cond b (Some r) (find t xs))) (sym (ties r x e)) (some_then (t x) x r (find t xs) (find t xs) (λ s. s) some)
+      | Greater ↦ λ e. some_then (t x) x x (find t xs) (find t (put cmp r xs)) (some-put cmp t ties r xs) some
+    ] refl
+
+pub some-map : {R : Type 0} (t : R → Bool) (f : R → R) → ((r : R) → t (f r) ≡ t r) → (xs : List R) → IsSome (find t xs) → IsSome (find t (map f xs))
+some-map t f stays [] some = some
+some-map t f stays (x ∷ xs) some = subst (λ b. IsSome (cond b (Some (f x)) (find t (map f xs)))) (sym (stays x)) (some_then (t x) x (f x) (find t xs) (find t (map f xs)) (some-map t f stays xs) some)
+
+-- what holds of each row holds of the one that is found
+pub found_all : {R : Type 0} (P : R → Type 0) (t : R → Bool) (xs : List R) → AllByRecursion P xs → IsSome (find t xs) → (r : R) × (P r × (t r ≡ true))
+found_all P t [] all some = absurd (true≢false (sym some))
+found_all {R} P t (x ∷ xs) all some =
+    elim (t x) as (λ b. t x ≡ b → IsSome (cond b (Some x) (find t xs)) → (r : R) × (P r × (t r ≡ true))) [
+      | true ↦ λ e here. (x, (all.0, e))
+      | false ↦ λ e later. found_all P t xs all.1 later
+    ] refl some

@@ -6,7 +6,7 @@ use Rattle.std.specs.Option.{option_map}
 use Rattle.std.specs.Str.{bytes_eq}
 use Rattle.hub_rows.specs.declared.change.Edit.{Edit}
 use Rattle.hub_rows.specs.declared.change.Edit.TheVariants.{StationAdded, BootSeen, PolicySet, ConnectorSeen, TagPut, TagDropped, TxStarted, TxStopped, ReadingsAdded}
-use Rattle.hub_rows.specs.Rows.{Rows, WellFormedRows, station_rest, connector_rest, tag_rest, tx_rest, reading_rest, registration_of}
+use Rattle.hub_rows.specs.Rows.{Rows, station_rest, connector_rest, tag_rest, tx_rest, reading_rest, registration_of}
 use Rattle.hub_rows.specs.declared.tag_row.TagRow.{TagRow}
 use Rattle.hub_rows.specs.declared.tx_row.TxRow.{TxRow}
 use Rattle.hub_rows.specs.declared.tx_row.TxKey.{TxKey}
@@ -16,6 +16,7 @@ use Rattle.ocpp_types.specs.TagKey.{key_of}
 use Rattle.ocpp_types.specs.declared.authorization_status.AuthorizationStatus.{AuthorizationStatus}
 use Rattle.ocpp_types.specs.declared.authorization_status.AuthorizationStatus.TheVariants.{Accepted, Blocked, Expired, Invalid, ConcurrentTx}
 use Rattle.hub_rows.specs.Keyed.{by_key, put_all, own, those, greatest}
+use Rattle.hub_rows.specs.WellFormed.{WellFormedRows}
 use Rattle.hub_rows.specs.Changes.{edit, new_station, with_boot, with_policy, connector_row, tag_row, tx_row, with_stop, with_readings}
 use Rattle.hub_rows.specs.Own.{own_rows, own_edit}
 use Rattle.hub_rows.specs.Tags.{tag_in, is_blocked, is_parent_blocked, own_tag_in}
@@ -30,7 +31,7 @@ rows_of b station first [] P here = tt
 rows_of b station first (r ∷ rs) P here = (here, rows_of b station (first + 1) rs P here)
 
 own-readings : (a station : List ℕ) (first : ℕ) (readings : List Reading) (rows : Rows) → WellFormedRows rows → own (λ r. r.op) a (with_readings a station first readings rows.readings) ≡ put_all (by_key reading_rest) (reading_rows a station first readings) (own (λ r. r.op) a rows.readings)
-own-readings a station first readings rows good = own-put_all (λ r. r.op) reading_rest a (reading_rows a station first readings) rows.readings good.readings (rows_of a station first readings (λ o. o ≡ a) refl)
+own-readings a station first readings rows good = own-put_all (λ r. r.op) reading_rest a (reading_rows a station first readings) rows.readings good.readings.sorted (rows_of a station first readings (λ o. o ≡ a) refl)
 
 own-readings_other : (a b station : List ℕ) (first : ℕ) (readings : List Reading) (rows : Rows) → b ≢ a → own (λ r. r.op) a (with_readings b station first readings rows.readings) ≡ own (λ r. r.op) a rows.readings
 own-readings_other a b station first readings rows other = own-put_all_other (λ r. r.op) reading_rest a (reading_rows b station first readings) rows.readings (rows_of b station first readings (λ o. o ≢ a) other)
@@ -44,13 +45,13 @@ own_rows-edit a (BootSeen station boot state) rows good =
 own_rows-edit a (PolicySet station policy interval) rows good =
     λ i. record (own_rows a rows) { stations = own-changed (λ r. r.op) a (λ r. bytes_eq r.station station) (with_policy policy interval) rows.stations (λ r. refl) i }
 own_rows-edit a (ConnectorSeen station connector report) rows good =
-    λ i. record (own_rows a rows) { connectors = own-put (λ r. r.op) connector_rest a (connector_row a station connector report) rows.connectors good.connectors refl i }
+    λ i. record (own_rows a rows) { connectors = own-put (λ r. r.op) connector_rest a (connector_row a station connector report) rows.connectors good.connectors.sorted refl i }
 own_rows-edit a (TagPut key tag) rows good =
-    λ i. record (own_rows a rows) { tags = own-put (λ r. r.op) tag_rest a (tag_row a key tag) rows.tags good.tags refl i }
+    λ i. record (own_rows a rows) { tags = own-put (λ r. r.op) tag_rest a (tag_row a key tag) rows.tags good.tags.sorted refl i }
 own_rows-edit a (TagDropped key) rows good =
     λ i. record (own_rows a rows) { tags = own-without (λ r. r.op) a (λ r. bytes_eq r.key key) rows.tags i }
 own_rows-edit a (TxStarted station number start) rows good =
-    λ i. record (own_rows a rows) { transactions = own-put (λ r. r.op) tx_rest a (tx_row a station number start) rows.transactions good.transactions refl i }
+    λ i. record (own_rows a rows) { transactions = own-put (λ r. r.op) tx_rest a (tx_row a station number start) rows.transactions good.transactions.sorted refl i }
 own_rows-edit a (TxStopped station number stop first readings) rows good =
     λ i. record (own_rows a rows) { transactions = own-changed (λ r. r.op) a (is_tx station number) (with_stop stop) rows.transactions (λ r. refl) i; readings = own-readings a station first readings rows good i }
 own_rows-edit a (ReadingsAdded station first readings) rows good =

@@ -1,8 +1,12 @@
 -- What a change leaves of well formed rows.
-use Rattle.std.specs.Prelude.{ℕ, List, ◌&&◌, not}
-use Rattle.std.proofs.Common.{refl}
+use Rattle.std.specs.Prelude.{◌≡◌, ℕ, ◌+◌, ◌≤◌, List, [], ◌∷◌, length, Bool, ◌&&◌, ◌==◌, cond, not, true, false, filter, Option, None, Some, is_some, IsSome}
+use Rattle.std.proofs.Common.{refl, sym, ◌∙◌, ap, subst, arith, ⊎_elim}
+use Rattle.std.specs.List.{AllByRecursion}
 use Rattle.std.specs.List.Sorted.{IsStrictlySortedBy}
+use Rattle.std.specs.Option.{option_map}
+use Rattle.std.specs.Ordering.{is_eq}
 use Rattle.std.specs.Str.{bytes_eq}
+use Rattle.std.proofs.lemmas.Bool.{and_parts}
 use Rattle.std.proofs.lemmas.List.Kept.{IsStrictlySortedBy-filter}
 use Rattle.hub_rows.specs.declared.change.Edit.{Edit}
 use Rattle.hub_rows.specs.declared.change.Edit.TheVariants.{StationAdded, BootSeen, PolicySet, ConnectorSeen, TagPut, TagDropped, TxStarted, TxStopped, ReadingsAdded}
@@ -10,44 +14,166 @@ use Rattle.hub_rows.specs.declared.station_row.StationRow.{StationRow}
 use Rattle.hub_rows.specs.declared.connector_row.ConnectorRow.{ConnectorRow}
 use Rattle.hub_rows.specs.declared.tag_row.TagRow.{TagRow}
 use Rattle.hub_rows.specs.declared.tx_row.TxRow.{TxRow}
+use Rattle.hub_rows.specs.declared.tx_row.Stop.{Stop}
 use Rattle.hub_rows.specs.declared.reading_row.Reading.{Reading}
 use Rattle.hub_rows.specs.declared.reading_row.ReadingRow.{ReadingRow}
-use Rattle.hub_rows.specs.Rows.{Rows, WellFormedRows, station_key, connector_key, tag_key, tx_key, reading_key}
-use Rattle.hub_rows.specs.Keyed.{by_key, changed}
-use Rattle.hub_rows.specs.Changes.{edit, new_station, with_boot, with_policy, connector_row, tag_row, tx_row, with_stop, with_readings}
-use Rattle.hub_rows.specs.Transactions.{is_tx, reading_rows}
-use Rattle.hub_rows.proofs.ListLaws.{by_key_total, sorted-put, sorted-put_all, sorted-changed}
+use Rattle.hub_rows.specs.Rows.{Rows, no_rows, station_in, registration_in, registration_of, station_key, connector_key, tag_key, tx_key, reading_key}
+use Rattle.hub_rows.specs.Keyed.{key_cmp, by_key, put, put_all, changed}
+use Rattle.hub_rows.specs.Transactions.{is_tx, tx_in, state_of, reading_rows, AreNext, last_of_all}
+use Rattle.hub_rows.specs.WellFormed.{IsOnRecord, IsNumber, IsGoodConnector, IsGoodTag, IsGoodTx, IsGoodReading, AreGood, WellFormedRows}
+use Rattle.hub_rows.specs.Changes.{edit, new_station, with_boot, with_policy, connector_row, tag_row, tx_row, with_stop, with_readings, IsOpen, EditFits}
+use Rattle.hub_rows.proofs.ListLaws.{by_key_total, same_key, same_text, two_parts, all-put, all-put_all, all-filter, all-changed, all-weaker, sorted-put, sorted-put_all, sorted-changed, some-put, some-map, found_all}
 
--- one list is another, which is in order
+-- ---- good lists
+
+module _ {R : Type 0} (key : R → List (List ℕ)) (P : R → Type 0) where
+  good-put : (r : R) (rs : List R) → P r → AreGood key P rs → AreGood key P (put (by_key key) r rs)
+  good-put r rs here good = record { sorted = sorted-put (by_key key) (by_key_total key) r rs good.sorted; each = all-put (by_key key) P r rs here good.each }
+
+  good-put_all : (new rs : List R) → AllByRecursion P new → AreGood key P rs → AreGood key P (put_all (by_key key) new rs)
+  good-put_all new rs all good = record { sorted = sorted-put_all (by_key key) (by_key_total key) new rs good.sorted; each = all-put_all (by_key key) P new rs all good.each }
+
+  good-filter : (t : R → Bool) (rs : List R) → AreGood key P rs → AreGood key P (filter t rs)
+  good-filter t rs good = record { sorted = IsStrictlySortedBy-filter (by_key key) t rs good.sorted; each = all-filter P t rs good.each }
+
+  good-changed : (op : R → List ℕ) (b : List ℕ) (t : R → Bool) (f : R → R) → ((r : R) → key (f r) ≡ key r) → ((r : R) → P r → P (f r)) → (rs : List R) → AreGood key P rs → AreGood key P (changed op b t f rs)
+  good-changed op b t f same stays rs good = record { sorted = sorted-changed key op b t f same rs good.sorted; each = all-changed P op b t f rs stays good.each }
+
+  good-weaker : (Q : R → Type 0) → ((r : R) → P r → Q r) → (rs : List R) → AreGood key P rs → AreGood key Q rs
+  good-weaker Q f rs good = record { sorted = good.sorted; each = all-weaker P Q f rs good.each }
+
+-- ---- stations on record
+
+registered : (o : Option StationRow) → is_some (option_map registration_of o) ≡ is_some o
+registered None = refl
+registered (Some r) = refl
+
+-- a station is on record exactly if it is registered
+pub on_record : (b station : List ℕ) (stations : List StationRow) → IsSome (registration_in b station stations) → IsOnRecord b station stations
+on_record b station stations some = sym (registered (station_in b station stations)) ∙ some
+
+pub is_registered : (b station : List ℕ) (stations : List StationRow) → IsOnRecord b station stations → IsSome (registration_in b station stations)
+is_registered b station stations on = registered (station_in b station stations) ∙ on
+
+-- each station that was on record still is
+abbrev pub KeepsRecord : List StationRow → List StationRow → Type 0
+KeepsRecord old new = (b station : List ℕ) → IsOnRecord b station old → IsOnRecord b station new
+
+keeps-put : (r : StationRow) (stations : List StationRow) → KeepsRecord stations (put (by_key station_key) r stations)
+keeps-put r stations b station on =
+    let t : StationRow → Bool = (λ x. bytes_eq x.op b && bytes_eq x.station station) in
+    let by : (x : StationRow) → t x ≡ is_eq (key_cmp (station_key x) (b ∷ station ∷ [])) = (λ x. two_parts x.op x.station b station) in
+    some-put (by_key station_key) t (λ x y e. by x ∙ ap (λ k. is_eq (key_cmp k (b ∷ station ∷ []))) (same_key (station_key x) (station_key y) e) ∙ sym (by y)) r stations on
+
+keeps-changed : (c : List ℕ) (test : StationRow → Bool) (f : StationRow → StationRow) → ((r : StationRow) → ((f r).op ≡ r.op) × ((f r).station ≡ r.station)) → (stations : List StationRow) → KeepsRecord stations (changed (λ r. r.op) c test f stations)
+keeps-changed c test f same stations b station on =
+    let t : StationRow → Bool = (λ x. bytes_eq x.op b && bytes_eq x.station station) in
+    some-map t (λ r. cond (bytes_eq r.op c && test r) (f r) r)
+    (λ r. elim (bytes_eq r.op c && test r) as (λ y. t (cond y (f r) r) ≡ t r) [ true ↦ λ i. bytes_eq ((same r).0 i) b && bytes_eq ((same r).1 i) station | false ↦ refl ]) stations on
+
+-- ---- one list is another
+
 module _ (rows : Rows) (good : WellFormedRows rows) where
-  pub well_formed-stations : (rs : List StationRow) → IsStrictlySortedBy (by_key station_key) rs → WellFormedRows (record rows { stations = rs })
-  well_formed-stations rs sorted = record { stations = sorted; connectors = good.connectors; tags = good.tags; transactions = good.transactions; readings = good.readings }
+  pub well_formed-stations : (rs : List StationRow) → IsStrictlySortedBy (by_key station_key) rs → KeepsRecord rows.stations rs → WellFormedRows (record rows { stations = rs })
+  well_formed-stations rs sorted keeps = record {
+    stations = sorted;
+    connectors = good-weaker connector_key (IsGoodConnector rows.stations) (IsGoodConnector rs) (λ r on. keeps r.op r.station on) rows.connectors good.connectors;
+    tags = good.tags;
+    transactions = good-weaker tx_key (IsGoodTx rows.stations) (IsGoodTx rs) (λ r g. record { station = keeps r.op r.station g.station; number = g.number; key = g.key }) rows.transactions good.transactions;
+    readings = good-weaker reading_key (IsGoodReading rows.stations) (IsGoodReading rs) (λ r g. record { station = keeps r.op r.station g.station; number = g.number }) rows.readings good.readings;
+  }
 
-  pub well_formed-connectors : (rs : List ConnectorRow) → IsStrictlySortedBy (by_key connector_key) rs → WellFormedRows (record rows { connectors = rs })
-  well_formed-connectors rs sorted = record { stations = good.stations; connectors = sorted; tags = good.tags; transactions = good.transactions; readings = good.readings }
+  pub well_formed-connectors : (rs : List ConnectorRow) → AreGood connector_key (IsGoodConnector rows.stations) rs → WellFormedRows (record rows { connectors = rs })
+  well_formed-connectors rs new = record { stations = good.stations; connectors = new; tags = good.tags; transactions = good.transactions; readings = good.readings }
 
-  pub well_formed-tags : (rs : List TagRow) → IsStrictlySortedBy (by_key tag_key) rs → WellFormedRows (record rows { tags = rs })
-  well_formed-tags rs sorted = record { stations = good.stations; connectors = good.connectors; tags = sorted; transactions = good.transactions; readings = good.readings }
+  pub well_formed-tags : (rs : List TagRow) → AreGood tag_key IsGoodTag rs → WellFormedRows (record rows { tags = rs })
+  well_formed-tags rs new = record { stations = good.stations; connectors = good.connectors; tags = new; transactions = good.transactions; readings = good.readings }
 
-  pub well_formed-transactions : (rs : List TxRow) → IsStrictlySortedBy (by_key tx_key) rs → WellFormedRows (record rows { transactions = rs })
-  well_formed-transactions rs sorted = record { stations = good.stations; connectors = good.connectors; tags = good.tags; transactions = sorted; readings = good.readings }
+  pub well_formed-transactions : (rs : List TxRow) → AreGood tx_key (IsGoodTx rows.stations) rs → WellFormedRows (record rows { transactions = rs })
+  well_formed-transactions rs new = record { stations = good.stations; connectors = good.connectors; tags = good.tags; transactions = new; readings = good.readings }
 
-  pub well_formed-readings : (rs : List ReadingRow) → IsStrictlySortedBy (by_key reading_key) rs → WellFormedRows (record rows { readings = rs })
-  well_formed-readings rs sorted = record { stations = good.stations; connectors = good.connectors; tags = good.tags; transactions = good.transactions; readings = sorted }
+  pub well_formed-readings : (rs : List ReadingRow) → AreGood reading_key (IsGoodReading rows.stations) rs → WellFormedRows (record rows { readings = rs })
+  well_formed-readings rs new = record { stations = good.stations; connectors = good.connectors; tags = good.tags; transactions = good.transactions; readings = new }
 
-readings-added : (b station : List ℕ) (first : ℕ) (readings : List Reading) (rows : Rows) → WellFormedRows rows → WellFormedRows (record rows { readings = with_readings b station first readings rows.readings })
-readings-added b station first readings rows good = well_formed-readings rows good _ (sorted-put_all (by_key reading_key) (by_key_total reading_key) (reading_rows b station first readings) rows.readings good.readings)
+-- ---- new numbers
 
--- the order of the keys is kept
-pub well_formed-edit : (b : List ℕ) (e : Edit) (rows : Rows) → WellFormedRows rows → WellFormedRows (edit b e rows)
-well_formed-edit b (StationAdded station policy interval) rows good = well_formed-stations rows good _ (sorted-put (by_key station_key) (by_key_total station_key) (new_station b station policy interval) rows.stations good.stations)
-well_formed-edit b (BootSeen station boot state) rows good = well_formed-stations rows good _ (sorted-changed station_key (λ r. r.op) b (λ r. bytes_eq r.station station) (with_boot boot state) (λ r. refl) rows.stations good.stations)
-well_formed-edit b (PolicySet station policy interval) rows good = well_formed-stations rows good _ (sorted-changed station_key (λ r. r.op) b (λ r. bytes_eq r.station station) (with_policy policy interval) (λ r. refl) rows.stations good.stations)
-well_formed-edit b (ConnectorSeen station connector report) rows good = well_formed-connectors rows good _ (sorted-put (by_key connector_key) (by_key_total connector_key) (connector_row b station connector report) rows.connectors good.connectors)
-well_formed-edit b (TagPut key tag) rows good = well_formed-tags rows good _ (sorted-put (by_key tag_key) (by_key_total tag_key) (tag_row b key tag) rows.tags good.tags)
-well_formed-edit b (TagDropped key) rows good = well_formed-tags rows good _ (IsStrictlySortedBy-filter (by_key tag_key) (λ r. not (bytes_eq r.op b && bytes_eq r.key key)) rows.tags good.tags)
-well_formed-edit b (TxStarted station number start) rows good = well_formed-transactions rows good _ (sorted-put (by_key tx_key) (by_key_total tx_key) (tx_row b station number start) rows.transactions good.transactions)
-well_formed-edit b (TxStopped station number stop first readings) rows good =
-    readings-added b station first readings (record rows { transactions = changed (λ r. r.op) b (is_tx station number) (with_stop stop) rows.transactions })
-    (well_formed-transactions rows good _ (sorted-changed tx_key (λ r. r.op) b (is_tx station number) (with_stop stop) (λ r. refl) rows.transactions good.transactions))
-well_formed-edit b (ReadingsAdded station first readings) rows good = readings-added b station first readings rows good
+number_of : (last first : ℕ) → AreNext last first 1 → IsNumber first
+number_of last first next = ⊎_elim (λ none. absurd (omega (arith, none))) (λ follow. (follow.from_one, let to = follow.to_the_end in omega (arith, to))) next
+
+readings_from : (stations : List StationRow) (b station : List ℕ) (first : ℕ) (readings : List Reading) → IsOnRecord b station stations → 1 ≤ first → first + length readings ≤ last_of_all + 1 → AllByRecursion (IsGoodReading stations) (reading_rows b station first readings)
+readings_from stations b station first [] on from to = tt
+readings_from stations b station first (r ∷ rs) on from to = (record { station = on; number = (from, omega (arith, to)) }, readings_from stations b station (first + 1) rs on (omega (arith, from)) (omega (arith, to)))
+
+good_readings : (stations : List StationRow) (b station : List ℕ) (last first : ℕ) (readings : List Reading) → IsOnRecord b station stations → AreNext last first (length readings) → AllByRecursion (IsGoodReading stations) (reading_rows b station first readings)
+good_readings stations b station last first [] on next = tt
+good_readings stations b station last first (r ∷ rs) on next =
+    ⊎_elim (λ none. absurd (omega (arith, none))) (λ follow. readings_from stations b station first (r ∷ rs) on follow.from_one follow.to_the_end) next
+
+-- ---- changes
+
+open_some : (o : Option TxRow) → IsOpen (option_map state_of o) → IsSome o
+open_some None is_open = absurd is_open
+open_some (Some r) is_open = refl
+
+-- the station of a transaction is on record
+pub on_record-tx : (b station : List ℕ) (number : ℕ) (rows : Rows) → WellFormedRows rows → IsOpen (tx_in b station number rows.transactions) → IsOnRecord b station rows.stations
+on_record-tx b station number rows good is_open =
+    let t : TxRow → Bool = (λ r. bytes_eq r.op b && is_tx station number r) in
+    let at = found_all (IsGoodTx rows.stations) t rows.transactions good.transactions.each (open_some _ is_open) in
+    let r : TxRow = at.0 in
+    let parts = and_parts (bytes_eq r.op b) (is_tx station number r) at.1.1 in
+    let of_station = and_parts (bytes_eq r.station station) (r.number == number) parts.1 in
+    subst (λ s. IsOnRecord b s rows.stations) (same_text r.station station of_station.0) (subst (λ o. IsOnRecord o r.station rows.stations) (same_text r.op b parts.0) at.1.0.station)
+
+module _ (b : List ℕ) (rows : Rows) (good : WellFormedRows rows) where
+  pub station-put : (r : StationRow) → WellFormedRows (record rows { stations = put (by_key station_key) r rows.stations })
+  station-put r = well_formed-stations rows good _ (sorted-put (by_key station_key) (by_key_total station_key) r rows.stations good.stations) (keeps-put r rows.stations)
+
+  pub station-changed : (station : List ℕ) (f : StationRow → StationRow) → ((r : StationRow) → ((f r).op ≡ r.op) × ((f r).station ≡ r.station)) → WellFormedRows (record rows { stations = changed (λ r. r.op) b (λ r. bytes_eq r.station station) f rows.stations })
+  station-changed station f same =
+      let test : StationRow → Bool = (λ r. bytes_eq r.station station) in
+      well_formed-stations rows good _ (sorted-changed station_key (λ r. r.op) b test f (λ r i. (same r).0 i ∷ (same r).1 i ∷ []) rows.stations good.stations) (keeps-changed b test f same rows.stations)
+
+  pub connector-put : (r : ConnectorRow) → IsGoodConnector rows.stations r → WellFormedRows (record rows { connectors = put (by_key connector_key) r rows.connectors })
+  connector-put r new = well_formed-connectors rows good _ (good-put connector_key (IsGoodConnector rows.stations) r rows.connectors new good.connectors)
+
+  pub tag-put : (r : TagRow) → IsGoodTag r → WellFormedRows (record rows { tags = put (by_key tag_key) r rows.tags })
+  tag-put r new = well_formed-tags rows good _ (good-put tag_key IsGoodTag r rows.tags new good.tags)
+
+  pub tag-dropped : (key : List ℕ) → WellFormedRows (edit b (TagDropped key) rows)
+  tag-dropped key = well_formed-tags rows good _ (good-filter tag_key IsGoodTag (λ r. not (bytes_eq r.op b && bytes_eq r.key key)) rows.tags good.tags)
+
+  pub tx-put : (r : TxRow) → IsGoodTx rows.stations r → WellFormedRows (record rows { transactions = put (by_key tx_key) r rows.transactions })
+  tx-put r new = well_formed-transactions rows good _ (good-put tx_key (IsGoodTx rows.stations) r rows.transactions new good.transactions)
+
+  pub tx-stopped : (station : List ℕ) (number : ℕ) (stop : Stop) → WellFormedRows (record rows { transactions = changed (λ r. r.op) b (is_tx station number) (with_stop stop) rows.transactions })
+  tx-stopped station number stop = well_formed-transactions rows good _
+      (good-changed tx_key (IsGoodTx rows.stations) (λ r. r.op) b (is_tx station number) (with_stop stop) (λ r. refl) (λ r g. record { station = g.station; number = g.number; key = g.key }) rows.transactions good.transactions)
+
+  pub readings-put : (station : List ℕ) (last first : ℕ) (readings : List Reading) → IsOnRecord b station rows.stations → AreNext last first (length readings) → WellFormedRows (record rows { readings = with_readings b station first readings rows.readings })
+  readings-put station last first readings on next = well_formed-readings rows good _
+      (good-put_all reading_key (IsGoodReading rows.stations) (reading_rows b station first readings) rows.readings (good_readings rows.stations b station last first readings on next) good.readings)
+
+-- rows that are well formed are so after an edit that fits
+pub well_formed-edit : (b : List ℕ) (e : Edit) (rows : Rows) → WellFormedRows rows → EditFits b e rows → WellFormedRows (edit b e rows)
+well_formed-edit b (StationAdded station policy interval) rows good fits = station-put b rows good (new_station b station policy interval)
+well_formed-edit b (BootSeen station boot state) rows good fits = station-changed b rows good station (with_boot boot state) (λ r. (refl, refl))
+well_formed-edit b (PolicySet station policy interval) rows good fits = station-changed b rows good station (with_policy policy interval) (λ r. (refl, refl))
+well_formed-edit b (ConnectorSeen station connector report) rows good fits = connector-put b rows good (connector_row b station connector report) (on_record b station rows.stations fits)
+well_formed-edit b (TagPut key tag) rows good fits = tag-put b rows good (tag_row b key tag) (record { key = fits })
+well_formed-edit b (TagDropped key) rows good fits = tag-dropped b rows good key
+well_formed-edit b (TxStarted station number start) rows good fits =
+    tx-put b rows good (tx_row b station number start) (record { station = on_record b station rows.stations fits.0; number = number_of _ number fits.1; key = fits.2 })
+well_formed-edit b (TxStopped station number stop first readings) rows good fits =
+    readings-put b (record rows { transactions = changed (λ r. r.op) b (is_tx station number) (with_stop stop) rows.transactions }) (tx-stopped b rows good station number stop) station _ first readings (on_record-tx b station number rows good fits.0) fits.1
+well_formed-edit b (ReadingsAdded station first readings) rows good fits = readings-put b rows good station _ first readings (on_record b station rows.stations fits.0) fits.1
+
+pub well_formed-no_rows : WellFormedRows no_rows
+unfolding IsStrictlySortedBy
+well_formed-no_rows = record {
+  stations = tt;
+  connectors = record { sorted = tt; each = tt };
+  tags = record { sorted = tt; each = tt };
+  transactions = record { sorted = tt; each = tt };
+  readings = record { sorted = tt; each = tt };
+}

@@ -1,6 +1,7 @@
 -- What a change does to the rows of all operators.
 use Rattle.std.specs.Prelude.{◌≡◌, ℕ, List, length, Option, Some, None, IsSome, true}
 use Rattle.std.specs.Str.{bytes_eq}
+use Rattle.ocpp_types.specs.TagKey.{key_of}
 use Rattle.ocpp_types.specs.declared.policy.Policy.{Policy}
 use Rattle.ocpp_types.specs.declared.state.State.{State}
 use Rattle.ocpp_types.specs.declared.state.State.TheVariants.{Fresh}
@@ -75,15 +76,16 @@ IsOpen None = ⊥
 IsOpen (Some t) = t.is_open ≡ true
 
 -- an edit that the rows allow: a new station isn't there, one that is edited or has the row is,
--- a transaction that is stopped is open, and new numbers follow the station's last, if it has one
+-- a transaction that is stopped is open, new numbers follow the station's last, if it has one, and
+-- the key of a tag is the key of its text
 abbrev pub EditFits : List ℕ → Edit → Rows → Type 0
 EditFits b (StationAdded station policy interval) rows = registration_at b station rows ≡ None
 EditFits b (BootSeen station boot state) rows = IsSome (registration_at b station rows)
 EditFits b (PolicySet station policy interval) rows = IsSome (registration_at b station rows)
 EditFits b (ConnectorSeen station connector report) rows = IsSome (registration_at b station rows)
-EditFits b (TagPut key tag) rows = Unit {0}
+EditFits b (TagPut key tag) rows = key ≡ key_of tag.text
 EditFits b (TagDropped key) rows = Unit {0}
-EditFits b (TxStarted station number start) rows = IsSome (registration_at b station rows) × AreNext (last_numbers_in b station rows.transactions rows.readings).transaction number 1
+EditFits b (TxStarted station number start) rows = IsSome (registration_at b station rows) × AreNext (last_numbers_in b station rows.transactions rows.readings).transaction number 1 × (start.id.key ≡ key_of start.tag)
 EditFits b (TxStopped station number stop first readings) rows = IsOpen (tx_in b station number rows.transactions) × AreNext (last_numbers_in b station rows.transactions rows.readings).reading first (length readings)
 EditFits b (ReadingsAdded station first readings) rows = IsSome (registration_at b station rows) × AreNext (last_numbers_in b station rows.transactions rows.readings).reading first (length readings)
 

@@ -6,6 +6,7 @@ pub mod Reads
 pub mod Rows
 pub mod Tags
 pub mod Transactions
+pub mod WellFormed
 pub mod Changes
 pub mod Own
 pub mod Lookups

@@ -1,6 +1,5 @@
 -- The rows of all operators, and how they are looked up.
 use Rattle.std.specs.Prelude.{ℕ, List, [], ◌∷◌, Option}
-use Rattle.std.specs.List.Sorted.{IsStrictlySortedBy}
 use Rattle.std.specs.Option.{option_map}
 use Rattle.std.specs.Str.{bytes_eq}
 use Rattle.hub_rows.specs.declared.station_row.StationRow.{StationRow}
@@ -9,7 +8,7 @@ use Rattle.hub_rows.specs.declared.connector_row.ConnectorRow.{ConnectorRow}
 use Rattle.hub_rows.specs.declared.tag_row.TagRow.{TagRow}
 use Rattle.hub_rows.specs.declared.tx_row.TxRow.{TxRow}
 use Rattle.hub_rows.specs.declared.reading_row.ReadingRow.{ReadingRow}
-use Rattle.hub_rows.specs.Keyed.{by_key, found}
+use Rattle.hub_rows.specs.Keyed.{found}
 
 -- the lists of rows
 pub record Rows : Type 0 where
@@ -53,14 +52,6 @@ reading_rest r = r.station ∷ (r.number ∷ []) ∷ []
 
 abbrev pub reading_key : ReadingRow → List (List ℕ)
 reading_key r = r.op ∷ reading_rest r
-
--- each list is in the order of its keys, each key once
-pub record WellFormedRows (rows : Rows) : Type 0 where
-  pub stations : IsStrictlySortedBy (by_key station_key) rows.stations
-  pub connectors : IsStrictlySortedBy (by_key connector_key) rows.connectors
-  pub tags : IsStrictlySortedBy (by_key tag_key) rows.tags
-  pub transactions : IsStrictlySortedBy (by_key tx_key) rows.transactions
-  pub readings : IsStrictlySortedBy (by_key reading_key) rows.readings
 
 abbrev pub registration_of : StationRow → Registration
 registration_of r = record { policy = r.policy; interval = r.interval; state = r.state }

@@ -1,6 +1,7 @@
 //! What a store of records promises.
 ghost use Rattle.std.specs.Prelude.{◌≡◌, Err, ℕ, IfOk, OnOk, OnErr};
-ghost use Rattle.hub_rows.specs.Rows.{Rows, WellFormedRows, registration_at};
+ghost use Rattle.hub_rows.specs.Rows.{Rows, registration_at};
+ghost use Rattle.hub_rows.specs.WellFormed.{WellFormedRows};
 ghost use Rattle.hub_rows.specs.Tags.{own_tag_in};
 ghost use Rattle.hub_rows.specs.Lookups.{stations_in, tags_in, connectors_in};
 ghost use Rattle.hub_rows.specs.Transactions.{is_used_in, same_start_in, tx_in, has_open_in, txs_in, readings_in, last_numbers_in};

@@ -1,10 +1,11 @@
 //! The store in memory.
-ghost use Rattle.std.specs.Prelude.{◌≡◌, length, OnOk, OnErr};
+ghost use Rattle.std.specs.Prelude.{◌≡◌, OnOk, OnErr};
 ghost use Rattle.std.proofs.Props.{props};
 ghost use Rattle.hub_rows.specs.Keyed.{changed};
-ghost use Rattle.hub_rows.specs.Rows.{WellFormedRows, no_rows};
-ghost use Rattle.hub_rows.specs.Changes.{edit, with_stop};
-ghost use Rattle.hub_rows.specs.Transactions.{AreNext, last_numbers_in, is_tx};
+ghost use Rattle.hub_rows.specs.Rows.{no_rows};
+ghost use Rattle.hub_rows.specs.WellFormed.{WellFormedRows};
+ghost use Rattle.hub_rows.specs.Changes.{edit, with_stop, EditFits};
+ghost use Rattle.hub_rows.specs.Transactions.{is_tx};
 ghost use Rattle.hub_rows.specs.declared.change.Edit.TheVariants.{TxStarted, ReadingsAdded};
 ghost use Rattle.store_mem.specs.Lists.{rows_in, AreByStation};
 ghost use Rattle.store_mem.specs.Open.{opens_of};
@@ -53,7 +54,7 @@ impl MemStore {
 impl MemStore {
     /// Adds a transaction behind those of its station.
     fn start_tx(&mut self, op: &Text, station: &Text, number: u32, start: &Start) -> Mem<()>
-        requires { AreNext (last_numbers_in op.now station.now (rows_in self.old.lists).transactions (rows_in self.old.lists).readings).transaction number 1 }
+        requires { EditFits op.now (TxStarted station.now number start.now) (rows_in self.old.lists) }
         ensures ok { OnOk result (⟦<MemStore as Store>⟧.rows self.new ≡ edit op.now (TxStarted station.now number start.now) (⟦<MemStore as Store>⟧.rows self.old)) }
         ensures err { OnErr result (⟦<MemStore as Store>⟧.rows self.new ≡ ⟦<MemStore as Store>⟧.rows self.old) }
     {
@@ -86,7 +87,7 @@ impl MemStore {
         first: u32,
         readings: &[Reading],
     ) -> Mem<()>
-        requires { AreNext (last_numbers_in op.now station.now (rows_in self.old.lists).transactions (rows_in self.old.lists).readings).reading first (length readings.now) }
+        requires { EditFits op.now (ReadingsAdded station.now first readings.now) (rows_in self.old.lists) }
         ensures ok { OnOk result (⟦<MemStore as Store>⟧.rows self.new ≡ edit op.now (ReadingsAdded station.now first readings.now) (⟦<MemStore as Store>⟧.rows self.old)) }
         ensures err { OnErr result (⟦<MemStore as Store>⟧.rows self.new ≡ ⟦<MemStore as Store>⟧.rows self.old) }
     {

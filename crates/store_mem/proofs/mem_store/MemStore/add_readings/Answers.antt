@@ -1,6 +1,7 @@
 use Rattle.hub_rows.specs.declared.change.Edit.TheVariants.{ReadingsAdded}
 use Rattle.hub_rows.specs.Changes.{with_readings}
-use Rattle.hub_rows.specs.Rows.{Rows, WellFormedRows}
+use Rattle.hub_rows.specs.Rows.{Rows}
+use Rattle.hub_rows.specs.WellFormed.{WellFormedRows}
 use Rattle.hub_rows.proofs.WellFormedLaws.{well_formed-edit}
 use Rattle.store_mem.specs.ByStation.{all_rows}
 use Rattle.store_mem.specs.Lists.{rows_in}
@@ -15,7 +16,7 @@ invariant_of-self c =
     let st = c.args.station.now in
     record {
       good = by_result (λ xs. WellFormedRows (record rows { readings = xs })) c.add_readings.result (all_rows c.add_readings.new.groups.items) (with_readings b st c.args.first c.args.readings.now rows.readings) rows.readings
-          (well_formed-edit b (ReadingsAdded st c.args.first c.args.readings.now) rows s.good) s.good c.add_readings.ensures.ok c.add_readings.ensures.err;
+          (well_formed-edit b (ReadingsAdded st c.args.first c.args.readings.now) rows s.good c.requires) s.good c.add_readings.ensures.ok c.add_readings.ensures.err;
       by_station = (s.by_station.0, c.add_readings.ensures.groups);
       in_use = s.in_use;
     }

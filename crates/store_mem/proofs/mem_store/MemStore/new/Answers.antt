@@ -1,13 +1,10 @@
 use Rattle.std.proofs.Common.{[], sym, ap, ◌∙◌, subst}
 use Rattle.std.specs.List.Sorted.{IsStrictlySortedBy}
-use Rattle.hub_rows.specs.Rows.{WellFormedRows, no_rows}
+use Rattle.hub_rows.specs.WellFormed.{WellFormedRows}
+use Rattle.hub_rows.proofs.WellFormedLaws.{well_formed-no_rows}
 use Rattle.store_mem.specs.ByStation.{all_rows, AreGrouped}
 use Rattle.store_mem.specs.Open.{opens_of}
 use Rattle.store_mem.proofs.mem_store.MemStore.new.Goals as goal
-
-no_rows_good : WellFormedRows no_rows
-unfolding IsStrictlySortedBy
-no_rows_good = record { stations = tt; connectors = tt; tags = tt; transactions = tt; readings = tt }
 
 none_grouped : {R : Type 0} (op station : R → _) (number : R → _) → AreGrouped op station number []
 unfolding IsStrictlySortedBy
@@ -17,7 +14,7 @@ pub invariant_of-result : goal.invariant_of-result
 invariant_of-result c =
     let l = c.new.ensures in
     record {
-      good = subst WellFormedRows (sym l.rows) no_rows_good;
+      good = subst WellFormedRows (sym l.rows) well_formed-no_rows;
       by_station = (
         subst (AreGrouped (λ r. r.op) (λ r. r.station) (λ r. r.number)) (sym l.transactions) (none_grouped (λ r. r.op) (λ r. r.station) (λ r. r.number)),
         subst (AreGrouped (λ r. r.op) (λ r. r.station) (λ r. r.number)) (sym l.readings) (none_grouped (λ r. r.op) (λ r. r.station) (λ r. r.number)),

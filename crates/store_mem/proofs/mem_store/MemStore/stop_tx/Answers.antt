@@ -1,13 +1,11 @@
-use Rattle.std.proofs.Common.{◌==◌, ◌&&◌, List, refl, ap, sym, subst, ◌∙◌}
+use Rattle.std.proofs.Common.{◌==◌, ◌&&◌, List, ap, sym, subst, ◌∙◌}
 use Rattle.std.specs.List.Sorted.{IsStrictlySortedBy}
 use Rattle.std.specs.Str.{bytes_eq}
 use Rattle.hub_rows.specs.declared.tx_row.TxRow.{TxRow}
-use Rattle.hub_rows.specs.Changes.{with_stop}
 use Rattle.hub_rows.specs.Keyed.{by_key, without}
-use Rattle.hub_rows.specs.Rows.{Rows, WellFormedRows, tx_key}
-use Rattle.hub_rows.specs.Transactions.{is_tx}
-use Rattle.hub_rows.proofs.ListLaws.{sorted-changed}
-use Rattle.hub_rows.proofs.WellFormedLaws.{well_formed-transactions}
+use Rattle.hub_rows.specs.Rows.{Rows}
+use Rattle.hub_rows.specs.WellFormed.{WellFormedRows}
+use Rattle.hub_rows.proofs.WellFormedLaws.{tx-stopped}
 use Rattle.store_mem.specs.Open.{open_key, opens_of}
 use Rattle.store_mem.specs.Lists.{rows_in}
 use Rattle.store_mem.proofs.OpenLaws.{sorted-opens, opens-stopped}
@@ -16,7 +14,7 @@ use Rattle.store_mem.proofs.mem_store.MemStore.stop_tx.Goals as goal
 pub close-requires : goal.close-requires
 close-requires c =
     let s = c.args.self.now in
-    subst (IsStrictlySortedBy (by_key open_key)) (sym s.in_use) (sorted-opens ((rows_in s.lists).transactions) s.good.transactions)
+    subst (IsStrictlySortedBy (by_key open_key)) (sym s.in_use) (sorted-opens ((rows_in s.lists).transactions) s.good.transactions.sorted)
 
 pub invariant_of-self : goal.invariant_of-self
 invariant_of-self c =
@@ -28,7 +26,7 @@ invariant_of-self c =
     let n = c.args.number in
     record {
       good = subst (λ xs. WellFormedRows (record rows { transactions = xs })) (sym c.stop_tx.ensures.rows)
-          (well_formed-transactions rows s.good _ (sorted-changed tx_key (λ r. r.op) b (is_tx st n) (with_stop c.args.stop) (λ r. refl) txs s.good.transactions));
+          (tx-stopped b rows s.good st n c.args.stop);
       by_station = (c.stop_tx.ensures.groups, s.by_station.1);
       in_use = c.close.ensures ∙ ap (without (λ o. o.op) b (λ o. bytes_eq o.station st && o.number == n)) s.in_use
           ∙ sym (opens-stopped b st n c.args.stop txs) ∙ ap opens_of (sym c.stop_tx.ensures.rows);

@@ -1,0 +1,54 @@
+-- What holds of the rows of all operators.
+use Rattle.std.specs.Prelude.{◌≡◌, ℕ, ◌≤◌, List, IsSome}
+use Rattle.std.specs.List.{AllByRecursion}
+use Rattle.std.specs.List.Sorted.{IsStrictlySortedBy}
+use Rattle.ocpp_types.specs.TagKey.{key_of}
+use Rattle.hub_rows.specs.declared.station_row.StationRow.{StationRow}
+use Rattle.hub_rows.specs.declared.connector_row.ConnectorRow.{ConnectorRow}
+use Rattle.hub_rows.specs.declared.tag_row.TagRow.{TagRow}
+use Rattle.hub_rows.specs.declared.tx_row.TxRow.{TxRow}
+use Rattle.hub_rows.specs.declared.reading_row.ReadingRow.{ReadingRow}
+use Rattle.hub_rows.specs.Keyed.{by_key}
+use Rattle.hub_rows.specs.Rows.{Rows, station_in, station_key, connector_key, tag_key, tx_key, reading_key}
+use Rattle.hub_rows.specs.Transactions.{last_of_all}
+
+-- a station of operator b is among those of all
+abbrev pub IsOnRecord : List ℕ → List ℕ → List StationRow → Type 0
+IsOnRecord b station stations = IsSome (station_in b station stations)
+
+-- the number of a transaction or reading
+abbrev pub IsNumber : ℕ → Type 0
+IsNumber n = (1 ≤ n) × (n ≤ last_of_all)
+
+-- ---- one row
+
+abbrev pub IsGoodConnector : List StationRow → ConnectorRow → Type 0
+IsGoodConnector stations r = IsOnRecord r.op r.station stations
+
+pub record IsGoodTag (r : TagRow) : Type 0 where
+  -- it stands under the key of its text
+  pub key : r.key ≡ key_of r.tag.text
+
+pub record IsGoodTx (stations : List StationRow) (r : TxRow) : Type 0 where
+  pub station : IsOnRecord r.op r.station stations
+  pub number : IsNumber r.number
+  -- its tag's key is that of the tag as it was sent
+  pub key : r.start.id.key ≡ key_of r.start.tag
+
+pub record IsGoodReading (stations : List StationRow) (r : ReadingRow) : Type 0 where
+  pub station : IsOnRecord r.op r.station stations
+  pub number : IsNumber r.number
+
+-- ---- the lists
+
+-- rows in the order of their keys, each key once, and each row good
+pub record AreGood {R : Type 0} (key : R → List (List ℕ)) (IsGood : R → Type 0) (rows : List R) : Type 0 where
+  pub sorted : IsStrictlySortedBy (by_key key) rows
+  pub each : AllByRecursion IsGood rows
+
+pub record WellFormedRows (rows : Rows) : Type 0 where
+  pub stations : IsStrictlySortedBy (by_key station_key) rows.stations
+  pub connectors : AreGood connector_key (IsGoodConnector rows.stations) rows.connectors
+  pub tags : AreGood tag_key IsGoodTag rows.tags
+  pub transactions : AreGood tx_key (IsGoodTx rows.stations) rows.transactions
+  pub readings : AreGood reading_key (IsGoodReading rows.stations) rows.readings
