@@ -63,9 +63,9 @@ FitsLookups l (StationAdded station policy interval) = l.registration station �
 FitsLookups l (BootSeen station boot state) = IsSome (l.registration station)
 FitsLookups l (PolicySet station policy interval) = IsSome (l.registration station)
 FitsLookups l (ConnectorSeen station connector report) = IsSome (l.registration station)
-FitsLookups l (TagPut key tag) = Unit {0}
+FitsLookups l (TagPut key tag) = key ≡ key_of tag.text
 FitsLookups l (TagDropped key) = Unit {0}
-FitsLookups l (TxStarted station number start) = IsSome (l.registration station) × AreNext (l.last_numbers station).transaction number 1
+FitsLookups l (TxStarted station number start) = IsSome (l.registration station) × AreNext (l.last_numbers station).transaction number 1 × (start.id.key ≡ key_of start.tag)
 FitsLookups l (TxStopped station number stop first readings) = IsOpen (l.tx station number) × AreNext (l.last_numbers station).reading first (length readings)
 FitsLookups l (ReadingsAdded station first readings) = IsSome (l.registration station) × AreNext (l.last_numbers station).reading first (length readings)
 
@@ -83,7 +83,7 @@ start_fits station r m l here =
       | None ↦ let last = (l.last_numbers station).transaction in
           elim (nat_le last_of_all last) as (λ b. nat_le last_of_all last ≡ b → IfSome (cond b internal_error (begin_decision station r id m (judge_rule m id.key (purpose.Start None) l) (last + 1))).edit (FitsLookups l)) [
             | true ↦ λ full. tt
-            | false ↦ λ room. (here, inr (record { next = inr refl; from_one = omega arith; to_the_end = omega (arith, leb-false last_of_all last room) }))
+            | false ↦ λ room. (here, inr (record { next = inr refl; from_one = omega arith; to_the_end = omega (arith, leb-false last_of_all last room) }), refl)
           ] refl
       | Some n ↦ tt
     ]
@@ -177,7 +177,7 @@ policy_fits station policy interval l =
 put_fits : (t : Tag) (l : Lookups) → PlanFits l (edit_plan (put_rule t))
 put_fits t l =
     elim (is_tag t.text) as (λ b. PlanFits l (edit_plan (cond b (cond (is_parent t.parent) (Ok (edit_of.TagPut (key_of t.text) t)) (Err (BadField (codes "parent")))) (Err (BadField (codes "tag")))))) [
-      | true ↦ elim (is_parent t.parent) as (λ b. PlanFits l (edit_plan (cond b (Ok (edit_of.TagPut (key_of t.text) t)) (Err (BadField (codes "parent")))))) [ true ↦ tt | false ↦ tt ]
+      | true ↦ elim (is_parent t.parent) as (λ b. PlanFits l (edit_plan (cond b (Ok (edit_of.TagPut (key_of t.text) t)) (Err (BadField (codes "parent")))))) [ true ↦ refl | false ↦ tt ]
       | false ↦ tt
     ]
 
@@ -203,7 +203,7 @@ edit_fits b rows (StationAdded station policy interval) fits = fits
 edit_fits b rows (BootSeen station boot state) fits = fits
 edit_fits b rows (PolicySet station policy interval) fits = fits
 edit_fits b rows (ConnectorSeen station connector report) fits = fits
-edit_fits b rows (TagPut key tag) fits = tt
+edit_fits b rows (TagPut key tag) fits = fits
 edit_fits b rows (TagDropped key) fits = tt
 edit_fits b rows (TxStarted station number start) fits = fits
 edit_fits b rows (TxStopped station number stop first readings) fits = fits

@@ -7,7 +7,10 @@ use Rattle.std.proofs.lemmas.Bool.{true≢false}
 use Rattle.std.proofs.lemmas.List.Elements.{filter-append}
 use Rattle.hub_rows.specs.declared.change.Edit.{Edit}
 use Rattle.hub_rows.specs.Keyed.{by_key, put, own}
-use Rattle.hub_rows.specs.Rows.{Rows, WellFormedRows}
+use Rattle.std.specs.Option.{ForSome}
+use Rattle.hub_rows.specs.Changes.{EditFits}
+use Rattle.hub_rows.specs.Rows.{Rows}
+use Rattle.hub_rows.specs.WellFormed.{WellFormedRows}
 use Rattle.hub_rows.specs.Own.{own_rows}
 use Rattle.hub_rows.proofs.ListLaws.{by_key_total, sorted-put, own-put, own-put_other, found-own, same_text, text_itself, other_text}
 use Rattle.hub_rows.proofs.OwnLaws.{own_rows-edit, own_rows-edit_other, well_formed-edit, same_lookups}
@@ -24,6 +27,7 @@ use Rattle.hub.specs.Table.{Facts, plan}
 use Rattle.hub.specs.World.{Setting, World, said_to, outputs_of, facts_at, rows_after, world_by, plan_at, world_outputs, world_step, run_outputs, world_run}
 use Rattle.hub.specs.View.{View, view, own_slot, own_facts, own_rows_after, own_slots_after, Item, Own, Ticked, operator_outputs, operator_step, operator_run_outputs, operator_run, seen_of, seen}
 use Rattle.hub.specs.WellFormed.{WellFormed}
+use Rattle.hub.proofs.Committing.{edit_of_plan_fits}
 use Rattle.hub.proofs.SlotLaws.{slot_names}
 
 -- the slot of a station is found among the operator's own
@@ -106,9 +110,9 @@ step_view setting a w (At b m what) good =
 
 -- ---- the order of the lists is kept
 
-rows_after-kept : (b : List ℕ) (e : Option Edit) (rows : Rows) → WellFormedRows rows → WellFormedRows (rows_after b e rows)
-rows_after-kept b None rows good = good
-rows_after-kept b (Some e) rows good = well_formed-edit b e rows good
+rows_after-kept : (b : List ℕ) (e : Option Edit) (rows : Rows) → WellFormedRows rows → ForSome e (λ d. EditFits b d rows) → WellFormedRows (rows_after b e rows)
+rows_after-kept b None rows good fits = good
+rows_after-kept b (Some e) rows good fits = well_formed-edit b e rows good (fits e refl)
 
 slots_after-kept : (b : List ℕ) (moves : Option Move) (slots : List Slot) → IsStrictlySortedBy (by_key slot_key) slots → IsStrictlySortedBy (by_key slot_key) (slots_after b moves slots)
 slots_after-kept b None slots sorted = sorted
@@ -118,7 +122,7 @@ pub step_kept : (setting : Setting) (w : World) (e : Event) → WellFormed w →
 step_kept setting w (Tick m) good = good
 step_kept setting w (At b m what) good =
     let p = plan_at setting w b m what in
-    record { rows = rows_after-kept b p.edit w.rows good.rows; slots = slots_after-kept b p.moves w.slots good.slots }
+    record { rows = rows_after-kept b p.edit w.rows good.rows (edit_of_plan_fits setting.answers b what m w p refl); slots = slots_after-kept b p.moves w.slots good.slots }
 
 -- ---- lists of events
 

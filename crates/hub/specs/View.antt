@@ -5,7 +5,7 @@ use Rattle.hub_rows.specs.declared.change.Edit.{Edit}
 use Rattle.hub_rows.specs.Keyed.{put, by_key, own}
 use Rattle.hub_rows.specs.Rows.{Rows}
 use Rattle.hub_rows.specs.Own.{own_rows, own_edit}
-use Rattle.hub_rows.specs.Lookups.{own_lookups}
+use Rattle.hub_rows.specs.OwnLookups.{own_lookups}
 use Rattle.hub.specs.declared.event.Event.{Event}
 use Rattle.hub.specs.declared.event.Event.TheVariants.{At, Tick}
 use Rattle.hub.specs.declared.event.What.{What}

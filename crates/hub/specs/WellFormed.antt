@@ -1,7 +1,7 @@
--- A world whose lists are in the order of their keys.
+-- A world whose rows are well formed and whose slots are in the order of their keys.
 use Rattle.std.specs.List.Sorted.{IsStrictlySortedBy}
 use Rattle.hub_rows.specs.Keyed.{by_key}
-use Rattle.hub_rows.specs.Rows.{WellFormedRows}
+use Rattle.hub_rows.specs.WellFormed.{WellFormedRows}
 use Rattle.hub.specs.Slots.{slot_key}
 use Rattle.hub.specs.World.{World}
 
