@@ -13,7 +13,8 @@ use Rattle.hub_rows.specs.Rows.{Rows}
 use Rattle.hub_rows.specs.WellFormed.{WellFormedRows}
 use Rattle.hub_rows.specs.Own.{own_rows}
 use Rattle.hub_rows.proofs.ListLaws.{by_key_total, sorted-put, own-put, own-put_other, found-own, same_text, text_itself, other_text}
-use Rattle.hub_rows.proofs.OwnLaws.{own_rows-edit, own_rows-edit_other, well_formed-edit, same_lookups}
+use Rattle.hub_rows.proofs.OwnLaws.{own_rows-edit, own_rows-edit_other, same_lookups}
+use Rattle.hub_rows.proofs.WellFormedLaws.{well_formed-edit}
 use Rattle.hub.specs.declared.event.Event.{Event}
 use Rattle.hub.specs.declared.event.Event.TheVariants.{At, Tick}
 use Rattle.hub.specs.declared.event.What.{What}
