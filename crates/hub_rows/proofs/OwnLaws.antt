@@ -22,7 +22,7 @@ use Rattle.hub_rows.specs.Own.{own_rows, own_edit}
 use Rattle.hub_rows.specs.Tags.{tag_in, is_blocked, is_parent_blocked, own_tag_in}
 use Rattle.hub_rows.specs.Transactions.{is_accepted, is_left_out, is_use, is_tx, is_sent_with, is_reading, is_used_in, readings_in, numbers_of, reading_rows}
 use Rattle.hub_rows.specs.Lookups.{lookups_at}
-use Rattle.hub_rows.specs.OwnLookups.{own_blocked, own_parent_blocked, own_tag, own_accepted, own_left_out, own_use, own_start, own_tx, own_state, own_sent_with, own_reading, own_lookups}
+use Rattle.hub_rows.specs.OwnLookups.{own_is_blocked, own_is_parent_blocked, own_tag, own_is_accepted, own_is_left_out, own_use, own_start, own_tx, own_state, own_is_sent_with, own_reading, own_lookups}
 use Rattle.hub_rows.proofs.ListLaws.{own-put, own-put_other, own-without, own-without_other, own-changed, own-changed_other, own-put_all, own-put_all_other, found-own, those-own, any_of-own, and-true}
 
 -- the readings of operator b are its own
@@ -85,32 +85,32 @@ own-those : {R : Type 0} (op : R → List ℕ) (a : List ℕ) (rows : List R) �
 own-those op a rows = λ i. filter (λ r. and-true (bytes_eq (op r) a) i) rows
 
 -- the tests of one's own rows are those of the rows of all
-same_blocked : (o : Option TagRow) → is_blocked o ≡ own_blocked o
+same_blocked : (o : Option TagRow) → is_blocked o ≡ own_is_blocked o
 same_blocked None = refl
 same_blocked (Some r) = refl
 
-same_parent : (a : List ℕ) (tags : List TagRow) (parent : Option (List ℕ)) → is_parent_blocked (λ key. is_blocked (tag_in a key tags)) parent ≡ own_parent_blocked (own (λ r. r.op) a tags) parent
+same_parent : (a : List ℕ) (tags : List TagRow) (parent : Option (List ℕ)) → is_parent_blocked (λ key. is_blocked (tag_in a key tags)) parent ≡ own_is_parent_blocked (own (λ r. r.op) a tags) parent
 same_parent a tags None = refl
 same_parent a tags (Some parent) = ap is_blocked (found-own (λ r. r.op) a (λ r. bytes_eq r.key (key_of parent)) tags) ∙ same_blocked (find (λ r. bytes_eq r.key (key_of parent)) (own (λ r. r.op) a tags))
 
 same_tag : (a key : List ℕ) (tags : List TagRow) → own_tag_in a key tags ≡ own_tag key (own (λ r. r.op) a tags)
 same_tag a key tags = λ i. option_map (λ r. record r.tag { blocked = r.tag.blocked || same_parent a tags r.tag.parent i }) (found-own (λ r. r.op) a (λ r. bytes_eq r.key key) tags i)
 
-same_accepted : (s : AuthorizationStatus) → is_accepted s ≡ own_accepted s
+same_accepted : (s : AuthorizationStatus) → is_accepted s ≡ own_is_accepted s
 same_accepted Accepted = refl
 same_accepted Blocked = refl
 same_accepted Expired = refl
 same_accepted Invalid = refl
 same_accepted ConcurrentTx = refl
 
-same_left_out : (except : Option TxKey) (r : TxRow) → is_left_out except r ≡ own_left_out except r
+same_left_out : (except : Option TxKey) (r : TxRow) → is_left_out except r ≡ own_is_left_out except r
 same_left_out None r = refl
 same_left_out (Some k) r = refl
 
 same_use : (key : List ℕ) (except : Option TxKey) (r : TxRow) → is_use key except r ≡ own_use key except r
 same_use key except r = λ i. (is_none r.stop && same_accepted r.start.status i) && (bytes_eq r.start.id.key key && not (same_left_out except r i))
 
-same_sent_with : (n : Option ℕ) (transaction : Option ℤ) → is_sent_with n transaction ≡ own_sent_with n transaction
+same_sent_with : (n : Option ℕ) (transaction : Option ℤ) → is_sent_with n transaction ≡ own_is_sent_with n transaction
 same_sent_with None transaction = refl
 same_sent_with (Some n) None = refl
 same_sent_with (Some n) (Some transaction) = refl

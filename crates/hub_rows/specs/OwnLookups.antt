@@ -23,39 +23,39 @@ use Rattle.hub_rows.specs.Lookups.{Lookups}
 -- ---- tags
 
 -- whether the row, if there is one, is of a blocked tag
-abbrev pub own_blocked : Option TagRow → Bool
-own_blocked None = false
-own_blocked (Some r) = r.tag.blocked
+abbrev pub own_is_blocked : Option TagRow → Bool
+own_is_blocked None = false
+own_is_blocked (Some r) = r.tag.blocked
 
 -- whether the tag of the key of a parent's text is blocked
-abbrev pub own_parent_blocked : List TagRow → Option (List ℕ) → Bool
-own_parent_blocked tags None = false
-own_parent_blocked tags (Some parent) = own_blocked (find (λ r. bytes_eq r.key (key_of parent)) tags)
+abbrev pub own_is_parent_blocked : List TagRow → Option (List ℕ) → Bool
+own_is_parent_blocked tags None = false
+own_is_parent_blocked tags (Some parent) = own_is_blocked (find (λ r. bytes_eq r.key (key_of parent)) tags)
 
 -- the tag of a key as it counts: blocked by itself, or by the parent that it names
 abbrev pub own_tag : List ℕ → List TagRow → Option Tag
-own_tag key tags = option_map (λ r. record r.tag { blocked = r.tag.blocked || own_parent_blocked tags r.tag.parent }) (find (λ r. bytes_eq r.key key) tags)
+own_tag key tags = option_map (λ r. record r.tag { blocked = r.tag.blocked || own_is_parent_blocked tags r.tag.parent }) (find (λ r. bytes_eq r.key key) tags)
 
 -- ---- transactions
 
-abbrev pub own_accepted : AuthorizationStatus → Bool
-own_accepted Accepted = true
-own_accepted Blocked = false
-own_accepted Expired = false
-own_accepted Invalid = false
-own_accepted ConcurrentTx = false
+abbrev pub own_is_accepted : AuthorizationStatus → Bool
+own_is_accepted Accepted = true
+own_is_accepted Blocked = false
+own_is_accepted Expired = false
+own_is_accepted Invalid = false
+own_is_accepted ConcurrentTx = false
 
 -- the transaction of that number of a station
 abbrev pub own_tx : List ℕ → ℕ → TxRow → Bool
 own_tx station number r = bytes_eq r.station station && r.number == number
 
-abbrev pub own_left_out : Option TxKey → TxRow → Bool
-own_left_out None r = false
-own_left_out (Some k) r = own_tx k.station k.number r
+abbrev pub own_is_left_out : Option TxKey → TxRow → Bool
+own_is_left_out None r = false
+own_is_left_out (Some k) r = own_tx k.station k.number r
 
 -- open and begun Accepted with the tag of that key, and not the one left out
 abbrev pub own_use : List ℕ → Option TxKey → TxRow → Bool
-own_use key except r = (is_none r.stop && own_accepted r.start.status) && (bytes_eq r.start.id.key key && not (own_left_out except r))
+own_use key except r = (is_none r.stop && own_is_accepted r.start.status) && (bytes_eq r.start.id.key key && not (own_is_left_out except r))
 
 -- begun at that station, with that connector, tag key, meter and time
 abbrev pub own_start : List ℕ → StartKey → TxRow → Bool
@@ -67,13 +67,13 @@ own_state r = record { connector = r.start.id.connector; is_open = is_none r.sto
 -- ---- readings
 
 -- any, or one that was sent with the number of a transaction
-abbrev pub own_sent_with : Option ℕ → Option ℤ → Bool
-own_sent_with None transaction = true
-own_sent_with (Some n) None = false
-own_sent_with (Some n) (Some transaction) = int_eq transaction (pos n)
+abbrev pub own_is_sent_with : Option ℕ → Option ℤ → Bool
+own_is_sent_with None transaction = true
+own_is_sent_with (Some n) None = false
+own_is_sent_with (Some n) (Some transaction) = int_eq transaction (pos n)
 
 abbrev pub own_reading : List ℕ → Option ℕ → ReadingRow → Bool
-own_reading station n r = bytes_eq r.station station && own_sent_with n r.reading.transaction
+own_reading station n r = bytes_eq r.station station && own_is_sent_with n r.reading.transaction
 
 -- ---- all
 
