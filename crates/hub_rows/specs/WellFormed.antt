@@ -22,6 +22,7 @@ IsNumber n = (1 ≤ n) × (n ≤ last_of_all)
 
 -- ---- one row
 
+-- of a station that is on record
 abbrev pub IsGoodConnector : List StationRow → ConnectorRow → Type 0
 IsGoodConnector stations r = IsOnRecord r.op r.station stations
 
@@ -29,12 +30,14 @@ pub record IsGoodTag (r : TagRow) : Type 0 where
   -- it stands under the key of its text
   pub key : r.key ≡ key_of r.tag.text
 
+-- of a station that is on record, with a number in range
 pub record IsGoodTx (stations : List StationRow) (r : TxRow) : Type 0 where
   pub station : IsOnRecord r.op r.station stations
   pub number : IsNumber r.number
   -- its tag's key is that of the tag as it was sent
   pub key : r.start.id.key ≡ key_of r.start.tag
 
+-- the same of a reading
 pub record IsGoodReading (stations : List StationRow) (r : ReadingRow) : Type 0 where
   pub station : IsOnRecord r.op r.station stations
   pub number : IsNumber r.number
@@ -46,6 +49,7 @@ pub record AreGood {R : Type 0} (key : R → List (List ℕ)) (IsGood : R → Ty
   pub sorted : IsStrictlySortedBy (by_key key) rows
   pub each : AllByRecursion IsGood rows
 
+-- the rows of all operators: each list is in order, and each of its rows is good
 pub record WellFormedRows (rows : Rows) : Type 0 where
   pub stations : IsStrictlySortedBy (by_key station_key) rows.stations
   pub connectors : AreGood connector_key (IsGoodConnector rows.stations) rows.connectors
