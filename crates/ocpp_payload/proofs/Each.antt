@@ -1,15 +1,14 @@
 -- Reading the items of a list, one after another.
-use Rattle.std.proofs.Common.{◌≡◌, ℕ, suc, ◌+◌, ◌<◌, ◌==◌, false, List, [], ◌∷◌, ◌++◌, length, get_or, drop, Result, Ok, Err, refl, ap, sym, ◌∙◌, append_assoc, drop-cons, add-one}
+use Rattle.std.proofs.Common.{◌≡◌, ℕ, suc, ◌+◌, ◌<◌, ◌==◌, false, List, [], ◌∷◌, ◌++◌, length, get_or, drop, Result, Ok, Err, refl, ap, subst, sym, ◌∙◌, append_assoc, drop-cons, add-one}
 use Rattle.serde_json.specs.Data.{Data}
 use Rattle.serde_json.specs.View.{view, items_view}
 use Rattle.serde_json.specs.declared.value.Value.{Value}
 use Rattle.ocpp_payload.specs.declared.fault.FieldFault.{FieldFault}
-use Rattle.ocpp_payload.specs.Kind.{◌>>=◌}
-use Rattle.ocpp_payload.specs.Objects.{each, objects, some_objects, of_object}
-use Rattle.ocpp_payload.specs.Gives.{Fails}
+use Rattle.ocpp_payload.specs.Kind.{Kind, ◌>>=◌}
+use Rattle.ocpp_payload.specs.Lists.{each, some_each}
+use Rattle.ocpp_payload.specs.Gives.{Fails, Gives}
 use Rattle.ocpp_payload.specs.declared.fault.ReadError.{ReadError}
 use Rattle.ocpp_payload.specs.declared.fault.ReadError.TheVariants.{NoMemory, Fault}
-use Rattle.serde_json.specs.Find.{as_object}
 
 -- the items so far, before those that reading gives
 abbrev pub with_front : {A : Type 0} → List A → Result (List A) FieldFault → Result (List A) FieldFault
@@ -40,19 +39,17 @@ module _ {A : Type 0} where
       ∙ ap (λ w. with_front front (read (view w) >>= (λ x. each read (items_view (drop (suc i) vs)) >>= (λ xs. Ok (x ∷ xs))))) (sym is)
       ∙ ap (λ r. with_front front (r >>= (λ x. each read (items_view (drop (suc i) vs)) >>= (λ xs. Ok (x ∷ xs))))) e
 
-  pub objects-item : (read : Data → Result A FieldFault) (name : List ℕ) (front : List A) (vs : List Value) (i : ℕ) (v : Value) (y : A)
-      → i < length vs → v ≡ get_or vs i v → of_object read name (as_object (view v)) (view v) ≡ Ok y
-      → with_front front (objects read name (items_view (drop i vs))) ≡ with_front (front ++ y ∷ []) (objects read name (items_view (drop (i + 1) vs)))
-  objects-item read name front vs i v y within is e = each-item (λ d. of_object read name (as_object d) d) front vs i v y within is e
-
   -- a fault at an item is the list's
-  pub objects-fails : (e : ReadError) (read : Data → Result A FieldFault) (name : List ℕ) (front : List A) (vs : List Value) (i : ℕ) (v : Value)
-      → i < length vs → v ≡ get_or vs i v → Fails e (of_object read name (as_object (view v)) (view v))
-      → with_front front (objects read name (items_view (drop i vs))) ≡ objects read name (items_view vs)
-      → Fails e (objects read name (items_view vs))
-  objects-fails NoMemory read name front vs i v within is h same = tt
-  objects-fails (Fault f) read name front vs i v within is h same = sym same ∙ each-refused (λ d. of_object read name (as_object d) d) front vs i v f within is h
+  pub each-fails : (e : ReadError) (read : Data → Result A FieldFault) (front : List A) (vs : List Value) (i : ℕ) (v : Value)
+      → i < length vs → v ≡ get_or vs i v → Fails e (read (view v))
+      → with_front front (each read (items_view (drop i vs))) ≡ each read (items_view vs)
+      → Fails e (each read (items_view vs))
+  each-fails NoMemory read front vs i v within is h same = tt
+  each-fails (Fault f) read front vs i v within is h same = sym same ∙ each-refused read front vs i v f within is h
 
-  pub some_objects-objects : (read : Data → Result A FieldFault) (name : List ℕ) (vs : List Value) → (length vs == 0) ≡ false → objects read name (items_view vs) ≡ some_objects read name (items_view vs)
-  some_objects-objects read name [] some = absurd (cc)
-  some_objects-objects read name (v ∷ vs) some = refl
+  pub some_each-each : (kind : Kind A) (name : List ℕ) (vs : List Value) → (length vs == 0) ≡ false → each (kind name) (items_view vs) ≡ some_each kind name (items_view vs)
+  some_each-each kind name [] some = absurd (cc)
+  some_each-each kind name (v ∷ vs) some = refl
+
+  pub gives_as : (r : Result A ReadError) (wanted other : Result A FieldFault) → Gives r wanted → wanted ≡ other → Gives r other
+  gives_as r wanted other h same = subst (λ w. Gives r w) same h

@@ -1,7 +1,7 @@
 -- How the value of a member is read, by what it holds.
-use Rattle.std.specs.Prelude.{ℕ, nat_le, ℤ, pos, negsuc, int_le, unsigned_abs, List, ◌&&◌, if◌then◌else◌, Option, Some, None, Result, Ok, Err, option_and_then}
+use Rattle.std.specs.Prelude.{ℕ, nat_le, ℤ, pos, negsuc, int_le, unsigned_abs, List, Bool, ◌&&◌, if◌then◌else◌, Option, Some, None, Result, Ok, Err, option_and_then}
 use Rattle.serde_json.specs.Data.{Data}
-use Rattle.serde_json.specs.Find.{as_str, as_number, as_integer}
+use Rattle.serde_json.specs.Find.{as_bool, as_str, as_number, as_integer}
 use Rattle.ocpp_types.specs.Named.{named}
 use Rattle.ocpp_types.specs.Text.{characters}
 use Rattle.ocpp_types.specs.Time.{time_of}
@@ -27,6 +27,10 @@ typed name None = Err (record { code = TypeConstraintViolation; field = name })
 abbrev pub bounded : {A : Type 0} → List ℕ → Option A → Result A FieldFault
 bounded name (Some x) = Ok x
 bounded name None = Err (record { code = PropertyConstraintViolation; field = name })
+
+-- a truth value
+abbrev pub boolean : Kind Bool
+boolean name d = typed name (as_bool d)
 
 -- any text
 abbrev pub any_text : Kind (List ℕ)

@@ -4,7 +4,7 @@ pub mod Conf
 pub mod Fields
 pub mod Gives
 pub mod Kind
-pub mod Objects
+pub mod Lists
 pub mod Readings
 pub mod Request
 pub mod Boot

@@ -16,7 +16,7 @@ use Rattle.ocpp_payload.specs.declared.readings.SampledValue.{SampledValue}
 use Rattle.ocpp_payload.specs.declared.readings.MeterValue.{MeterValue}
 use Rattle.ocpp_payload.specs.Kind.{any_text, choice, time}
 use Rattle.ocpp_payload.specs.Fields.{Fields, end, field, reads, required, optional, with_default}
-use Rattle.ocpp_payload.specs.Objects.{some_of}
+use Rattle.ocpp_payload.specs.Lists.{object_of, some_of}
 
 abbrev pub sampled_value_fields : Fields
 sampled_value_fields =
@@ -44,7 +44,7 @@ sampled_value = reads sampled_value_fields
 abbrev pub meter_value_fields : Fields
 meter_value_fields =
     field (codes "timestamp") (required time)
-    (field (codes "sampledValue") (required (some_of sampled_value))
+    (field (codes "sampledValue") (required (some_of (object_of sampled_value)))
     end)
 
 abbrev pub meter_value : Data → Result MeterValue FieldFault

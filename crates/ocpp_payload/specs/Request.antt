@@ -19,7 +19,7 @@ use Rattle.ocpp_payload.specs.declared.request.Request.{Request}
 use Rattle.ocpp_payload.specs.declared.request.Request.TheVariants as request_of
 use Rattle.ocpp_payload.specs.Kind.{◌>>=◌, any_text, text, int_32, int_64, connector_from, choice, time}
 use Rattle.ocpp_payload.specs.Fields.{Fields, end, field, reads, required, optional, with_default}
-use Rattle.ocpp_payload.specs.Objects.{list_of, some_of}
+use Rattle.ocpp_payload.specs.Lists.{object_of, list_of, some_of}
 use Rattle.ocpp_payload.specs.Readings.{meter_value}
 
 -- ---- Authorize
@@ -80,7 +80,7 @@ abbrev pub meter_values_fields : Fields
 meter_values_fields =
     field (codes "connectorId") (required (connector_from 0))
     (field (codes "transactionId") (optional int_32)
-    (field (codes "meterValue") (required (some_of meter_value))
+    (field (codes "meterValue") (required (some_of (object_of meter_value)))
     end))
 
 abbrev pub meter_values : Data → Result MeterValues FieldFault
@@ -142,7 +142,7 @@ stop_transaction_fields =
     (field (codes "timestamp") (required time)
     (field (codes "transactionId") (required int_32)
     (field (codes "reason") (with_default reason.Local (choice reasons))
-    (field (codes "transactionData") (with_default [] (list_of meter_value))
+    (field (codes "transactionData") (with_default [] (list_of (object_of meter_value)))
     end)))))
 
 abbrev pub stop_transaction : Data → Result StopTransaction FieldFault

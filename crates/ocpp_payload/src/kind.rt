@@ -22,8 +22,13 @@ pub trait Kind: Drop {
     ghost reads: { Self → List ℕ → Data → Result Self.Out FieldFault };
 
     /// Reads the value of the member of that name.
-    fn read(self, alloc: Global, field: &'static str, value: &Value) -> Result<Self::Out, ReadError>
-        ensures { Gives result (reads self field.now (view value.now)) };
+    fn read(
+        &self,
+        alloc: Global,
+        field: &'static str,
+        value: &Value,
+    ) -> Result<Self::Out, ReadError>
+        ensures { Gives result (reads self.now field.now (view value.now)) };
 }
 
 /// A text of at most so many characters.
@@ -37,7 +42,7 @@ impl Kind for TextOf {
 
     ghost reads = { λ kind. text kind.0 };
 
-    fn read(self, alloc: Global, field: &'static str, value: &Value) -> Result<Text, ReadError> {
+    fn read(&self, alloc: Global, field: &'static str, value: &Value) -> Result<Text, ReadError> {
         let Some(text) = value.as_str() else {
             return refused(ErrorCode::TypeConstraintViolation, field);
         };
@@ -59,7 +64,7 @@ impl Kind for AnyText {
 
     ghost reads = { λ _. any_text };
 
-    fn read(self, alloc: Global, field: &'static str, value: &Value) -> Result<Text, ReadError> {
+    fn read(&self, alloc: Global, field: &'static str, value: &Value) -> Result<Text, ReadError> {
         let Some(text) = value.as_str() else {
             return refused(ErrorCode::TypeConstraintViolation, field);
         };
@@ -79,7 +84,7 @@ impl Kind for ConnectorFrom {
 
     ghost reads = { λ kind. connector_from kind.0 };
 
-    fn read(self, _alloc: Global, field: &'static str, value: &Value) -> Result<u8, ReadError> {
+    fn read(&self, _alloc: Global, field: &'static str, value: &Value) -> Result<u8, ReadError> {
         let number = integer(field, value)?;
         if number < self.0 as i128 || 255 < number {
             return refused(ErrorCode::PropertyConstraintViolation, field);
@@ -99,7 +104,7 @@ impl Kind for Int32 {
 
     ghost reads = { λ _. int_32 };
 
-    fn read(self, _alloc: Global, field: &'static str, value: &Value) -> Result<i32, ReadError> {
+    fn read(&self, _alloc: Global, field: &'static str, value: &Value) -> Result<i32, ReadError> {
         let number = integer(field, value)?;
         if number < i32::MIN as i128 || (i32::MAX as i128) < number {
             return refused(ErrorCode::PropertyConstraintViolation, field);
@@ -119,7 +124,7 @@ impl Kind for Int64 {
 
     ghost reads = { λ _. int_64 };
 
-    fn read(self, _alloc: Global, field: &'static str, value: &Value) -> Result<i64, ReadError> {
+    fn read(&self, _alloc: Global, field: &'static str, value: &Value) -> Result<i64, ReadError> {
         let number = integer(field, value)?;
         if number < i64::MIN as i128 || (i64::MAX as i128) < number {
             return refused(ErrorCode::PropertyConstraintViolation, field);
@@ -157,13 +162,32 @@ impl<E: Named + Drop> Kind for NameOf<E> {
 
     ghost reads = { λ _. choice E.names };
 
-    fn read(self, _alloc: Global, field: &'static str, value: &Value) -> Result<E, ReadError> {
+    fn read(&self, _alloc: Global, field: &'static str, value: &Value) -> Result<E, ReadError> {
         let Some(name) = value.as_str() else {
             return refused(ErrorCode::TypeConstraintViolation, field);
         };
         match E::of(name) {
             Some(named) => Ok(named),
             None => refused(ErrorCode::PropertyConstraintViolation, field),
+        }
+    }
+}
+
+/// A truth value.
+#[derive(Clone, Copy, Drop)]
+pub struct Boolean;
+
+impl Kind for Boolean {
+    type Out = bool;
+
+    ghost use Rattle.ocpp_payload.specs.Kind.{boolean};
+
+    ghost reads = { λ _. boolean };
+
+    fn read(&self, _alloc: Global, field: &'static str, value: &Value) -> Result<bool, ReadError> {
+        match value.as_bool() {
+            Some(truth) => Ok(truth),
+            None => refused(ErrorCode::TypeConstraintViolation, field),
         }
     }
 }
@@ -179,7 +203,7 @@ impl Kind for Time {
 
     ghost reads = { λ _. time };
 
-    fn read(self, _alloc: Global, field: &'static str, value: &Value) -> Result<i64, ReadError> {
+    fn read(&self, _alloc: Global, field: &'static str, value: &Value) -> Result<i64, ReadError> {
         let Some(time) = value.as_str().and_then(|text| parse_time(text)) else {
             return refused(ErrorCode::TypeConstraintViolation, field);
         };

@@ -9,8 +9,8 @@ mod conf_writer;
 mod fault;
 mod fields;
 mod kind;
+mod lists;
 mod members;
-mod objects;
 mod readings;
 mod request;
 mod request_reader;
@@ -22,8 +22,8 @@ pub use conf::Conf;
 pub use conf_writer::write_conf;
 pub use fault::{FieldFault, ReadError};
 pub use fields::{optional, required, with_default};
-pub use kind::{AnyText, ConnectorFrom, Int32, Int64, Kind, NameOf, TextOf, Time};
-pub use objects::{ListOf, Readable, SomeOf};
+pub use kind::{AnyText, Boolean, ConnectorFrom, Int32, Int64, Kind, NameOf, TextOf, Time};
+pub use lists::{ListOf, ObjectOf, Readable, SomeOf};
 pub use readings::{MeterValue, SampledValue};
 pub use request::{
     Authorize, DataTransfer, MeterValues, Request, StartTransaction, StatusNotification,

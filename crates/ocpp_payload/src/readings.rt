@@ -6,7 +6,7 @@ ghost use Rattle.ocpp_payload.specs.Gives.{Gives};
 use crate::fault::ReadError;
 use crate::fields::{optional, required, with_default};
 use crate::kind::{AnyText, NameOf, Time};
-use crate::objects::{Readable, SomeOf};
+use crate::lists::{ObjectOf, Readable, SomeOf};
 use ocpp_types::{
     Listed, Location, Measurand, Phase, ReadingContext, Text, UnitOfMeasure, ValueFormat,
 };
@@ -73,7 +73,7 @@ impl Readable for MeterValue {
     fn read_from(alloc: Global, object: &Value) -> Result<MeterValue, ReadError> {
         Ok(MeterValue {
             timestamp: required(alloc, object, "timestamp", Time)?,
-            sampled_value: required(alloc, object, "sampledValue", SomeOf::new())?,
+            sampled_value: required(alloc, object, "sampledValue", SomeOf(ObjectOf::new()))?,
         })
     }
 }

@@ -8,7 +8,7 @@ use crate::action::Action;
 use crate::fault::{FieldFault, ReadError};
 use crate::fields::{optional, required, with_default};
 use crate::kind::{AnyText, ConnectorFrom, Int32, Int64, NameOf, TextOf, Time};
-use crate::objects::{ListOf, SomeOf};
+use crate::lists::{ListOf, ObjectOf, SomeOf};
 use crate::request::{
     Authorize, DataTransfer, MeterValues, Request, StartTransaction, StatusNotification,
     StopTransaction,
@@ -94,7 +94,7 @@ fn meter_values(alloc: Global, payload: &Value) -> Result<MeterValues, ReadError
     Ok(MeterValues {
         connector_id: required(alloc, payload, "connectorId", ConnectorFrom(0))?,
         transaction_id: optional(alloc, payload, "transactionId", Int32)?,
-        meter_value: required(alloc, payload, "meterValue", SomeOf::new())?,
+        meter_value: required(alloc, payload, "meterValue", SomeOf(ObjectOf::new()))?,
     })
 }
 
@@ -137,7 +137,7 @@ fn stop_transaction(alloc: Global, payload: &Value) -> Result<StopTransaction, R
             alloc,
             payload,
             "transactionData",
-            ListOf::new(),
+            ListOf(ObjectOf::new()),
             Listed::new(alloc),
         )?,
     })
