@@ -8,3 +8,6 @@ pub mod Lists
 pub mod Readings
 pub mod Request
 pub mod Boot
+pub mod Plain
+pub mod Holds
+pub mod Table

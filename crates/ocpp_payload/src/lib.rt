@@ -14,6 +14,8 @@ mod members;
 mod readings;
 mod request;
 mod request_reader;
+mod written;
+mod written_kinds;
 
 pub use action::Action;
 pub use boot_writer::write_boot;
@@ -30,3 +32,5 @@ pub use request::{
     StopTransaction,
 };
 pub use request_reader::read_request;
+pub use written::{Bounded, Checked, Tabled, Written, bad_may, put_may, put_must};
+pub use written_kinds::{IntegerWithin, TextWithin};
