@@ -1,3 +1,4 @@
 pub mod Choices
 pub mod Statuses
 pub mod OperatorAction
+pub mod Forms

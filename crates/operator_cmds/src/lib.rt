@@ -3,11 +3,17 @@
 #![tactic(auto)]
 
 mod choices;
+mod configuration;
 mod operator_action;
+mod remote;
+mod station;
 mod statuses;
 
 pub use choices::{AvailabilityType, MessageTrigger, ResetType};
+pub use configuration::{ChangeConfiguration, GetConfiguration};
 pub use operator_action::OperatorAction;
+pub use remote::{RemoteStartTransaction, RemoteStopTransaction};
+pub use station::{ChangeAvailability, DataTransfer, Reset, TriggerMessage, UnlockConnector};
 pub use statuses::{
     AcceptanceStatus, AvailabilityStatus, ConfigurationStatus, TriggerMessageStatus, UnlockStatus,
 };

@@ -1,0 +1,96 @@
+//! Commands that start and stop transactions from afar.
+ghost use Rattle.ocpp_payload.specs.Table.{reads};
+ghost use Rattle.operator_cmds.specs.Forms.{remote_start_transaction, remote_stop_transaction};
+
+use ocpp_payload::{
+    Bounded, Checked, IntegerWithin, ReadError, Readable, Tabled, TextWithin, bad_may, optional,
+    put_may, put_must, required,
+};
+use ocpp_types::{FieldName, Mem, Text};
+use serde_json::{Map, Value};
+use std::alloc::Global;
+
+/// Asks a station to start a transaction (OCPP 1.6, RemoteStartTransaction.req).
+#[derive(Drop)]
+pub struct RemoteStartTransaction {
+    /// 1 to 255.
+    pub connector_id: Option<i64>,
+    pub id_tag: Text,
+}
+
+impl Readable for RemoteStartTransaction {
+    ghost reads_as = { reads remote_start_transaction };
+
+    fn read_from(alloc: Global, object: &Value) -> Result<RemoteStartTransaction, ReadError> {
+        Ok(RemoteStartTransaction {
+            connector_id: optional(alloc, object, "connectorId", IntegerWithin(1, 255))?,
+            id_tag: required(alloc, object, "idTag", TextWithin(20))?,
+        })
+    }
+}
+
+impl Tabled for RemoteStartTransaction {
+    ghost form = { remote_start_transaction };
+
+    fn write(&self, alloc: Global) -> Mem<Value> {
+        let mut members = Map::new(alloc);
+        let connector = IntegerWithin(1, 255);
+        put_may(
+            alloc,
+            &mut members,
+            "connectorId",
+            connector,
+            &self.connector_id,
+        )?;
+        put_must(alloc, &mut members, "idTag", TextWithin(20), &self.id_tag)?;
+        Ok(Value::Object(members))
+    }
+}
+
+impl Checked for RemoteStartTransaction {
+    fn bad(&self) -> Option<FieldName> {
+        let connector = bad_may("connectorId", IntegerWithin(1, 255), &self.connector_id);
+        connector.or(TextWithin(20).bad("idTag", &self.id_tag))
+    }
+}
+
+/// Asks a station to stop a transaction (OCPP 1.6, RemoteStopTransaction.req).
+#[derive(Drop)]
+pub struct RemoteStopTransaction {
+    /// A signed number of 32 bits.
+    pub transaction_id: i64,
+}
+
+/// What `transactionId` holds.
+const TRANSACTION: IntegerWithin = IntegerWithin(-2147483648, 2147483647);
+
+impl Readable for RemoteStopTransaction {
+    ghost reads_as = { reads remote_stop_transaction };
+
+    fn read_from(alloc: Global, object: &Value) -> Result<RemoteStopTransaction, ReadError> {
+        let transaction_id = required(alloc, object, "transactionId", TRANSACTION)?;
+        Ok(RemoteStopTransaction { transaction_id })
+    }
+}
+
+impl Tabled for RemoteStopTransaction {
+    ghost form = { remote_stop_transaction };
+
+    fn write(&self, alloc: Global) -> Mem<Value> {
+        let mut members = Map::new(alloc);
+        put_must(
+            alloc,
+            &mut members,
+            "transactionId",
+            TRANSACTION,
+            &self.transaction_id,
+        )?;
+        Ok(Value::Object(members))
+    }
+}
+
+impl Checked for RemoteStopTransaction {
+    fn bad(&self) -> Option<FieldName> {
+        TRANSACTION.bad("transactionId", &self.transaction_id)
+    }
+}

@@ -1,0 +1,229 @@
+//! Commands to a station as a whole or to a connector.
+ghost use Rattle.ocpp_payload.specs.Table.{reads};
+ghost use Rattle.operator_cmds.specs.Forms.{change_availability, data_transfer, reset, trigger_message, unlock_connector};
+
+use crate::choices::{AvailabilityType, MessageTrigger, ResetType};
+use ocpp_payload::{
+    AnyText, Bounded, Checked, IntegerWithin, NameOf, ReadError, Readable, Tabled, TextWithin,
+    bad_may, optional, put_may, put_must, required,
+};
+use ocpp_types::{FieldName, Mem, Text};
+use serde_json::{Map, Value};
+use std::alloc::Global;
+
+/// Takes a connector into service or out of it (OCPP 1.6, ChangeAvailability.req).
+#[derive(Drop)]
+pub struct ChangeAvailability {
+    /// 0 to 255. 0 is the station with all its connectors.
+    pub connector_id: i64,
+    /// The member `type`.
+    pub kind: AvailabilityType,
+}
+
+impl Readable for ChangeAvailability {
+    ghost reads_as = { reads change_availability };
+
+    fn read_from(alloc: Global, object: &Value) -> Result<ChangeAvailability, ReadError> {
+        Ok(ChangeAvailability {
+            connector_id: required(alloc, object, "connectorId", IntegerWithin(0, 255))?,
+            kind: required(alloc, object, "type", NameOf::new())?,
+        })
+    }
+}
+
+impl Tabled for ChangeAvailability {
+    ghost form = { change_availability };
+
+    fn write(&self, alloc: Global) -> Mem<Value> {
+        let mut members = Map::new(alloc);
+        let connector = IntegerWithin(0, 255);
+        put_must(
+            alloc,
+            &mut members,
+            "connectorId",
+            connector,
+            &self.connector_id,
+        )?;
+        put_must(alloc, &mut members, "type", NameOf::new(), &self.kind)?;
+        Ok(Value::Object(members))
+    }
+}
+
+impl Checked for ChangeAvailability {
+    fn bad(&self) -> Option<FieldName> {
+        IntegerWithin(0, 255).bad("connectorId", &self.connector_id)
+    }
+}
+
+/// A message of a vendor (OCPP 1.6, DataTransfer.req).
+#[derive(Drop)]
+pub struct DataTransfer {
+    pub vendor_id: Text,
+    pub message_id: Option<Text>,
+    /// The member `data`.
+    pub content: Option<Text>,
+}
+
+impl Readable for DataTransfer {
+    ghost reads_as = { reads data_transfer };
+
+    fn read_from(alloc: Global, object: &Value) -> Result<DataTransfer, ReadError> {
+        Ok(DataTransfer {
+            vendor_id: required(alloc, object, "vendorId", TextWithin(255))?,
+            message_id: optional(alloc, object, "messageId", TextWithin(50))?,
+            content: optional(alloc, object, "data", AnyText)?,
+        })
+    }
+}
+
+impl Tabled for DataTransfer {
+    ghost form = { data_transfer };
+
+    fn write(&self, alloc: Global) -> Mem<Value> {
+        let mut members = Map::new(alloc);
+        put_must(
+            alloc,
+            &mut members,
+            "vendorId",
+            TextWithin(255),
+            &self.vendor_id,
+        )?;
+        put_may(
+            alloc,
+            &mut members,
+            "messageId",
+            TextWithin(50),
+            &self.message_id,
+        )?;
+        put_may(alloc, &mut members, "data", AnyText, &self.content)?;
+        Ok(Value::Object(members))
+    }
+}
+
+impl Checked for DataTransfer {
+    fn bad(&self) -> Option<FieldName> {
+        let vendor = TextWithin(255).bad("vendorId", &self.vendor_id);
+        vendor.or(bad_may("messageId", TextWithin(50), &self.message_id))
+    }
+}
+
+/// Restarts a station (OCPP 1.6, Reset.req).
+#[derive(Drop)]
+pub struct Reset {
+    /// The member `type`.
+    pub kind: ResetType,
+}
+
+impl Readable for Reset {
+    ghost reads_as = { reads reset };
+
+    fn read_from(alloc: Global, object: &Value) -> Result<Reset, ReadError> {
+        let kind = required(alloc, object, "type", NameOf::new())?;
+        Ok(Reset { kind })
+    }
+}
+
+impl Tabled for Reset {
+    ghost form = { reset };
+
+    fn write(&self, alloc: Global) -> Mem<Value> {
+        let mut members = Map::new(alloc);
+        put_must(alloc, &mut members, "type", NameOf::new(), &self.kind)?;
+        Ok(Value::Object(members))
+    }
+}
+
+impl Checked for Reset {
+    fn bad(&self) -> Option<FieldName> {
+        None
+    }
+}
+
+/// Asks a station to send a message (OCPP 1.6, TriggerMessage.req).
+#[derive(Drop)]
+pub struct TriggerMessage {
+    pub requested_message: MessageTrigger,
+    /// 1 to 255.
+    pub connector_id: Option<i64>,
+}
+
+impl Readable for TriggerMessage {
+    ghost reads_as = { reads trigger_message };
+
+    fn read_from(alloc: Global, object: &Value) -> Result<TriggerMessage, ReadError> {
+        Ok(TriggerMessage {
+            requested_message: required(alloc, object, "requestedMessage", NameOf::new())?,
+            connector_id: optional(alloc, object, "connectorId", IntegerWithin(1, 255))?,
+        })
+    }
+}
+
+impl Tabled for TriggerMessage {
+    ghost form = { trigger_message };
+
+    fn write(&self, alloc: Global) -> Mem<Value> {
+        let mut members = Map::new(alloc);
+        let message = &self.requested_message;
+        put_must(
+            alloc,
+            &mut members,
+            "requestedMessage",
+            NameOf::new(),
+            message,
+        )?;
+        let connector = IntegerWithin(1, 255);
+        put_may(
+            alloc,
+            &mut members,
+            "connectorId",
+            connector,
+            &self.connector_id,
+        )?;
+        Ok(Value::Object(members))
+    }
+}
+
+impl Checked for TriggerMessage {
+    fn bad(&self) -> Option<FieldName> {
+        bad_may("connectorId", IntegerWithin(1, 255), &self.connector_id)
+    }
+}
+
+/// Opens the lock of a connector (OCPP 1.6, UnlockConnector.req).
+#[derive(Drop)]
+pub struct UnlockConnector {
+    /// 1 to 255.
+    pub connector_id: i64,
+}
+
+impl Readable for UnlockConnector {
+    ghost reads_as = { reads unlock_connector };
+
+    fn read_from(alloc: Global, object: &Value) -> Result<UnlockConnector, ReadError> {
+        let connector_id = required(alloc, object, "connectorId", IntegerWithin(1, 255))?;
+        Ok(UnlockConnector { connector_id })
+    }
+}
+
+impl Tabled for UnlockConnector {
+    ghost form = { unlock_connector };
+
+    fn write(&self, alloc: Global) -> Mem<Value> {
+        let mut members = Map::new(alloc);
+        let connector = IntegerWithin(1, 255);
+        put_must(
+            alloc,
+            &mut members,
+            "connectorId",
+            connector,
+            &self.connector_id,
+        )?;
+        Ok(Value::Object(members))
+    }
+}
+
+impl Checked for UnlockConnector {
+    fn bad(&self) -> Option<FieldName> {
+        IntegerWithin(1, 255).bad("connectorId", &self.connector_id)
+    }
+}
