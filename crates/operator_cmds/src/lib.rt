@@ -2,14 +2,22 @@
 //! as requests of OCPP 1.6, and the answers to them.
 #![tactic(auto)]
 
+mod answer_reader;
+mod answers;
 mod choices;
+mod command;
+mod command_reader;
 mod configuration;
+mod kinds;
 mod operator_action;
 mod remote;
 mod station;
 mod statuses;
 
+pub use answer_reader::read_answer;
 pub use choices::{AvailabilityType, MessageTrigger, ResetType};
+pub use command::{Command, action_name_of};
+pub use command_reader::{bad_field, read_command, write_request};
 pub use configuration::{ChangeConfiguration, GetConfiguration};
 pub use operator_action::OperatorAction;
 pub use remote::{RemoteStartTransaction, RemoteStopTransaction};

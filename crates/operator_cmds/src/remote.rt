@@ -2,9 +2,9 @@
 ghost use Rattle.ocpp_payload.specs.Table.{reads};
 ghost use Rattle.operator_cmds.specs.Forms.{remote_start_transaction, remote_stop_transaction};
 
+use crate::kinds::{CONNECTOR, ID_TAG, NUMBER_OF_32_BITS};
 use ocpp_payload::{
-    Bounded, Checked, IntegerWithin, ReadError, Readable, Tabled, TextWithin, bad_may, optional,
-    put_may, put_must, required,
+    Bounded, Checked, ReadError, Readable, Tabled, bad_may, optional, put_may, put_must, required,
 };
 use ocpp_types::{FieldName, Mem, Text};
 use serde_json::{Map, Value};
@@ -23,8 +23,8 @@ impl Readable for RemoteStartTransaction {
 
     fn read_from(alloc: Global, object: &Value) -> Result<RemoteStartTransaction, ReadError> {
         Ok(RemoteStartTransaction {
-            connector_id: optional(alloc, object, "connectorId", IntegerWithin(1, 255))?,
-            id_tag: required(alloc, object, "idTag", TextWithin(20))?,
+            connector_id: optional(alloc, object, "connectorId", CONNECTOR)?,
+            id_tag: required(alloc, object, "idTag", ID_TAG)?,
         })
     }
 }
@@ -34,23 +34,22 @@ impl Tabled for RemoteStartTransaction {
 
     fn write(&self, alloc: Global) -> Mem<Value> {
         let mut members = Map::new(alloc);
-        let connector = IntegerWithin(1, 255);
         put_may(
             alloc,
             &mut members,
             "connectorId",
-            connector,
+            CONNECTOR,
             &self.connector_id,
         )?;
-        put_must(alloc, &mut members, "idTag", TextWithin(20), &self.id_tag)?;
+        put_must(alloc, &mut members, "idTag", ID_TAG, &self.id_tag)?;
         Ok(Value::Object(members))
     }
 }
 
 impl Checked for RemoteStartTransaction {
     fn bad(&self) -> Option<FieldName> {
-        let connector = bad_may("connectorId", IntegerWithin(1, 255), &self.connector_id);
-        connector.or(TextWithin(20).bad("idTag", &self.id_tag))
+        let connector = bad_may("connectorId", CONNECTOR, &self.connector_id);
+        connector.or(ID_TAG.bad("idTag", &self.id_tag))
     }
 }
 
@@ -61,14 +60,11 @@ pub struct RemoteStopTransaction {
     pub transaction_id: i64,
 }
 
-/// What `transactionId` holds.
-const TRANSACTION: IntegerWithin = IntegerWithin(-2147483648, 2147483647);
-
 impl Readable for RemoteStopTransaction {
     ghost reads_as = { reads remote_stop_transaction };
 
     fn read_from(alloc: Global, object: &Value) -> Result<RemoteStopTransaction, ReadError> {
-        let transaction_id = required(alloc, object, "transactionId", TRANSACTION)?;
+        let transaction_id = required(alloc, object, "transactionId", NUMBER_OF_32_BITS)?;
         Ok(RemoteStopTransaction { transaction_id })
     }
 }
@@ -82,7 +78,7 @@ impl Tabled for RemoteStopTransaction {
             alloc,
             &mut members,
             "transactionId",
-            TRANSACTION,
+            NUMBER_OF_32_BITS,
             &self.transaction_id,
         )?;
         Ok(Value::Object(members))
@@ -91,6 +87,6 @@ impl Tabled for RemoteStopTransaction {
 
 impl Checked for RemoteStopTransaction {
     fn bad(&self) -> Option<FieldName> {
-        TRANSACTION.bad("transactionId", &self.transaction_id)
+        NUMBER_OF_32_BITS.bad("transactionId", &self.transaction_id)
     }
 }

@@ -3,9 +3,10 @@ ghost use Rattle.ocpp_payload.specs.Table.{reads};
 ghost use Rattle.operator_cmds.specs.Forms.{change_availability, data_transfer, reset, trigger_message, unlock_connector};
 
 use crate::choices::{AvailabilityType, MessageTrigger, ResetType};
+use crate::kinds::{CONNECTOR, STATION_OR_CONNECTOR};
 use ocpp_payload::{
-    AnyText, Bounded, Checked, IntegerWithin, NameOf, ReadError, Readable, Tabled, TextWithin,
-    bad_may, optional, put_may, put_must, required,
+    AnyText, Bounded, Checked, NameOf, ReadError, Readable, Tabled, TextWithin, bad_may, optional,
+    put_may, put_must, required,
 };
 use ocpp_types::{FieldName, Mem, Text};
 use serde_json::{Map, Value};
@@ -25,7 +26,7 @@ impl Readable for ChangeAvailability {
 
     fn read_from(alloc: Global, object: &Value) -> Result<ChangeAvailability, ReadError> {
         Ok(ChangeAvailability {
-            connector_id: required(alloc, object, "connectorId", IntegerWithin(0, 255))?,
+            connector_id: required(alloc, object, "connectorId", STATION_OR_CONNECTOR)?,
             kind: required(alloc, object, "type", NameOf::new())?,
         })
     }
@@ -36,12 +37,11 @@ impl Tabled for ChangeAvailability {
 
     fn write(&self, alloc: Global) -> Mem<Value> {
         let mut members = Map::new(alloc);
-        let connector = IntegerWithin(0, 255);
         put_must(
             alloc,
             &mut members,
             "connectorId",
-            connector,
+            STATION_OR_CONNECTOR,
             &self.connector_id,
         )?;
         put_must(alloc, &mut members, "type", NameOf::new(), &self.kind)?;
@@ -51,7 +51,7 @@ impl Tabled for ChangeAvailability {
 
 impl Checked for ChangeAvailability {
     fn bad(&self) -> Option<FieldName> {
-        IntegerWithin(0, 255).bad("connectorId", &self.connector_id)
+        STATION_OR_CONNECTOR.bad("connectorId", &self.connector_id)
     }
 }
 
@@ -153,7 +153,7 @@ impl Readable for TriggerMessage {
     fn read_from(alloc: Global, object: &Value) -> Result<TriggerMessage, ReadError> {
         Ok(TriggerMessage {
             requested_message: required(alloc, object, "requestedMessage", NameOf::new())?,
-            connector_id: optional(alloc, object, "connectorId", IntegerWithin(1, 255))?,
+            connector_id: optional(alloc, object, "connectorId", CONNECTOR)?,
         })
     }
 }
@@ -171,12 +171,11 @@ impl Tabled for TriggerMessage {
             NameOf::new(),
             message,
         )?;
-        let connector = IntegerWithin(1, 255);
         put_may(
             alloc,
             &mut members,
             "connectorId",
-            connector,
+            CONNECTOR,
             &self.connector_id,
         )?;
         Ok(Value::Object(members))
@@ -185,7 +184,7 @@ impl Tabled for TriggerMessage {
 
 impl Checked for TriggerMessage {
     fn bad(&self) -> Option<FieldName> {
-        bad_may("connectorId", IntegerWithin(1, 255), &self.connector_id)
+        bad_may("connectorId", CONNECTOR, &self.connector_id)
     }
 }
 
@@ -200,7 +199,7 @@ impl Readable for UnlockConnector {
     ghost reads_as = { reads unlock_connector };
 
     fn read_from(alloc: Global, object: &Value) -> Result<UnlockConnector, ReadError> {
-        let connector_id = required(alloc, object, "connectorId", IntegerWithin(1, 255))?;
+        let connector_id = required(alloc, object, "connectorId", CONNECTOR)?;
         Ok(UnlockConnector { connector_id })
     }
 }
@@ -210,12 +209,11 @@ impl Tabled for UnlockConnector {
 
     fn write(&self, alloc: Global) -> Mem<Value> {
         let mut members = Map::new(alloc);
-        let connector = IntegerWithin(1, 255);
         put_must(
             alloc,
             &mut members,
             "connectorId",
-            connector,
+            CONNECTOR,
             &self.connector_id,
         )?;
         Ok(Value::Object(members))
@@ -224,6 +222,6 @@ impl Tabled for UnlockConnector {
 
 impl Checked for UnlockConnector {
     fn bad(&self) -> Option<FieldName> {
-        IntegerWithin(1, 255).bad("connectorId", &self.connector_id)
+        CONNECTOR.bad("connectorId", &self.connector_id)
     }
 }

@@ -1,0 +1,34 @@
+-- The answers of stations to commands.
+use Rattle.std.specs.Prelude.{Result, Ok}
+use Rattle.serde_json.specs.Data.{Data}
+use Rattle.ocpp_payload.specs.declared.fault.FieldFault.{FieldFault}
+use Rattle.ocpp_payload.specs.Kind.{◌>>=◌}
+use Rattle.ocpp_payload.specs.Table.{Form, reads, written}
+use Rattle.operator_cmds.specs.AnswerForms.{status_of, data_transfer_answer, get_configuration_answer}
+use Rattle.operator_cmds.specs.Statuses.{acceptance_status_name, acceptance_statuses, availability_status_name, availability_statuses, configuration_status_name, configuration_statuses, trigger_message_status_name, trigger_message_statuses, unlock_status_name, unlock_statuses}
+use Rattle.operator_cmds.specs.declared.command.Command.{Command}
+use Rattle.operator_cmds.specs.declared.command.Command.TheVariants.{ChangeAvailability, ChangeConfiguration, ClearCache, DataTransfer, GetConfiguration, RemoteStartTransaction, RemoteStopTransaction, Reset, TriggerMessage, UnlockConnector}
+
+-- a form, of whatever record
+pub data Reply : Type 1 where
+  by : {A : Type 0} → Form A → Reply
+
+abbrev pub reply : Command → Reply
+reply (ChangeAvailability c) = by (status_of availability_statuses availability_status_name)
+reply (ChangeConfiguration c) = by (status_of configuration_statuses configuration_status_name)
+reply ClearCache = by (status_of acceptance_statuses acceptance_status_name)
+reply (DataTransfer c) = by data_transfer_answer
+reply (GetConfiguration c) = by get_configuration_answer
+reply (RemoteStartTransaction c) = by (status_of acceptance_statuses acceptance_status_name)
+reply (RemoteStopTransaction c) = by (status_of acceptance_statuses acceptance_status_name)
+reply (Reset c) = by (status_of acceptance_statuses acceptance_status_name)
+reply (TriggerMessage c) = by (status_of trigger_message_statuses trigger_message_status_name)
+reply (UnlockConnector c) = by (status_of unlock_statuses unlock_status_name)
+
+-- what is written of the members that are read
+abbrev pub known : Reply → Data → Result Data FieldFault
+known (by form) d = reads form d >>= (λ a. Ok (written form a))
+
+-- the known members of the answer to a command, or its first fault
+abbrev pub answer : Command → Data → Result Data FieldFault
+answer c = known (reply c)

@@ -1,0 +1,86 @@
+-- The commands of an operator: read from JSON, checked, written as requests.
+use Rattle.std.specs.Prelude.{ℕ, List, Bool, true, false, Option, None, is_some, if◌then◌else◌, Result, Ok, option_and_then}
+use Rattle.std.specs.Result.{result_ok}
+use Rattle.serde_json.specs.Data.{Data}
+use Rattle.serde_json.specs.Find.{as_object}
+use Rattle.ocpp_types.specs.Named.{named}
+use Rattle.ocpp_payload.specs.declared.fault.FieldFault.{FieldFault}
+use Rattle.ocpp_payload.specs.Kind.{◌>>=◌}
+use Rattle.ocpp_payload.specs.Table.{Form, reads, bad, written}
+use Rattle.operator_cmds.specs.OperatorAction.{operator_action_name, operator_actions}
+use Rattle.operator_cmds.specs.Forms as form
+use Rattle.operator_cmds.specs.declared.command.Command.{Command}
+use Rattle.operator_cmds.specs.declared.command.Command.TheVariants as variant
+use Rattle.operator_cmds.specs.declared.operator_action.OperatorAction.{OperatorAction}
+use Rattle.operator_cmds.specs.declared.operator_action.OperatorAction.TheVariants as action
+
+-- ---- from JSON
+
+abbrev pub read_as : {C : Type 0} → Form C → (C → Command) → Data → Result Command FieldFault
+read_as form variant d = reads form d >>= (λ c. Ok (variant c))
+
+-- the command of an action that an object is, or its first fault
+abbrev pub command_of : OperatorAction → Data → Result Command FieldFault
+command_of action.ChangeAvailability = read_as form.change_availability variant.ChangeAvailability
+command_of action.ChangeConfiguration = read_as form.change_configuration variant.ChangeConfiguration
+command_of action.ClearCache = read_as form.clear_cache (λ _. variant.ClearCache)
+command_of action.DataTransfer = read_as form.data_transfer variant.DataTransfer
+command_of action.GetConfiguration = read_as form.get_configuration variant.GetConfiguration
+command_of action.RemoteStartTransaction = read_as form.remote_start_transaction variant.RemoteStartTransaction
+command_of action.RemoteStopTransaction = read_as form.remote_stop_transaction variant.RemoteStopTransaction
+command_of action.Reset = read_as form.reset variant.Reset
+command_of action.TriggerMessage = read_as form.trigger_message variant.TriggerMessage
+command_of action.UnlockConnector = read_as form.unlock_connector variant.UnlockConnector
+
+-- a payload has to be an object
+abbrev pub command : List ℕ → Data → Option Command
+command name d = option_and_then (λ action. if is_some (as_object d) then result_ok (command_of action d) else None) (named operator_actions name)
+
+-- ---- its form
+
+-- a record, with the form that it has
+pub data Message : Type 1 where
+  by : {C : Type 0} → Form C → C → Message
+
+abbrev pub message : Command → Message
+message (variant.ChangeAvailability c) = by form.change_availability c
+message (variant.ChangeConfiguration c) = by form.change_configuration c
+message variant.ClearCache = by form.clear_cache tt
+message (variant.DataTransfer c) = by form.data_transfer c
+message (variant.GetConfiguration c) = by form.get_configuration c
+message (variant.RemoteStartTransaction c) = by form.remote_start_transaction c
+message (variant.RemoteStopTransaction c) = by form.remote_stop_transaction c
+message (variant.Reset c) = by form.reset c
+message (variant.TriggerMessage c) = by form.trigger_message c
+message (variant.UnlockConnector c) = by form.unlock_connector c
+
+abbrev pub bad_in : Message → Option (List ℕ)
+bad_in (by form c) = bad form c
+
+abbrev pub data_of : Message → Data
+data_of (by form c) = written form c
+
+-- the first bad member
+abbrev pub bad_field : Command → Option (List ℕ)
+bad_field c = bad_in (message c)
+
+-- the payload of the request
+abbrev pub command_data : Command → Data
+command_data c = data_of (message c)
+
+-- ---- its action
+
+abbrev pub action_of : Command → OperatorAction
+action_of (variant.ChangeAvailability c) = action.ChangeAvailability
+action_of (variant.ChangeConfiguration c) = action.ChangeConfiguration
+action_of variant.ClearCache = action.ClearCache
+action_of (variant.DataTransfer c) = action.DataTransfer
+action_of (variant.GetConfiguration c) = action.GetConfiguration
+action_of (variant.RemoteStartTransaction c) = action.RemoteStartTransaction
+action_of (variant.RemoteStopTransaction c) = action.RemoteStopTransaction
+action_of (variant.Reset c) = action.Reset
+action_of (variant.TriggerMessage c) = action.TriggerMessage
+action_of (variant.UnlockConnector c) = action.UnlockConnector
+
+abbrev pub action_name_of : Command → List ℕ
+action_name_of c = operator_action_name (action_of c)

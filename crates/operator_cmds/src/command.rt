@@ -1,0 +1,49 @@
+//! A command of an operator.
+ghost use Rattle.std.specs.Prelude.{◌≡◌};
+ghost use Rattle.operator_cmds.specs.Command.{action_name_of, action_of};
+
+use crate::configuration::{ChangeConfiguration, GetConfiguration};
+use crate::operator_action::OperatorAction;
+use crate::remote::{RemoteStartTransaction, RemoteStopTransaction};
+use crate::station::{ChangeAvailability, DataTransfer, Reset, TriggerMessage, UnlockConnector};
+use ocpp_types::Named;
+
+/// What an operator asks of a station (OCPP 1.6, section 6): texts and integers as the operator
+/// gave them.
+#[derive(Drop)]
+pub enum Command {
+    ChangeAvailability(ChangeAvailability),
+    ChangeConfiguration(ChangeConfiguration),
+    ClearCache,
+    DataTransfer(DataTransfer),
+    GetConfiguration(GetConfiguration),
+    RemoteStartTransaction(RemoteStartTransaction),
+    RemoteStopTransaction(RemoteStopTransaction),
+    Reset(Reset),
+    TriggerMessage(TriggerMessage),
+    UnlockConnector(UnlockConnector),
+}
+
+/// The name of the action that a command is sent under.
+pub fn action_name_of(command: &Command) -> &'static str
+    ensures { result.now ≡ action_name_of command.now }
+{
+    action_of(command).name()
+}
+
+fn action_of(command: &Command) -> OperatorAction
+    ensures { result ≡ action_of command.now }
+{
+    match command {
+        Command::ChangeAvailability(_) => OperatorAction::ChangeAvailability,
+        Command::ChangeConfiguration(_) => OperatorAction::ChangeConfiguration,
+        Command::ClearCache => OperatorAction::ClearCache,
+        Command::DataTransfer(_) => OperatorAction::DataTransfer,
+        Command::GetConfiguration(_) => OperatorAction::GetConfiguration,
+        Command::RemoteStartTransaction(_) => OperatorAction::RemoteStartTransaction,
+        Command::RemoteStopTransaction(_) => OperatorAction::RemoteStopTransaction,
+        Command::Reset(_) => OperatorAction::Reset,
+        Command::TriggerMessage(_) => OperatorAction::TriggerMessage,
+        Command::UnlockConnector(_) => OperatorAction::UnlockConnector,
+    }
+}
