@@ -26,9 +26,12 @@ reply (TriggerMessage c) = by (status_of trigger_message_statuses trigger_messag
 reply (UnlockConnector c) = by (status_of unlock_statuses unlock_status_name)
 
 -- what is written of the members that are read
-abbrev pub known : Reply → Data → Result Data FieldFault
-known (by form) d = reads form d >>= (λ a. Ok (written form a))
+abbrev pub as_sent : {A : Type 0} → (Data → Result A FieldFault) → Form A → Data → Result Data FieldFault
+as_sent read form d = read d >>= (λ a. Ok (written form a))
+
+abbrev pub by_reply : Reply → Data → Result Data FieldFault
+by_reply (by form) d = as_sent (reads form) form d
 
 -- the known members of the answer to a command, or its first fault
 abbrev pub answer : Command → Data → Result Data FieldFault
-answer c = known (reply c)
+answer c d = by_reply (reply c) d

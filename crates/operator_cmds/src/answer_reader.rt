@@ -1,11 +1,9 @@
 //! Answers of stations from JSON.
-ghost use Rattle.std.specs.Prelude.{◌≡◌, IfOk, Ok, false};
+ghost use Rattle.std.specs.Prelude.{◌≡◌, IfOk, false};
 ghost use Rattle.serde_json.specs.View.{view};
 ghost use Rattle.serde_json.specs.Written.{has_float};
 ghost use Rattle.ocpp_payload.specs.Gives.{Gives};
-ghost use Rattle.ocpp_payload.specs.Kind.{◌>>=◌};
-ghost use Rattle.ocpp_payload.specs.Table.{written};
-ghost use Rattle.operator_cmds.specs.Answer.{answer};
+ghost use Rattle.operator_cmds.specs.Answer.{answer, as_sent};
 
 use crate::answers::{DataTransferAnswer, GetConfigurationAnswer, Status};
 use crate::command::Command;
@@ -18,43 +16,51 @@ use ocpp_types::{Mem, NoMemory};
 use serde_json::Value;
 use std::alloc::Global;
 
-/// The answer to a command: its known members as they were sent, or its first faulty member in the
+/// The answer to a command that a payload is: its known members as they were sent, or its first faulty member in the
 /// order of the table. Members that are `null` and unknown members are left out, also those of the
 /// objects of a list; empty lists are kept.
 pub fn read_answer(
     alloc: Global,
     command: &Command,
-    answer: &Value,
+    payload: &Value,
 ) -> Mem<Result<Payload, FieldFault>>
-    ensures answer { IfOk result (λ r. r ≡ answer command.now (view answer.now)) }
+    ensures known { IfOk result (λ r. r ≡ answer command.now (view payload.now)) }
+    ensures no_float { IfOk result (λ r. IfOk r (λ p. has_float p ≡ false)) }
 {
-    match known_members(alloc, command, answer) {
+    let read = read_known(alloc, command, payload)?;
+    Ok(read)
+}
+
+fn read_known(alloc: Global, command: &Command, payload: &Value) -> Mem<Result<Payload, FieldFault>>
+    ensures { IfOk result (λ r. r ≡ answer command.now (view payload.now)) }
+{
+    match known_members(alloc, command, payload) {
         Ok(known) => Ok(Ok(known)),
         Err(ReadError::Fault(fault)) => Ok(Err(fault)),
         Err(ReadError::NoMemory) => Err(NoMemory),
     }
 }
 
-fn known_members(alloc: Global, command: &Command, answer: &Value) -> Result<Payload, ReadError>
-    ensures { Gives result (answer command.now (view answer.now)) }
+fn known_members(alloc: Global, command: &Command, payload: &Value) -> Result<Payload, ReadError>
+    ensures { Gives result (answer command.now (view payload.now)) }
 {
     match command {
-        Command::ChangeAvailability(_) => as_sent::<Status<AvailabilityStatus>>(alloc, answer),
-        Command::ChangeConfiguration(_) => as_sent::<Status<ConfigurationStatus>>(alloc, answer),
+        Command::ChangeAvailability(_) => as_sent::<Status<AvailabilityStatus>>(alloc, payload),
+        Command::ChangeConfiguration(_) => as_sent::<Status<ConfigurationStatus>>(alloc, payload),
         Command::ClearCache
         | Command::RemoteStartTransaction(_)
         | Command::RemoteStopTransaction(_)
-        | Command::Reset(_) => as_sent::<Status<AcceptanceStatus>>(alloc, answer),
-        Command::DataTransfer(_) => as_sent::<DataTransferAnswer>(alloc, answer),
-        Command::GetConfiguration(_) => as_sent::<GetConfigurationAnswer>(alloc, answer),
-        Command::TriggerMessage(_) => as_sent::<Status<TriggerMessageStatus>>(alloc, answer),
-        Command::UnlockConnector(_) => as_sent::<Status<UnlockStatus>>(alloc, answer),
+        | Command::Reset(_) => as_sent::<Status<AcceptanceStatus>>(alloc, payload),
+        Command::DataTransfer(_) => as_sent::<DataTransferAnswer>(alloc, payload),
+        Command::GetConfiguration(_) => as_sent::<GetConfigurationAnswer>(alloc, payload),
+        Command::TriggerMessage(_) => as_sent::<Status<TriggerMessageStatus>>(alloc, payload),
+        Command::UnlockConnector(_) => as_sent::<Status<UnlockStatus>>(alloc, payload),
     }
 }
 
-fn as_sent<T: Tabled>(alloc: Global, answer: &Value) -> Result<Payload, ReadError>
-    ensures { Gives result (T.reads_as (view answer.now) >>= (λ a. Ok (written T.form a))) }
+fn as_sent<T: Tabled>(alloc: Global, payload: &Value) -> Result<Payload, ReadError>
+    ensures { Gives result (as_sent T.reads_as T.form (view payload.now)) }
 {
-    let known = T::read_from(alloc, answer)?.write(alloc)?;
+    let known = T::read_from(alloc, payload)?.write(alloc)?;
     Ok(Payload::from(known))
 }
