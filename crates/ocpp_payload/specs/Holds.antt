@@ -1,11 +1,12 @@
 -- What a member of a command or of an answer holds: how it is read, what of it is bad, and its JSON.
-use Rattle.std.specs.Prelude.{◌≡◌, refl, ℕ, nat_le, ℤ, pos, negsuc, int_le, List, [], ◌∷◌, map, Bool, true, false, ◌&&◌, ◌||◌, if◌then◌else◌, Option, Some, None}
+use Rattle.std.specs.Prelude.{◌≡◌, refl, ℕ, nat_le, ℤ, int_le, List, [], ◌∷◌, map, Bool, false, ◌&&◌, if◌then◌else◌, Option, Some, None}
 use Rattle.std.specs.Option.{option_or}
 use Rattle.serde_json.specs.Data.{Data, boolean, number, string, array}
-use Rattle.serde_json.specs.Find.{of_integer, is_float}
+use Rattle.serde_json.specs.Find.{of_integer}
 use Rattle.serde_json.specs.View.{items_of}
 use Rattle.serde_json.specs.Written.{has_float, items_have_float}
 use Rattle.ocpp_types.specs.Text.{characters}
+use Rattle.ocpp_payload.specs.Conf.{time_data}
 use Rattle.ocpp_payload.specs.Kind as kind
 use Rattle.ocpp_payload.specs.Kind.{Kind}
 use Rattle.ocpp_payload.specs.Lists.{list_of}
@@ -39,6 +40,10 @@ holds_name names name_of = record { reads = kind.choice names; bad = never; json
 -- a signed number of 32 bits, checked as it is read
 abbrev pub holds_int_32 : Holds ℤ
 holds_int_32 = record { reads = kind.int_32; bad = never; json = λ z. number (of_integer z); plain = integer_plain }
+
+-- a moment, of a time that may have a fraction
+abbrev pub holds_moment : Holds ℕ
+holds_moment = record { reads = kind.moment; bad = never; json = time_data; plain = λ m. refl }
 
 -- any text is read, and one of more characters is bad
 abbrev pub holds_text_within : ℕ → Holds (List ℕ)

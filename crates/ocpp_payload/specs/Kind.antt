@@ -2,6 +2,8 @@
 use Rattle.std.specs.Prelude.{ℕ, nat_le, ℤ, pos, negsuc, int_le, unsigned_abs, List, Bool, ◌&&◌, if◌then◌else◌, Option, Some, None, Result, Ok, Err, option_and_then}
 use Rattle.serde_json.specs.Data.{Data}
 use Rattle.serde_json.specs.Find.{as_bool, as_str, as_number, as_integer}
+use Rattle.std.specs.Int.{int_div_euclid}
+use Rattle.ocpp_types.specs.Moment.{moment_of}
 use Rattle.ocpp_types.specs.Named.{named}
 use Rattle.ocpp_types.specs.Text.{characters}
 use Rattle.ocpp_types.specs.Time.{time_of}
@@ -62,3 +64,11 @@ choice names name d = typed name (as_str d) >>= (λ s. bounded name (named names
 -- a time, in milliseconds since 1970; a text that is none has the wrong type
 abbrev pub time : Kind ℤ
 time name d = typed name (option_and_then time_of (as_str d))
+
+-- a time, floored to the moment of its second; what is no moment has the wrong type
+abbrev pub moment_at : ℤ → Option ℕ
+moment_at (pos seconds) = moment_of seconds
+moment_at (negsuc n) = None
+
+abbrev pub moment : Kind ℕ
+moment name d = time name d >>= (λ z. typed name (moment_at (int_div_euclid z (pos 1000))))

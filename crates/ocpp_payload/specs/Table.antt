@@ -1,5 +1,5 @@
 -- The members of a command or of an answer, as a table: how they are read, which is bad, how they are written.
-use Rattle.std.specs.Prelude.{◌≡◌, refl, ℕ, List, false, Option, Some, None, Result, Ok, option_map, option_and_then}
+use Rattle.std.specs.Prelude.{◌≡◌, refl, ℕ, List, false, Option, Some, None, Result, option_map, option_and_then}
 use Rattle.std.specs.Option.{option_or}
 use Rattle.serde_json.specs.Data.{Data, object, Members, no_members, put}
 use Rattle.serde_json.specs.Written.{has_float, members_have_float}
@@ -8,20 +8,22 @@ use Rattle.ocpp_payload.specs.Conf.{put_some}
 use Rattle.ocpp_payload.specs.Fields as by
 use Rattle.ocpp_payload.specs.Fields.{Fields, Makes, required, optional}
 use Rattle.ocpp_payload.specs.Holds.{Holds}
-use Rattle.ocpp_payload.specs.Kind.{◌>>=◌}
 use Rattle.ocpp_payload.specs.Lists.{object_of}
 use Rattle.ocpp_payload.specs.Plain.{put_plain}
 
--- the members of a C in order: a name, what it holds, and where a C has it. `may`: it may be missing
+-- the members of a C in order: a name, what it holds, and where a C has it. `may`: it may be missing;
+-- `also`: what else can be bad, of several members
 pub data Table (C : Type 0) : Type 1 where
   end : Table C
   must : {A : Type 0} → List ℕ → Holds A → (C → A) → Table C → Table C
   may : {A : Type 0} → List ℕ → Holds A → (C → Option A) → Table C → Table C
+  also : (C → Option (List ℕ)) → Table C → Table C
 
 abbrev pub fields : {C : Type 0} → Table C → Fields
 fields end = by.end
 fields (must name holds at rest) = by.field name (required holds.reads) (fields rest)
 fields (may name holds at rest) = by.field name (optional holds.reads) (fields rest)
+fields (also test rest) = fields rest
 
 -- a table, and what makes a C of the members
 pub record Form (C : Type 0) : Type 1 where
@@ -37,6 +39,7 @@ abbrev pub bad_after : {C : Type 0} → Option (List ℕ) → Table C → C → 
 bad_after found end c = found
 bad_after found (must name holds at rest) c = bad_after (option_or found (holds.bad name (at c))) rest c
 bad_after found (may name holds at rest) c = bad_after (option_or found (option_and_then (holds.bad name) (at c))) rest c
+bad_after found (also test rest) c = bad_after (option_or found (test c)) rest c
 
 abbrev pub bad : {C : Type 0} → Form C → C → Option (List ℕ)
 bad form c = bad_after None form.table c
@@ -46,6 +49,7 @@ abbrev pub put_members : {C : Type 0} → Table C → C → Members → Members
 put_members end c ms = ms
 put_members (must name holds at rest) c ms = put_members rest c (put name (holds.json (at c)) ms)
 put_members (may name holds at rest) c ms = put_members rest c (put_some name (option_map holds.json (at c)) ms)
+put_members (also test rest) c ms = put_members rest c ms
 
 -- the object that a C is written as
 abbrev pub written : {C : Type 0} → Form C → C → Data
@@ -61,6 +65,7 @@ put_members_plain : {C : Type 0} → (t : Table C) (c : C) (ms : Members) → me
 put_members_plain end c ms plain = plain
 put_members_plain (must name holds at rest) c ms plain = put_members_plain rest c _ (put_plain name (holds.json (at c)) ms (holds.plain (at c)) plain)
 put_members_plain (may name holds at rest) c ms plain = put_members_plain rest c _ (put_some_plain name holds (at c) ms plain)
+put_members_plain (also test rest) c ms plain = put_members_plain rest c ms plain
 
 pub written_plain : {C : Type 0} → (form : Form C) (c : C) → has_float (written form c) ≡ false
 written_plain form c = put_members_plain form.table c no_members refl

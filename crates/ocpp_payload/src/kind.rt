@@ -4,11 +4,11 @@ ghost use Rattle.serde_json.specs.Find.{as_integer, as_number};
 ghost use Rattle.serde_json.specs.Data.{Data};
 ghost use Rattle.serde_json.specs.View.{view};
 ghost use Rattle.ocpp_payload.specs.Gives.{Gives};
-ghost use Rattle.ocpp_payload.specs.Kind.{typed};
+ghost use Rattle.ocpp_payload.specs.Kind.{moment_at, typed};
 ghost use Rattle.ocpp_payload.specs.declared.fault.FieldFault.{FieldFault};
 
 use crate::fault::{ReadError, refused};
-use ocpp_types::{ErrorCode, Named, Text, count_characters, parse_time};
+use ocpp_types::{ErrorCode, Moment, Named, Text, count_characters, parse_time};
 use serde_json::Value;
 use std::alloc::Global;
 use std::marker::PhantomData;
@@ -209,4 +209,33 @@ impl Kind for Time {
         };
         Ok(time)
     }
+}
+
+/// A time, floored to the moment of its second.
+#[derive(Clone, Copy, Drop)]
+pub struct WholeSecond;
+
+impl Kind for WholeSecond {
+    type Out = Moment;
+
+    ghost use Rattle.ocpp_payload.specs.Kind.{moment};
+
+    ghost reads = { λ _. moment };
+
+    fn read(&self, alloc: Global, field: &'static str, value: &Value) -> Result<Moment, ReadError> {
+        let time = Time.read(alloc, field, value)?;
+        match moment_at(time.div_euclid(1000)) {
+            Some(moment) => Ok(moment),
+            None => refused(ErrorCode::TypeConstraintViolation, field),
+        }
+    }
+}
+
+fn moment_at(seconds: i64) -> Option<Moment>
+    ensures { result ≡ moment_at seconds }
+{
+    if seconds < 0 {
+        return None;
+    }
+    Moment::new(seconds as u64)
 }

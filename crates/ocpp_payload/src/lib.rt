@@ -24,7 +24,9 @@ pub use conf::Conf;
 pub use conf_writer::write_conf;
 pub use fault::{FieldFault, ReadError};
 pub use fields::{optional, required, with_default};
-pub use kind::{AnyText, Boolean, ConnectorFrom, Int32, Int64, Kind, NameOf, TextOf, Time};
+pub use kind::{
+    AnyText, Boolean, ConnectorFrom, Int32, Int64, Kind, NameOf, TextOf, Time, WholeSecond,
+};
 pub use lists::{ListOf, ObjectOf, Readable, SomeOf};
 pub use readings::{MeterValue, SampledValue};
 pub use request::{

@@ -5,11 +5,11 @@ ghost use Rattle.serde_json.specs.View.{view, items_of};
 ghost use Rattle.ocpp_payload.specs.Holds.{first_bad};
 
 use crate::fault::ReadError;
-use crate::kind::{AnyText, Boolean, Int32, Int64, Kind, NameOf, TextOf};
+use crate::kind::{AnyText, Boolean, Int32, Int64, Kind, NameOf, TextOf, WholeSecond};
 use crate::lists::{ListOf, ObjectOf};
 use crate::members::text_value;
 use crate::written::{Bounded, Checked, Tabled, Written};
-use ocpp_types::{FieldName, Listed, Mem, Named, Text, count_characters};
+use ocpp_types::{FieldName, Listed, Mem, Moment, Named, Text, count_characters, print_time};
 use serde_json::Value;
 use std::alloc::Global;
 
@@ -73,6 +73,22 @@ impl<E: Named + Drop> Written for NameOf<E> {
 
 impl<E: Named + Drop> Bounded for NameOf<E> {
     fn bad(&self, _field: &'static str, _value: &E) -> Option<FieldName> {
+        None
+    }
+}
+
+impl Written for WholeSecond {
+    ghost use Rattle.ocpp_payload.specs.Holds.{holds_moment};
+
+    ghost holds = { λ _. holds_moment };
+
+    fn write(&self, alloc: Global, value: &Moment) -> Mem<Value> {
+        Ok(Value::String(print_time(alloc, *value)?))
+    }
+}
+
+impl Bounded for WholeSecond {
+    fn bad(&self, _field: &'static str, _value: &Moment) -> Option<FieldName> {
         None
     }
 }

@@ -1,5 +1,5 @@
 -- The commands of an operator: read from JSON, checked, written as requests.
-use Rattle.std.specs.Prelude.{ℕ, List, Bool, true, false, Option, None, is_some, if◌then◌else◌, Result, Ok, option_and_then}
+use Rattle.std.specs.Prelude.{ℕ, List, Option, None, is_some, if◌then◌else◌, Result, Ok, option_and_then}
 use Rattle.std.specs.Result.{result_ok}
 use Rattle.serde_json.specs.Data.{Data}
 use Rattle.serde_json.specs.Find.{as_object}
