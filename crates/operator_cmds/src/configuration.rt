@@ -67,13 +67,8 @@ impl Tabled for GetConfiguration {
 
     fn write(&self, alloc: Global) -> Mem<Value> {
         let mut members = Map::new(alloc);
-        put_may(
-            alloc,
-            &mut members,
-            "key",
-            ListOf(TextWithin(50)),
-            &self.key,
-        )?;
+        let keys = ListOf(TextWithin(50));
+        put_may(alloc, &mut members, "key", keys, &self.key)?;
         Ok(Value::Object(members))
     }
 }

@@ -7,6 +7,7 @@
 #![tactic(auto)]
 
 mod cases;
+mod commands;
 mod enumerations;
 mod frames;
 mod requests;

@@ -1,5 +1,6 @@
 //! The function of each table.
 
+use crate::commands::{answer_told, command_sent};
 use crate::enumerations::{class_of_action, name_read};
 use crate::frames::{frame_read, frame_written};
 use crate::requests::request_read;
@@ -13,7 +14,13 @@ use std::alloc::Global;
 pub fn given(alloc: Global, table: &str, texts: &[String]) -> Result<String> {
     match (table, texts) {
         ("action_classes", [name]) => class_of_action(alloc, name.as_str()),
+        ("answers_of_stations", [action, payload, answer]) => {
+            answer_told(alloc, action.as_str(), payload.as_str(), answer.as_str())
+        }
         ("characters", [text]) => characters(alloc, text.as_str()),
+        ("commands", [action, payload]) => {
+            command_sent(alloc, action.as_str(), payload.as_str())
+        }
         ("enumerations", [enumeration, name]) => {
             name_read(alloc, enumeration.as_str(), name.as_str())
         }

@@ -1,0 +1,45 @@
+//! The tables of commands and of the answers to them.
+
+use anyhow::{Result, bail};
+use ocpp_payload::FieldFault;
+use ocpp_types::Named;
+use operator_cmds::{action_name_of, bad_field, read_answer, read_command, write_request};
+use serde_json::Value;
+use std::alloc::Global;
+
+/// What a payload of that action gives: the request, or `bad` and the bad member, or `none`.
+pub fn command_sent(alloc: Global, action: &str, payload: &str) -> Result<String> {
+    let payload = Value::from_str(alloc, payload)?;
+    let Some(command) = read_command(alloc, action, &payload)? else {
+        return Ok("none".to_string(alloc)?);
+    };
+    if let Some(field) = bad_field(&command) {
+        let field = field.as_str();
+        return Ok(format!(in alloc; "bad {field}")?);
+    }
+    let action = action_name_of(&command);
+    let request = write_request(alloc, &command)?.to_string(alloc)?;
+    Ok(format!(in alloc; "{action} {request}")?)
+}
+
+/// What is told of an answer to the command of that action and payload.
+pub fn answer_told(alloc: Global, action: &str, payload: &str, answer: &str) -> Result<String> {
+    let payload = Value::from_str(alloc, payload)?;
+    let Some(command) = read_command(alloc, action, &payload)? else {
+        bail!("no such command");
+    };
+    let answer = Value::from_str(alloc, answer)?;
+    match read_answer(alloc, &command, &answer)? {
+        Ok(known) => {
+            let known = known.as_value().to_string(alloc)?;
+            Ok(format!(in alloc; "Answer {known}")?)
+        }
+        Err(fault) => fault_told(alloc, &fault),
+    }
+}
+
+fn fault_told(alloc: Global, fault: &FieldFault) -> Result<String> {
+    let code = fault.code.name();
+    let field = fault.field.as_str();
+    Ok(format!(in alloc; "{code} {field}")?)
+}
