@@ -1,32 +1,16 @@
 -- The texts of a boot hold no float, so what is written of them is the compact text.
-use Rattle.std.specs.Prelude.{◌≡◌, ℕ, List, codes, Bool, true, false, ◌||◌, Option, Some, None, option_map}
-use Rattle.std.specs.Ordering.{match_ordering, nat_cmp}
-use Rattle.std.specs.Cmp.Lexicographic.{slice_cmp}
-use Rattle.std.specs.declared.cmp.Ordering.TheVariants.{Less, Equal, Greater}
+use Rattle.std.specs.Prelude.{◌≡◌, ℕ, List, codes, false, Option, Some, None, option_map}
 use Rattle.std.proofs.Common.{refl, ◌∙◌, ap}
-use Rattle.serde_json.specs.Data.{Data, string, Members, no_members, member, put}
+use Rattle.serde_json.specs.Data.{Data, string, Members, no_members, put}
 use Rattle.serde_json.specs.Written.{has_float, members_have_float}
 use Rattle.ocpp_types.specs.declared.boot_notification.BootNotification.{BootNotification}
 use Rattle.ocpp_payload.specs.Boot.{boot_data}
 use Rattle.ocpp_payload.specs.Conf.{put_some}
-
-or-parts : (p q : Bool) → p || q ≡ false → (p ≡ false) × (q ≡ false)
-or-parts true q e = absurd (cc)
-or-parts false q e = (refl, e)
-
-put_no_float : (k s : List ℕ) (ms : Members) → members_have_float ms ≡ false → members_have_float (put k (string s) ms) ≡ false
-put_no_float k s no_members none = refl
-put_no_float k s (member l e ms) none =
-    let parts : (has_float e ≡ false) × (members_have_float ms ≡ false) = or-parts (has_float e) (members_have_float ms) none in
-    elim (slice_cmp nat_cmp k l) as (λ o. members_have_float (match_ordering o (member k (string s) (member l e ms)) (member l (string s) ms) (member l e (put k (string s) ms))) ≡ false) [
-      | Less ↦ none
-      | Equal ↦ parts.1
-      | Greater ↦ ap (λ b. b || members_have_float (put k (string s) ms)) parts.0 ∙ put_no_float k s ms parts.1
-    ]
+use Rattle.ocpp_payload.specs.Plain.{put_plain}
 
 some_no_float : (k : List ℕ) (s : Option (List ℕ)) (ms : Members) → members_have_float ms ≡ false → members_have_float (put_some k (option_map string s) ms) ≡ false
 some_no_float k None ms none = none
-some_no_float k (Some s) ms none = put_no_float k s ms none
+some_no_float k (Some s) ms none = put_plain k (string s) ms refl none
 
 -- members without a float
 record Plain : Type 0 where
@@ -34,7 +18,7 @@ record Plain : Type 0 where
   none : members_have_float members ≡ false
 
 with_text : List ℕ → List ℕ → Plain → Plain
-with_text k s p = record { members = put k (string s) p.members; none = put_no_float k s p.members p.none }
+with_text k s p = record { members = put k (string s) p.members; none = put_plain k (string s) p.members refl p.none }
 
 with_some : List ℕ → Option (List ℕ) → Plain → Plain
 with_some k s p = record { members = put_some k (option_map string s) p.members; none = some_no_float k s p.members p.none }
