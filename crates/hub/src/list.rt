@@ -4,6 +4,7 @@ ghost use Rattle.hub_rows.specs.Reads.{OnlyReads};
 ghost use Rattle.hub_rows.specs.Lookups.{lookups_at};
 ghost use Rattle.hub.specs.Listing.{rows_rule};
 ghost use Rattle.hub.specs.Plans.{list_plan};
+ghost use Rattle.hub.specs.declared.event.Listing.TheVariants as listing;
 
 use crate::event::Listing;
 use crate::out::Said;
@@ -25,39 +26,85 @@ pub fn plan_list<S: Store>(
         ≡ list_plan (rows_rule listing.now (lookups_at op.now (S.rows store.old)))) }
 {
     match listing {
-        Listing::Stations => {
-            let rows = store.stations(op.as_str())?;
-            Ok(show(alloc, rows)?)
-        }
-        Listing::Tags => {
-            let rows = store.tags(op.as_str())?;
-            Ok(show(alloc, rows)?)
-        }
-        Listing::Connectors { station } => {
-            if store.station(op.as_str(), station.as_str())?.is_none() {
-                return Ok(no_station(alloc)?);
-            }
-            let rows = store.connectors(op.as_str(), station.as_str())?;
-            Ok(show(alloc, rows)?)
-        }
-        Listing::Transactions { station } => {
-            if store.station(op.as_str(), station.as_str())?.is_none() {
-                return Ok(no_station(alloc)?);
-            }
-            let rows = store.txs(op.as_str(), station.as_str())?;
-            Ok(show(alloc, rows)?)
-        }
+        Listing::Stations => stations(alloc, store, op),
+        Listing::Tags => tags(alloc, store, op),
+        Listing::Connectors { station } => connectors(alloc, store, op, station),
+        Listing::Transactions { station } => transactions(alloc, store, op, station),
         Listing::Readings {
             station,
             transaction,
-        } => {
-            if store.station(op.as_str(), station.as_str())?.is_none() {
-                return Ok(no_station(alloc)?);
-            }
-            let rows = store.readings(op.as_str(), station.as_str(), *transaction)?;
-            Ok(show(alloc, rows)?)
-        }
+        } => readings(alloc, store, op, station, *transaction),
     }
+}
+
+fn stations<S: Store>(alloc: Global, store: &mut S, op: &Text) -> Result<Plan, StoreFault>
+    ensures reads { OnlyReads S.rows S.failures S.clean store.old store.new (result ≡ Err StoreFault.Failed) }
+    ensures plan { S.clean store.new → IfOk result (λ p. p
+        ≡ list_plan (rows_rule listing.Stations (lookups_at op.now (S.rows store.old)))) }
+{
+    let rows = store.stations(op.as_str())?;
+    Ok(show(alloc, rows)?)
+}
+
+fn tags<S: Store>(alloc: Global, store: &mut S, op: &Text) -> Result<Plan, StoreFault>
+    ensures reads { OnlyReads S.rows S.failures S.clean store.old store.new (result ≡ Err StoreFault.Failed) }
+    ensures plan { S.clean store.new → IfOk result (λ p. p
+        ≡ list_plan (rows_rule listing.Tags (lookups_at op.now (S.rows store.old)))) }
+{
+    let rows = store.tags(op.as_str())?;
+    Ok(show(alloc, rows)?)
+}
+
+fn connectors<S: Store>(
+    alloc: Global,
+    store: &mut S,
+    op: &Text,
+    station: &Text,
+) -> Result<Plan, StoreFault>
+    ensures reads { OnlyReads S.rows S.failures S.clean store.old store.new (result ≡ Err StoreFault.Failed) }
+    ensures plan { S.clean store.new → IfOk result (λ p. p
+        ≡ list_plan (rows_rule (listing.Connectors station.now) (lookups_at op.now (S.rows store.old)))) }
+{
+    if store.station(op.as_str(), station.as_str())?.is_none() {
+        return Ok(no_station(alloc)?);
+    }
+    let rows = store.connectors(op.as_str(), station.as_str())?;
+    Ok(show(alloc, rows)?)
+}
+
+fn transactions<S: Store>(
+    alloc: Global,
+    store: &mut S,
+    op: &Text,
+    station: &Text,
+) -> Result<Plan, StoreFault>
+    ensures reads { OnlyReads S.rows S.failures S.clean store.old store.new (result ≡ Err StoreFault.Failed) }
+    ensures plan { S.clean store.new → IfOk result (λ p. p
+        ≡ list_plan (rows_rule (listing.Transactions station.now) (lookups_at op.now (S.rows store.old)))) }
+{
+    if store.station(op.as_str(), station.as_str())?.is_none() {
+        return Ok(no_station(alloc)?);
+    }
+    let rows = store.txs(op.as_str(), station.as_str())?;
+    Ok(show(alloc, rows)?)
+}
+
+fn readings<S: Store>(
+    alloc: Global,
+    store: &mut S,
+    op: &Text,
+    station: &Text,
+    transaction: Option<u64>,
+) -> Result<Plan, StoreFault>
+    ensures reads { OnlyReads S.rows S.failures S.clean store.old store.new (result ≡ Err StoreFault.Failed) }
+    ensures plan { S.clean store.new → IfOk result (λ p. p
+        ≡ list_plan (rows_rule (listing.Readings station.now transaction) (lookups_at op.now (S.rows store.old)))) }
+{
+    if store.station(op.as_str(), station.as_str())?.is_none() {
+        return Ok(no_station(alloc)?);
+    }
+    let rows = store.readings(op.as_str(), station.as_str(), transaction)?;
+    Ok(show(alloc, rows)?)
 }
 
 fn no_station(alloc: Global) -> Mem<Plan>
