@@ -1,5 +1,4 @@
-//! Proved tests of what no file of cases can show: stores, handlers, readers and writers that fail,
-//! and numbers at their end.
+//! Proved tests of what no file of cases can show: stores, handlers, readers and writers that fail.
 #![tactic(auto)]
 
 #[cfg(test)]
@@ -8,8 +7,6 @@ mod failing_stores;
 mod faulty;
 #[cfg(test)]
 mod handlers;
-#[cfg(test)]
-mod last_numbers;
 #[cfg(test)]
 mod replays;
 #[cfg(test)]
