@@ -1,6 +1,7 @@
 //! Why an operator's request is refused.
 ghost use Rattle.std.specs.Prelude.{◌≡◌};
 
+use crate::authorization_status::AuthorizationStatus;
 use crate::field_name::FieldName;
 
 /// Why an operator's request is refused. A refusal changes nothing.
@@ -12,10 +13,22 @@ pub enum Refusal {
     StationExists,
     /// The operator has no id tag of that key.
     NoSuchTag,
+    /// The station isn't connected.
+    NotConnected,
+    /// As many calls of the station wait as its queue holds.
+    QueueFull,
+    /// The registration of the station doesn't allow the command.
+    NotAllowedNow,
+    /// The id tag of the command isn't accepted: its status.
+    TagRefused(AuthorizationStatus),
+    /// The station has no open transaction of that number.
+    NoSuchTransaction,
     /// The field of that name is past its limits.
     BadField(FieldName),
     /// A transaction of the station is open.
     HasOpenTransactions,
+    /// The station has used up the numbers of its calls.
+    NumberSpent,
 }
 
 impl Refusal {
@@ -29,8 +42,14 @@ impl Refusal {
             Refusal::NoSuchStation => 1,
             Refusal::StationExists => 2,
             Refusal::NoSuchTag => 3,
+            Refusal::NotConnected => 7,
+            Refusal::QueueFull => 8,
+            Refusal::NotAllowedNow => 9,
+            Refusal::TagRefused(_) => 10,
+            Refusal::NoSuchTransaction => 11,
             Refusal::BadField(_) => 12,
             Refusal::HasOpenTransactions => 13,
+            Refusal::NumberSpent => 15,
         }
     }
 
@@ -42,8 +61,14 @@ impl Refusal {
             Refusal::NoSuchStation => "NoSuchStation",
             Refusal::StationExists => "StationExists",
             Refusal::NoSuchTag => "NoSuchTag",
+            Refusal::NotConnected => "NotConnected",
+            Refusal::QueueFull => "QueueFull",
+            Refusal::NotAllowedNow => "NotAllowedNow",
+            Refusal::TagRefused(_) => "TagRefused",
+            Refusal::NoSuchTransaction => "NoSuchTransaction",
             Refusal::BadField(_) => "BadField",
             Refusal::HasOpenTransactions => "HasOpenTransactions",
+            Refusal::NumberSpent => "NumberSpent",
         }
     }
 }
