@@ -23,6 +23,7 @@ pub record Holds (A : Type 0) : Type 0 where
 abbrev pub never : {A : Type 0} → List ℕ → A → Option (List ℕ)
 never name x = None
 
+-- the name, where the value isn't within its bounds
 abbrev pub unless : Bool → List ℕ → Option (List ℕ)
 unless within name = if within then None else Some name
 
@@ -30,6 +31,7 @@ unless within name = if within then None else Some name
 abbrev pub holds_text : Kind (List ℕ) → Holds (List ℕ)
 holds_text read = record { reads = read; bad = never; json = string; plain = λ s. refl }
 
+-- a truth value
 abbrev pub holds_boolean : Holds Bool
 holds_boolean = record { reads = kind.boolean; bad = never; json = boolean; plain = λ b. refl }
 
@@ -65,6 +67,7 @@ holds_integer_within low high = record {
 
 -- ---- lists
 
+-- the first name that a list of values gives
 abbrev pub first_bad : {A : Type 0} → (A → Option (List ℕ)) → List A → Option (List ℕ)
 first_bad bad [] = None
 first_bad bad (x ∷ xs) = option_or (bad x) (first_bad bad xs)
@@ -73,6 +76,7 @@ abbrev items_plain : {A : Type 0} → (h : Holds A) → (xs : List A) → items_
 items_plain h [] = refl
 items_plain h (x ∷ xs) = or_false (h.plain x) (items_plain h xs)
 
+-- a list of such values, each within its bounds
 abbrev pub holds_list : {A : Type 0} → Holds A → Holds (List A)
 holds_list h = record {
   reads = list_of h.reads;

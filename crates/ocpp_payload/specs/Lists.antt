@@ -11,6 +11,7 @@ abbrev pub by_members : {A : Type 0} → (Data → Result A FieldFault) → List
 by_members read name (Some ms) d = read d
 by_members read name None d = Err (record { code = TypeConstraintViolation; field = name })
 
+-- a member that is an object
 abbrev pub object_of : {A : Type 0} → (Data → Result A FieldFault) → Kind A
 object_of read name d = by_members read name (as_object d) d
 
@@ -19,6 +20,7 @@ abbrev pub each : {A : Type 0} → (Data → Result A FieldFault) → Items → 
 each read no_items = Ok []
 each read (item d ds) = read d >>= (λ x. each read ds >>= (λ xs. Ok (x ∷ xs)))
 
+-- at least one item
 abbrev pub some_each : {A : Type 0} → Kind A → List ℕ → Items → Result (List A) FieldFault
 some_each kind name no_items = Err (record { code = OccurenceConstraintViolation; field = name })
 some_each kind name (item d ds) = each (kind name) (item d ds)

@@ -8,6 +8,7 @@ use Rattle.serde_json.specs.Data.{Data, Members, no_members, member, put}
 use Rattle.serde_json.specs.Find.{of_integer, is_float}
 use Rattle.serde_json.specs.Written.{has_float, members_have_float}
 
+-- an integer is no float
 pub integer_plain : (z : ℤ) → is_float (of_integer z) ≡ false
 integer_plain (pos n) = refl
 integer_plain (negsuc n) = refl
@@ -19,6 +20,7 @@ pub or_parts : (p q : Bool) → p || q ≡ false → (p ≡ false) × (q ≡ fal
 or_parts true q e = absurd (cc)
 or_parts false q e = (refl, e)
 
+-- an object stays without floats as a member is put to it
 pub put_plain : (k : List ℕ) (d : Data) (ms : Members) → has_float d ≡ false → members_have_float ms ≡ false → members_have_float (put k d ms) ≡ false
 put_plain k d no_members plain none = or_false plain refl
 put_plain k d (member l e ms) plain none =

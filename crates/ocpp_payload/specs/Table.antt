@@ -19,6 +19,7 @@ pub data Table (C : Type 0) : Type 1 where
   may : {A : Type 0} → List ℕ → Holds A → (C → Option A) → Table C → Table C
   also : (C → Option (List ℕ)) → Table C → Table C
 
+-- how the members are read
 abbrev pub fields : {C : Type 0} → Table C → Fields
 fields end = by.end
 fields (must name holds at rest) = by.field name (required holds.reads) (fields rest)
@@ -31,18 +32,19 @@ pub record Form (C : Type 0) : Type 1 where
   pub make : Makes C (fields table)
 
 -- the C that an object is, or the first fault
-abbrev pub reads : {C : Type 0} → Form C → Data → Result C FieldFault
-reads form d = by.reads (fields form.table) form.make d
+abbrev pub read_by : {C : Type 0} → Form C → Data → Result C FieldFault
+read_by form d = by.reads (fields form.table) form.make d
 
--- the name of the first bad member, where `found` is one before these
+-- the same of a part of a table, where `found` is the one of the members before it
 abbrev pub bad_after : {C : Type 0} → Option (List ℕ) → Table C → C → Option (List ℕ)
 bad_after found end c = found
 bad_after found (must name holds at rest) c = bad_after (option_or found (holds.bad name (at c))) rest c
 bad_after found (may name holds at rest) c = bad_after (option_or found (option_and_then (holds.bad name) (at c))) rest c
 bad_after found (also test rest) c = bad_after (option_or found (test c)) rest c
 
-abbrev pub bad : {C : Type 0} → Form C → C → Option (List ℕ)
-bad form c = bad_after None form.table c
+-- the name of the first bad member
+abbrev pub bad_member : {C : Type 0} → Form C → C → Option (List ℕ)
+bad_member form c = bad_after None form.table c
 
 -- the members, put to those of `ms`
 abbrev pub put_members : {C : Type 0} → Table C → C → Members → Members
@@ -73,8 +75,8 @@ written_plain form c = put_members_plain form.table c no_members refl
 -- an object as the value of a member
 abbrev pub holds_object : {C : Type 0} → Form C → Holds C
 holds_object form = record {
-  reads = object_of (reads form);
-  bad = λ name c. bad form c;
+  reads = object_of (read_by form);
+  bad = λ name c. bad_member form c;
   json = written form;
   plain = written_plain form;
 }

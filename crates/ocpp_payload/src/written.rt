@@ -4,7 +4,7 @@ ghost use Rattle.serde_json.specs.Data.{put};
 ghost use Rattle.serde_json.specs.View.{view, members_view};
 ghost use Rattle.ocpp_payload.specs.Conf.{put_some};
 ghost use Rattle.ocpp_payload.specs.Holds.{Holds};
-ghost use Rattle.ocpp_payload.specs.Table.{Form, bad, written};
+ghost use Rattle.ocpp_payload.specs.Table.{Form, bad_member, written};
 
 use crate::kind::Kind;
 use crate::lists::Readable;
@@ -43,7 +43,7 @@ pub trait Tabled: Readable {
 pub trait Checked: Tabled {
     /// The name of the first bad member, in the order of the table. Takes no memory.
     fn bad(&self) -> Option<FieldName>
-        ensures { result ≡ bad Self.form self.now };
+        ensures { result ≡ bad_member Self.form self.now };
 }
 
 /// Writes a member.

@@ -35,12 +35,6 @@ impl Written for AnyText {
     }
 }
 
-impl Bounded for AnyText {
-    fn bad(&self, _field: &'static str, _value: &Text) -> Option<FieldName> {
-        None
-    }
-}
-
 impl Written for Boolean {
     ghost use Rattle.ocpp_payload.specs.Holds.{holds_boolean};
 
@@ -71,12 +65,6 @@ impl<E: Named + Drop> Written for NameOf<E> {
     }
 }
 
-impl<E: Named + Drop> Bounded for NameOf<E> {
-    fn bad(&self, _field: &'static str, _value: &E) -> Option<FieldName> {
-        None
-    }
-}
-
 impl Written for WholeSecond {
     ghost use Rattle.ocpp_payload.specs.Holds.{holds_moment};
 
@@ -84,12 +72,6 @@ impl Written for WholeSecond {
 
     fn write(&self, alloc: Global, value: &Moment) -> Mem<Value> {
         Ok(Value::String(print_time(alloc, *value)?))
-    }
-}
-
-impl Bounded for WholeSecond {
-    fn bad(&self, _field: &'static str, _value: &Moment) -> Option<FieldName> {
-        None
     }
 }
 

@@ -5,9 +5,9 @@ use Rattle.serde_json.specs.Data.{Data}
 use Rattle.serde_json.specs.Written.{has_float}
 use Rattle.ocpp_payload.specs.declared.fault.FieldFault.{FieldFault}
 use Rattle.ocpp_payload.specs.Kind.{◌>>=◌}
-use Rattle.ocpp_payload.specs.Table.{Form, reads, written, written_plain}
+use Rattle.ocpp_payload.specs.Table.{Form, read_by, written, written_plain}
 use Rattle.operator_cmds.specs.Answer as replies
-use Rattle.operator_cmds.specs.Answer.{Reply, answer, by_reply, reply}
+use Rattle.operator_cmds.specs.Answer.{Reply, known_members, by_reply, reply}
 use Rattle.operator_cmds.specs.Command.{Message, by, data_of, message, command_data}
 use Rattle.operator_cmds.specs.declared.command.Command.{Command}
 
@@ -24,8 +24,8 @@ as_sent_no_float form (Ok a) p is =
 as_sent_no_float form (Err f) p is = absurd (cc)
 
 by_reply_no_float : (r : Reply) (d p : Data) → Ok p ≡ by_reply r d → has_float p ≡ false
-by_reply_no_float (replies.by form) d p is = as_sent_no_float form (reads form d) p is
+by_reply_no_float (replies.by form) d p is = as_sent_no_float form (read_by form d) p is
 
-pub answer_no_float : (c : Command) (d : Data) (r : Result Data FieldFault) → r ≡ answer c d → IfOk r (λ p. has_float p ≡ false)
+pub answer_no_float : (c : Command) (d : Data) (r : Result Data FieldFault) → r ≡ known_members c d → IfOk r (λ p. has_float p ≡ false)
 answer_no_float c d (Ok p) is = by_reply_no_float (reply c) d p is
 answer_no_float c d (Err f) is = tt

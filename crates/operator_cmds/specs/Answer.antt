@@ -3,16 +3,17 @@ use Rattle.std.specs.Prelude.{Result, Ok}
 use Rattle.serde_json.specs.Data.{Data}
 use Rattle.ocpp_payload.specs.declared.fault.FieldFault.{FieldFault}
 use Rattle.ocpp_payload.specs.Kind.{◌>>=◌}
-use Rattle.ocpp_payload.specs.Table.{Form, reads, written}
+use Rattle.ocpp_payload.specs.Table.{Form, read_by, written}
 use Rattle.operator_cmds.specs.AnswerForms.{status_of, data_transfer_answer, get_configuration_answer}
 use Rattle.operator_cmds.specs.Statuses.{acceptance_status_name, acceptance_statuses, availability_status_name, availability_statuses, configuration_status_name, configuration_statuses, trigger_message_status_name, trigger_message_statuses, unlock_status_name, unlock_statuses}
 use Rattle.operator_cmds.specs.declared.command.Command.{Command}
 use Rattle.operator_cmds.specs.declared.command.Command.TheVariants.{ChangeAvailability, ChangeConfiguration, ClearCache, DataTransfer, GetConfiguration, RemoteStartTransaction, RemoteStopTransaction, Reset, TriggerMessage, UnlockConnector}
 
--- a form, of whatever record
+-- the form of an answer, of whatever record
 pub data Reply : Type 1 where
   by : {A : Type 0} → Form A → Reply
 
+-- the form of the answer to a command
 abbrev pub reply : Command → Reply
 reply (ChangeAvailability c) = by (status_of availability_statuses availability_status_name)
 reply (ChangeConfiguration c) = by (status_of configuration_statuses configuration_status_name)
@@ -29,9 +30,10 @@ reply (UnlockConnector c) = by (status_of unlock_statuses unlock_status_name)
 abbrev pub as_sent : {A : Type 0} → (Data → Result A FieldFault) → Form A → Data → Result Data FieldFault
 as_sent read form d = read d >>= (λ a. Ok (written form a))
 
+-- the same by a form of whatever record
 abbrev pub by_reply : Reply → Data → Result Data FieldFault
-by_reply (by form) d = as_sent (reads form) form d
+by_reply (by form) d = as_sent (read_by form) form d
 
 -- the known members of the answer to a command, or its first fault
-abbrev pub answer : Command → Data → Result Data FieldFault
-answer c d = by_reply (reply c) d
+abbrev pub known_members : Command → Data → Result Data FieldFault
+known_members c d = by_reply (reply c) d

@@ -6,7 +6,7 @@ use Rattle.serde_json.specs.Find.{as_object}
 use Rattle.ocpp_types.specs.Named.{named}
 use Rattle.ocpp_payload.specs.declared.fault.FieldFault.{FieldFault}
 use Rattle.ocpp_payload.specs.Kind.{◌>>=◌}
-use Rattle.ocpp_payload.specs.Table.{Form, reads, bad, written}
+use Rattle.ocpp_payload.specs.Table.{Form, read_by, bad_member, written}
 use Rattle.operator_cmds.specs.OperatorAction.{operator_action_name, operator_actions}
 use Rattle.operator_cmds.specs.Forms as form
 use Rattle.operator_cmds.specs.declared.command.Command.{Command}
@@ -16,8 +16,9 @@ use Rattle.operator_cmds.specs.declared.operator_action.OperatorAction.TheVarian
 
 -- ---- from JSON
 
+-- a command of one action, by its form
 abbrev pub read_as : {C : Type 0} → Form C → (C → Command) → Data → Result Command FieldFault
-read_as form variant d = reads form d >>= (λ c. Ok (variant c))
+read_as form variant d = read_by form d >>= (λ c. Ok (variant c))
 
 -- the command of an action that an object is, or its first fault
 abbrev pub command_of : OperatorAction → Data → Result Command FieldFault
@@ -42,6 +43,7 @@ command name d = option_and_then (λ action. if is_some (as_object d) then resul
 pub data Message : Type 1 where
   by : {C : Type 0} → Form C → C → Message
 
+-- the members of a command, with their form
 abbrev pub message : Command → Message
 message (variant.ChangeAvailability c) = by form.change_availability c
 message (variant.ChangeConfiguration c) = by form.change_configuration c
@@ -54,13 +56,15 @@ message (variant.Reset c) = by form.reset c
 message (variant.TriggerMessage c) = by form.trigger_message c
 message (variant.UnlockConnector c) = by form.unlock_connector c
 
+-- its first bad member
 abbrev pub bad_in : Message → Option (List ℕ)
-bad_in (by form c) = bad form c
+bad_in (by form c) = bad_member form c
 
+-- the object that it is written as
 abbrev pub data_of : Message → Data
 data_of (by form c) = written form c
 
--- the first bad member
+-- the first bad member of a command
 abbrev pub bad_field : Command → Option (List ℕ)
 bad_field c = bad_in (message c)
 

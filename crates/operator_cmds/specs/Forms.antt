@@ -15,20 +15,21 @@ use Rattle.operator_cmds.specs.declared.station.TriggerMessage.{TriggerMessage}
 use Rattle.operator_cmds.specs.declared.station.UnlockConnector.{UnlockConnector}
 
 -- a connector, from the least that is meant on; 0 is the station itself
-abbrev pub connector_from : ℕ → Holds ℤ
-connector_from low = holds_integer_within (pos low) (pos 255)
+abbrev pub holds_connector : ℕ → Holds ℤ
+holds_connector low = holds_integer_within (pos low) (pos 255)
 
 -- a signed number of 32 bits
-abbrev pub number_of_32_bits : Holds ℤ
-number_of_32_bits = holds_integer_within (negsuc 2147483647) (pos 2147483647)
+abbrev pub holds_number_of_32_bits : Holds ℤ
+holds_number_of_32_bits = holds_integer_within (negsuc 2147483647) (pos 2147483647)
 
-abbrev pub id_tag : Holds (List ℕ)
-id_tag = holds_text_within 20
+-- an id tag of at most 20 characters
+abbrev pub holds_id_tag : Holds (List ℕ)
+holds_id_tag = holds_text_within 20
 
 abbrev pub change_availability : Form ChangeAvailability
 change_availability = record {
   table =
-      must (codes "connectorId") (connector_from 0) (λ c. c.connector_id)
+      must (codes "connectorId") (holds_connector 0) (λ c. c.connector_id)
       (must (codes "type") (holds_name availability_types availability_type_name) (λ c. c.kind)
       end);
   make = λ connector kind. record { connector_id = connector; kind = kind };
@@ -68,8 +69,8 @@ get_configuration = record {
 abbrev pub remote_start_transaction : Form RemoteStartTransaction
 remote_start_transaction = record {
   table =
-      may (codes "connectorId") (connector_from 1) (λ c. c.connector_id)
-      (must (codes "idTag") id_tag (λ c. c.id_tag)
+      may (codes "connectorId") (holds_connector 1) (λ c. c.connector_id)
+      (must (codes "idTag") holds_id_tag (λ c. c.id_tag)
       end);
   make = λ connector tag. record { connector_id = connector; id_tag = tag };
 }
@@ -77,7 +78,7 @@ remote_start_transaction = record {
 abbrev pub remote_stop_transaction : Form RemoteStopTransaction
 remote_stop_transaction = record {
   table =
-      must (codes "transactionId") number_of_32_bits (λ c. c.transaction_id)
+      must (codes "transactionId") holds_number_of_32_bits (λ c. c.transaction_id)
       end;
   make = λ transaction. record { transaction_id = transaction };
 }
@@ -94,7 +95,7 @@ abbrev pub trigger_message : Form TriggerMessage
 trigger_message = record {
   table =
       must (codes "requestedMessage") (holds_name message_triggers message_trigger_name) (λ c. c.requested_message)
-      (may (codes "connectorId") (connector_from 1) (λ c. c.connector_id)
+      (may (codes "connectorId") (holds_connector 1) (λ c. c.connector_id)
       end);
   make = λ message connector. record { requested_message = message; connector_id = connector };
 }
@@ -102,7 +103,7 @@ trigger_message = record {
 abbrev pub unlock_connector : Form UnlockConnector
 unlock_connector = record {
   table =
-      must (codes "connectorId") (connector_from 1) (λ c. c.connector_id)
+      must (codes "connectorId") (holds_connector 1) (λ c. c.connector_id)
       end;
   make = λ connector. record { connector_id = connector };
 }

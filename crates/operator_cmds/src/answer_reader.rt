@@ -3,7 +3,7 @@ ghost use Rattle.std.specs.Prelude.{◌≡◌, IfOk, false};
 ghost use Rattle.serde_json.specs.View.{view};
 ghost use Rattle.serde_json.specs.Written.{has_float};
 ghost use Rattle.ocpp_payload.specs.Gives.{Gives};
-ghost use Rattle.operator_cmds.specs.Answer.{answer, as_sent};
+ghost use Rattle.operator_cmds.specs.Answer.{known_members, as_sent};
 
 use crate::answers::{DataTransferAnswer, GetConfigurationAnswer, Status};
 use crate::command::Command;
@@ -16,15 +16,15 @@ use ocpp_types::{Mem, NoMemory};
 use serde_json::Value;
 use std::alloc::Global;
 
-/// The answer to a command that a payload is: its known members as they were sent, or its first faulty member in the
-/// order of the table. Members that are `null` and unknown members are left out, also those of the
+/// The answer to a command that a payload is: its known members as they were sent, or its first
+/// faulty member in the order of the table. Members that are `null` and unknown members are left out, also those of the
 /// objects of a list; empty lists are kept.
 pub fn read_answer(
     alloc: Global,
     command: &Command,
     payload: &Value,
 ) -> Mem<Result<Payload, FieldFault>>
-    ensures known { IfOk result (λ r. r ≡ answer command.now (view payload.now)) }
+    ensures known { IfOk result (λ r. r ≡ known_members command.now (view payload.now)) }
     ensures no_float { IfOk result (λ r. IfOk r (λ p. has_float p ≡ false)) }
 {
     let read = read_known(alloc, command, payload)?;
@@ -32,17 +32,17 @@ pub fn read_answer(
 }
 
 fn read_known(alloc: Global, command: &Command, payload: &Value) -> Mem<Result<Payload, FieldFault>>
-    ensures { IfOk result (λ r. r ≡ answer command.now (view payload.now)) }
+    ensures { IfOk result (λ r. r ≡ known_members command.now (view payload.now)) }
 {
-    match known_members(alloc, command, payload) {
+    match sent_members(alloc, command, payload) {
         Ok(known) => Ok(Ok(known)),
         Err(ReadError::Fault(fault)) => Ok(Err(fault)),
         Err(ReadError::NoMemory) => Err(NoMemory),
     }
 }
 
-fn known_members(alloc: Global, command: &Command, payload: &Value) -> Result<Payload, ReadError>
-    ensures { Gives result (answer command.now (view payload.now)) }
+fn sent_members(alloc: Global, command: &Command, payload: &Value) -> Result<Payload, ReadError>
+    ensures { Gives result (known_members command.now (view payload.now)) }
 {
     match command {
         Command::ChangeAvailability(_) => as_sent::<Status<AvailabilityStatus>>(alloc, payload),

@@ -1,5 +1,5 @@
 //! The answers of stations to commands.
-ghost use Rattle.ocpp_payload.specs.Table.{reads};
+ghost use Rattle.ocpp_payload.specs.Table.{read_by};
 ghost use Rattle.operator_cmds.specs.AnswerForms.{data_transfer_answer, get_configuration_answer, key_value, status_of};
 
 use ocpp_payload::{
@@ -17,7 +17,7 @@ pub struct Status<E> {
 }
 
 impl<E: Named + Drop> Readable for Status<E> {
-    ghost reads_as = { reads (status_of E.names E.name_of) };
+    ghost reads_as = { read_by (status_of E.names E.name_of) };
 
     fn read_from(alloc: Global, object: &Value) -> Result<Status<E>, ReadError> {
         let status = required(alloc, object, "status", NameOf::new())?;
@@ -44,7 +44,7 @@ pub struct DataTransferAnswer {
 }
 
 impl Readable for DataTransferAnswer {
-    ghost reads_as = { reads data_transfer_answer };
+    ghost reads_as = { read_by data_transfer_answer };
 
     fn read_from(alloc: Global, object: &Value) -> Result<DataTransferAnswer, ReadError> {
         Ok(DataTransferAnswer {
@@ -74,7 +74,7 @@ pub struct KeyValue {
 }
 
 impl Readable for KeyValue {
-    ghost reads_as = { reads key_value };
+    ghost reads_as = { read_by key_value };
 
     fn read_from(alloc: Global, object: &Value) -> Result<KeyValue, ReadError> {
         Ok(KeyValue {
@@ -105,7 +105,7 @@ pub struct GetConfigurationAnswer {
 }
 
 impl Readable for GetConfigurationAnswer {
-    ghost reads_as = { reads get_configuration_answer };
+    ghost reads_as = { read_by get_configuration_answer };
 
     fn read_from(alloc: Global, object: &Value) -> Result<GetConfigurationAnswer, ReadError> {
         let keys = ListOf(ObjectOf::new());

@@ -1,5 +1,5 @@
 //! Commands on the configuration of a station.
-ghost use Rattle.ocpp_payload.specs.Table.{reads};
+ghost use Rattle.ocpp_payload.specs.Table.{read_by};
 ghost use Rattle.operator_cmds.specs.Forms.{change_configuration, get_configuration};
 
 use ocpp_payload::{
@@ -18,7 +18,7 @@ pub struct ChangeConfiguration {
 }
 
 impl Readable for ChangeConfiguration {
-    ghost reads_as = { reads change_configuration };
+    ghost reads_as = { read_by change_configuration };
 
     fn read_from(alloc: Global, object: &Value) -> Result<ChangeConfiguration, ReadError> {
         Ok(ChangeConfiguration {
@@ -54,7 +54,7 @@ pub struct GetConfiguration {
 }
 
 impl Readable for GetConfiguration {
-    ghost reads_as = { reads get_configuration };
+    ghost reads_as = { read_by get_configuration };
 
     fn read_from(alloc: Global, object: &Value) -> Result<GetConfiguration, ReadError> {
         let key = optional(alloc, object, "key", ListOf(TextWithin(50)))?;

@@ -21,9 +21,5 @@ pub use command::{Command, action_name_of};
 pub use command_reader::{bad_field, read_command, write_request};
 pub use configuration::{ChangeConfiguration, GetConfiguration};
 pub use copies::copy_command;
-pub use operator_action::OperatorAction;
 pub use remote::{RemoteStartTransaction, RemoteStopTransaction};
 pub use station::{ChangeAvailability, DataTransfer, Reset, TriggerMessage, UnlockConnector};
-pub use statuses::{
-    AcceptanceStatus, AvailabilityStatus, ConfigurationStatus, TriggerMessageStatus, UnlockStatus,
-};

@@ -1,5 +1,5 @@
 //! Commands that start and stop transactions from afar.
-ghost use Rattle.ocpp_payload.specs.Table.{reads};
+ghost use Rattle.ocpp_payload.specs.Table.{read_by};
 ghost use Rattle.operator_cmds.specs.Forms.{remote_start_transaction, remote_stop_transaction};
 
 use crate::kinds::{CONNECTOR, ID_TAG, NUMBER_OF_32_BITS};
@@ -19,7 +19,7 @@ pub struct RemoteStartTransaction {
 }
 
 impl Readable for RemoteStartTransaction {
-    ghost reads_as = { reads remote_start_transaction };
+    ghost reads_as = { read_by remote_start_transaction };
 
     fn read_from(alloc: Global, object: &Value) -> Result<RemoteStartTransaction, ReadError> {
         Ok(RemoteStartTransaction {
@@ -61,7 +61,7 @@ pub struct RemoteStopTransaction {
 }
 
 impl Readable for RemoteStopTransaction {
-    ghost reads_as = { reads remote_stop_transaction };
+    ghost reads_as = { read_by remote_stop_transaction };
 
     fn read_from(alloc: Global, object: &Value) -> Result<RemoteStopTransaction, ReadError> {
         let transaction_id = required(alloc, object, "transactionId", NUMBER_OF_32_BITS)?;

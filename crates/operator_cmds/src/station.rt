@@ -1,5 +1,5 @@
 //! Commands to a station as a whole or to a connector.
-ghost use Rattle.ocpp_payload.specs.Table.{reads};
+ghost use Rattle.ocpp_payload.specs.Table.{read_by};
 ghost use Rattle.operator_cmds.specs.Forms.{change_availability, data_transfer, reset, trigger_message, unlock_connector};
 
 use crate::choices::{AvailabilityType, MessageTrigger, ResetType};
@@ -22,7 +22,7 @@ pub struct ChangeAvailability {
 }
 
 impl Readable for ChangeAvailability {
-    ghost reads_as = { reads change_availability };
+    ghost reads_as = { read_by change_availability };
 
     fn read_from(alloc: Global, object: &Value) -> Result<ChangeAvailability, ReadError> {
         Ok(ChangeAvailability {
@@ -65,7 +65,7 @@ pub struct DataTransfer {
 }
 
 impl Readable for DataTransfer {
-    ghost reads_as = { reads data_transfer };
+    ghost reads_as = { read_by data_transfer };
 
     fn read_from(alloc: Global, object: &Value) -> Result<DataTransfer, ReadError> {
         Ok(DataTransfer {
@@ -115,7 +115,7 @@ pub struct Reset {
 }
 
 impl Readable for Reset {
-    ghost reads_as = { reads reset };
+    ghost reads_as = { read_by reset };
 
     fn read_from(alloc: Global, object: &Value) -> Result<Reset, ReadError> {
         let kind = required(alloc, object, "type", NameOf::new())?;
@@ -148,7 +148,7 @@ pub struct TriggerMessage {
 }
 
 impl Readable for TriggerMessage {
-    ghost reads_as = { reads trigger_message };
+    ghost reads_as = { read_by trigger_message };
 
     fn read_from(alloc: Global, object: &Value) -> Result<TriggerMessage, ReadError> {
         Ok(TriggerMessage {
@@ -196,7 +196,7 @@ pub struct UnlockConnector {
 }
 
 impl Readable for UnlockConnector {
-    ghost reads_as = { reads unlock_connector };
+    ghost reads_as = { read_by unlock_connector };
 
     fn read_from(alloc: Global, object: &Value) -> Result<UnlockConnector, ReadError> {
         let connector_id = required(alloc, object, "connectorId", CONNECTOR)?;
