@@ -5,17 +5,24 @@ use Rattle.hub.specs.declared.out.Out.{Out}
 use Rattle.hub.specs.declared.out.Said.{Said}
 use Rattle.hub.specs.declared.out.Said.TheVariants.{Send, Turned, Refused, Row, Accepted}
 use Rattle.lines.specs.RowLines.{row_line}
+use Rattle.ocpp_types.specs.AuthorizationStatus.{authorization_status_name}
 use Rattle.ocpp_types.specs.Refusal.{refusal_number, refusal_name}
 use Rattle.ocpp_types.specs.declared.refusal.Refusal.{Refusal}
-use Rattle.ocpp_types.specs.declared.refusal.Refusal.TheVariants.{NoSuchStation, StationExists, NoSuchTag, BadField, HasOpenTransactions}
+use Rattle.ocpp_types.specs.declared.refusal.Refusal.TheVariants.{NoSuchStation, StationExists, NoSuchTag, NotConnected, QueueFull, NotAllowedNow, TagRefused, NoSuchTransaction, BadField, HasOpenTransactions, NumberSpent}
 
 -- what stands after the name of a refusal
 abbrev pub refusal_detail : Refusal → Option (List ℕ)
 refusal_detail NoSuchStation = None
 refusal_detail StationExists = None
 refusal_detail NoSuchTag = None
-refusal_detail HasOpenTransactions = None
+refusal_detail NotConnected = None
+refusal_detail QueueFull = None
+refusal_detail NotAllowedNow = None
+refusal_detail (TagRefused status) = Some (authorization_status_name status)
+refusal_detail NoSuchTransaction = None
 refusal_detail (BadField field) = Some field
+refusal_detail HasOpenTransactions = None
+refusal_detail NumberSpent = None
 
 -- `OP refused NUMBER NAME`, with the detail where there is one
 abbrev pub refused_line : List ℕ → Refusal → Option (List ℕ) → List ℕ

@@ -4,7 +4,7 @@ ghost use Rattle.lines.specs.OutputLines.{line_of, refused_line, refusal_detail}
 
 use crate::rows::print_row;
 use hub::{Out, Said};
-use ocpp_types::{Mem, Refusal, Text};
+use ocpp_types::{Mem, Named, Refusal, Text};
 use std::alloc::Global;
 
 /// The line of an output, without a line feed (docs/RULES.md, Lines).
@@ -39,10 +39,16 @@ fn detail(refusal: &Refusal) -> Option<&'static str>
     ensures { option_map (λ d. d.now) result ≡ refusal_detail refusal.now }
 {
     match refusal {
+        Refusal::BadField(field) => Some(field.as_str()),
+        Refusal::TagRefused(status) => Some(status.name()),
         Refusal::NoSuchStation
         | Refusal::StationExists
         | Refusal::NoSuchTag
-        | Refusal::HasOpenTransactions => None,
-        Refusal::BadField(field) => Some(field.as_str()),
+        | Refusal::NotConnected
+        | Refusal::QueueFull
+        | Refusal::NotAllowedNow
+        | Refusal::NoSuchTransaction
+        | Refusal::HasOpenTransactions
+        | Refusal::NumberSpent => None,
     }
 }
