@@ -1,4 +1,5 @@
-//! Proved tests of what no file of cases can show: stores, handlers, readers and writers that fail.
+//! Proved tests of what no file of cases can show: stores, handlers, readers and writers that fail,
+//! and numbers at their end.
 #![tactic(auto)]
 
 #[cfg(test)]
@@ -7,6 +8,8 @@ mod failing_stores;
 mod faulty;
 #[cfg(test)]
 mod handlers;
+#[cfg(test)]
+mod last_numbers;
 #[cfg(test)]
 mod replays;
 #[cfg(test)]

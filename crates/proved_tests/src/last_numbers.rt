@@ -1,0 +1,231 @@
+//! A station whose numbers of transactions and readings come to their end.
+ghost use Rattle.std.specs.Prelude.{◌≡◌, IsTrue, IfOk};
+ghost use Rattle.ocpp_types.specs.TagKey.{key_of};
+ghost use Rattle.hub_rows.specs.Transactions.{AreNext};
+
+use crate::scripts::{events, hub_of, run};
+use hub_rows::{Change, Edit, Reading, Start, StartKey, Store, StoreFault};
+use ocpp_types::{
+    AuthorizationStatus, Listed, Location, Measurand, Mem, Moment, Policy, ReadingContext, TagKey,
+    Text, ValueFormat,
+};
+use station_calls::Echo;
+use std::alloc::Global;
+use std::test::Fail;
+use store_mem::MemStore;
+
+/// The last number that a transaction or a reading can have.
+const LAST_NUMBER: u32 = 2147483647;
+
+/// Whether one row may have that number, after the last.
+fn is_next(last: u32, number: u32) -> bool
+    ensures { IsTrue result → AreNext last number 1 }
+{
+    if last != 0 && (last >= LAST_NUMBER || number != last + 1) {
+        return false;
+    }
+    1 <= number && number <= LAST_NUMBER
+}
+
+/// Whether the key of a start is the key of its tag.
+#[tactic(auto, using(hub_rows::proofs::ListLaws::same_text))]
+fn has_its_key(alloc: Global, start: &Start) -> Mem<bool>
+    ensures { IfOk result (λ same. IsTrue same → start.now.id.key ≡ key_of start.now.tag) }
+{
+    let key = TagKey::of(alloc, start.tag.as_str())?;
+    Ok(start.id.key.as_str() == key.as_str())
+}
+
+fn change_of(alloc: Global, edit: Edit) -> Mem<Change> {
+    Ok(Change {
+        op: Text::copy_of(alloc, "ACME")?,
+        edit,
+    })
+}
+
+/// Adds CP01 of ACME, unless it is there.
+fn add<S: Store>(alloc: Global, store: &mut S) -> Result<(), StoreFault> {
+    let station = Text::copy_of(alloc, "CP01")?;
+    let change = change_of(
+        alloc,
+        Edit::StationAdded {
+            station,
+            policy: Policy::Accepted,
+            interval: 300,
+        },
+    )?;
+    apply_where_it_fits(alloc, store, &change)
+}
+
+/// A transaction of K1 on connector 1 of CP01.
+fn begun(alloc: Global, number: u32, moment: Moment) -> Mem<Change> {
+    let id = StartKey {
+        connector: 1,
+        key: TagKey::of(alloc, "K1")?,
+        meter_start: 100,
+        at: 1704067200000,
+    };
+    let start = Start {
+        id,
+        tag: Text::copy_of(alloc, "K1")?,
+        reservation: None,
+        status: AuthorizationStatus::Accepted,
+        begun: moment,
+    };
+    let station = Text::copy_of(alloc, "CP01")?;
+    change_of(
+        alloc,
+        Edit::TxStarted {
+            station,
+            number,
+            start,
+        },
+    )
+}
+
+/// A reading of CP01.
+fn read(alloc: Global, first: u32) -> Mem<Change> {
+    let mut readings = Listed::new(alloc);
+    let reading = Reading {
+        connector: 1,
+        transaction: None,
+        at: 0,
+        context: ReadingContext::Other,
+        format: ValueFormat::Raw,
+        measurand: Measurand::Frequency,
+        phase: None,
+        location: Location::Inlet,
+        unit: None,
+        text: Text::copy_of(alloc, "z")?,
+    };
+    readings.push(reading)?;
+    let station = Text::copy_of(alloc, "CP01")?;
+    change_of(
+        alloc,
+        Edit::ReadingsAdded {
+            station,
+            first,
+            readings,
+        },
+    )
+}
+
+/// Makes a change of those above where it fits.
+fn apply_where_it_fits<S: Store>(
+    alloc: Global,
+    store: &mut S,
+    change: &Change,
+) -> Result<(), StoreFault> {
+    let op = change.op.as_str();
+    match &change.edit {
+        Edit::StationAdded { station, .. } => {
+            if store.station(op, station.as_str())?.is_none() {
+                store.apply(change)?;
+            }
+            Ok(())
+        }
+        Edit::TxStarted { .. } => begin(alloc, store, change),
+        Edit::ReadingsAdded { .. } => keep(store, change),
+        _ => Ok(()),
+    }
+}
+
+fn begin<S: Store>(alloc: Global, store: &mut S, change: &Change) -> Result<(), StoreFault> {
+    let Edit::TxStarted {
+        station,
+        number,
+        start,
+    } = &change.edit
+    else {
+        return Ok(());
+    };
+    let op = change.op.as_str();
+    if store.station(op, station.as_str())?.is_none() {
+        return Ok(());
+    }
+    if !has_its_key(alloc, start)? {
+        return Ok(());
+    }
+    let last = store.last_numbers(op, station.as_str())?.transaction;
+    if is_next(last, *number) {
+        store.apply(change)?;
+    }
+    Ok(())
+}
+
+fn keep<S: Store>(store: &mut S, change: &Change) -> Result<(), StoreFault> {
+    let Edit::ReadingsAdded {
+        station,
+        first,
+        readings,
+    } = &change.edit
+    else {
+        return Ok(());
+    };
+    if readings.as_slice().len() != 1 {
+        return Ok(());
+    }
+    let op = change.op.as_str();
+    if store.station(op, station.as_str())?.is_none() {
+        return Ok(());
+    }
+    let last = store.last_numbers(op, station.as_str())?.reading;
+    if is_next(last, *first) {
+        store.apply(change)?;
+    }
+    Ok(())
+}
+
+const SCRIPT: &str = r#"1704067200 ACME connect CP01
+1704067200 ACME frame CP01 [2,"1","BootNotification",{"chargePointVendor":"V","chargePointModel":"M"}]
+1704067200 ACME frame CP01 [2,"2","StartTransaction",{"connectorId":2,"idTag":"K2","meterStart":5,"timestamp":"2024-01-01T00:00:00Z"}]
+1704067200 ACME frame CP01 [2,"3","StartTransaction",{"connectorId":3,"idTag":"K2","meterStart":5,"timestamp":"2024-01-01T00:00:00Z"}]
+1704067200 ACME frame CP01 [2,"4","StartTransaction",{"connectorId":1,"idTag":"k1","meterStart":100,"timestamp":"2024-01-01T00:00:00Z"}]
+1704067200 ACME frame CP01 [2,"5","MeterValues",{"connectorId":1,"meterValue":[{"sampledValue":[{"value":"1"},{"value":"2"},{"value":"3"}],"timestamp":"2024-01-01T00:00:00Z"}]}]
+1704067200 ACME frame CP01 [2,"6","MeterValues",{"connectorId":3,"meterValue":[{"sampledValue":[{"value":"4"}],"timestamp":"2024-01-01T00:00:00Z"}]}]
+1704067200 ACME frame CP01 [2,"7","StopTransaction",{"meterStop":9,"timestamp":"2024-01-01T00:00:00Z","transactionId":2147483646,"transactionData":[{"sampledValue":[{"value":"5"},{"value":"6"}],"timestamp":"2024-01-01T00:00:00Z"}]}]
+1704067200 ACME frame CP01 [2,"8","StopTransaction",{"meterStop":9,"timestamp":"2024-01-01T00:00:00Z","transactionId":2147483647,"transactionData":[{"sampledValue":[{"value":"7"}],"timestamp":"2024-01-01T00:00:00Z"}]}]
+1704067200 ACME frame CP01 [2,"9","MeterValues",{"connectorId":1,"meterValue":[{"sampledValue":[{"value":"8"}],"timestamp":"2024-01-01T00:00:00Z"}]}]
+1704067200 ACME list transactions CP01
+1704067200 ACME list readings CP01
+"#;
+
+const OUTPUT: &str =
+    r#"ACME CP01 send [3,"1",{"currentTime":"2024-01-01T00:00:00Z","interval":300,"status":"Accepted"}]
+ACME CP01 send [3,"2",{"idTagInfo":{"status":"Invalid"},"transactionId":2147483647}]
+ACME CP01 send [4,"3","InternalError","",{}]
+ACME CP01 send [3,"4",{"idTagInfo":{"status":"Invalid"},"transactionId":2147483646}]
+ACME CP01 send [4,"5","InternalError","",{}]
+ACME CP01 send [3,"6",{}]
+ACME CP01 send [3,"7",{}]
+ACME CP01 send [3,"8",{}]
+ACME CP01 send [4,"9","InternalError","",{}]
+ACME row transaction CP01 2147483646 1 "K1" Accepted 100 1704067200000 - 9 1704067200000 Local -
+ACME row transaction CP01 2147483647 2 "K2" Invalid 5 1704067200000 - 9 1704067200000 Local -
+ACME ok
+ACME row reading CP01 2147483645 1 - 0 Other Raw Frequency - Inlet - - "z"
+ACME row reading CP01 2147483646 3 - 1704067200000 Sample.Periodic Raw Energy.Active.Import.Register - Outlet - 4000000 "4"
+ACME row reading CP01 2147483647 2 2147483647 1704067200000 Sample.Periodic Raw Energy.Active.Import.Register - Outlet - 7000000 "7"
+ACME ok
+"#;
+
+/// A store whose CP01 has one transaction and one reading, two numbers and three before the end.
+fn near_the_end(alloc: Global, moment: Moment) -> Result<MemStore, StoreFault> {
+    let mut store = MemStore::new(alloc);
+    add(alloc, &mut store)?;
+    apply_where_it_fits(alloc, &mut store, &begun(alloc, 2147483646, moment)?)?;
+    apply_where_it_fits(alloc, &mut store, &read(alloc, 2147483645)?)?;
+    Ok(store)
+}
+
+#[test]
+fn no_number_follows_the_last(rt: HostRuntime) -> Result<(), Fail> {
+    let alloc = rt.alloc();
+    let moment = Moment::new(1704067200).expect(&rt, "a moment");
+    let vendors: Vec<Echo> = Vec::new(alloc);
+    let mut hub = hub_of(alloc, near_the_end(alloc, moment)?, vendors)?;
+    let events = events(alloc, SCRIPT)?;
+    let met = run(alloc, &mut hub, events.as_slice())?;
+    assert_eq!(rt; met.text.as_str(), OUTPUT);
+    Ok(())
+}
