@@ -1,5 +1,5 @@
 -- What the table changes fits the records.
-use Rattle.std.specs.Prelude.{◌≡◌, ℕ, ◌+◌, length, nat_le, List, [], codes, cond, Option, None, Some, Bool, true, false, Result, Ok, Err, is_some, IsSome, IfSome}
+use Rattle.std.specs.Prelude.{◌≡◌, ℕ, ◌+◌, length, nat_le, List, [], codes, cond, Option, None, Some, Bool, true, false, Result, Ok, Err, is_some, IsOk, IsSome, IfSome}
 use Rattle.std.specs.Option.{ForSome}
 use Rattle.std.proofs.lemmas.Bool.{leb-true, leb-false}
 use Rattle.std.proofs.Common.{refl, sym, ap, subst, arith, inl, inr}
@@ -20,7 +20,7 @@ use Rattle.ocpp_payload.specs.ActionClass.{action_class}
 use Rattle.ocpp_payload.specs.Request.{request}
 use Rattle.hub_rows.specs.declared.change.Edit.{Edit}
 use Rattle.hub_rows.specs.declared.change.Edit.TheVariants.{StationAdded, BootSeen, PolicySet, ConnectorSeen, TagPut, TagDropped, TxStarted, TxStopped, ReadingsAdded}
-use Rattle.hub_rows.specs.declared.change.Edit.TheVariants as edit_of
+use Rattle.hub_rows.specs.declared.change.Edit.TheVariants as edit_to
 use Rattle.hub_rows.specs.declared.station_row.Registration.{Registration}
 use Rattle.hub_rows.specs.Lookups.{Lookups, lookups_at}
 use Rattle.hub_rows.specs.Changes.{EditFits, IsOpen}
@@ -52,9 +52,18 @@ use Rattle.hub.specs.declared.event.What.TheVariants as what
 use Rattle.hub.specs.declared.event.Admin.{Admin}
 use Rattle.hub.specs.declared.event.Admin.TheVariants as admin
 use Rattle.station_calls.specs.Vendors.{Answers}
+use Rattle.operator_cmds.specs.declared.command.Command.{Command}
+use Rattle.pending_calls.specs.Slot.{ready}
+use Rattle.hub.specs.declared.out.Outcome.{Outcome}
+use Rattle.hub.specs.declared.out.Outcome.TheVariants as outcome
+use Rattle.hub.specs.declared.plan.Effect.{Effect}
+use Rattle.hub.specs.declared.plan.Effect.TheVariants as effect
 use Rattle.hub.specs.declared.plan.Plan.{Plan}
-use Rattle.hub.specs.Plans.{connect_plan, disconnect_plan, error_plan, edit_plan, list_plan}
-use Rattle.hub.specs.Table.{Facts, plan, text_plan, frame_plan, call_plan, state_plan, payload_plan, admin_rule}
+use Rattle.hub.specs.Commands.{answered_command, command_plan, command_refusal, command_rule, end_plan, number_of_ready, number_unless, result_outcome}
+use Rattle.hub.specs.Effects.{IsReady, edit_effect, edit_of}
+use Rattle.hub.specs.Plans.{connect_plan, error_plan, edit_plan, list_plan, turned_plan}
+use Rattle.hub.specs.Table.{Facts, plan, frame_plan, call_plan, state_plan, payload_plan, admin_rule}
+use Rattle.hub.specs.World.{World, facts_at}
 use Rattle.hub.specs.Listing.{rows_rule}
 
 -- an edit that an operator's look-ups allow
@@ -69,8 +78,21 @@ FitsLookups l (TxStarted station number start) = IsSome (l.registration station)
 FitsLookups l (TxStopped station number stop first readings) = IsOpen (l.tx station number) × AreNext (l.last_numbers station).reading first (length readings)
 FitsLookups l (ReadingsAdded station first readings) = IsSome (l.registration station) × AreNext (l.last_numbers station).reading first (length readings)
 
-abbrev pub PlanFits : Lookups → Plan → Type 0
-PlanFits l p = IfSome p.edit (FitsLookups l)
+-- an effect that an operator's facts allow
+abbrev pub EffectFits : Facts → Effect → Type 0
+EffectFits f effect.Nothing = Unit {0}
+EffectFits f (effect.Edit e) = FitsLookups f.lookups e
+EffectFits f (effect.Connect station) = Unit {0}
+EffectFits f (effect.Disconnect station) = Unit {0}
+EffectFits f (effect.Submit station command text) = IsOk (ready (f.slot station))
+EffectFits f (effect.Answer station id outcome) = Unit {0}
+
+abbrev pub PlanFits : Facts → Plan → Type 0
+PlanFits f p = EffectFits f p.effect
+
+edit_fits_as : (f : Facts) (o : Option Edit) → IfSome o (FitsLookups f.lookups) → EffectFits f (edit_effect o)
+edit_fits_as f None fits = tt
+edit_fits_as f (Some e) fits = fits
 
 -- numbers that are left
 room_fits : (last count : ℕ) → has_room last count ≡ true → AreNext last (last + 1) count
@@ -119,42 +141,56 @@ stop_fits station r m l =
     ]
 
 -- the station is registered so
-payload_fits : (answers : Answers) (station : List ℕ) (g : Registration) (id : List ℕ) (r : Result Request FieldFault) (m : ℕ) (l : Lookups) → IsSome (l.registration station) → PlanFits l (payload_plan answers station g id r m l)
-payload_fits answers station g id (Ok (Authorize r)) m l here = tt
-payload_fits answers station g id (Ok (BootNotification texts)) m l here = here
-payload_fits answers station g id (Ok (DataTransfer r)) m l here = tt
-payload_fits answers station g id (Ok Heartbeat) m l here = tt
-payload_fits answers station g id (Ok (MeterValues r)) m l here = meter_values_fit station r l here
-payload_fits answers station g id (Ok (StartTransaction r)) m l here = start_fits station r m l here
-payload_fits answers station g id (Ok (StatusNotification r)) m l here = here
-payload_fits answers station g id (Ok (StopTransaction r)) m l here = stop_fits station r m l
-payload_fits answers station g id (Err fault) m l here = tt
+payload_fits : (answers : Answers) (station : List ℕ) (g : Registration) (id : List ℕ) (r : Result Request FieldFault) (m : ℕ) (f : Facts) → IsSome (f.lookups.registration station) → PlanFits f (payload_plan answers station g id r m f.lookups)
+payload_fits answers station g id (Ok (Authorize r)) m f here = tt
+payload_fits answers station g id (Ok (BootNotification texts)) m f here = here
+payload_fits answers station g id (Ok (DataTransfer r)) m f here = tt
+payload_fits answers station g id (Ok Heartbeat) m f here = tt
+payload_fits answers station g id (Ok (MeterValues r)) m f here = edit_fits_as f (meter_values_rule station r f.lookups).edit (meter_values_fit station r f.lookups here)
+payload_fits answers station g id (Ok (StartTransaction r)) m f here = edit_fits_as f (start_rule station r m f.lookups).edit (start_fits station r m f.lookups here)
+payload_fits answers station g id (Ok (StatusNotification r)) m f here = here
+payload_fits answers station g id (Ok (StopTransaction r)) m f here = edit_fits_as f (stop_rule station r m f.lookups).edit (stop_fits station r m f.lookups)
+payload_fits answers station g id (Err fault) m f here = tt
 
-state_fits : (answers : Answers) (station : List ℕ) (o : Option Registration) (id : List ℕ) (action : Action) (payload : Data) (m : ℕ) (l : Lookups) → l.registration station ≡ o → PlanFits l (state_plan answers station o id action payload m l)
-state_fits answers station None id action payload m l is = tt
-state_fits answers station (Some g) id action payload m l is =
-    elim (is_allowed g.state action) as (λ b. PlanFits l (cond b (payload_plan answers station g id (request action payload) m l) (error_plan station id code.SecurityError []))) [
-      | true ↦ payload_fits answers station g id (request action payload) m l (ap is_some is)
+state_fits : (answers : Answers) (station : List ℕ) (o : Option Registration) (id : List ℕ) (action : Action) (payload : Data) (m : ℕ) (f : Facts) → f.lookups.registration station ≡ o → PlanFits f (state_plan answers station o id action payload m f.lookups)
+state_fits answers station None id action payload m f is = tt
+state_fits answers station (Some g) id action payload m f is =
+    elim (is_allowed g.state action) as (λ b. PlanFits f (cond b (payload_plan answers station g id (request action payload) m f.lookups) (error_plan station id code.SecurityError []))) [
+      | true ↦ payload_fits answers station g id (request action payload) m f (ap is_some is)
       | false ↦ tt
     ]
 
-call_fits : (answers : Answers) (station id : List ℕ) (class : ActionClass) (payload : Data) (m : ℕ) (l : Lookups) → PlanFits l (call_plan answers station id class payload m l)
-call_fits answers station id (Known action) payload m l = state_fits answers station (l.registration station) id action payload m l refl
-call_fits answers station id NotSupported payload m l = tt
-call_fits answers station id NotImplemented payload m l = tt
+call_fits : (answers : Answers) (station id : List ℕ) (class : ActionClass) (payload : Data) (m : ℕ) (f : Facts) → PlanFits f (call_plan answers station id class payload m f.lookups)
+call_fits answers station id (Known action) payload m f = state_fits answers station (f.lookups.registration station) id action payload m f refl
+call_fits answers station id NotSupported payload m f = tt
+call_fits answers station id NotImplemented payload m f = tt
 
-frame_fits : (answers : Answers) (station : List ℕ) (f : Frame) (m : ℕ) (l : Lookups) → PlanFits l (frame_plan answers station f m l)
-frame_fits answers station (Call id action payload) m l = call_fits answers station id (action_class action) payload m l
-frame_fits answers station (CallResult id payload) m l = tt
-frame_fits answers station (CallError id c description) m l = tt
-frame_fits answers station (Broken id) m l = tt
-frame_fits answers station Ignored m l = tt
+answer_fits : (station id : List ℕ) (gives : Command → Outcome) (o : Option Command) (f : Facts) → PlanFits f (end_plan station id gives o)
+answer_fits station id gives None f = tt
+answer_fits station id gives (Some c) f = tt
 
-add_fits : (station : List ℕ) (policy : Policy) (interval : ℕ) (l : Lookups) → PlanFits l (edit_plan (add_rule station policy interval l))
-add_fits station policy interval l =
-    elim (is_station_name station) as (λ b. PlanFits l (edit_plan (cond b (cond (nat_le interval 86_400) (new_station_edit station policy interval (l.registration station)) (Err (BadField (codes "interval")))) (Err (BadField (codes "station")))))) [
-      | true ↦ elim (nat_le interval 86_400) as (λ b. PlanFits l (edit_plan (cond b (new_station_edit station policy interval (l.registration station)) (Err (BadField (codes "interval")))))) [
-        | true ↦ elim (l.registration station) as (λ o. l.registration station ≡ o → PlanFits l (edit_plan (new_station_edit station policy interval o))) [
+frame_fits : (answers : Answers) (station : List ℕ) (t : Frame) (m : ℕ) (f : Facts) → PlanFits f (frame_plan answers station t m f)
+frame_fits answers station (Call id action payload) m f = call_fits answers station id (action_class action) payload m f
+frame_fits answers station (CallResult id payload) m f = answer_fits station id (λ c. result_outcome c payload) (answered_command id (f.slot station)) f
+frame_fits answers station (CallError id error description) m f = answer_fits station id (λ c. outcome.Error error description) (answered_command id (f.slot station)) f
+frame_fits answers station (Broken id) m f = tt
+frame_fits answers station Ignored m f = tt
+
+-- a command is submitted to a station that is ready
+command_fits : (station : List ℕ) (c : Command) (o : Option Registration) (m : ℕ) (f : Facts) → PlanFits f (command_plan station c (command_rule station c o (f.slot station) m f.lookups))
+command_fits station c None m f = tt
+command_fits station c (Some r) m f =
+    let refusal = command_refusal station c r m f.lookups in
+    elim (ready (f.slot station)) as (λ t. ready (f.slot station) ≡ t → PlanFits f (command_plan station c (number_of_ready refusal t))) [
+      | Ok n ↦ λ e. elim refusal as (λ o. PlanFits f (command_plan station c (number_unless o n))) [ None ↦ subst IsOk (sym e) refl | Some why ↦ tt ]
+      | Err unready ↦ λ e. tt
+    ] refl
+
+add_fits : (station : List ℕ) (policy : Policy) (interval : ℕ) (f : Facts) → PlanFits f (edit_plan (add_rule station policy interval f.lookups))
+add_fits station policy interval f =
+    elim (is_station_name station) as (λ b. PlanFits f (edit_plan (cond b (cond (nat_le interval 86_400) (new_station_edit station policy interval (f.lookups.registration station)) (Err (BadField (codes "interval")))) (Err (BadField (codes "station")))))) [
+      | true ↦ elim (nat_le interval 86_400) as (λ b. PlanFits f (edit_plan (cond b (new_station_edit station policy interval (f.lookups.registration station)) (Err (BadField (codes "interval")))))) [
+        | true ↦ elim (f.lookups.registration station) as (λ o. f.lookups.registration station ≡ o → PlanFits f (edit_plan (new_station_edit station policy interval o))) [
           | None ↦ λ e. e
           | Some r ↦ λ e. tt
         ] refl
@@ -163,39 +199,40 @@ add_fits station policy interval l =
       | false ↦ tt
     ]
 
-policy_fits : (station : List ℕ) (policy : Policy) (interval : ℕ) (l : Lookups) → PlanFits l (edit_plan (policy_rule station policy interval l))
-policy_fits station policy interval l =
-    let kept : Bool = is_kept_from station policy l in
-    elim (l.registration station) as (λ o. l.registration station ≡ o → PlanFits l (edit_plan (policy_edit station policy interval kept o))) [
+policy_fits : (station : List ℕ) (policy : Policy) (interval : ℕ) (f : Facts) → PlanFits f (edit_plan (policy_rule station policy interval f.lookups))
+policy_fits station policy interval f =
+    let kept : Bool = is_kept_from station policy f.lookups in
+    elim (f.lookups.registration station) as (λ o. f.lookups.registration station ≡ o → PlanFits f (edit_plan (policy_edit station policy interval kept o))) [
       | None ↦ λ e. tt
-      | Some r ↦ λ e. elim (nat_le interval 86_400) as (λ b. PlanFits l (edit_plan (cond b (cond kept (Err HasOpenTransactions) (Ok (edit_of.PolicySet station policy interval))) (Err (BadField (codes "interval")))))) [
-        | true ↦ elim kept as (λ b. PlanFits l (edit_plan (cond b (Err HasOpenTransactions) (Ok (edit_of.PolicySet station policy interval))))) [ true ↦ tt | false ↦ ap is_some e ]
+      | Some r ↦ λ e. elim (nat_le interval 86_400) as (λ b. PlanFits f (edit_plan (cond b (cond kept (Err HasOpenTransactions) (Ok (edit_to.PolicySet station policy interval))) (Err (BadField (codes "interval")))))) [
+        | true ↦ elim kept as (λ b. PlanFits f (edit_plan (cond b (Err HasOpenTransactions) (Ok (edit_to.PolicySet station policy interval))))) [ true ↦ tt | false ↦ ap is_some e ]
         | false ↦ tt
       ]
     ] refl
 
-put_fits : (t : Tag) (l : Lookups) → PlanFits l (edit_plan (put_rule t))
-put_fits t l =
-    elim (is_tag t.text) as (λ b. PlanFits l (edit_plan (cond b (cond (is_parent t.parent) (Ok (edit_of.TagPut (key_of t.text) t)) (Err (BadField (codes "parent")))) (Err (BadField (codes "tag")))))) [
-      | true ↦ elim (is_parent t.parent) as (λ b. PlanFits l (edit_plan (cond b (Ok (edit_of.TagPut (key_of t.text) t)) (Err (BadField (codes "parent")))))) [ true ↦ refl | false ↦ tt ]
+put_fits : (t : Tag) (f : Facts) → PlanFits f (edit_plan (put_rule t))
+put_fits t f =
+    elim (is_tag t.text) as (λ b. PlanFits f (edit_plan (cond b (cond (is_parent t.parent) (Ok (edit_to.TagPut (key_of t.text) t)) (Err (BadField (codes "parent")))) (Err (BadField (codes "tag")))))) [
+      | true ↦ elim (is_parent t.parent) as (λ b. PlanFits f (edit_plan (cond b (Ok (edit_to.TagPut (key_of t.text) t)) (Err (BadField (codes "parent")))))) [ true ↦ refl | false ↦ tt ]
       | false ↦ tt
     ]
 
-drop_fits : (text : List ℕ) (l : Lookups) → PlanFits l (edit_plan (drop_rule text l))
-drop_fits text l = elim (l.own_tag (key_of text)) as (λ o. PlanFits l (edit_plan (drop_edit (key_of text) o))) [ None ↦ tt | Some t ↦ tt ]
+drop_fits : (text : List ℕ) (f : Facts) → PlanFits f (edit_plan (drop_rule text f.lookups))
+drop_fits text f = elim (f.lookups.own_tag (key_of text)) as (λ o. PlanFits f (edit_plan (drop_edit (key_of text) o))) [ None ↦ tt | Some t ↦ tt ]
 
-admin_fits : (a : Admin) (l : Lookups) → PlanFits l (edit_plan (admin_rule a l))
-admin_fits (admin.StationAdd station policy interval) l = add_fits station policy interval l
-admin_fits (admin.StationPolicy station policy interval) l = policy_fits station policy interval l
-admin_fits (admin.TagPut tag) l = put_fits tag l
-admin_fits (admin.TagDrop tag) l = drop_fits tag l
+admin_fits : (a : Admin) (f : Facts) → PlanFits f (edit_plan (admin_rule a f.lookups))
+admin_fits (admin.StationAdd station policy interval) f = add_fits station policy interval f
+admin_fits (admin.StationPolicy station policy interval) f = policy_fits station policy interval f
+admin_fits (admin.TagPut tag) f = put_fits tag f
+admin_fits (admin.TagDrop tag) f = drop_fits tag f
 
-pub plan_fits : (answers : Answers) (what : What) (m : ℕ) (f : Facts) → PlanFits f.lookups (plan answers what m f)
-plan_fits answers (what.Connect station) m f = elim (f.lookups.registration station) as (λ o. PlanFits f.lookups (connect_plan station o)) [ None ↦ tt | Some r ↦ tt ]
-plan_fits answers (what.Disconnect station) m f = elim (f.slot station).is_connected as (λ c. PlanFits f.lookups (disconnect_plan station c)) [ true ↦ tt | false ↦ tt ]
-plan_fits answers (what.Frame station text) m f = elim (f.slot station).is_connected as (λ c. PlanFits f.lookups (text_plan answers station text m c f.lookups)) [ true ↦ frame_fits answers station (frame text) m f.lookups | false ↦ tt ]
-plan_fits answers (what.Admin a) m f = admin_fits a f.lookups
-plan_fits answers (what.List listing) m f = elim (rows_rule listing f.lookups) as (λ r. PlanFits f.lookups (list_plan r)) [ Ok rows ↦ tt | Err refusal ↦ tt ]
+pub plan_fits : (answers : Answers) (what : What) (m : ℕ) (f : Facts) → PlanFits f (plan answers what m f)
+plan_fits answers (what.Connect station) m f = elim (f.lookups.registration station) as (λ o. PlanFits f (connect_plan station o)) [ None ↦ tt | Some r ↦ tt ]
+plan_fits answers (what.Disconnect station) m f = tt
+plan_fits answers (what.Frame station text) m f = elim (f.slot station).is_connected as (λ c. PlanFits f (cond c (frame_plan answers station (frame text) m f) (turned_plan station))) [ true ↦ frame_fits answers station (frame text) m f | false ↦ tt ]
+plan_fits answers (what.Do station command) m f = command_fits station command (f.lookups.registration station) m f
+plan_fits answers (what.Admin a) m f = admin_fits a f
+plan_fits answers (what.List listing) m f = elim (rows_rule listing f.lookups) as (λ r. PlanFits f (list_plan r)) [ Ok rows ↦ tt | Err refusal ↦ tt ]
 
 -- what the look-ups over the rows allow, the rows allow
 edit_fits : (b : List ℕ) (rows : Rows) (e : Edit) → FitsLookups (lookups_at b rows) e → EditFits b e rows
@@ -209,9 +246,22 @@ edit_fits b rows (TxStarted station number start) fits = fits
 edit_fits b rows (TxStopped station number stop first readings) fits = fits
 edit_fits b rows (ReadingsAdded station first readings) fits = fits
 
-pub for_some : (b : List ℕ) (rows : Rows) (o : Option Edit) → IfSome o (FitsLookups (lookups_at b rows)) → ForSome o (λ e. EditFits b e rows)
-for_some b rows None fits = λ e same. absurd (cc)
-for_some b rows (Some d) fits = λ e same. edit_fits b rows e (subst (FitsLookups (lookups_at b rows)) (some_is d e same) fits)
+-- what the facts over a world allow, its records and slots allow
+pub fits_rows : (first : ℕ) (b : List ℕ) (w : World) (e : Effect) → EffectFits (facts_at first b w) e → ForSome (edit_of e) (λ d. EditFits b d w.rows)
+fits_rows first b w effect.Nothing fits = λ d same. absurd (cc)
+fits_rows first b w (effect.Edit e) fits = λ d same. edit_fits b w.rows d (subst (FitsLookups (lookups_at b w.rows)) (some_is e d same) fits)
   where
-    some_is : (d e : Edit) → Some d ≡ Some e → d ≡ e
-    some_is d e same = cc
+    some_is : (e d : Edit) → Some e ≡ Some d → e ≡ d
+    some_is e d same = cc
+fits_rows first b w (effect.Connect station) fits = λ d same. absurd (cc)
+fits_rows first b w (effect.Disconnect station) fits = λ d same. absurd (cc)
+fits_rows first b w (effect.Submit station command text) fits = λ d same. absurd (cc)
+fits_rows first b w (effect.Answer station id outcome) fits = λ d same. absurd (cc)
+
+pub fits_slots : (f : Facts) (e : Effect) → EffectFits f e → IsReady f.slot e
+fits_slots f effect.Nothing fits = tt
+fits_slots f (effect.Edit e) fits = tt
+fits_slots f (effect.Connect station) fits = tt
+fits_slots f (effect.Disconnect station) fits = tt
+fits_slots f (effect.Submit station command text) fits = fits
+fits_slots f (effect.Answer station id outcome) fits = tt

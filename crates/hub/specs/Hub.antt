@@ -8,6 +8,7 @@ use Rattle.station_calls.specs.Vendors.{answer_of}
 use Rattle.hub.specs.declared.event.Event.{Event}
 use Rattle.hub.specs.declared.event.Event.TheVariants.{At, Tick}
 use Rattle.hub.specs.declared.hub.Hub.{Hub}
+use Rattle.pending_calls.specs.Slots.{all_slots, first_number}
 use Rattle.hub.specs.World.{Setting, World}
 
 -- whether its store is clean, and how often its store has failed, by what the store says of itself
@@ -17,17 +18,17 @@ is_clean clean h = IsCleanBook clean h.book
 abbrev pub failures_of : {S V : Type 0} → (S → ℕ) → Hub S V → ℕ
 failures_of failures h = book_failures failures h.book
 
--- the records of its store and its slots, by what the store says of its rows
+-- the records of its store and the slots of its stations, by what the store says of its rows
 abbrev pub world : {S V : Type 0} → (S → Rows) → Hub S V → World
-world rows h = record { rows = book_rows rows h.book; slots = h.slots.list.items }
+world rows h = record { rows = book_rows rows h.book; slots = all_slots h.slots }
 
--- a setting of operators and handlers, by what the handlers say of themselves
+-- a setting of operators and handlers, by what the handlers say of themselves; calls are counted from 1
 unfoldable pub setting_of : {V : Type 0} → (V → List ℕ) → (V → Option (List ℕ) → Option (List ℕ) → VendorAnswer) → List (List ℕ) → List V → Setting
-setting_of name gives hosted vendors = record { is_hosted = is_hosted hosted; answers = answer_of name gives vendors }
+setting_of name gives hosted vendors = record { is_hosted = is_hosted hosted; answers = answer_of name gives vendors; first_number = 1 }
 
--- which operators it hosts, and its answers to vendors' messages
+-- which operators it hosts, its answers to vendors' messages, and the number of the first call of a station
 unfoldable pub setting : {S V : Type 0} → (V → List ℕ) → (V → Option (List ℕ) → Option (List ℕ) → VendorAnswer) → Hub S V → Setting
-setting name gives h = record { is_hosted = is_hosted h.hosted.items; answers = book_answers name gives h.book }
+setting name gives h = record { is_hosted = is_hosted h.hosted.items; answers = book_answers name gives h.book; first_number = first_number h.slots }
 
 -- whether the operator of an event is among the hosted ones; a tick is of all operators
 abbrev pub is_of_hosted : (List ℕ → Bool) → Event → Bool

@@ -1,7 +1,8 @@
 pub mod Fault
-pub mod Slots
+pub mod Effects
 pub mod Listing
 pub mod Plans
+pub mod Commands
 pub mod Table
 pub mod World
 pub mod View

@@ -1,5 +1,5 @@
 -- What is said, and what changes, as each event's answer is known.
-use Rattle.std.specs.Prelude.{ℕ, List, [], ◌∷◌, ◌++◌, map, Option, Some, None, Bool, if◌then◌else◌, Result, Ok, Err}
+use Rattle.std.specs.Prelude.{ℕ, List, [], ◌∷◌, ◌++◌, map, Option, Some, None, Result, Ok, Err}
 use Rattle.serde_json.specs.Written.{compact_text}
 use Rattle.ocpp_types.specs.ErrorCode.{error_code_name}
 use Rattle.ocpp_types.specs.declared.error_code.ErrorCode.{ErrorCode}
@@ -14,19 +14,22 @@ use Rattle.registry.specs.declared.decision.Reply.{Reply}
 use Rattle.registry.specs.declared.decision.Reply.TheVariants.{Conf, Error}
 use Rattle.hub.specs.declared.out.Said.{Said}
 use Rattle.hub.specs.declared.out.Said.TheVariants as said
+use Rattle.hub.specs.declared.plan.Effect.{Effect}
+use Rattle.hub.specs.declared.plan.Effect.TheVariants as effect
 use Rattle.hub.specs.declared.plan.Plan.{Plan}
-use Rattle.hub.specs.declared.plan.Step.{Step}
-use Rattle.hub.specs.declared.plan.Step.TheVariants as step
 use Rattle.hub.specs.declared.row.Row.{Row}
+use Rattle.hub.specs.Effects.{edit_effect}
 
 abbrev pub nothing : Plan
-nothing = record { said = []; edit = None; moves = None }
+nothing = record { said = []; effect = effect.Nothing }
 
+-- one thing is said and nothing changes
 abbrev pub only : Said → Plan
-only s = record { said = s ∷ []; edit = None; moves = None }
+only s = record { said = s ∷ []; effect = effect.Nothing }
 
-abbrev pub moving : List ℕ → Step → Plan
-moving station step = record { said = []; edit = None; moves = Some (record { station = station; step = step }) }
+-- what is said is said by the effect alone
+abbrev pub changing : Effect → Plan
+changing e = record { said = []; effect = e }
 
 -- ---- connections
 
@@ -36,10 +39,11 @@ turned_plan station = only (said.Turned station)
 -- a station connects if it is registered
 abbrev pub connect_plan : List ℕ → Option Registration → Plan
 connect_plan station None = turned_plan station
-connect_plan station (Some r) = moving station step.Connect
+connect_plan station (Some r) = changing (effect.Connect station)
 
-abbrev pub disconnect_plan : List ℕ → Bool → Plan
-disconnect_plan station connected = if connected then moving station step.Disconnect else nothing
+-- the calls of a station end, if it has any
+abbrev pub disconnect_plan : List ℕ → Plan
+disconnect_plan station = changing (effect.Disconnect station)
 
 -- ---- frames
 
@@ -62,16 +66,16 @@ reply_text id (Conf conf) = conf_text id conf
 reply_text id (Error c) = error_text id c []
 
 abbrev pub decided_plan : List ℕ → List ℕ → Decision → Plan
-decided_plan station id d = record { said = said.Send station (reply_text id d.reply) ∷ []; edit = d.edit; moves = None }
+decided_plan station id d = record { said = said.Send station (reply_text id d.reply) ∷ []; effect = edit_effect d.edit }
 
 -- ---- requests of the operator
 
 -- an edit is taken or refused
 abbrev pub edit_plan : Result Edit Refusal → Plan
-edit_plan (Ok edit) = record { said = said.Accepted ∷ []; edit = Some edit; moves = None }
+edit_plan (Ok edit) = record { said = said.Accepted None ∷ []; effect = effect.Edit edit }
 edit_plan (Err refusal) = only (said.Refused refusal)
 
 -- a listing shows its rows, and is then taken
 abbrev pub list_plan : Result (List Row) Refusal → Plan
-list_plan (Ok rows) = record { said = map said.Row rows ++ said.Accepted ∷ []; edit = None; moves = None }
+list_plan (Ok rows) = record { said = map said.Row rows ++ said.Accepted None ∷ []; effect = effect.Nothing }
 list_plan (Err refusal) = only (said.Refused refusal)

@@ -1,5 +1,5 @@
 -- How each event of an operator is answered: a plan, made of that operator's own look-ups and slots.
-use Rattle.std.specs.Prelude.{ℕ, List, [], Option, Some, None, Bool, if◌then◌else◌, Result, Ok, Err}
+use Rattle.std.specs.Prelude.{ℕ, List, [], Option, Some, None, if◌then◌else◌, Result, Ok, Err}
 use Rattle.serde_json.specs.Data.{Data}
 use Rattle.ocpp_types.specs.declared.error_code.ErrorCode.TheVariants as code
 use Rattle.ocpp_types.specs.declared.refusal.Refusal.{Refusal}
@@ -27,14 +27,16 @@ use Rattle.hub.specs.declared.event.What.TheVariants as what
 use Rattle.hub.specs.declared.event.Admin.{Admin}
 use Rattle.hub.specs.declared.event.Admin.TheVariants as admin
 use Rattle.hub.specs.declared.plan.Plan.{Plan}
-use Rattle.hub.specs.declared.slot.Slot.{Slot}
+use Rattle.hub.specs.declared.out.Outcome.TheVariants as outcome
 use Rattle.hub.specs.Listing.{rows_rule}
+use Rattle.hub.specs.Commands.{answer_plan, command_plan, command_rule, result_outcome}
+use Rattle.hub.specs.Effects.{StationSlot}
 use Rattle.hub.specs.Plans.{nothing, turned_plan, connect_plan, disconnect_plan, error_plan, decided_plan, edit_plan, list_plan}
 
 -- what an operator's answers are made of: its own records, and the slots of its stations
 pub record Facts : Type 0 where
   pub lookups : Lookups
-  pub slot : List ℕ → Slot
+  pub slot : List ℕ → StationSlot
 
 -- ---- frames
 
@@ -56,16 +58,16 @@ call_plan answers station id (Known action) payload m l = state_plan answers sta
 call_plan answers station id NotSupported payload m l = error_plan station id code.NotSupported []
 call_plan answers station id NotImplemented payload m l = error_plan station id code.NotImplemented []
 
--- the first check is the frame's form; answers to calls change nothing yet
-abbrev pub frame_plan : Answers → List ℕ → Frame → ℕ → Lookups → Plan
-frame_plan answers station (Call id action payload) m l = call_plan answers station id (action_class action) payload m l
-frame_plan answers station (CallResult id payload) m l = nothing
-frame_plan answers station (CallError id c description) m l = nothing
-frame_plan answers station (Broken id) m l = error_plan station id code.FormationViolation []
-frame_plan answers station Ignored m l = nothing
+-- the first check is the frame's form; an answer ends the call in flight whatever the state
+abbrev pub frame_plan : Answers → List ℕ → Frame → ℕ → Facts → Plan
+frame_plan answers station (Call id action payload) m f = call_plan answers station id (action_class action) payload m f.lookups
+frame_plan answers station (CallResult id payload) m f = answer_plan station id (λ c. result_outcome c payload) (f.slot station)
+frame_plan answers station (CallError id error description) m f = answer_plan station id (λ c. outcome.Error error description) (f.slot station)
+frame_plan answers station (Broken id) m f = error_plan station id code.FormationViolation []
+frame_plan answers station Ignored m f = nothing
 
-abbrev pub text_plan : Answers → List ℕ → List ℕ → ℕ → Bool → Lookups → Plan
-text_plan answers station text m connected l = if connected then frame_plan answers station (frame text) m l else turned_plan station
+abbrev pub text_plan : Answers → List ℕ → List ℕ → ℕ → Facts → Plan
+text_plan answers station text m f = if (f.slot station).is_connected then frame_plan answers station (frame text) m f else turned_plan station
 
 -- ---- requests of the operator
 
@@ -80,7 +82,8 @@ admin_rule (admin.TagDrop tag) l = drop_rule tag l
 
 abbrev pub plan : Answers → What → ℕ → Facts → Plan
 plan answers (what.Connect station) m f = connect_plan station (f.lookups.registration station)
-plan answers (what.Disconnect station) m f = disconnect_plan station (f.slot station).is_connected
-plan answers (what.Frame station text) m f = text_plan answers station text m (f.slot station).is_connected f.lookups
+plan answers (what.Disconnect station) m f = disconnect_plan station
+plan answers (what.Frame station text) m f = text_plan answers station text m f
+plan answers (what.Do station command) m f = command_plan station command (command_rule station command (f.lookups.registration station) (f.slot station) m f.lookups)
 plan answers (what.Admin a) m f = edit_plan (admin_rule a f.lookups)
 plan answers (what.List listing) m f = list_plan (rows_rule listing f.lookups)

@@ -2,7 +2,7 @@
 use Rattle.std.specs.List.Sorted.{IsStrictlySortedBy}
 use Rattle.hub_rows.specs.Keyed.{by_key}
 use Rattle.hub_rows.specs.WellFormed.{WellFormedRows}
-use Rattle.hub.specs.Slots.{slot_key}
+use Rattle.pending_calls.specs.SlotList.{slot_key}
 use Rattle.hub.specs.World.{World}
 
 pub record WellFormed (w : World) : Type 0 where

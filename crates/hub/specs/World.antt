@@ -1,9 +1,10 @@
 -- What events do to the records and slots of all operators, and what is said.
 use Rattle.std.specs.Prelude.{ℕ, List, [], ◌∷◌, ◌++◌, Bool, Option, Some, None, map}
+use Rattle.hub_rows.specs.declared.change.Change.{Change}
 use Rattle.hub_rows.specs.declared.change.Edit.{Edit}
 use Rattle.hub_rows.specs.Keyed.{own}
 use Rattle.hub_rows.specs.Rows.{Rows}
-use Rattle.hub_rows.specs.Changes.{edit}
+use Rattle.hub_rows.specs.Changes.{edit, after_change}
 use Rattle.hub_rows.specs.Lookups.{lookups_at}
 use Rattle.station_calls.specs.Vendors.{Answers}
 use Rattle.hub.specs.declared.event.Event.{Event}
@@ -12,33 +13,47 @@ use Rattle.hub.specs.declared.event.What.{What}
 use Rattle.hub.specs.declared.out.Out.{Out}
 use Rattle.hub.specs.declared.out.Said.{Said}
 use Rattle.hub.specs.declared.plan.Plan.{Plan}
-use Rattle.hub.specs.declared.slot.Slot.{Slot}
-use Rattle.hub.specs.Slots.{slot_in, slots_after}
+use Rattle.hub.specs.declared.plan.Effect.{Effect}
+use Rattle.hub.specs.Effects.{StationSlot, edit_of, effect_outputs, slots_after, tick_outputs}
 use Rattle.hub.specs.Table.{Facts, plan}
+use Rattle.pending_calls.specs.SlotList.{slot_of}
+use Rattle.pending_calls.specs.Tick.{tick}
 
--- which operators are hosted, and what vendors' messages are answered
+-- which operators are hosted, what vendors' messages are answered, and the number of the first call of
+-- a station
 pub record Setting : Type 0 where
   pub is_hosted : List ℕ → Bool
   pub answers : Answers
+  pub first_number : ℕ
 
 pub record World : Type 0 where
   pub rows : Rows
-  pub slots : List Slot
+  pub slots : List StationSlot
 
 -- the facts of operator b, over the records and slots of all
-abbrev pub facts_at : List ℕ → World → Facts
-facts_at b w = record { lookups = lookups_at b w.rows; slot = λ station. slot_in b station w.slots }
+abbrev pub facts_at : ℕ → List ℕ → World → Facts
+facts_at first b w = record { lookups = lookups_at b w.rows; slot = λ station. slot_of first b station w.slots }
 
+-- the change that an edit of operator b is
+abbrev pub change_to : List ℕ → Edit → Change
+change_to b e = record { op = b; edit = e }
+
+-- the records after a change, if there is one
+abbrev pub rows_by : Option Change → Rows → Rows
+rows_by None rows = rows
+rows_by (Some c) rows = after_change c rows
+
+-- the records after an edit of operator b, if there is one
 abbrev pub rows_after : List ℕ → Option Edit → Rows → Rows
 rows_after b None rows = rows
 rows_after b (Some e) rows = edit b e rows
 
--- a plan of operator b is carried out
-abbrev pub world_by : List ℕ → Plan → World → World
-world_by b p w = record { rows = rows_after b p.edit w.rows; slots = slots_after b p.moves w.slots }
+-- an effect for operator b at moment m
+abbrev pub world_by : ℕ → List ℕ → ℕ → Effect → World → World
+world_by first b m e w = record { rows = rows_after b (edit_of e) w.rows; slots = slots_after first b m e w.slots }
 
 abbrev pub plan_at : Setting → World → List ℕ → ℕ → What → Plan
-plan_at setting w b m what = plan setting.answers what m (facts_at b w)
+plan_at setting w b m what = plan setting.answers what m (facts_at setting.first_number b w)
 
 -- ---- what is said
 
@@ -46,19 +61,24 @@ plan_at setting w b m what = plan setting.answers what m (facts_at b w)
 abbrev pub said_to : List ℕ → Said → Out
 said_to b s = record { op = b; said = s }
 
+-- the outputs of a plan of operator b: what it says, then what is said of the calls that its effect ends
+-- and sends
+abbrev pub plan_outputs : List ℕ → Plan → Facts → List Out
+plan_outputs b p f = map (said_to b) p.said ++ effect_outputs p.effect f.slot
+
 -- the outputs for operator a, in order
 abbrev pub outputs_of : List ℕ → List Out → List Out
 outputs_of a outs = own (λ o. o.op) a outs
 
--- ---- one event: the outputs, and the world after it; a tick does nothing yet
+-- ---- one event: the outputs, and the world after it
 
 abbrev pub world_outputs : Setting → World → Event → List Out
-world_outputs setting w (At b m what) = map (said_to b) (plan_at setting w b m what).said
-world_outputs setting w (Tick m) = []
+world_outputs setting w (At b m what) = plan_outputs b (plan_at setting w b m what) (facts_at setting.first_number b w)
+world_outputs setting w (Tick m) = tick_outputs m w.slots
 
 abbrev pub world_step : Setting → World → Event → World
-world_step setting w (At b m what) = world_by b (plan_at setting w b m what) w
-world_step setting w (Tick m) = w
+world_step setting w (At b m what) = world_by setting.first_number b m (plan_at setting w b m what).effect w
+world_step setting w (Tick m) = record w { slots = tick m w.slots }
 
 -- ---- a list of events
 

@@ -2,6 +2,7 @@
 
 use hub_rows::Tag;
 use ocpp_types::{Moment, Policy, Text};
+use operator_cmds::Command;
 
 /// One event. Each carries its moment; moments need not grow.
 #[derive(Drop)]
@@ -12,7 +13,7 @@ pub enum Event {
         moment: Moment,
         what: What,
     },
-    /// Time has passed, for all operators.
+    /// Time has passed, for all operators: calls that were sent too long ago end.
     Tick {
         moment: Moment,
     },
@@ -27,6 +28,8 @@ pub enum What {
     Disconnect { station: Text },
     /// A station has sent a text.
     Frame { station: Text, text: Text },
+    /// The operator sends a command to a station.
+    Do { station: Text, command: Command },
     /// The operator edits its records.
     Admin(Admin),
     /// The operator asks for a list of its records.

@@ -2,10 +2,12 @@
 ghost use Rattle.std.specs.Prelude.{◌≡◌, Err, ◌≢◌, IfOk, IfErr};
 ghost use Rattle.hub_rows.specs.Reads.{OnlyReads};
 ghost use Rattle.hub_rows.specs.Lookups.{lookups_at};
+ghost use Rattle.pending_calls.specs.Slots.{slot_at};
 ghost use Rattle.ocpp_frame.specs.Frame.{frame};
 ghost use Rattle.station_calls.specs.Book.{book_rows, book_failures, book_answers, IsCleanBook};
 ghost use Rattle.hub.specs.Table.{frame_plan, call_plan, state_plan};
 
+use crate::commands::{plan_error, plan_result};
 use crate::fault::Fault;
 use crate::plan::Plan;
 use crate::plans::{decided_plan, error_plan};
@@ -13,6 +15,8 @@ use hub_rows::Store;
 use ocpp_frame::{Frame, Payload, read_frame};
 use ocpp_payload::{Action, ActionClass, action_class, read_request};
 use ocpp_types::{ErrorCode, Moment, Text};
+use operator_cmds::Command;
+use pending_calls::Slots;
 use registry::is_allowed;
 use station_calls::{Book, VendorHandler, decide};
 use std::alloc::Global;
@@ -21,6 +25,7 @@ use std::alloc::Global;
 pub fn plan_text<S: Store, V: VendorHandler>(
     alloc: Global,
     book: &mut Book<S, V>,
+    slots: &Slots<Command>,
     op: &Text,
     station: &Text,
     text: &Text,
@@ -28,7 +33,8 @@ pub fn plan_text<S: Store, V: VendorHandler>(
 ) -> Result<Plan, Fault>
     ensures reads { OnlyReads (book_rows S.rows) (book_failures S.failures) (IsCleanBook S.clean) book.old book.new (result ≡ Err Fault.Store) }
     ensures plan { IsCleanBook S.clean book.new → IfOk result (λ p. p
-        ≡ frame_plan (book_answers V.name V.gives book.old) station.now (frame text.now) moment (lookups_at op.now (book_rows S.rows book.old))) }
+        ≡ frame_plan (book_answers V.name V.gives book.old) station.now (frame text.now) moment
+        (record { lookups = lookups_at op.now (book_rows S.rows book.old); slot = λ st. slot_at op.now st slots.now })) }
     ensures hosted { IfErr result (λ f. f ≢ Fault.NoSuchOperator) }
     ensures answers { book_answers V.name V.gives book.new ≡ book_answers V.name V.gives book.old }
 {
@@ -45,9 +51,15 @@ pub fn plan_text<S: Store, V: VendorHandler>(
             let code = ErrorCode::FormationViolation;
             Ok(error_plan(alloc, station, &id, code, "")?)
         }
-        Frame::CallResult { .. } | Frame::CallError { .. } | Frame::Ignored => {
-            Ok(Plan::nothing(alloc))
+        Frame::CallResult { id, payload } => {
+            Ok(plan_result(alloc, slots, op, station, &id, &payload)?)
         }
+        Frame::CallError {
+            id,
+            code,
+            description,
+        } => Ok(plan_error(alloc, slots, op, station, &id, code, description)?),
+        Frame::Ignored => Ok(Plan::nothing(alloc)),
     }
 }
 

@@ -4,15 +4,16 @@ ghost use Rattle.std.specs.List.{AllWithin};
 ghost use Rattle.hub_rows.specs.Reads.{IsCounted};
 ghost use Rattle.hub_rows.specs.Operators.{are_operators};
 
-use crate::commit::{append_ready, commit, outs_for};
+use crate::commit::commit;
 use crate::event::{Event, What};
 use crate::fault::Fault;
 use crate::out::Out;
-use crate::plan::Plan;
 use crate::plan_event::plan_event;
-use crate::slots::Slots;
+use crate::tick::expire_all;
 use hub_rows::{Store, are_operators, is_hosted};
 use ocpp_types::{Moment, Text};
+use operator_cmds::Command;
+use pending_calls::Slots;
 use station_calls::{Book, VendorHandler};
 use std::alloc::Global;
 use thiserror::Error;
@@ -26,7 +27,7 @@ pub struct Hub<S, V> {
     alloc: Global,
     book: Book<S, V>,
     hosted: Vec<Text>,
-    slots: Slots,
+    slots: Slots<Command>,
 }
 
 /// These operators can't be hosted: there is none, one comes twice, or a name isn't of 1 to 32
@@ -66,7 +67,7 @@ impl<S: Store + Drop, V: VendorHandler> Hub<S, V> {
             alloc,
             book: Book::new(store, vendors),
             hosted: operators,
-            slots: Slots::new(alloc),
+            slots: Slots::new(alloc, 1),
         })
     }
 
@@ -164,7 +165,10 @@ impl<S: Store + Drop, V: VendorHandler> Hub<S, V> {
     {
         match event {
             Event::At { op, moment, what } => self.take_at(op, *moment, what, told),
-            Event::Tick { .. } => Ok(()),
+            Event::Tick { moment } => {
+                expire_all(&mut self.slots, *moment, told)?;
+                Ok(())
+            }
         }
     }
 
@@ -195,11 +199,14 @@ impl<S: Store + Drop, V: VendorHandler> Hub<S, V> {
             return Err(Fault::NoSuchOperator);
         }
         let plan = plan_event(self.alloc, &mut self.book, &self.slots, op, what, moment)?;
-        let Plan { said, edit, moves } = plan;
-        let mut outs = outs_for(self.alloc, op, said)?;
-        told.reserve(outs.len())?;
-        commit(&mut self.book.store, &mut self.slots, op, edit, moves)?;
-        append_ready(told, &mut outs);
-        Ok(())
+        commit(
+            self.alloc,
+            &mut self.book.store,
+            &mut self.slots,
+            op,
+            moment,
+            plan,
+            told,
+        )
     }
 }

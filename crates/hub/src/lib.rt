@@ -2,6 +2,7 @@
 #![tactic(auto)]
 
 mod admin;
+mod commands;
 mod commit;
 mod event;
 mod fault;
@@ -13,11 +14,11 @@ mod plan;
 mod plan_event;
 mod plans;
 mod row;
-mod slot;
-mod slots;
+mod tick;
+mod told;
 
 pub use event::{Admin, Event, Listing, What};
 pub use fault::Fault;
 pub use hub::{BadOperators, Hub};
-pub use out::{Out, Said};
+pub use out::{Out, Outcome, Said};
 pub use row::Row;

@@ -8,7 +8,7 @@ ghost use Rattle.hub.specs.declared.event.Listing.TheVariants as listing;
 
 use crate::event::Listing;
 use crate::out::Said;
-use crate::plan::Plan;
+use crate::plan::{Effect, Plan};
 use crate::row::Shown;
 use hub_rows::{Store, StoreFault};
 use ocpp_types::{Listed, Mem, Refusal, Text};
@@ -119,11 +119,10 @@ fn show<R: Shown>(alloc: Global, rows: Listed<R>) -> Mem<Plan>
 {
     let mut said = Listed::new(alloc);
     add_rows(&mut said, rows)?;
-    said.push(Said::Accepted)?;
+    said.push(Said::Accepted { number: None })?;
     Ok(Plan {
         said,
-        edit: None,
-        moves: None,
+        effect: Effect::Nothing,
     })
 }
 

@@ -1,7 +1,7 @@
 //! What the hub answers.
 
 use crate::row::Row;
-use ocpp_types::{Refusal, Text};
+use ocpp_types::{ErrorCode, FieldName, Refusal, Text};
 
 /// One output: what is said, and the operator that it is for.
 #[derive(Drop)]
@@ -14,14 +14,42 @@ pub struct Out {
 #[derive(Drop)]
 pub enum Said {
     /// A text to a station.
-    Send { station: Text, text: Text },
+    Send {
+        station: Text,
+        text: Text,
+    },
+    /// A call of that number has ended.
+    Done {
+        station: Text,
+        number: u32,
+        outcome: Outcome,
+    },
     /// A connect of a station that isn't registered, or a frame of one that isn't connected, is
     /// turned away.
-    Turned { station: Text },
+    Turned {
+        station: Text,
+    },
     /// A request of the operator is refused, and has changed nothing.
     Refused(Refusal),
     /// A row of a listing.
     Row(Row),
-    /// A request of the operator is taken.
-    Accepted,
+    /// A request of the operator is taken; a command with the number of its call.
+    Accepted {
+        number: Option<u32>,
+    },
+}
+
+/// How a call ends.
+#[derive(Drop)]
+pub enum Outcome {
+    /// The station has answered: the known members of its answer, as they were sent, as JSON.
+    Answer { json: Text },
+    /// A member of its answer is at fault.
+    BadAnswer { code: ErrorCode, field: FieldName },
+    /// It has answered with an error (OCPP-J 1.6, section 4.2.3).
+    Error { code: Text, description: Text },
+    /// It hasn't answered within 30 seconds.
+    Timeout,
+    /// Its connection has ended.
+    Disconnected,
 }

@@ -1,43 +1,58 @@
 //! What an event of an operator says and changes, before anything is changed.
-ghost use Rattle.std.specs.Prelude.{◌≡◌, [], None, IfOk};
-ghost use Rattle.hub.specs.Plans.{nothing, only, moving};
-ghost use Rattle.hub.specs.Slots.{connects};
+ghost use Rattle.std.specs.Prelude.{◌≡◌, [], ◌∷◌, IfOk};
+ghost use Rattle.hub.specs.Effects.{edit_effect};
+ghost use Rattle.hub.specs.Plans.{nothing, only, changing};
 
-use crate::out::Said;
+use crate::out::{Outcome, Said};
 use hub_rows::Edit;
 use ocpp_types::{Listed, Mem, Text};
+use operator_cmds::Command;
 use std::alloc::Global;
 
-/// What an event says to its operator, and what it changes of the operator's records and slots.
+/// What an event says to its operator, and what it changes. What is said of calls that its effect
+/// ends or sends comes after it.
 #[derive(Drop)]
 pub struct Plan {
     pub said: Listed<Said>,
-    pub edit: Option<Edit>,
-    pub moves: Option<Move>,
+    pub effect: Effect,
 }
 
-/// The slot of a station moves on.
+/// What an event changes.
 #[derive(Drop)]
-pub struct Move {
-    pub station: Text,
-    pub step: Step,
+pub enum Effect {
+    Nothing,
+    /// The records of the operator change.
+    Edit(Edit),
+    /// A station is connected from now on, and the calls of its last connection end.
+    Connect {
+        station: Text,
+    },
+    /// A station's connection has ended, and its calls end.
+    Disconnect {
+        station: Text,
+    },
+    /// A command becomes a call of a station, with that text.
+    Submit {
+        station: Text,
+        command: Command,
+        text: Text,
+    },
+    /// A station answers its call in flight, by its id.
+    Answer {
+        station: Text,
+        id: Text,
+        outcome: Outcome,
+    },
 }
 
-/// A step of a slot.
-#[derive(Clone, Copy, Drop)]
-pub enum Step {
-    /// The station is connected from now on.
-    Connect,
-    /// The station's connection has ended.
-    Disconnect,
-}
+impl From<Option<Edit>> for Effect {
+    ghost from_gives = { λ edit e. e ≡ edit_effect edit };
 
-impl Step {
-    /// Whether the station is connected after it.
-    pub fn connects(self) -> bool
-        ensures { result ≡ connects self }
-    {
-        matches!(self, Step::Connect)
+    fn from(edit: Option<Edit>) -> Effect {
+        match edit {
+            Some(edit) => Effect::Edit(edit),
+            None => Effect::Nothing,
+        }
     }
 }
 
@@ -46,33 +61,35 @@ impl Plan {
     pub fn nothing(alloc: Global) -> Plan
         ensures { result ≡ nothing }
     {
-        Plan {
-            said: Listed::new(alloc),
-            edit: None,
-            moves: None,
-        }
+        Plan::changing(alloc, Effect::Nothing)
     }
 
     /// One thing is said.
     pub fn only(alloc: Global, said: Said) -> Mem<Plan>
         ensures { IfOk result (λ p. p ≡ only said) }
     {
-        let mut plan = Plan::nothing(alloc);
-        plan.said.push(said)?;
-        Ok(plan)
-    }
-
-    /// A slot moves on.
-    pub fn moving(alloc: Global, station: &Text, step: Step) -> Mem<Plan>
-        ensures { IfOk result (λ p. p ≡ moving station.now step) }
-    {
         Ok(Plan {
-            said: Listed::new(alloc),
-            edit: None,
-            moves: Some(Move {
-                station: station.clone()?,
-                step,
-            }),
+            said: one(alloc, said)?,
+            effect: Effect::Nothing,
         })
     }
+
+    /// An effect, which says what is to be said.
+    pub fn changing(alloc: Global, effect: Effect) -> Plan
+        ensures { result ≡ changing effect }
+    {
+        Plan {
+            said: Listed::new(alloc),
+            effect,
+        }
+    }
+}
+
+/// One thing that is said.
+pub fn one(alloc: Global, said: Said) -> Mem<Listed<Said>>
+    ensures { IfOk result (λ list. list ≡ said ∷ []) }
+{
+    let mut list = Listed::new(alloc);
+    list.push(said)?;
+    Ok(list)
 }

@@ -1,13 +1,14 @@
 //! Plans from facts: one small function for each kind of event (docs/RULES.md).
-ghost use Rattle.std.specs.Prelude.{◌≡◌, IfOk};
+ghost use Rattle.std.specs.Prelude.{◌≡◌, [], ◌∷◌, IfOk};
+ghost use Rattle.hub.specs.declared.out.Said.TheVariants as said;
 ghost use Rattle.hub.specs.Plans.{turned_plan, connect_plan, disconnect_plan, sent_plan, error_plan, error_text, conf_text, reply_text, decided_plan, edit_plan};
 
 use crate::out::Said;
-use crate::plan::{Plan, Step};
+use crate::plan::{Effect, Plan, one};
 use hub_rows::{Edit, Registration};
 use ocpp_frame::{write_error, write_result};
 use ocpp_payload::{Conf, write_conf};
-use ocpp_types::{ErrorCode, Mem, Named, Refusal, Text};
+use ocpp_types::{ErrorCode, Listed, Mem, Named, Refusal, Text};
 use registry::{Decision, Reply};
 use std::alloc::Global;
 
@@ -28,20 +29,20 @@ pub fn connect_plan(alloc: Global, station: &Text, registration: Option<Registra
     ensures { IfOk result (λ p. p ≡ connect_plan station.now registration) }
 {
     match registration {
-        Some(_) => Plan::moving(alloc, station, Step::Connect),
+        Some(_) => {
+            let station = station.clone()?;
+            Ok(Plan::changing(alloc, Effect::Connect { station }))
+        }
         None => turned_plan(alloc, station),
     }
 }
 
-/// A station's connection ends, if it is connected.
-pub fn disconnect_plan(alloc: Global, station: &Text, is_connected: bool) -> Mem<Plan>
-    ensures { IfOk result (λ p. p ≡ disconnect_plan station.now is_connected) }
+/// A station's connection ends, and its calls end.
+pub fn disconnect_plan(alloc: Global, station: &Text) -> Mem<Plan>
+    ensures { IfOk result (λ p. p ≡ disconnect_plan station.now) }
 {
-    if is_connected {
-        Plan::moving(alloc, station, Step::Disconnect)
-    } else {
-        Ok(Plan::nothing(alloc))
-    }
+    let station = station.clone()?;
+    Ok(Plan::changing(alloc, Effect::Disconnect { station }))
 }
 
 fn sent_plan(alloc: Global, station: &Text, text: Text) -> Mem<Plan>
@@ -94,15 +95,28 @@ pub fn error_plan(
     sent_plan(alloc, station, text)
 }
 
+/// The text of a reply goes to the station.
+fn sent(alloc: Global, station: &Text, id: &Text, reply: &Reply) -> Mem<Listed<Said>>
+    ensures { IfOk result (λ list. list ≡ said.Send station.now (reply_text id.now reply.now) ∷ []) }
+{
+    let text = reply_text(alloc, id, reply)?;
+    one(
+        alloc,
+        Said::Send {
+            station: station.clone()?,
+            text,
+        },
+    )
+}
+
 /// A call is answered as a rule decided.
 pub fn decided_plan(alloc: Global, station: &Text, id: &Text, decision: Decision) -> Mem<Plan>
     ensures { IfOk result (λ p. p ≡ decided_plan station.now id.now decision) }
 {
-    let text = reply_text(alloc, id, &decision.reply)?;
-    let plan = sent_plan(alloc, station, text)?;
+    let said = sent(alloc, station, id, &decision.reply)?;
     Ok(Plan {
-        edit: decision.edit,
-        ..plan
+        said,
+        effect: Effect::from(decision.edit),
     })
 }
 
@@ -112,10 +126,10 @@ pub fn edit_plan(alloc: Global, answer: Result<Edit, Refusal>) -> Mem<Plan>
 {
     match answer {
         Ok(edit) => {
-            let plan = Plan::only(alloc, Said::Accepted)?;
+            let said = one(alloc, Said::Accepted { number: None })?;
             Ok(Plan {
-                edit: Some(edit),
-                ..plan
+                said,
+                effect: Effect::Edit(edit),
             })
         }
         Err(refusal) => Plan::only(alloc, Said::Refused(refusal)),

@@ -6,8 +6,10 @@ use Rattle.hub.specs.declared.event.Admin.TheVariants as admin
 use Rattle.hub.specs.declared.event.Listing.TheVariants as listing
 use Rattle.std.specs.Str.{bytes_eq}
 use Rattle.ocpp_types.specs.Named.{named}
+use Rattle.operator_cmds.specs.Command.{command}
 use Rattle.ocpp_types.specs.Policy.{policies}
 use Rattle.ocpp_types.specs.declared.policy.Policy.{Policy}
+use Rattle.serde_json.specs.Read.{read}
 use Rattle.lines.specs.Words.{first_word, only_word, number_of, parent_of, is_expiry, expiry_of, ◌>>=◌}
 
 -- `connect ST`
@@ -27,6 +29,15 @@ abbrev pub frame_form : List ℕ → Option What
 frame_form rest = do
   station ← first_word rest
   Some (what.Frame station.0 station.1)
+
+-- `call ST ACTION JSON`
+abbrev pub call_form : List ℕ → Option What
+call_form rest = do
+  station ← first_word rest
+  action ← first_word station.1
+  payload ← read action.1
+  c ← command action.0 payload
+  Some (what.Do station.0 c)
 
 -- `ST POLICY INTERVAL`
 abbrev pub policy_words : List ℕ → Option (List ℕ × (Policy × ℕ))
@@ -121,4 +132,4 @@ list_form rest =
 
 -- the forms after `MOMENT OP`
 unfoldable pub what_of : List ℕ → Option What
-what_of = by_word ((codes "connect", connect_form) ∷ (codes "disconnect", disconnect_form) ∷ (codes "frame", frame_form) ∷ (codes "station", station_form) ∷ (codes "tag", tag_form) ∷ (codes "list", list_form) ∷ [])
+what_of = by_word ((codes "connect", connect_form) ∷ (codes "disconnect", disconnect_form) ∷ (codes "frame", frame_form) ∷ (codes "call", call_form) ∷ (codes "station", station_form) ∷ (codes "tag", tag_form) ∷ (codes "list", list_form) ∷ [])

@@ -1,6 +1,7 @@
 -- What a line of input says.
-use Rattle.std.specs.Prelude.{ℕ, nat_lt, ◌==◌, Bool, List, length, Option, Some, None, if◌then◌else◌}
+use Rattle.std.specs.Prelude.{codes, ℕ, nat_lt, ◌==◌, Bool, List, length, Option, Some, None, if◌then◌else◌}
 use Rattle.std.specs.Io.BufRead.{strip_last}
+use Rattle.std.specs.Str.{bytes_eq}
 use Rattle.std.specs.Str.Lossy.{utf8_valid_len}
 use Rattle.hub.specs.declared.event.Event.{Event}
 use Rattle.hub.specs.declared.event.Event.TheVariants as event
@@ -9,13 +10,18 @@ use Rattle.lines.specs.Words.{first_word, moment_at, ◌>>=◌}
 use Rattle.lines.specs.declared.input_line.Line.{Line}
 use Rattle.lines.specs.declared.input_line.Line.TheVariants as line
 
--- `MOMENT OP ..` of a hosted operator
+-- `OP ..` of a hosted operator
+abbrev pub operator_event : (List ℕ → Bool) → ℕ → List ℕ → Option Event
+operator_event is_hosted m rest = do
+  op ← first_word rest
+  if is_hosted op.0 then (what_of op.1 >>= λ w. Some (event.At op.0 m w)) else None
+
+-- `MOMENT * tick`, or `MOMENT OP ..` of a hosted operator
 unfoldable pub event_of : (List ℕ → Bool) → List ℕ → Option Event
 event_of is_hosted text = do
   first ← first_word text
   moment ← moment_at first.0
-  op ← first_word first.1
-  if is_hosted op.0 then (what_of op.1 >>= λ w. Some (event.At op.0 moment w)) else None
+  if bytes_eq first.1 (codes "* tick") then Some (event.Tick moment) else operator_event is_hosted moment first.1
 
 -- an event, or a bad line
 abbrev pub event_or_bad : Option Event → Line

@@ -2,9 +2,14 @@
 use Rattle.std.specs.Prelude.{ℕ, List, ◌++◌, codes, Option, Some, None}
 use Rattle.std.specs.Fmt.{decimal}
 use Rattle.hub.specs.declared.out.Out.{Out}
+use Rattle.hub.specs.declared.out.Outcome.{Outcome}
+use Rattle.hub.specs.declared.out.Outcome.TheVariants as outcome
 use Rattle.hub.specs.declared.out.Said.{Said}
-use Rattle.hub.specs.declared.out.Said.TheVariants.{Send, Turned, Refused, Row, Accepted}
+use Rattle.hub.specs.declared.out.Said.TheVariants.{Send, Done, Turned, Refused, Row, Accepted}
 use Rattle.lines.specs.RowLines.{row_line}
+use Rattle.serde_json.specs.Data.{Data, array, item, no_items, string}
+use Rattle.serde_json.specs.Written.{compact_text}
+use Rattle.ocpp_types.specs.ErrorCode.{error_code_name}
 use Rattle.ocpp_types.specs.AuthorizationStatus.{authorization_status_name}
 use Rattle.ocpp_types.specs.Refusal.{refusal_number, refusal_name}
 use Rattle.ocpp_types.specs.declared.refusal.Refusal.{Refusal}
@@ -29,13 +34,27 @@ abbrev pub refused_line : List ℕ → Refusal → Option (List ℕ) → List �
 refused_line op refusal None = op ++ (codes " refused " ++ (decimal (refusal_number refusal) ++ (codes " " ++ refusal_name refusal)))
 refused_line op refusal (Some detail) = op ++ (codes " refused " ++ (decimal (refusal_number refusal) ++ (codes " " ++ (refusal_name refusal ++ (codes " " ++ detail)))))
 
+-- a code and a description as a JSON array
+abbrev pub error_items : List ℕ → List ℕ → Data
+error_items code description = array (item (string code) (item (string description) no_items))
+
+-- how a call ended
+abbrev pub outcome_text : Outcome → List ℕ
+outcome_text (outcome.Answer json) = codes "Answer " ++ json
+outcome_text (outcome.BadAnswer code field) = codes "BadAnswer " ++ (error_code_name code ++ (codes " " ++ field))
+outcome_text (outcome.Error code description) = codes "Error " ++ compact_text (error_items code description)
+outcome_text outcome.Timeout = codes "Timeout"
+outcome_text outcome.Disconnected = codes "Disconnected"
+
 -- what is said to an operator or a station, without a line feed
 abbrev pub said_line : List ℕ → Said → List ℕ
 said_line op (Send station text) = op ++ (codes " " ++ (station ++ (codes " send " ++ text)))
 said_line op (Turned station) = op ++ (codes " " ++ (station ++ codes " turned"))
 said_line op (Refused refusal) = refused_line op refusal (refusal_detail refusal)
 said_line op (Row r) = row_line op r
-said_line op Accepted = op ++ codes " ok"
+said_line op (Done station n outcome) = op ++ (codes " " ++ (station ++ (codes " done " ++ (decimal n ++ (codes " " ++ outcome_text outcome)))))
+said_line op (Accepted None) = op ++ codes " ok"
+said_line op (Accepted (Some n)) = op ++ (codes " ok " ++ decimal n)
 
 -- the line of an output, without a line feed
 unfoldable pub line_of : Out → List ℕ

@@ -1,12 +1,16 @@
 //! The forms of the lines of an operator (docs/RULES.md, Lines).
 ghost use Rattle.std.specs.Prelude.{◌≡◌, IfOk, option_map};
+ghost use Rattle.serde_json.specs.Read.{read};
+ghost use Rattle.serde_json.specs.View.{view};
 ghost use Rattle.lines.specs.Words.{only_word, parent_of};
-ghost use Rattle.lines.specs.Forms.{what_of, connect_form, disconnect_form, frame_form, station_form, station_add_form, station_policy_form, policy_words, tag_form, tag_put_form, tag_drop_form, mark_of, list_form, station_list_form, connectors_form, transactions_form, readings_form, numbered_readings_form};
+ghost use Rattle.lines.specs.Forms.{what_of, connect_form, disconnect_form, frame_form, call_form, station_form, station_add_form, station_policy_form, policy_words, tag_form, tag_put_form, tag_drop_form, mark_of, list_form, station_list_form, connectors_form, transactions_form, readings_form, numbered_readings_form};
 
 use crate::words::{expiry_of, first_word, is_expiry, number_of, only_word};
 use hub::{Admin, Listing, What};
 use hub_rows::Tag;
-use ocpp_types::{Mem, Named, Policy, Text};
+use ocpp_types::{Mem, Named, NoMemory, Policy, Text};
+use operator_cmds::read_command;
+use serde_json::{Category, Value};
 use std::alloc::Global;
 
 /// What happens at an operator by the text after `MOMENT OP`, `None` where it has none of the
@@ -22,6 +26,7 @@ pub fn read_what(alloc: Global, text: &str) -> Mem<Option<What>>
         "connect" => connect(alloc, rest),
         "disconnect" => disconnect(alloc, rest),
         "frame" => frame(alloc, rest),
+        "call" => call(alloc, rest),
         "station" => station(alloc, rest),
         "tag" => tag(alloc, rest),
         "list" => list(alloc, rest),
@@ -67,6 +72,38 @@ fn frame(alloc: Global, rest: &str) -> Mem<Option<What>>
         station: Text::copy_of(alloc, station)?,
         text: Text::copy_of(alloc, text)?,
     }))
+}
+
+fn call(alloc: Global, rest: &str) -> Mem<Option<What>>
+    ensures { IfOk result (λ w. w ≡ call_form rest.now) }
+{
+    let Some((station, rest)) = first_word(rest) else {
+        return Ok(None);
+    };
+    let Some((action, json)) = first_word(rest) else {
+        return Ok(None);
+    };
+    let Some(payload) = read_json(alloc, json)? else {
+        return Ok(None);
+    };
+    let Some(command) = read_command(alloc, action, &payload)? else {
+        return Ok(None);
+    };
+    let station = Text::copy_of(alloc, station)?;
+    Ok(Some(What::Do { station, command }))
+}
+
+/// The JSON value that a text is, `None` where it is none.
+fn read_json(alloc: Global, text: &str) -> Mem<Option<Value>>
+    ensures { IfOk result (λ v. option_map view v ≡ read text.now) }
+{
+    match Value::from_str(alloc, text) {
+        Ok(value) => Ok(Some(value)),
+        Err(error) => match error.classify() {
+            Category::Memory => Err(NoMemory),
+            _ => Ok(None),
+        },
+    }
 }
 
 fn station(alloc: Global, rest: &str) -> Mem<Option<What>>

@@ -2,13 +2,13 @@
 ghost use Rattle.std.specs.Prelude.{◌≡◌, IfOk};
 ghost use Rattle.std.specs.Io.BufRead.{strip_last};
 ghost use Rattle.hub_rows.specs.Operators.{is_hosted};
-ghost use Rattle.lines.specs.InputLines.{spelled, event_of};
+ghost use Rattle.lines.specs.InputLines.{spelled, event_of, operator_event};
 
 use crate::forms::read_what;
 use crate::words::{first_word, moment_at};
 use hub::Event;
 use hub_rows::is_hosted;
-use ocpp_types::{Mem, Text};
+use ocpp_types::{Mem, Moment, Text};
 use std::alloc::Global;
 
 /// What a line of input says.
@@ -66,6 +66,20 @@ fn read_event(alloc: Global, hosted: &[Text], text: &str) -> Mem<Option<Event>>
     let Some(moment) = moment_at(moment) else {
         return Ok(None);
     };
+    if rest == "* tick" {
+        return Ok(Some(Event::Tick { moment }));
+    }
+    operator_event(alloc, hosted, moment, rest)
+}
+
+fn operator_event(
+    alloc: Global,
+    hosted: &[Text],
+    moment: Moment,
+    rest: &str,
+) -> Mem<Option<Event>>
+    ensures { IfOk result (λ e. e ≡ operator_event (is_hosted hosted.now) moment rest.now) }
+{
     let Some((op, rest)) = first_word(rest) else {
         return Ok(None);
     };

@@ -1,4 +1,4 @@
-use Rattle.std.proofs.Common.{◌≡◌, ◌∙◌}
+use Rattle.std.proofs.Common.{◌∙◌}
 use Rattle.serde_json.specs.Written.{compact_text}
 use Rattle.ocpp_frame.specs.Written.{result_data}
 use Rattle.hub.specs.Plans.{conf_text}

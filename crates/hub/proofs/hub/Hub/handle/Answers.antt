@@ -1,4 +1,5 @@
 use Rattle.std.proofs.Common.{◌∙◌, ◌++◌, [], ◌∷◌, ap, sym, append-nil}
+use Rattle.pending_calls.proofs.OwnSlots.{slots-sorted}
 use Rattle.hub.specs.Hub.{world, setting}
 use Rattle.hub.specs.View.{view}
 use Rattle.hub.specs.WellFormed.{WellFormed}
@@ -10,7 +11,7 @@ pub returns-clause-isolated_outputs : goal.returns-clause-isolated_outputs
 returns-clause-isolated_outputs g c = λ clean a.
     let st : Setting = setting g.V.VendorHandler.name g.V.VendorHandler.gives c.args.self.now in
     let w : World = world g.S.Store.rows c.args.self.now in
-    let good : WellFormed w = record { rows = g.met.S.Store.well_formed c.args.self.now.book.store (c.in_ok-take.ensures.counted.was_clean clean); slots = c.args.self.now.slots.sorted } in
+    let good : WellFormed w = record { rows = g.met.S.Store.well_formed c.args.self.now.book.store (c.in_ok-take.ensures.counted.was_clean clean); slots = slots-sorted c.args.self.now.slots } in
     ap (outputs_of a) (c.in_ok-take.ensures.told clean ∙ ap (λ outs. outs ++ world_outputs st w c.args.event.now) c.new-outs.ensures.items ∙ sym (append-nil (world_outputs st w c.args.event.now)))
     ∙ run_outputs-own st a w (c.args.event.now ∷ []) good
 
@@ -18,5 +19,5 @@ pub returns-clause-isolated_view : goal.returns-clause-isolated_view
 returns-clause-isolated_view g c = λ clean a.
     let st : Setting = setting g.V.VendorHandler.name g.V.VendorHandler.gives c.args.self.now in
     let w : World = world g.S.Store.rows c.args.self.now in
-    let good : WellFormed w = record { rows = g.met.S.Store.well_formed c.args.self.now.book.store (c.in_ok-take.ensures.counted.was_clean clean); slots = c.args.self.now.slots.sorted } in
+    let good : WellFormed w = record { rows = g.met.S.Store.well_formed c.args.self.now.book.store (c.in_ok-take.ensures.counted.was_clean clean); slots = slots-sorted c.args.self.now.slots } in
     ap (view a) (c.in_ok-take.ensures.world clean) ∙ world_run-own st a w (c.args.event.now ∷ []) good

@@ -1,5 +1,6 @@
 use Rattle.std.proofs.Common.{◌≡◌, ◌∙◌, ◌+◌, true, take, ap, sym, arith}
 use Rattle.std.proofs.lemmas.List.Elements.{AllWithin-more, at_read}
+use Rattle.pending_calls.proofs.OwnSlots.{slots-sorted}
 use Rattle.hub.specs.Hub.{world, setting, is_taken}
 use Rattle.hub.specs.View.{view}
 use Rattle.hub.specs.WellFormed.{WellFormed}
@@ -14,7 +15,7 @@ returns-in-Err-clause-isolated_outputs g c = λ clean a.
     let w : World = world g.S.Store.rows c.args.self.now in
     let inv = c.loop-event.invariant in
     let before = c.in-Err.ensures.counted.was_clean clean in
-    let good : WellFormed w = record { rows = g.met.S.Store.well_formed c.args.self.now.book.store (inv.was_clean before); slots = c.args.self.now.slots.sorted } in
+    let good : WellFormed w = record { rows = g.met.S.Store.well_formed c.args.self.now.book.store (inv.was_clean before); slots = slots-sorted c.args.self.now.slots } in
     ap (outputs_of a) (c.in-Err.ensures.err_told ∙ inv.outputs before ∙ ap (λ n. run_outputs st w (take n c.args.events.now)) (sym inv.at))
     ∙ run_outputs-own st a w (take c.loop-event.taken c.args.events.now) good
 
@@ -24,7 +25,7 @@ returns-in-Err-clause-isolated_view g c = λ clean a.
     let w : World = world g.S.Store.rows c.args.self.now in
     let inv = c.loop-event.invariant in
     let before = c.in-Err.ensures.counted.was_clean clean in
-    let good : WellFormed w = record { rows = g.met.S.Store.well_formed c.args.self.now.book.store (inv.was_clean before); slots = c.args.self.now.slots.sorted } in
+    let good : WellFormed w = record { rows = g.met.S.Store.well_formed c.args.self.now.book.store (inv.was_clean before); slots = slots-sorted c.args.self.now.slots } in
     ap (view a) (c.in-Err.ensures.err_world clean ∙ inv.world before ∙ ap (λ n. world_run st w (take n c.args.events.now)) (sym inv.at))
     ∙ world_run-own st a w (take c.loop-event.taken c.args.events.now) good
 
@@ -33,7 +34,7 @@ returns-clause-isolated_outputs g c = λ clean a.
     let st : Setting = setting g.V.VendorHandler.name g.V.VendorHandler.gives c.args.self.now in
     let w : World = world g.S.Store.rows c.args.self.now in
     let inv = c.loop-event.invariant in
-    let good : WellFormed w = record { rows = g.met.S.Store.well_formed c.args.self.now.book.store (inv.was_clean clean); slots = c.args.self.now.slots.sorted } in
+    let good : WellFormed w = record { rows = g.met.S.Store.well_formed c.args.self.now.book.store (inv.was_clean clean); slots = slots-sorted c.args.self.now.slots } in
     ap (outputs_of a) (inv.outputs clean ∙ ap (λ n. run_outputs st w (take n c.args.events.now)) (sym inv.at))
     ∙ run_outputs-own st a w (take c.loop-event.taken c.args.events.now) good
 
@@ -42,7 +43,7 @@ returns-clause-isolated_view g c = λ clean a.
     let st : Setting = setting g.V.VendorHandler.name g.V.VendorHandler.gives c.args.self.now in
     let w : World = world g.S.Store.rows c.args.self.now in
     let inv = c.loop-event.invariant in
-    let good : WellFormed w = record { rows = g.met.S.Store.well_formed c.args.self.now.book.store (inv.was_clean clean); slots = c.args.self.now.slots.sorted } in
+    let good : WellFormed w = record { rows = g.met.S.Store.well_formed c.args.self.now.book.store (inv.was_clean clean); slots = slots-sorted c.args.self.now.slots } in
     ap (view a) (inv.world clean ∙ ap (λ n. world_run st w (take n c.args.events.now)) (sym inv.at))
     ∙ world_run-own st a w (take c.loop-event.taken c.args.events.now) good
 

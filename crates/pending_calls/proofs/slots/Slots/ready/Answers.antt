@@ -1,0 +1,16 @@
+use Rattle.std.proofs.Common.{ap, ◌∙◌, subst, refl, arith}
+use Rattle.pending_calls.specs.Slot.{ready, IsSlot}
+use Rattle.pending_calls.specs.SlotList.{slot_or}
+use Rattle.pending_calls.proofs.slots.Slots.ready.Goals as goal
+
+pub returns-in-Some : goal.returns-in-Some
+returns-in-Some g c =
+    let s = c.args.self.now in
+    let here = ap (slot_or s.first_number c.args.op.now c.args.station.now) (rw c.deref.ensures.value at c.in-Some.ensures) in
+    record { number = c.ready.ensures.number ∙ ap ready here; slot = subst IsSlot here c.ready.ensures.slot }
+
+pub returns-in-None : goal.returns-in-None
+returns-in-None g c =
+    let s = c.args.self.now in
+    let none = ap (slot_or s.first_number c.args.op.now c.args.station.now) (rw c.deref.ensures.value at c.in-None.ensures) in
+    record { number = ap ready none; slot = subst IsSlot none (record { few = omega arith; unconnected = λ e. refl; in_order = λ e. refl }) }

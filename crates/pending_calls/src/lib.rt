@@ -1,0 +1,12 @@
+//! The calls that the central system sends to stations: one in flight at each station, and those
+//! that wait for it.
+#![tactic(auto)]
+
+mod call;
+mod ended;
+mod slot;
+mod slots;
+
+pub use call::{Call, Message, Moved};
+pub use ended::Ended;
+pub use slots::Slots;

@@ -1,0 +1,226 @@
+//! The calls of one station.
+ghost use Rattle.std.specs.Prelude.{◌≡◌, ◌≤◌, length, option_map, IsOk, IfOk, OnOk, OnErr, OnSome, IfNone};
+ghost use Rattle.pending_calls.specs.Slot.{IsSlot, most_calls, fresh, ready, call_in_flight, submitted, sent_now, moved_on, move, is_answered, answered, answer_move, is_overdue, expired, expiry, cut, ended_calls, with_connection};
+
+use crate::call::{Call, InFlight, Message, Moved, Waiting};
+use crate::ended::Ended;
+use hub_rows::NamedRow;
+use itoa::Buffer;
+use ocpp_types::{Mem, Moment, Refusal, Text};
+use std::alloc::Global;
+use std::marker::Model;
+use std::mem;
+
+/// How many calls of a station may be in flight and waiting together.
+const MOST_CALLS: usize = 16;
+
+/// The last number that a call may have.
+const LAST_NUMBER: u32 = 2147483647;
+
+/// The answer time: how many seconds a call waits for its answer.
+const ANSWER_SECONDS: u64 = 30;
+
+/// The calls of one station.
+#[derive(Debug, Drop)]
+pub struct Slot<C> {
+    op: Text,
+    station: Text,
+    is_connected: bool,
+    /// The number of the next call that is submitted.
+    next_number: u32,
+    in_flight: Option<InFlight<C>>,
+    /// The calls that wait, the oldest first.
+    waiting: Vec<Waiting<C>>,
+}
+
+impl<C> Model for Slot<C> {
+    ghost use Rattle.pending_calls.specs.Slot.{SlotState};
+
+    ghost Value = { SlotState C };
+
+    ghost use Rattle.pending_calls.specs.Shown.{shown, IsKept};
+
+    ghost view = { λ s. shown s.op s.station s.is_connected s.next_number s.in_flight s.waiting.items };
+
+    ghost invariant = { λ s. IsKept s.op s.station s.is_connected s.next_number s.in_flight s.waiting.items };
+}
+
+impl<C: Drop> NamedRow for Slot<C> {
+    ghost op = { λ s. s.op };
+
+    ghost name = { λ s. s.station };
+
+    fn op(&self) -> &str {
+        self.op.as_str()
+    }
+
+    fn name(&self) -> &str {
+        self.station.as_str()
+    }
+}
+
+impl<C: Drop> Slot<C> {
+    /// A station that isn't connected. Its first call has the number `number`.
+    pub fn new(alloc: Global, number: u32, op: Text, station: Text) -> Slot<C>
+        ensures { result ≡ fresh number op station }
+    {
+        Slot {
+            op,
+            station,
+            is_connected: false,
+            next_number: number,
+            in_flight: None,
+            waiting: Vec::new(alloc),
+        }
+    }
+
+    /// Whether the station is connected.
+    pub fn is_connected(&self) -> bool
+        ensures { result ≡ self.now.is_connected }
+    {
+        self.is_connected
+    }
+
+    /// The number of the next call, or why there can be none.
+    pub fn ready(&self) -> Result<u32, Refusal>
+        ensures number { result ≡ ready self.now }
+        ensures slot { IsSlot self.now }
+    {
+        let in_flight = if self.in_flight.is_some() { 1 } else { 0 };
+        if !self.is_connected {
+            Err(Refusal::NotConnected)
+        } else if MOST_CALLS <= in_flight + self.waiting.len() {
+            Err(Refusal::QueueFull)
+        } else if self.next_number <= LAST_NUMBER {
+            Ok(self.next_number)
+        } else {
+            Err(Refusal::NumberSpent)
+        }
+    }
+
+    /// The number and the command of the call in flight.
+    pub fn in_flight(&self) -> Option<(u32, &C)>
+        ensures { option_map (λ call. (call.0, call.1.now)) result ≡ call_in_flight self.now }
+    {
+        match &self.in_flight {
+            Some(first) => Some((first.call.number, &first.call.command)),
+            None => None,
+        }
+    }
+
+    /// Whether the answer time of the call in flight has passed at `moment`.
+    pub fn is_overdue(&self, moment: Moment) -> bool
+        ensures { result ≡ is_overdue moment self.now }
+    {
+        match &self.in_flight {
+            Some(first) => first.sent.seconds() + ANSWER_SECONDS <= moment.seconds(),
+            None => false,
+        }
+    }
+
+    /// Whether `id` is the number of the call in flight, in decimal.
+    pub fn is_answered(&self, id: &str) -> bool
+        ensures { result ≡ is_answered id.now self.now }
+    {
+        match &self.in_flight {
+            Some(first) => id == Buffer::new().format(first.call.number),
+            None => false,
+        }
+    }
+
+    /// The call in flight ends, and the one that waits longest, if any, is sent at `moment`.
+    fn move_on(&mut self, moment: Moment) -> Option<Moved<C>>
+        ensures moved { result ≡ move self.old }
+        ensures slot { OnSome result (self.new ≡ moved_on moment self.old) }
+        ensures same { IfNone result (self.new ≡ self.old) }
+    {
+        let first = self.in_flight.take()?;
+        let ended = first.call;
+        if self.waiting.is_empty() {
+            return Some(Moved { ended, next: None });
+        }
+        let Waiting { call, message } = self.waiting.remove(0);
+        self.in_flight = Some(InFlight { call, sent: moment });
+        Some(Moved {
+            ended,
+            next: Some(message),
+        })
+    }
+
+    /// Where `id` is the number of the call in flight, in decimal, that call ends and the next one
+    /// is sent at `moment`.
+    pub fn answer(&mut self, id: &str, moment: Moment) -> Option<Moved<C>>
+        ensures moved { result ≡ answer_move id.now self.old }
+        ensures slot { self.new ≡ answered id.now moment self.old }
+    {
+        if self.is_answered(id) {
+            self.move_on(moment)
+        } else {
+            None
+        }
+    }
+
+    /// Where the answer time of the call in flight has passed, that call ends and the next one is
+    /// sent at `moment`.
+    pub fn expire(&mut self, moment: Moment) -> Option<Moved<C>>
+        ensures moved { result ≡ expiry moment self.old }
+        ensures slot { self.new ≡ expired moment self.old }
+    {
+        if self.is_overdue(moment) {
+            self.move_on(moment)
+        } else {
+            None
+        }
+    }
+
+    /// The station is no longer connected, and all its calls end.
+    pub fn cut(&mut self, alloc: Global) -> Ended<C>
+        ensures ended { result ≡ ended_calls self.old }
+        ensures few { length result ≤ most_calls }
+        ensures slot { self.new ≡ cut self.old }
+    {
+        self.is_connected = false;
+        let in_flight = self.in_flight.take();
+        let waiting = mem::replace(&mut self.waiting, Vec::new(alloc));
+        Ended::of(in_flight, waiting)
+    }
+
+    /// The station is connected, and the calls of its last connection end.
+    pub fn connect(&mut self, alloc: Global) -> Ended<C>
+        ensures ended { result ≡ ended_calls self.old }
+        ensures few { length result ≤ most_calls }
+        ensures slot { self.new ≡ with_connection self.old }
+    {
+        let ended = self.cut(alloc);
+        self.is_connected = true;
+        ended
+    }
+
+    /// A call that is sent at `moment` where none is in flight, and else waits.
+    pub fn submit(&mut self, command: C, text: Text, moment: Moment) -> Mem<Option<Message>>
+        requires { IsOk (ready self.old) }
+        ensures sent { IfOk result (λ message. message ≡ sent_now text self.old) }
+        ensures ok { OnOk result (self.new ≡ submitted command text moment self.old) }
+        ensures err { OnErr result (self.new ≡ self.old) }
+    {
+        let call = Call {
+            op: self.op.clone()?,
+            station: self.station.clone()?,
+            number: self.next_number,
+            command,
+        };
+        let message = Message {
+            op: self.op.clone()?,
+            station: self.station.clone()?,
+            text,
+        };
+        if self.in_flight.is_none() {
+            self.in_flight = Some(InFlight { call, sent: moment });
+            self.next_number += 1;
+            return Ok(Some(message));
+        }
+        self.waiting.push(Waiting { call, message })?;
+        self.next_number += 1;
+        Ok(None)
+    }
+}

@@ -1,0 +1,215 @@
+//! The calls of all stations.
+ghost use Rattle.std.specs.Prelude.{◌≡◌, ◌≤◌, [], length, option_map, count_by, IsOk, IfOk, OnOk, OnErr};
+ghost use Rattle.std.specs.List.Sorted.{IsStrictlySortedBy};
+ghost use Rattle.std.proofs.Props.{props};
+ghost use Rattle.hub_rows.specs.Keyed.{by_key, put};
+ghost use Rattle.pending_calls.specs.Slot.{IsSlot, most_calls, ready, call_in_flight, is_answered, submitted, sent_now, expired, answered, answer_move, is_overdue, cut, ended_calls, with_connection};
+ghost use Rattle.pending_calls.specs.SlotList.{slot_key, changed_at, first_changed, next_expiry, IsFirstThat};
+
+use crate::call::{Message, Moved};
+use crate::ended::Ended;
+use crate::slot::Slot;
+use hub_rows::{place_of_name, row_of};
+use ocpp_types::{Mem, Moment, Refusal, Text};
+use std::alloc::Global;
+
+/// The calls of all stations, in the order of their operators and names. A station that was never
+/// connected has no slot.
+///
+/// A sender has at most one call in flight at a receiver (OCPP-J 1.6, section 4.1.1). So at each
+/// station at most one call is in flight, and up to 15 more wait for its end. It ends with its
+/// answer, with the connection, or by `expire_next` from 30 seconds after it was sent.
+#[derive(Drop)]
+pub struct Slots<C> {
+    alloc: Global,
+    /// The number of a station's first call.
+    first_number: u32,
+    list: Vec<Slot<C>>,
+    ghost sorted: { IsStrictlySortedBy (by_key slot_key) list.items } by { Prim.hlevel props },
+}
+
+impl<C: Drop> Slots<C> {
+    ghost use Rattle.pending_calls.specs.Slots.{all_slots, first_number, slot_at};
+
+    /// No station is connected. The first call of each station will have the number `number`. It
+    /// takes no memory.
+    pub fn new(alloc: Global, number: u32) -> Slots<C>
+        ensures number { first_number result ≡ number }
+        ensures list { all_slots result ≡ [] }
+    {
+        Slots {
+            alloc,
+            first_number: number,
+            list: Vec::new(alloc),
+        }
+    }
+
+    /// Whether a station is connected. It takes no memory.
+    pub fn is_connected(&self, op: &str, station: &str) -> bool
+        ensures { result ≡ (slot_at op.now station.now self.now).is_connected }
+    {
+        match row_of(&self.list, op, station) {
+            Some(slot) => slot.is_connected(),
+            None => false,
+        }
+    }
+
+    /// The number that the next call of a station will have, or why the station takes no call:
+    /// `NotConnected`, `QueueFull` where 16 calls are in flight and waiting, `NumberSpent` where
+    /// the number would be past 2147483647. It takes no memory.
+    pub fn ready(&self, op: &str, station: &str) -> Result<u32, Refusal>
+        ensures number { result ≡ ready (slot_at op.now station.now self.now) }
+        ensures slot { IsSlot (slot_at op.now station.now self.now) }
+    {
+        match row_of(&self.list, op, station) {
+            Some(slot) => slot.ready(),
+            None => Err(Refusal::NotConnected),
+        }
+    }
+
+    /// The number and the command of a station's call in flight, `None` where none is in flight. It
+    /// takes no memory.
+    pub fn in_flight<'a>(&'a self, op: &str, station: &str) -> Option<(u32, &'a C)>
+        ensures { option_map (λ call. (call.0, call.1.now)) result ≡ call_in_flight (slot_at op.now station.now self.now) }
+    {
+        row_of(&self.list, op, station)?.in_flight()
+    }
+
+    /// Whether an answer of a station ends its call in flight: whether the answer's `id` is the
+    /// number of that call, in decimal with no leading zero. An answer bears the id of its call
+    /// (OCPP-J 1.6, sections 4.2.2 and 4.2.3). It takes no memory.
+    pub fn is_answered(&self, op: &str, station: &str, id: &str) -> bool
+        ensures { result ≡ is_answered id.now (slot_at op.now station.now self.now) }
+    {
+        match row_of(&self.list, op, station) {
+            Some(slot) => slot.is_answered(id),
+            None => false,
+        }
+    }
+
+    /// A station is connected. The calls of its last connection end, and come out in their order.
+    /// Where there is no memory nothing changes.
+    pub fn connect(&mut self, op: &str, station: &str) -> Mem<Ended<C>>
+        ensures ended { IfOk result (λ calls. calls ≡ ended_calls (slot_at op.now station.now self.old)) }
+        ensures few { IfOk result (λ calls. length calls ≤ most_calls) }
+        ensures ok { OnOk result (all_slots self.new ≡ put (by_key slot_key) (with_connection (slot_at op.now station.now self.old)) (all_slots self.old)) }
+        ensures err { OnErr result (all_slots self.new ≡ all_slots self.old) }
+        ensures number { first_number self.new ≡ first_number self.old }
+    {
+        match place_of_name(&self.list, op, station) {
+            Ok(place) => {
+                let slot = &mut self.list[place];
+                Ok(slot.connect(self.alloc))
+            }
+            Err(place) => {
+                let op = Text::copy_of(self.alloc, op)?;
+                let station = Text::copy_of(self.alloc, station)?;
+                let mut slot = Slot::new(self.alloc, self.first_number, op, station);
+                let ended = slot.connect(self.alloc);
+                self.list.insert(place, slot)?;
+                Ok(ended)
+            }
+        }
+    }
+
+    /// A station is no longer connected. Its calls end, and come out in their order. It takes no
+    /// memory.
+    pub fn disconnect(&mut self, op: &str, station: &str) -> Ended<C>
+        ensures ended { result ≡ ended_calls (slot_at op.now station.now self.old) }
+        ensures few { length result ≤ most_calls }
+        ensures list { all_slots self.new ≡ changed_at op.now station.now cut (all_slots self.old) }
+        ensures number { first_number self.new ≡ first_number self.old }
+    {
+        match place_of_name(&self.list, op, station) {
+            Ok(place) => {
+                let slot = &mut self.list[place];
+                slot.cut(self.alloc)
+            }
+            Err(_) => Ended::none(self.alloc),
+        }
+    }
+
+    /// A call to a station that is ready for one; it gets the number that `ready` gives, and
+    /// `text` is what the station is sent. Where no call is in flight it is sent at `moment`, and
+    /// the message comes out; else it waits, and `None` comes out. Where there is no memory
+    /// nothing changes.
+    pub fn submit(
+        &mut self,
+        op: &str,
+        station: &str,
+        command: C,
+        text: Text,
+        moment: Moment,
+    ) -> Mem<Option<Message>>
+        requires { IsOk (ready (slot_at op.now station.now self.old)) }
+        ensures sent { IfOk result (λ message. message ≡ sent_now text (slot_at op.now station.now self.old)) }
+        ensures ok { OnOk result (all_slots self.new ≡ changed_at op.now station.now (submitted command text moment) (all_slots self.old)) }
+        ensures err { OnErr result (all_slots self.new ≡ all_slots self.old) }
+        ensures number { first_number self.new ≡ first_number self.old }
+    {
+        match place_of_name(&self.list, op, station) {
+            Ok(place) => {
+                let slot = &mut self.list[place];
+                slot.submit(command, text, moment)
+            }
+            Err(_) => unreachable!(),
+        }
+    }
+
+    /// A station answers at `moment`. Where `id` is the number of its call in flight, in decimal
+    /// with no leading zero, that call ends, and the one that waits longest is sent; both come
+    /// out. Any other answer changes nothing and gives `None`. It takes no memory.
+    pub fn answer(&mut self, op: &str, station: &str, id: &str, moment: Moment) -> Option<Moved<C>>
+        ensures moved { result ≡ answer_move id.now (slot_at op.now station.now self.old) }
+        ensures list { all_slots self.new ≡ changed_at op.now station.now (answered id.now moment) (all_slots self.old) }
+        ensures number { first_number self.new ≡ first_number self.old }
+    {
+        match place_of_name(&self.list, op, station) {
+            Ok(place) => {
+                let slot = &mut self.list[place];
+                slot.answer(id, moment)
+            }
+            Err(_) => None,
+        }
+    }
+
+    /// At how many stations the call in flight is overdue at `moment`: it was sent 30 seconds
+    /// before, or more. It takes no memory.
+    #[tactic(auto, using(hub_rows::proofs::Steps::drop_here))]
+    pub fn due(&self, moment: Moment) -> usize
+        ensures { result ≡ count_by (is_overdue moment) (all_slots self.now) }
+    {
+        let mut due = 0;
+        for slot in &self.list {
+            if slot.is_overdue(moment) {
+                due += 1;
+            }
+        }
+        due
+    }
+
+    /// The overdue call of the first such station, by operator and name, ends, and the one that
+    /// waits longest there is sent at `moment`; both come out. Where no call is overdue nothing
+    /// changes and `None` comes out. It takes no memory.
+    pub fn expire_next(&mut self, moment: Moment) -> Option<Moved<C>>
+        ensures moved { result ≡ next_expiry moment (all_slots self.old) }
+        ensures list { all_slots self.new ≡ first_changed (is_overdue moment) (expired moment) (all_slots self.old) }
+        ensures number { first_number self.new ≡ first_number self.old }
+    {
+        let place = self.overdue_place(moment)?;
+        let slot = &mut self.list[place];
+        slot.expire(moment)
+    }
+
+    /// The index of the first station whose call in flight is overdue at `moment`.
+    fn overdue_place(&self, moment: Moment) -> Option<usize>
+        ensures { IsFirstThat (is_overdue moment) (all_slots self.now) result }
+    {
+        for i in 0..self.list.len() {
+            if self.list[i].is_overdue(moment) {
+                return Some(i);
+            }
+        }
+        None
+    }
+}
