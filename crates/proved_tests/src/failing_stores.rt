@@ -9,7 +9,8 @@ use std::test::Fail;
 use store_mem::{Failing, MemStore};
 
 /// A station is added, connects, boots, asks for a tag, charges with it, and asks again after it is
-/// dropped; its readings are listed. Another operator does the same.
+/// dropped; its readings are listed. Another operator does the same. Three stations are sent commands,
+/// which are answered, time out and end with a connection.
 const SCRIPT: &str = r#"1704067200 ACME station add CP01 Accepted 300
 1704067200 ACME connect CP01
 1704067200 ACME frame CP01 [2,"0","Heartbeat",{}]
@@ -30,6 +31,21 @@ const SCRIPT: &str = r#"1704067200 ACME station add CP01 Accepted 300
 1704067200 BETA connect CP01
 1704067200 BETA frame CP01 [2,"1","BootNotification",{"chargePointVendor":"V","chargePointModel":"M"}]
 1704067200 BETA list readings CP01
+1704067200 ACME station add CP02 Accepted 300
+1704067200 ACME connect CP02
+1704067200 ACME frame CP02 [2,"1","BootNotification",{"chargePointVendor":"V","chargePointModel":"M"}]
+1704067200 ACME tag put K2 - 0 -
+1704067200 ACME call CP01 RemoteStartTransaction {"connectorId":1,"idTag":"k2"}
+1704067200 ACME call CP01 GetConfiguration {"key":["A"]}
+1704067200 ACME call CP02 ClearCache {}
+1704067200 BETA call CP01 ChangeConfiguration {"key":"A","value":"B"}
+1704067201 ACME frame CP01 [3,"1",{"status":"Accepted"}]
+1704067201 ACME frame CP01 [2,"9","StartTransaction",{"connectorId":1,"idTag":"k2","meterStart":9,"timestamp":"2024-01-01T00:00:01Z"}]
+1704067201 ACME call CP01 RemoteStopTransaction {"transactionId":2}
+1704067231 * tick
+1704067232 ACME frame CP01 [4,"3","InternalError","no",{}]
+1704067232 BETA call CP01 UnlockConnector {"connectorId":1}
+1704067232 BETA disconnect CP01
 "#;
 
 const OUTPUT: &str = r#"ACME ok
@@ -52,10 +68,32 @@ ACME ok
 BETA ok
 BETA CP01 send [3,"1",{"currentTime":"2024-01-01T00:00:00Z","interval":300,"status":"Accepted"}]
 BETA ok
+ACME ok
+ACME CP02 send [3,"1",{"currentTime":"2024-01-01T00:00:00Z","interval":300,"status":"Accepted"}]
+ACME ok
+ACME ok 1
+ACME CP01 send [2,"1","RemoteStartTransaction",{"connectorId":1,"idTag":"k2"}]
+ACME ok 2
+ACME ok 1
+ACME CP02 send [2,"1","ClearCache",{}]
+BETA ok 1
+BETA CP01 send [2,"1","ChangeConfiguration",{"key":"A","value":"B"}]
+ACME CP01 done 1 Answer {"status":"Accepted"}
+ACME CP01 send [2,"2","GetConfiguration",{"key":["A"]}]
+ACME CP01 send [3,"9",{"idTagInfo":{"status":"Accepted"},"transactionId":2}]
+ACME ok 3
+ACME CP01 done 2 Timeout
+ACME CP01 send [2,"3","RemoteStopTransaction",{"transactionId":2}]
+ACME CP02 done 1 Timeout
+BETA CP01 done 1 Timeout
+ACME CP01 done 3 Error ["InternalError","no"]
+BETA ok 2
+BETA CP01 send [2,"2","UnlockConnector",{"connectorId":1}]
+BETA CP01 done 2 Disconnected
 "#;
 
 /// The store calls of the script, and some more.
-const CALLS: u64 = 70;
+const CALLS: u64 = 90;
 
 /// What the events are answered where the call after the next `before` ones fails, and the event
 /// that met the failure is handed again.

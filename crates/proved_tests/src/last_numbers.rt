@@ -1,4 +1,4 @@
-//! A station whose numbers of transactions and readings come to their end.
+//! Stations whose numbers of transactions, readings and calls come to their end.
 ghost use Rattle.std.specs.Prelude.{◌≡◌, IsTrue, IfOk};
 ghost use Rattle.ocpp_types.specs.TagKey.{key_of};
 ghost use Rattle.hub_rows.specs.Transactions.{AreNext};
@@ -6,15 +6,16 @@ ghost use Rattle.hub_rows.specs.Transactions.{AreNext};
 use crate::scripts::{events, hub_of, run};
 use hub_rows::{Change, Edit, Reading, Start, StartKey, Store, StoreFault};
 use ocpp_types::{
-    AuthorizationStatus, Listed, Location, Measurand, Mem, Moment, Policy, ReadingContext, TagKey,
-    Text, ValueFormat,
+    AuthorizationStatus, Listed, Location, Measurand, Mem, Moment, Policy, ReadingContext, Refusal,
+    TagKey, Text, ValueFormat,
 };
+use pending_calls::Slots;
 use station_calls::Echo;
 use std::alloc::Global;
 use std::test::Fail;
 use store_mem::MemStore;
 
-/// The last number that a transaction or a reading can have.
+/// The last number that a transaction, a reading or a call can have.
 const LAST_NUMBER: u32 = 2147483647;
 
 /// Whether one row may have that number, after the last.
@@ -227,5 +228,20 @@ fn no_number_follows_the_last(rt: HostRuntime) -> Result<(), Fail> {
     let events = events(alloc, SCRIPT)?;
     let met = run(alloc, &mut hub, events.as_slice())?;
     assert_eq!(rt; met.text.as_str(), OUTPUT);
+    Ok(())
+}
+
+#[test]
+fn no_call_follows_the_last(rt: HostRuntime) -> Result<(), Fail> {
+    let alloc = rt.alloc();
+    let moment = Moment::new(1704067200).expect(&rt, "a moment");
+    let mut slots: Slots<Text> = Slots::new(alloc, LAST_NUMBER);
+    drop(slots.connect("ACME", "CP01")?);
+    assert!(rt; slots.ready("ACME", "CP01") == Ok(LAST_NUMBER));
+    let command = Text::copy_of(alloc, "ClearCache")?;
+    let text = Text::copy_of(alloc, "a call")?;
+    let sent = slots.submit("ACME", "CP01", command, text, moment)?;
+    assert!(rt; sent.is_some());
+    assert!(rt; slots.ready("ACME", "CP01") == Err(Refusal::NumberSpent));
     Ok(())
 }
