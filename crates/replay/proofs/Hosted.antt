@@ -6,10 +6,11 @@ use Rattle.hub.specs.declared.event.Event.TheVariants as event
 use Rattle.hub.specs.Hub.{is_of_hosted}
 use Rattle.lines.specs.declared.input_line.Line.{Line}
 use Rattle.lines.specs.declared.input_line.Line.TheVariants as line
-use Rattle.lines.specs.InputLines.{spelled, spelled_text, event_or_bad, event_of, is_utf8}
+use Rattle.lines.specs.InputLines.{spelled, spelled_text, event_or_bad, event_of, operator_event, is_utf8}
 use Rattle.lines.specs.Forms.{what_of}
 use Rattle.lines.specs.Words.{first_word, moment_at, ◌>>=◌}
-use Rattle.std.specs.Prelude.{nat_lt, ◌==◌, length}
+use Rattle.std.specs.Prelude.{nat_lt, ◌==◌, codes, length}
+use Rattle.std.specs.Str.{bytes_eq}
 use Rattle.std.specs.Io.BufRead.{strip_last}
 use Rattle.replay.specs.Run.{IsOfHosted}
 
@@ -24,13 +25,18 @@ when_gives P true x g b e = g refl b e
 same_event : (x e : HubEvent) → Some x ≡ Some e → x ≡ e
 same_event x e is = cc
 
+either_gives : (P : HubEvent → Type 0) (t : Bool) (x : HubEvent) (rest : Option HubEvent) → P x → ((e : HubEvent) → rest ≡ Some e → P e) → (e : HubEvent) → cond t (Some x) rest ≡ Some e → P e
+either_gives P true x rest p g e is = subst P (same_event x e is) p
+either_gives P false x rest p g e is = g e is
+
 event_hosted : (hosted : List ℕ → Bool) (text : List ℕ) (e : HubEvent) → event_of hosted text ≡ Some e → is_of_hosted hosted e ≡ true
 unfolding event_of
 event_hosted hosted text =
     let P : HubEvent → Type 0 = λ e. is_of_hosted hosted e ≡ true in
-    bind_gives P (first_word text) _ (λ first. bind_gives P (moment_at first.0) _ (λ moment. bind_gives P (first_word first.1) _ (λ op.
-    when_gives P (hosted op.0) _ (λ taken. bind_gives P (what_of op.1) _ (λ w e is.
-    subst P (same_event (event.At op.0 moment w) e is) taken)))))
+    bind_gives P (first_word text) _ (λ first. bind_gives P (moment_at first.0) _ (λ moment.
+    either_gives P (bytes_eq first.1 (codes "* tick")) (event.Tick moment) (operator_event hosted moment first.1) refl
+    (bind_gives P (first_word first.1) _ (λ op. when_gives P (hosted op.0) _ (λ taken. bind_gives P (what_of op.1) _ (λ w e is.
+    subst P (same_event (event.At op.0 moment w) e is) taken))))))
 
 line_event : (x : Option HubEvent) (e : HubEvent) → line.Event e ≡ event_or_bad x → x ≡ Some e
 line_event None e is = absurd (cc)
