@@ -1,10 +1,9 @@
 -- What events do to the records and slots of all operators, and what is said.
 use Rattle.std.specs.Prelude.{ℕ, List, [], ◌∷◌, ◌++◌, Bool, Option, Some, None, map}
-use Rattle.hub_rows.specs.declared.change.Change.{Change}
 use Rattle.hub_rows.specs.declared.change.Edit.{Edit}
 use Rattle.hub_rows.specs.Keyed.{own}
 use Rattle.hub_rows.specs.Rows.{Rows}
-use Rattle.hub_rows.specs.Changes.{edit, after_change}
+use Rattle.hub_rows.specs.Changes.{edit}
 use Rattle.hub_rows.specs.Lookups.{lookups_at}
 use Rattle.station_calls.specs.Vendors.{Answers}
 use Rattle.hub.specs.declared.event.Event.{Event}
@@ -33,15 +32,6 @@ pub record World : Type 0 where
 -- the facts of operator b, over the records and slots of all
 abbrev pub facts_at : ℕ → List ℕ → World → Facts
 facts_at first b w = record { lookups = lookups_at b w.rows; slot = λ station. slot_of first b station w.slots }
-
--- the change that an edit of operator b is
-abbrev pub change_to : List ℕ → Edit → Change
-change_to b e = record { op = b; edit = e }
-
--- the records after a change, if there is one
-abbrev pub rows_by : Option Change → Rows → Rows
-rows_by None rows = rows
-rows_by (Some c) rows = after_change c rows
 
 -- the records after an edit of operator b, if there is one
 abbrev pub rows_after : List ℕ → Option Edit → Rows → Rows
