@@ -72,6 +72,7 @@ abbrev pub command_refusal : List ℕ → Command → Registration → ℕ → L
 command_refusal station c r m l =
     if is_command_allowed r.state c then option_or (option_map BadField (bad_field c)) (record_refusal station c m l) else Some NotAllowedNow
 
+-- a number, unless something refuses it
 abbrev pub number_unless : Option Refusal → ℕ → Result ℕ Refusal
 number_unless None n = Ok n
 number_unless (Some refusal) n = Err refusal
@@ -104,6 +105,7 @@ unfoldable pub read_outcome : Result Data FieldFault → Outcome
 read_outcome (Ok known) = outcome.Answer (compact_text known)
 read_outcome (Err fault) = outcome.BadAnswer fault.code fault.field
 
+-- the outcome of a call that is answered with a result
 abbrev pub result_outcome : Command → Data → Outcome
 result_outcome c payload = read_outcome (known_members c payload)
 
@@ -111,6 +113,7 @@ result_outcome c payload = read_outcome (known_members c payload)
 abbrev pub answered_command : List ℕ → StationSlot → Option Command
 answered_command id s = if is_answered id s then option_map (λ call. call.1) (call_in_flight s) else None
 
+-- the call in flight ends with the outcome that its command gives, if there is one
 abbrev pub end_plan : List ℕ → List ℕ → (Command → Outcome) → Option Command → Plan
 end_plan station id gives None = nothing
 end_plan station id gives (Some c) = changing (effect.Answer station id (gives c))

@@ -35,5 +35,6 @@ abbrev pub is_of_hosted : (List ℕ → Bool) → Event → Bool
 is_of_hosted is_hosted (At b m what) = is_hosted b
 is_of_hosted is_hosted (Tick m) = true
 
+-- whether a hub with that setting handles an event
 abbrev pub is_taken : Setting → Event → Bool
 is_taken setting e = is_of_hosted setting.is_hosted e

@@ -14,6 +14,7 @@ abbrev pub of_station : Option Registration → List Row → Result (List Row) R
 of_station None rows = Err NoSuchStation
 of_station (Some found) rows = Ok rows
 
+-- the rows that a listing shows, or its refusal
 abbrev pub rows_rule : Listing → Lookups → Result (List Row) Refusal
 rows_rule listing.Stations l = Ok (map row.Station l.stations)
 rows_rule listing.Tags l = Ok (map row.Tag l.tags)

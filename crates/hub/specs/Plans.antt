@@ -20,6 +20,7 @@ use Rattle.hub.specs.declared.plan.Plan.{Plan}
 use Rattle.hub.specs.declared.row.Row.{Row}
 use Rattle.hub.specs.Effects.{edit_effect}
 
+-- nothing is said and nothing changes
 abbrev pub nothing : Plan
 nothing = record { said = []; effect = effect.Nothing }
 
@@ -33,6 +34,7 @@ changing e = record { said = []; effect = e }
 
 -- ---- connections
 
+-- a station is turned away
 abbrev pub turned_plan : List ℕ → Plan
 turned_plan station = only (said.Turned station)
 
@@ -47,12 +49,15 @@ disconnect_plan station = changing (effect.Disconnect station)
 
 -- ---- frames
 
+-- a text goes to a station
 abbrev pub sent_plan : List ℕ → List ℕ → Plan
 sent_plan station text = only (said.Send station text)
 
+-- the text of a call's error, without details
 abbrev pub error_text : List ℕ → ErrorCode → List ℕ → List ℕ
 error_text id c description = compact_text (error_data id (error_code_name c) description)
 
+-- a call is answered with an error
 abbrev pub error_plan : List ℕ → List ℕ → ErrorCode → List ℕ → Plan
 error_plan station id c description = sent_plan station (error_text id c description)
 
@@ -65,6 +70,7 @@ abbrev pub reply_text : List ℕ → Reply → List ℕ
 reply_text id (Conf conf) = conf_text id conf
 reply_text id (Error c) = error_text id c []
 
+-- a call is answered as its rule decided
 abbrev pub decided_plan : List ℕ → List ℕ → Decision → Plan
 decided_plan station id d = record { said = said.Send station (reply_text id d.reply) ∷ []; effect = edit_effect d.edit }
 

@@ -66,6 +66,7 @@ frame_plan answers station (CallError id error description) m f = answer_plan st
 frame_plan answers station (Broken id) m f = error_plan station id code.FormationViolation []
 frame_plan answers station Ignored m f = nothing
 
+-- the text of a station that isn't connected is not looked at
 abbrev pub text_plan : Answers → List ℕ → List ℕ → ℕ → Facts → Plan
 text_plan answers station text m f = if (f.slot station).is_connected then frame_plan answers station (frame text) m f else turned_plan station
 
@@ -80,6 +81,7 @@ admin_rule (admin.TagDrop tag) l = drop_rule tag l
 
 -- ---- the table
 
+-- the plan of each event of an operator
 abbrev pub plan : Answers → What → ℕ → Facts → Plan
 plan answers (what.Connect station) m f = connect_plan station (f.lookups.registration station)
 plan answers (what.Disconnect station) m f = disconnect_plan station

@@ -26,18 +26,22 @@ pub record View : Type 0 where
   pub rows : Rows
   pub slots : List StationSlot
 
+-- what operator a has of a world
 abbrev pub view : List ℕ → World → View
 view a w = record { rows = own_rows a w.rows; slots = own_slots a w.slots }
 
 -- ---- the operator's own machine
 
+-- the facts of an operator, over its view alone
 abbrev pub own_facts : ℕ → List ℕ → View → Facts
 own_facts first a v = record { lookups = own_lookups v.rows; slot = λ station. slot_in first a station v.slots }
 
+-- its records after an edit of its own, if there is one
 abbrev pub own_rows_after : List ℕ → Option Edit → Rows → Rows
 own_rows_after a None rows = rows
 own_rows_after a (Some e) rows = own_edit a e rows
 
+-- its slots after an effect of its own at moment m
 abbrev pub own_slots_after : ℕ → List ℕ → ℕ → Effect → List StationSlot → List StationSlot
 own_slots_after first a m effect.Nothing slots = slots
 own_slots_after first a m (effect.Edit e) slots = slots
@@ -51,33 +55,40 @@ pub data Item : Type 0 where
   Own : ℕ → What → Item
   Ticked : ℕ → Item
 
+-- the plan of an event of its own
 abbrev pub own_plan : Setting → List ℕ → View → ℕ → What → Plan
 own_plan setting a v m what = plan setting.answers what m (own_facts setting.first_number a v)
 
+-- what the machine says of one item
 abbrev pub operator_outputs : Setting → List ℕ → View → Item → List Out
 operator_outputs setting a v (Own m what) = plan_outputs a (own_plan setting a v m what) (own_facts setting.first_number a v)
 operator_outputs setting a v (Ticked m) = tick_outputs m v.slots
 
+-- what the operator has after one item
 abbrev pub operator_step : Setting → List ℕ → View → Item → View
 operator_step setting a v (Own m what) =
     let e = (own_plan setting a v m what).effect in
     record { rows = own_rows_after a (edit_of e) v.rows; slots = own_slots_after setting.first_number a m e v.slots }
 operator_step setting a v (Ticked m) = record v { slots = tick m v.slots }
 
+-- what the machine says of a list of items
 abbrev pub operator_run_outputs : Setting → List ℕ → View → List Item → List Out
 operator_run_outputs setting a v [] = []
 operator_run_outputs setting a v (i ∷ is) = operator_outputs setting a v i ++ operator_run_outputs setting a (operator_step setting a v i) is
 
+-- what the operator has after a list of items
 abbrev pub operator_run : Setting → List ℕ → View → List Item → View
 operator_run setting a v [] = v
 operator_run setting a v (i ∷ is) = operator_run setting a (operator_step setting a v i) is
 
 -- ---- what a world shows the operator: its own events and ticks, and nothing of another's events
 
+-- of one event: it and its moment where it is the operator's own, nothing of another's, and a tick
 abbrev pub seen_of : List ℕ → Event → List Item
 seen_of a (At b m what) = if bytes_eq b a then Own m what ∷ [] else []
 seen_of a (Tick m) = Ticked m ∷ []
 
+-- of a list of events, each as the world stands before it
 abbrev pub seen : Setting → List ℕ → World → List Event → List Item
 seen setting a w [] = []
 seen setting a w (e ∷ es) = seen_of a e ++ seen setting a (world_step setting w e) es

@@ -5,6 +5,7 @@ use Rattle.hub_rows.specs.WellFormed.{WellFormedRows}
 use Rattle.pending_calls.specs.SlotList.{slot_key}
 use Rattle.hub.specs.World.{World}
 
+-- what holds of the world of every hub whose store is clean
 pub record WellFormed (w : World) : Type 0 where
   pub rows : WellFormedRows w.rows
   pub slots : IsStrictlySortedBy (by_key slot_key) w.slots

@@ -25,6 +25,7 @@ pub record Setting : Type 0 where
   pub answers : Answers
   pub first_number : ℕ
 
+-- the records of all operators, and the slots of all stations
 pub record World : Type 0 where
   pub rows : Rows
   pub slots : List StationSlot
@@ -42,6 +43,7 @@ rows_after b (Some e) rows = edit b e rows
 abbrev pub world_by : ℕ → List ℕ → ℕ → Effect → World → World
 world_by first b m e w = record { rows = rows_after b (edit_of e) w.rows; slots = slots_after first b m e w.slots }
 
+-- the plan of an event of operator b
 abbrev pub plan_at : Setting → World → List ℕ → ℕ → What → Plan
 plan_at setting w b m what = plan setting.answers what m (facts_at setting.first_number b w)
 
@@ -62,20 +64,24 @@ outputs_of a outs = own (λ o. o.op) a outs
 
 -- ---- one event: the outputs, and the world after it
 
+-- the outputs of an event, for whatever operator
 abbrev pub world_outputs : Setting → World → Event → List Out
 world_outputs setting w (At b m what) = plan_outputs b (plan_at setting w b m what) (facts_at setting.first_number b w)
 world_outputs setting w (Tick m) = tick_outputs m w.slots
 
+-- the world after an event
 abbrev pub world_step : Setting → World → Event → World
 world_step setting w (At b m what) = world_by setting.first_number b m (plan_at setting w b m what).effect w
 world_step setting w (Tick m) = record w { slots = tick m w.slots }
 
 -- ---- a list of events
 
+-- the outputs of a list of events
 abbrev pub run_outputs : Setting → World → List Event → List Out
 run_outputs setting w [] = []
 run_outputs setting w (e ∷ es) = world_outputs setting w e ++ run_outputs setting (world_step setting w e) es
 
+-- the world after a list of events
 abbrev pub world_run : Setting → World → List Event → World
 world_run setting w [] = w
 world_run setting w (e ∷ es) = world_run setting (world_step setting w e) es

@@ -1,4 +1,4 @@
-//! The requests of an operator (docs/RULES.md, Commands).
+//! The requests of an operator (docs/RULES.md, Requests of operators).
 ghost use Rattle.std.specs.Prelude.{◌≡◌, Err, IfOk};
 ghost use Rattle.hub_rows.specs.Reads.{OnlyReads};
 ghost use Rattle.hub_rows.specs.Lookups.{lookups_at};

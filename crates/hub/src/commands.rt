@@ -1,4 +1,4 @@
-//! Commands of an operator, and the answers of stations to them (docs/RULES.md, Calls).
+//! Commands of an operator, and the answers of stations to them (docs/RULES.md, Outgoing calls).
 ghost use Rattle.std.specs.Prelude.{◌≡◌, Ok, Err, IfOk, option_map};
 ghost use Rattle.hub_rows.specs.Reads.{OnlyReads};
 ghost use Rattle.hub_rows.specs.Lookups.{lookups_at};

@@ -107,6 +107,7 @@ fn apply<S: Store>(
             command,
             text,
         } => {
+            // Where the store is clean, the plan is that of a station that is ready.
             if slots.ready(op.as_str(), station.as_str()).is_ok() {
                 let message = slots.submit(op.as_str(), station.as_str(), command, text, moment)?;
                 push_message(outs, message);

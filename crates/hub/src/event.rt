@@ -39,11 +39,15 @@ pub enum What {
 /// A list of an operator's records.
 #[derive(Drop)]
 pub enum Listing {
+    /// Its stations.
     Stations,
+    /// Its id tags.
     Tags,
+    /// The connectors of a station that were reported on.
     Connectors {
         station: Text,
     },
+    /// The transactions of a station.
     Transactions {
         station: Text,
     },

@@ -11,6 +11,7 @@ use thiserror::Error;
 /// Why an event isn't taken. Neither records nor connections have changed.
 #[derive(Clone, Copy, Debug, PartialEq, Eq, Drop, Error)]
 pub enum Fault {
+    /// An allocation was refused.
     #[error("NoMemory")]
     NoMemory,
     /// The store failed.

@@ -1,4 +1,4 @@
-//! Listings of an operator's records (docs/RULES.md, Commands).
+//! Listings of an operator's records (docs/RULES.md, Requests of operators).
 ghost use Rattle.std.specs.Prelude.{◌≡◌, ◌++◌, map, Ok, Err, IfOk, OnOk};
 ghost use Rattle.hub_rows.specs.Reads.{OnlyReads};
 ghost use Rattle.hub_rows.specs.Lookups.{lookups_at};

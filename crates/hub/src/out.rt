@@ -6,7 +6,9 @@ use ocpp_types::{ErrorCode, FieldName, Refusal, Text};
 /// One output: what is said, and the operator that it is for.
 #[derive(Drop)]
 pub struct Out {
+    /// The operator.
     pub op: Text,
+    /// What it is told, or one of its stations.
     pub said: Said,
 }
 
@@ -33,7 +35,7 @@ pub enum Said {
     Refused(Refusal),
     /// A row of a listing.
     Row(Row),
-    /// A request of the operator is taken; a command with the number of its call.
+    /// A request of the operator is accepted; a command with the number of its call.
     Accepted {
         number: Option<u32>,
     },

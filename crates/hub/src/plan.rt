@@ -13,13 +13,16 @@ use std::alloc::Global;
 /// ends or sends comes after it.
 #[derive(Drop)]
 pub struct Plan {
+    /// In the order in which it is said.
     pub said: Listed<Said>,
+    /// One change, or none.
     pub effect: Effect,
 }
 
 /// What an event changes.
 #[derive(Drop)]
 pub enum Effect {
+    /// Nothing changes.
     Nothing,
     /// The records of the operator change.
     Edit(Edit),

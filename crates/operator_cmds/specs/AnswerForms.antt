@@ -18,6 +18,7 @@ status_of names name_of = record {
   make = λ status. record { status = status };
 }
 
+-- DataTransfer.conf
 abbrev pub data_transfer_answer : Form DataTransferAnswer
 data_transfer_answer = record {
   table =
@@ -27,6 +28,7 @@ data_transfer_answer = record {
   make = λ status content. record { status = status; content = content };
 }
 
+-- an entry of a configuration
 abbrev pub key_value : Form KeyValue
 key_value = record {
   table =
@@ -37,6 +39,7 @@ key_value = record {
   make = λ key readonly value. record { key = key; readonly = readonly; value = value };
 }
 
+-- GetConfiguration.conf
 abbrev pub get_configuration_answer : Form GetConfigurationAnswer
 get_configuration_answer = record {
   table =

@@ -74,6 +74,7 @@ command_data c = data_of (message c)
 
 -- ---- its action
 
+-- the action of a command
 abbrev pub action_of : Command → OperatorAction
 action_of (variant.ChangeAvailability c) = action.ChangeAvailability
 action_of (variant.ChangeConfiguration c) = action.ChangeConfiguration
@@ -86,5 +87,6 @@ action_of (variant.Reset c) = action.Reset
 action_of (variant.TriggerMessage c) = action.TriggerMessage
 action_of (variant.UnlockConnector c) = action.UnlockConnector
 
+-- the name of the action, under which it is sent
 abbrev pub action_name_of : Command → List ℕ
 action_name_of c = operator_action_name (action_of c)

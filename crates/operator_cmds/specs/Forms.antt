@@ -26,6 +26,7 @@ holds_number_of_32_bits = holds_integer_within (negsuc 2147483647) (pos 21474836
 abbrev pub holds_id_tag : Holds (List ℕ)
 holds_id_tag = holds_text_within 20
 
+-- ChangeAvailability.req
 abbrev pub change_availability : Form ChangeAvailability
 change_availability = record {
   table =
@@ -35,6 +36,7 @@ change_availability = record {
   make = λ connector kind. record { connector_id = connector; kind = kind };
 }
 
+-- ChangeConfiguration.req
 abbrev pub change_configuration : Form ChangeConfiguration
 change_configuration = record {
   table =
@@ -48,6 +50,7 @@ change_configuration = record {
 abbrev pub clear_cache : Form (Unit {0})
 clear_cache = record { table = end; make = tt }
 
+-- DataTransfer.req
 abbrev pub data_transfer : Form DataTransfer
 data_transfer = record {
   table =
@@ -58,6 +61,7 @@ data_transfer = record {
   make = λ vendor message content. record { vendor_id = vendor; message_id = message; content = content };
 }
 
+-- GetConfiguration.req
 abbrev pub get_configuration : Form GetConfiguration
 get_configuration = record {
   table =
@@ -66,6 +70,7 @@ get_configuration = record {
   make = λ key. record { key = key };
 }
 
+-- RemoteStartTransaction.req, without a charging profile
 abbrev pub remote_start_transaction : Form RemoteStartTransaction
 remote_start_transaction = record {
   table =
@@ -75,6 +80,7 @@ remote_start_transaction = record {
   make = λ connector tag. record { connector_id = connector; id_tag = tag };
 }
 
+-- RemoteStopTransaction.req
 abbrev pub remote_stop_transaction : Form RemoteStopTransaction
 remote_stop_transaction = record {
   table =
@@ -83,6 +89,7 @@ remote_stop_transaction = record {
   make = λ transaction. record { transaction_id = transaction };
 }
 
+-- Reset.req
 abbrev pub reset : Form Reset
 reset = record {
   table =
@@ -91,6 +98,7 @@ reset = record {
   make = λ kind. record { kind = kind };
 }
 
+-- TriggerMessage.req
 abbrev pub trigger_message : Form TriggerMessage
 trigger_message = record {
   table =
@@ -100,6 +108,7 @@ trigger_message = record {
   make = λ message connector. record { requested_message = message; connector_id = connector };
 }
 
+-- UnlockConnector.req
 abbrev pub unlock_connector : Form UnlockConnector
 unlock_connector = record {
   table =

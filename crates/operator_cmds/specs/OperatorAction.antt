@@ -4,6 +4,7 @@ use Rattle.ocpp_types.specs.Named.{names_of}
 use Rattle.operator_cmds.specs.declared.operator_action.OperatorAction.{OperatorAction}
 use Rattle.operator_cmds.specs.declared.operator_action.OperatorAction.TheVariants as operator_action
 
+-- the name of an action of an operator
 abbrev pub operator_action_name : OperatorAction → List ℕ
 operator_action_name operator_action.ChangeAvailability = codes "ChangeAvailability"
 operator_action_name operator_action.ChangeConfiguration = codes "ChangeConfiguration"
@@ -16,5 +17,6 @@ operator_action_name operator_action.Reset = codes "Reset"
 operator_action_name operator_action.TriggerMessage = codes "TriggerMessage"
 operator_action_name operator_action.UnlockConnector = codes "UnlockConnector"
 
+-- all actions of an operator, by name
 abbrev pub operator_actions : List (List ℕ × OperatorAction)
 operator_actions = names_of operator_action_name (operator_action.ChangeAvailability ∷ operator_action.ChangeConfiguration ∷ operator_action.ClearCache ∷ operator_action.DataTransfer ∷ operator_action.GetConfiguration ∷ operator_action.RemoteStartTransaction ∷ operator_action.RemoteStopTransaction ∷ operator_action.Reset ∷ operator_action.TriggerMessage ∷ operator_action.UnlockConnector ∷ [])

@@ -13,7 +13,9 @@ use std::alloc::Global;
 /// Sets a key of the configuration (OCPP 1.6, ChangeConfiguration.req).
 #[derive(Drop)]
 pub struct ChangeConfiguration {
+    /// At most 50 characters.
     pub key: Text,
+    /// At most 500 characters.
     pub value: Text,
 }
 

@@ -1,4 +1,4 @@
-//! Commands that start and stop transactions from afar.
+//! Commands that start and stop transactions at an operator's request.
 ghost use Rattle.ocpp_payload.specs.Table.{read_by};
 ghost use Rattle.operator_cmds.specs.Forms.{remote_start_transaction, remote_stop_transaction};
 
@@ -15,6 +15,7 @@ use std::alloc::Global;
 pub struct RemoteStartTransaction {
     /// 1 to 255.
     pub connector_id: Option<i64>,
+    /// At most 20 characters.
     pub id_tag: Text,
 }
 

@@ -58,7 +58,9 @@ impl Checked for ChangeAvailability {
 /// A message of a vendor (OCPP 1.6, DataTransfer.req).
 #[derive(Drop)]
 pub struct DataTransfer {
+    /// At most 255 characters.
     pub vendor_id: Text,
+    /// At most 50 characters.
     pub message_id: Option<Text>,
     /// The member `data`.
     pub content: Option<Text>,
@@ -142,6 +144,7 @@ impl Checked for Reset {
 /// Asks a station to send a message (OCPP 1.6, TriggerMessage.req).
 #[derive(Drop)]
 pub struct TriggerMessage {
+    /// The message.
     pub requested_message: MessageTrigger,
     /// 1 to 255.
     pub connector_id: Option<i64>,

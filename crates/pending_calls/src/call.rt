@@ -7,9 +7,12 @@ use ocpp_types::{Moment, Text};
 pub struct Call<C> {
     /// The operator of the station.
     pub op: Text,
+    /// The station that was sent the call, or is to be.
     pub station: Text,
-    /// The id of the call, 1 to 2147483647. Each station has its own count.
+    /// The id of the call. Each station has its own count, from the first number of its `Slots` to
+    /// 2147483647.
     pub number: u32,
+    /// What is asked of the station.
     pub command: C,
 }
 
@@ -18,27 +21,35 @@ pub struct Call<C> {
 pub struct Message {
     /// The operator of the station.
     pub op: Text,
+    /// The station that the text goes to.
     pub station: Text,
+    /// The frame (OCPP-J 1.6, section 4.2.1).
     pub text: Text,
 }
 
 /// A call that ended, and the text of the call that is sent next at its station, if one waited.
 #[derive(Debug, Drop)]
 pub struct Moved<C> {
+    /// The call that ended.
     pub ended: Call<C>,
+    /// The text that is sent next.
     pub next: Option<Message>,
 }
 
 /// A call that was sent, and when.
 #[derive(Debug, Drop)]
 pub struct InFlight<C> {
+    /// The call.
     pub call: Call<C>,
+    /// When it was sent.
     pub sent: Moment,
 }
 
 /// A call that waits, and its text.
 #[derive(Debug, Drop)]
 pub struct Waiting<C> {
+    /// The call.
     pub call: Call<C>,
+    /// The text that it will be sent as.
     pub message: Message,
 }

@@ -26,7 +26,7 @@ use hub_rows::{
 use ocpp_types::{Listed, Mem, State, TagKey, Text};
 use std::alloc::Global;
 
-/// Records in memory. It is always clean, and it never fails but for want of memory.
+/// Records in memory. It is always clean, and want of memory is its only failure.
 #[derive(Drop)]
 pub struct MemStore {
     alloc: Global,
