@@ -17,8 +17,8 @@ use serde_json::Value;
 use std::alloc::Global;
 
 /// The answer to a command that a payload is: its known members as they were sent, or its first
-/// faulty member in the order of the table. Members that are `null` and unknown members are left out, also those of the
-/// objects of a list; empty lists are kept.
+/// faulty member in the order of the table. Members that are `null` and unknown members are left
+/// out, also those of the objects of a list; empty lists are kept.
 pub fn read_answer(
     alloc: Global,
     command: &Command,
