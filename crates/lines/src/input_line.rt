@@ -72,12 +72,7 @@ fn read_event(alloc: Global, hosted: &[Text], text: &str) -> Mem<Option<Event>>
     operator_event(alloc, hosted, moment, rest)
 }
 
-fn operator_event(
-    alloc: Global,
-    hosted: &[Text],
-    moment: Moment,
-    rest: &str,
-) -> Mem<Option<Event>>
+fn operator_event(alloc: Global, hosted: &[Text], moment: Moment, rest: &str) -> Mem<Option<Event>>
     ensures { IfOk result (λ e. e ≡ operator_event (is_hosted hosted.now) moment rest.now) }
 {
     let Some((op, rest)) = first_word(rest) else {
