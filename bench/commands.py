@@ -3,10 +3,7 @@
     python3 bench/commands.py --stations 100 --commands 50000 > script
 """
 
-import argparse
-import sys
-
-from heartbeats import OPERATORS, START, lines as booted
+from heartbeats import OPERATORS, START, lines as booted, write_script
 
 
 def lines(stations, commands):
@@ -18,14 +15,5 @@ def lines(stations, commands):
         yield f'{moment} {operator} frame {station} [3,"{number}",{{"status":"Accepted"}}]'
 
 
-def main():
-    parser = argparse.ArgumentParser()
-    parser.add_argument("--stations", type=int, default=100)
-    parser.add_argument("--commands", type=int, default=50_000)
-    wanted = parser.parse_args()
-    for line in lines(wanted.stations, wanted.commands):
-        sys.stdout.write(line + "\n")
-
-
 if __name__ == "__main__":
-    main()
+    write_script(lines, stations=100, commands=50_000)

@@ -22,14 +22,14 @@ def lines(stations, beats):
         yield f'{START + beat // stations} {operator} frame {station} [2,"{beat}","Heartbeat",{{}}]'
 
 
-def main():
+def write_script(lines, **counts):
+    """Writes the lines for some counts, each of which has an option of its name and this default."""
     parser = argparse.ArgumentParser()
-    parser.add_argument("--stations", type=int, default=100)
-    parser.add_argument("--beats", type=int, default=100_000)
-    wanted = parser.parse_args()
-    for line in lines(wanted.stations, wanted.beats):
+    for name, count in counts.items():
+        parser.add_argument(f"--{name}", type=int, default=count)
+    for line in lines(**vars(parser.parse_args())):
         sys.stdout.write(line + "\n")
 
 
 if __name__ == "__main__":
-    main()
+    write_script(lines, stations=100, beats=100_000)

@@ -3,10 +3,7 @@
     python3 bench/ticks.py --stations 1000 --ticks 100000 > script
 """
 
-import argparse
-import sys
-
-from heartbeats import OPERATORS, START, lines as booted
+from heartbeats import OPERATORS, START, lines as booted, write_script
 
 
 def lines(stations, ticks):
@@ -17,14 +14,5 @@ def lines(stations, ticks):
         yield f"{START + 29} * tick"
 
 
-def main():
-    parser = argparse.ArgumentParser()
-    parser.add_argument("--stations", type=int, default=1000)
-    parser.add_argument("--ticks", type=int, default=100_000)
-    wanted = parser.parse_args()
-    for line in lines(wanted.stations, wanted.ticks):
-        sys.stdout.write(line + "\n")
-
-
 if __name__ == "__main__":
-    main()
+    write_script(lines, stations=1000, ticks=100_000)

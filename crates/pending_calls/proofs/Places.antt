@@ -1,6 +1,6 @@
 -- A slot that is changed at its place.
 use Rattle.std.specs.Prelude.{◌≡◌, ℕ, zero, suc, ◌+◌, ◌<◌, List, [], ◌∷◌, ◌++◌, length, take, drop, Some, Bool, true, false, cond, find, Result, Ok, Err, OnOk, OnErr}
-use Rattle.std.proofs.Common.{get_or, refl, sym, ◌∙◌, ap, subst, arith, add-one}
+use Rattle.std.proofs.Common.{get_or, refl, sym, ◌∙◌, ap, subst, arith}
 use Rattle.std.proofs.Math.ListN.{set}
 use Rattle.std.specs.List.{AllByRecursion}
 use Rattle.std.specs.List.Sorted.{IsStrictlySortedBy}
@@ -34,15 +34,6 @@ sorted-written key (y ∷ xs) (suc i) x z within same is sorted = (all-written k
 pub sorted-inserted : {R : Type 0} (key : R → List (List ℕ)) (xs : List R) (i : ℕ) (x : R) (ok : Bool) → IsGapAt key (key x) xs i → IsStrictlySortedBy (by_key key) xs → IsStrictlySortedBy (by_key key) (cond ok (take i xs ++ x ∷ drop i xs) xs)
 sorted-inserted key xs i x true gap sorted = subst (IsStrictlySortedBy (by_key key)) (put-gap key x xs i gap) (sorted-put (by_key key) (by_key_total key) x xs sorted)
 sorted-inserted key xs i x false gap sorted = sorted
-
--- what holds as far as the loop has come
-pub all-more : {R : Type 0} (P : R → Type 0) (xs : List R) (i : ℕ) (x : R) → AllByRecursion P (take i xs) → i < length xs → x ≡ get_or xs i x → P x → AllByRecursion P (take (i + 1) xs)
-all-more P xs i x all within is here = rw add-one (more P xs i x all within is here)
-  where
-    more : {R : Type 0} (P : R → Type 0) (xs : List R) (i : ℕ) (x : R) → AllByRecursion P (take i xs) → i < length xs → x ≡ get_or xs i x → P x → AllByRecursion P (take (suc i) xs)
-    more P [] i x all within is here = tt
-    more P (y ∷ xs) zero x all within is here = (subst P is here, tt)
-    more P (y ∷ xs) (suc i) x all within is here = (all.0, more P xs i x all.1 (omega arith) is here)
 
 split_here : {R : Type 0} (xs : List R) (i : ℕ) (x : R) → i < length xs → ((d : R) → get_or xs i d ≡ x) → xs ≡ take i xs ++ x ∷ drop (i + 1) xs
 split_here xs i x within here = sym (take-append-drop i xs) ∙ ap (λ ys. take i xs ++ ys) (drop_here xs i x within (sym (here x)))
