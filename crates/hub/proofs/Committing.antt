@@ -1,17 +1,25 @@
--- What the table plans fits the records and the slots.
-use Rattle.std.specs.Prelude.{◌≡◌, ℕ, List}
+-- What the table plans fits the records.
+use Rattle.std.specs.Prelude.{◌≡◌, ℕ, Bool, List, Some}
 use Rattle.std.specs.Option.{ForSome}
 use Rattle.hub_rows.specs.Changes.{EditFits}
 use Rattle.station_calls.specs.Vendors.{Answers}
-use Rattle.hub.specs.declared.event.What.{What}
-use Rattle.hub.specs.declared.plan.Plan.{Plan}
-use Rattle.hub.specs.Effects.{IsReady, edit_of}
-use Rattle.hub.specs.Table.{plan}
+use Rattle.event_plans.specs.declared.event.What.{What}
+use Rattle.event_plans.specs.declared.plan.Effect.{Effect}
+use Rattle.event_plans.specs.declared.plan.Effect.TheVariants as effect
+use Rattle.event_plans.specs.declared.plan.Plan.{Plan}
+use Rattle.hub.specs.Effects.{edit_of}
+use Rattle.event_plans.specs.Table.{plan}
 use Rattle.hub.specs.World.{World, facts_at}
-use Rattle.hub.proofs.Fitting.{fits_rows, fits_slots, plan_fits}
+use Rattle.event_plans.proofs.Fitting.{EffectFits, option_fits, plan_fits}
 
-pub edit_of_plan_fits : (first : ℕ) (answers : Answers) (b : List ℕ) (what : What) (m : ℕ) (w : World) (p : Plan) → p ≡ plan answers what m (facts_at first b w) → ForSome (edit_of p.effect) (λ e. EditFits b e w.rows)
-edit_of_plan_fits first answers b what m w p is = rw is (fits_rows first b w (plan answers what m (facts_at first b w)).effect (plan_fits answers what m (facts_at first b w)))
+-- what the facts over a world allow, its records allow
+fits_rows : (first : ℕ) (b : List ℕ) (w : World) (e : Effect) → EffectFits (facts_at first b w) e → ForSome (edit_of e) (λ d. EditFits b d w.rows)
+fits_rows first b w effect.Nothing fits = λ d same. absurd (cc)
+fits_rows first b w (effect.Edit e) fits = option_fits b w.rows (Some e) fits
+fits_rows first b w (effect.Connect station) fits = λ d same. absurd (cc)
+fits_rows first b w (effect.Disconnect station) fits = λ d same. absurd (cc)
+fits_rows first b w (effect.Submit station command text) fits = λ d same. absurd (cc)
+fits_rows first b w (effect.Answer station id outcome edit) fits = option_fits b w.rows edit fits
 
-pub effect_of_plan_ready : (first : ℕ) (answers : Answers) (b : List ℕ) (what : What) (m : ℕ) (w : World) (p : Plan) → p ≡ plan answers what m (facts_at first b w) → IsReady (facts_at first b w).slot p.effect
-effect_of_plan_ready first answers b what m w p is = rw is (fits_slots (facts_at first b w) (plan answers what m (facts_at first b w)).effect (plan_fits answers what m (facts_at first b w)))
+pub edit_of_plan_fits : (first : ℕ) (is_hosted : List ℕ → Bool) (answers : Answers) (b : List ℕ) (what : What) (m : ℕ) (w : World) (p : Plan) → p ≡ plan is_hosted answers what m (facts_at first b w) → ForSome (edit_of p.effect) (λ e. EditFits b e w.rows)
+edit_of_plan_fits first is_hosted answers b what m w p is = rw is (fits_rows first b w (plan is_hosted answers what m (facts_at first b w)).effect (plan_fits is_hosted answers what m (facts_at first b w)))

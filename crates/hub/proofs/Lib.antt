@@ -1,7 +1,7 @@
-pub mod ConfLaws
 pub mod SlotLaws
 pub mod TickLaws
-pub mod Fitting
 pub mod Committing
+pub mod GrantedTags
 pub mod Isolation
 pub mod Runs
+pub mod TwoSystems

@@ -14,12 +14,13 @@ use Rattle.pending_calls.specs.SlotList.{slot_key, slot_of}
 use Rattle.pending_calls.specs.OwnSlots.{own_slots}
 use Rattle.pending_calls.proofs.OwnSlots.{answered_op, changed_at-other, changed_at-own, connect-other, connect-own, sorted-changed_at, sorted-put_slot}
 use Rattle.pending_calls.proofs.Places.{answered_key}
-use Rattle.hub.specs.declared.out.Out.{Out}
-use Rattle.hub.specs.declared.out.Outcome.{Outcome}
-use Rattle.hub.specs.declared.out.Outcome.TheVariants.{Disconnected, Timeout}
-use Rattle.hub.specs.declared.plan.Effect.{Effect}
-use Rattle.hub.specs.declared.plan.Effect.TheVariants as effect
-use Rattle.hub.specs.Effects.{StationSlot, done, sent, moved_outputs, effect_outputs, slots_after, tick_outputs}
+use Rattle.event_plans.specs.declared.out.Out.{Out}
+use Rattle.event_plans.specs.declared.out.Outcome.{Outcome}
+use Rattle.event_plans.specs.declared.out.Outcome.TheVariants.{Disconnected, Timeout}
+use Rattle.event_plans.specs.declared.plan.Effect.{Effect}
+use Rattle.event_plans.specs.declared.plan.Effect.TheVariants as effect
+use Rattle.event_plans.specs.Effects.{StationSlot}
+use Rattle.hub.specs.Effects.{done, sent, moved_outputs, effect_outputs, slots_after, tick_outputs}
 use Rattle.hub.specs.View.{own_slots_after}
 use Rattle.hub.specs.World.{outputs_of}
 
@@ -31,7 +32,7 @@ slots_after-own first a m (effect.Edit e) slots sorted = refl
 slots_after-own first a m (effect.Connect station) slots sorted = connect-own a first station slots sorted
 slots_after-own first a m (effect.Disconnect station) slots sorted = changed_at-own a station cut slots (λ s. refl)
 slots_after-own first a m (effect.Submit station command text) slots sorted = changed_at-own a station (submitted command text m) slots (λ s. refl)
-slots_after-own first a m (effect.Answer station id outcome) slots sorted = changed_at-own a station (answered id m) slots (answered_op id m)
+slots_after-own first a m (effect.Answer station id outcome edit) slots sorted = changed_at-own a station (answered id m) slots (answered_op id m)
 
 pub slots_after-other : (first : ℕ) (a b : List ℕ) (m : ℕ) (e : Effect) (slots : List StationSlot) → b ≢ a → own_slots a (slots_after first b m e slots) ≡ own_slots a slots
 slots_after-other first a b m effect.Nothing slots other = refl
@@ -39,7 +40,7 @@ slots_after-other first a b m (effect.Edit e) slots other = refl
 slots_after-other first a b m (effect.Connect station) slots other = connect-other a b station first slots other
 slots_after-other first a b m (effect.Disconnect station) slots other = changed_at-other a b station cut slots (λ s. refl) other
 slots_after-other first a b m (effect.Submit station command text) slots other = changed_at-other a b station (submitted command text m) slots (λ s. refl) other
-slots_after-other first a b m (effect.Answer station id outcome) slots other = changed_at-other a b station (answered id m) slots (answered_op id m) other
+slots_after-other first a b m (effect.Answer station id outcome edit) slots other = changed_at-other a b station (answered id m) slots (answered_op id m) other
 
 pub slots_after-sorted : (first : ℕ) (b : List ℕ) (m : ℕ) (e : Effect) (slots : List StationSlot) → IsStrictlySortedBy (by_key slot_key) slots → IsStrictlySortedBy (by_key slot_key) (slots_after first b m e slots)
 slots_after-sorted first b m effect.Nothing slots sorted = sorted
@@ -47,7 +48,7 @@ slots_after-sorted first b m (effect.Edit e) slots sorted = sorted
 slots_after-sorted first b m (effect.Connect station) slots sorted = sorted-put_slot (with_connection (slot_of first b station slots)) slots sorted
 slots_after-sorted first b m (effect.Disconnect station) slots sorted = sorted-changed_at b station cut slots (λ s. refl) sorted
 slots_after-sorted first b m (effect.Submit station command text) slots sorted = sorted-changed_at b station (submitted command text m) slots (λ s. refl) sorted
-slots_after-sorted first b m (effect.Answer station id outcome) slots sorted = sorted-changed_at b station (answered id m) slots (answered_key id m) sorted
+slots_after-sorted first b m (effect.Answer station id outcome edit) slots sorted = sorted-changed_at b station (answered id m) slots (answered_key id m) sorted
 
 -- ---- outputs for one operator
 
@@ -105,7 +106,7 @@ effect-for b (effect.Edit e) slot named = tt
 effect-for b (effect.Connect station) slot named = subst (λ op. AreFor op (map (done Disconnected) (ended_calls (slot station)))) (named station) (ended_for (slot station) Disconnected (slot station).in_flight)
 effect-for b (effect.Disconnect station) slot named = subst (λ op. AreFor op (map (done Disconnected) (ended_calls (slot station)))) (named station) (ended_for (slot station) Disconnected (slot station).in_flight)
 effect-for b (effect.Submit station command text) slot named = subst (λ op. AreFor op (sent (sent_now text (slot station)))) (named station) (sent_for (slot station) text (slot station).in_flight)
-effect-for b (effect.Answer station id outcome) slot named = subst (λ op. AreFor op (moved_outputs outcome (answer_move id (slot station)))) (named station) (if_moved (slot station) outcome (is_answered id (slot station)))
+effect-for b (effect.Answer station id outcome edit) slot named = subst (λ op. AreFor op (moved_outputs outcome (answer_move id (slot station)))) (named station) (if_moved (slot station) outcome (is_answered id (slot station)))
 
 -- ---- a tick
 

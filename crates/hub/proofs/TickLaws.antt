@@ -7,9 +7,10 @@ use Rattle.pending_calls.specs.declared.call.Moved.{Moved}
 use Rattle.pending_calls.specs.Slot.{expiry}
 use Rattle.pending_calls.specs.Tick.{tick_moves}
 use Rattle.pending_calls.proofs.Ticks.{IsDone, IsStep}
-use Rattle.hub.specs.declared.out.Out.{Out}
-use Rattle.hub.specs.declared.out.Outcome.TheVariants.{Timeout}
-use Rattle.hub.specs.Effects.{StationSlot, moved_outputs, tick_outputs}
+use Rattle.event_plans.specs.declared.out.Out.{Out}
+use Rattle.event_plans.specs.declared.out.Outcome.TheVariants.{Timeout}
+use Rattle.event_plans.specs.Effects.{StationSlot}
+use Rattle.hub.specs.Effects.{moved_outputs, tick_outputs}
 
 abbrev timed_out : Moved Command → List Out
 timed_out moved = moved_outputs Timeout (Some moved)

@@ -1,6 +1,6 @@
 -- What a plan changes of the records and of the calls of a station, and what those calls say as they
 -- end or go out.
-use Rattle.std.specs.Prelude.{ℕ, List, [], ◌∷◌, map, Option, Some, None, IsOk}
+use Rattle.std.specs.Prelude.{ℕ, List, [], ◌∷◌, map, Option, Some, None}
 use Rattle.std.specs.List.{flat_map}
 use Rattle.hub_rows.specs.declared.change.Edit.{Edit}
 use Rattle.hub_rows.specs.Keyed.{by_key, put}
@@ -8,18 +8,15 @@ use Rattle.operator_cmds.specs.declared.command.Command.{Command}
 use Rattle.pending_calls.specs.declared.call.Call.{Call}
 use Rattle.pending_calls.specs.declared.call.Message.{Message}
 use Rattle.pending_calls.specs.declared.call.Moved.{Moved}
-use Rattle.pending_calls.specs.Slot.{SlotState, answer_move, answered, cut, ended_calls, expiry, most_calls, ready, sent_now, submitted, with_connection}
+use Rattle.pending_calls.specs.Slot.{answer_move, answered, cut, ended_calls, expiry, most_calls, sent_now, submitted, with_connection}
 use Rattle.pending_calls.specs.SlotList.{changed_at, slot_key, slot_of}
-use Rattle.hub.specs.declared.out.Out.{Out}
-use Rattle.hub.specs.declared.out.Outcome.{Outcome}
-use Rattle.hub.specs.declared.out.Outcome.TheVariants.{Disconnected, Timeout}
-use Rattle.hub.specs.declared.out.Said.TheVariants as said
-use Rattle.hub.specs.declared.plan.Effect.{Effect}
-use Rattle.hub.specs.declared.plan.Effect.TheVariants as effect
-
--- what is kept of a station: whether it is connected, and its calls
-abbrev pub StationSlot : Type 0
-StationSlot = SlotState Command
+use Rattle.event_plans.specs.declared.out.Out.{Out}
+use Rattle.event_plans.specs.declared.out.Outcome.{Outcome}
+use Rattle.event_plans.specs.declared.out.Outcome.TheVariants.{Disconnected, Timeout}
+use Rattle.event_plans.specs.declared.out.Said.TheVariants as said
+use Rattle.event_plans.specs.declared.plan.Effect.{Effect}
+use Rattle.event_plans.specs.declared.plan.Effect.TheVariants as effect
+use Rattle.event_plans.specs.Effects.{StationSlot}
 
 -- ---- records
 
@@ -30,12 +27,7 @@ edit_of (effect.Edit e) = Some e
 edit_of (effect.Connect station) = None
 edit_of (effect.Disconnect station) = None
 edit_of (effect.Submit station command text) = None
-edit_of (effect.Answer station id outcome) = None
-
--- an edit, if there is one, as an effect
-abbrev pub edit_effect : Option Edit → Effect
-edit_effect None = effect.Nothing
-edit_effect (Some e) = effect.Edit e
+edit_of (effect.Answer station id outcome edit) = edit
 
 -- ---- slots
 
@@ -47,7 +39,7 @@ slots_after first b m (effect.Edit e) slots = slots
 slots_after first b m (effect.Connect station) slots = put (by_key slot_key) (with_connection (slot_of first b station slots)) slots
 slots_after first b m (effect.Disconnect station) slots = changed_at b station cut slots
 slots_after first b m (effect.Submit station command text) slots = changed_at b station (submitted command text m) slots
-slots_after first b m (effect.Answer station id outcome) slots = changed_at b station (answered id m) slots
+slots_after first b m (effect.Answer station id outcome edit) slots = changed_at b station (answered id m) slots
 
 -- ---- what is said
 
@@ -76,24 +68,15 @@ effect_outputs (effect.Edit e) slot = []
 effect_outputs (effect.Connect station) slot = map (done Disconnected) (ended_calls (slot station))
 effect_outputs (effect.Disconnect station) slot = map (done Disconnected) (ended_calls (slot station))
 effect_outputs (effect.Submit station command text) slot = sent (sent_now text (slot station))
-effect_outputs (effect.Answer station id outcome) slot = moved_outputs outcome (answer_move id (slot station))
+effect_outputs (effect.Answer station id outcome edit) slot = moved_outputs outcome (answer_move id (slot station))
 
--- ---- what an effect needs
+-- ---- the room that it needs
 
--- how many outputs may come of the calls that it ends or sends
+-- how many outputs may come of the calls that an effect ends or sends
 abbrev pub room_of : Effect → ℕ
 room_of effect.Nothing = 0
 room_of (effect.Edit e) = 0
 room_of (effect.Connect station) = most_calls
 room_of (effect.Disconnect station) = most_calls
 room_of (effect.Submit station command text) = 1
-room_of (effect.Answer station id outcome) = 2
-
--- a station that is sent a command is ready for it
-abbrev pub IsReady : (List ℕ → StationSlot) → Effect → Type 0
-IsReady slot effect.Nothing = Unit {0}
-IsReady slot (effect.Edit e) = Unit {0}
-IsReady slot (effect.Connect station) = Unit {0}
-IsReady slot (effect.Disconnect station) = Unit {0}
-IsReady slot (effect.Submit station command text) = IsOk (ready (slot station))
-IsReady slot (effect.Answer station id outcome) = Unit {0}
+room_of (effect.Answer station id outcome edit) = 2

@@ -5,8 +5,8 @@ use Rattle.hub_rows.specs.Operators.{is_hosted}
 use Rattle.station_calls.specs.Book.{book_rows, book_failures, book_answers, IsCleanBook}
 use Rattle.station_calls.specs.declared.vendor.VendorAnswer.{VendorAnswer}
 use Rattle.station_calls.specs.Vendors.{answer_of}
-use Rattle.hub.specs.declared.event.Event.{Event}
-use Rattle.hub.specs.declared.event.Event.TheVariants.{At, Tick}
+use Rattle.event_plans.specs.declared.event.Event.{Event}
+use Rattle.event_plans.specs.declared.event.Event.TheVariants.{At, Tick}
 use Rattle.hub.specs.declared.hub.Hub.{Hub}
 use Rattle.pending_calls.specs.Slots.{all_slots, first_number}
 use Rattle.hub.specs.World.{Setting, World}

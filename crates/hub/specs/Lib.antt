@@ -1,10 +1,8 @@
 pub mod Fault
 pub mod Effects
-pub mod Listing
-pub mod Plans
-pub mod Commands
-pub mod Table
 pub mod World
+pub mod GrantedTags
 pub mod View
 pub mod WellFormed
 pub mod Hub
+pub mod TwoSystems

@@ -2,39 +2,48 @@
 use Rattle.std.specs.Prelude.{ℕ, List, [], ◌∷◌, ◌++◌, Option, Some, None, if◌then◌else◌}
 use Rattle.std.specs.Str.{bytes_eq}
 use Rattle.hub_rows.specs.declared.change.Edit.{Edit}
+use Rattle.hub_rows.specs.declared.info.GrantedTag.{GrantedTag}
+use Rattle.hub_rows.specs.Grants.{granted_in}
 use Rattle.hub_rows.specs.Keyed.{put, by_key}
 use Rattle.hub_rows.specs.Rows.{Rows}
 use Rattle.hub_rows.specs.Own.{own_rows, own_edit}
 use Rattle.hub_rows.specs.OwnLookups.{own_lookups}
-use Rattle.hub.specs.declared.event.Event.{Event}
-use Rattle.hub.specs.declared.event.Event.TheVariants.{At, Tick}
-use Rattle.hub.specs.declared.event.What.{What}
-use Rattle.hub.specs.declared.out.Out.{Out}
-use Rattle.hub.specs.declared.plan.Effect.{Effect}
-use Rattle.hub.specs.declared.plan.Effect.TheVariants as effect
-use Rattle.hub.specs.declared.plan.Plan.{Plan}
-use Rattle.hub.specs.Effects.{StationSlot, edit_of, tick_outputs}
-use Rattle.hub.specs.Table.{Facts, plan}
+use Rattle.event_plans.specs.declared.event.Event.{Event}
+use Rattle.event_plans.specs.declared.event.Event.TheVariants.{At, Tick}
+use Rattle.event_plans.specs.declared.event.What.{What}
+use Rattle.event_plans.specs.declared.out.Out.{Out}
+use Rattle.event_plans.specs.declared.plan.Effect.{Effect}
+use Rattle.event_plans.specs.declared.plan.Effect.TheVariants as effect
+use Rattle.event_plans.specs.declared.plan.Plan.{Plan}
+use Rattle.event_plans.specs.Effects.{StationSlot}
+use Rattle.hub.specs.GrantedTags.{are_same}
+use Rattle.hub.specs.Effects.{edit_of, tick_outputs}
+use Rattle.event_plans.specs.Table.{Facts, plan}
 use Rattle.hub.specs.World.{Setting, World, plan_outputs, world_step}
 use Rattle.pending_calls.specs.OwnSlots.{own_slots, slot_in, changed_in}
 use Rattle.pending_calls.specs.Slot.{answered, cut, submitted, with_connection}
 use Rattle.pending_calls.specs.SlotList.{slot_rest}
 use Rattle.pending_calls.specs.Tick.{tick}
 
--- the records and the slots of one operator
+-- the records and the slots of one operator, and the tags that others granted to it
 pub record View : Type 0 where
   pub rows : Rows
   pub slots : List StationSlot
+  pub granted : List GrantedTag
+
+-- the tags that are granted to operator a in a world
+abbrev pub granted_to : List ℕ → World → List GrantedTag
+granted_to a w = granted_in a w.rows.tags w.rows.grants
 
 -- what operator a has of a world
 abbrev pub view : List ℕ → World → View
-view a w = record { rows = own_rows a w.rows; slots = own_slots a w.slots }
+view a w = record { rows = own_rows a w.rows; slots = own_slots a w.slots; granted = granted_to a w }
 
 -- ---- the operator's own machine
 
 -- the facts of an operator, over its view alone
 abbrev pub own_facts : ℕ → List ℕ → View → Facts
-own_facts first a v = record { lookups = own_lookups v.rows; slot = λ station. slot_in first a station v.slots }
+own_facts first a v = record { lookups = own_lookups a v.rows v.granted; slot = λ station. slot_in first a station v.slots }
 
 -- its records after an edit of its own, if there is one
 abbrev pub own_rows_after : List ℕ → Option Edit → Rows → Rows
@@ -48,28 +57,36 @@ own_slots_after first a m (effect.Edit e) slots = slots
 own_slots_after first a m (effect.Connect station) slots = put (by_key slot_rest) (with_connection (slot_in first a station slots)) slots
 own_slots_after first a m (effect.Disconnect station) slots = changed_in station cut slots
 own_slots_after first a m (effect.Submit station command text) slots = changed_in station (submitted command text m) slots
-own_slots_after first a m (effect.Answer station id outcome) slots = changed_in station (answered id m) slots
+own_slots_after first a m (effect.Answer station id outcome edit) slots = changed_in station (answered id m) slots
 
--- what the machine is shown: an event of its operator, at its moment, or a tick
+-- what the machine is shown: an event of its operator, at its moment, a tick, or the tags that are
+-- granted to its operator from now on
 pub data Item : Type 0 where
   Own : ℕ → What → Item
   Ticked : ℕ → Item
+  Granted : List GrantedTag → Item
+
+-- the tags that are granted, where they are others than before
+abbrev pub news : List GrantedTag → List GrantedTag → List Item
+news before after = if are_same before after then [] else Granted after ∷ []
 
 -- the plan of an event of its own
 abbrev pub own_plan : Setting → List ℕ → View → ℕ → What → Plan
-own_plan setting a v m what = plan setting.answers what m (own_facts setting.first_number a v)
+own_plan setting a v m what = plan setting.is_hosted setting.answers what m (own_facts setting.first_number a v)
 
 -- what the machine says of one item
 abbrev pub operator_outputs : Setting → List ℕ → View → Item → List Out
 operator_outputs setting a v (Own m what) = plan_outputs a (own_plan setting a v m what) (own_facts setting.first_number a v)
 operator_outputs setting a v (Ticked m) = tick_outputs m v.slots
+operator_outputs setting a v (Granted granted) = []
 
 -- what the operator has after one item
 abbrev pub operator_step : Setting → List ℕ → View → Item → View
 operator_step setting a v (Own m what) =
     let e = (own_plan setting a v m what).effect in
-    record { rows = own_rows_after a (edit_of e) v.rows; slots = own_slots_after setting.first_number a m e v.slots }
+    record { rows = own_rows_after a (edit_of e) v.rows; slots = own_slots_after setting.first_number a m e v.slots; granted = v.granted }
 operator_step setting a v (Ticked m) = record v { slots = tick m v.slots }
+operator_step setting a v (Granted granted) = record v { granted = granted }
 
 -- what the machine says of a list of items
 abbrev pub operator_run_outputs : Setting → List ℕ → View → List Item → List Out
@@ -81,14 +98,16 @@ abbrev pub operator_run : Setting → List ℕ → View → List Item → View
 operator_run setting a v [] = v
 operator_run setting a v (i ∷ is) = operator_run setting a (operator_step setting a v i) is
 
--- ---- what a world shows the operator: its own events and ticks, and nothing of another's events
+-- ---- what a world shows the operator: its own events, ticks, and each new list of the tags that are
+-- granted to it
 
--- of one event: it and its moment where it is the operator's own, nothing of another's, and a tick
-abbrev pub seen_of : List ℕ → Event → List Item
-seen_of a (At b m what) = if bytes_eq b a then Own m what ∷ [] else []
-seen_of a (Tick m) = Ticked m ∷ []
+-- of one event: it and its moment where it is the operator's own, a tick, and of another's event the tags
+-- that are granted to the operator after it, where they are others than before
+abbrev pub seen_of : Setting → List ℕ → World → Event → List Item
+seen_of setting a w (At b m what) = if bytes_eq b a then Own m what ∷ [] else news (granted_to a w) (granted_to a (world_step setting w (At b m what)))
+seen_of setting a w (Tick m) = Ticked m ∷ []
 
 -- of a list of events, each as the world stands before it
 abbrev pub seen : Setting → List ℕ → World → List Event → List Item
 seen setting a w [] = []
-seen setting a w (e ∷ es) = seen_of a e ++ seen setting a (world_step setting w e) es
+seen setting a w (e ∷ es) = seen_of setting a w e ++ seen setting a (world_step setting w e) es

@@ -6,15 +6,16 @@ use Rattle.hub_rows.specs.Rows.{Rows}
 use Rattle.hub_rows.specs.Changes.{edit}
 use Rattle.hub_rows.specs.Lookups.{lookups_at}
 use Rattle.station_calls.specs.Vendors.{Answers}
-use Rattle.hub.specs.declared.event.Event.{Event}
-use Rattle.hub.specs.declared.event.Event.TheVariants.{At, Tick}
-use Rattle.hub.specs.declared.event.What.{What}
-use Rattle.hub.specs.declared.out.Out.{Out}
-use Rattle.hub.specs.declared.out.Said.{Said}
-use Rattle.hub.specs.declared.plan.Plan.{Plan}
-use Rattle.hub.specs.declared.plan.Effect.{Effect}
-use Rattle.hub.specs.Effects.{StationSlot, edit_of, effect_outputs, slots_after, tick_outputs}
-use Rattle.hub.specs.Table.{Facts, plan}
+use Rattle.event_plans.specs.declared.event.Event.{Event}
+use Rattle.event_plans.specs.declared.event.Event.TheVariants.{At, Tick}
+use Rattle.event_plans.specs.declared.event.What.{What}
+use Rattle.event_plans.specs.declared.out.Out.{Out}
+use Rattle.event_plans.specs.declared.out.Said.{Said}
+use Rattle.event_plans.specs.declared.plan.Plan.{Plan}
+use Rattle.event_plans.specs.declared.plan.Effect.{Effect}
+use Rattle.event_plans.specs.Effects.{StationSlot}
+use Rattle.hub.specs.Effects.{edit_of, effect_outputs, slots_after, tick_outputs}
+use Rattle.event_plans.specs.Table.{Facts, plan}
 use Rattle.pending_calls.specs.SlotList.{slot_of}
 use Rattle.pending_calls.specs.Tick.{tick}
 
@@ -45,7 +46,7 @@ world_by first b m e w = record { rows = rows_after b (edit_of e) w.rows; slots 
 
 -- the plan of an event of operator b
 abbrev pub plan_at : Setting → World → List ℕ → ℕ → What → Plan
-plan_at setting w b m what = plan setting.answers what m (facts_at setting.first_number b w)
+plan_at setting w b m what = plan setting.is_hosted setting.answers what m (facts_at setting.first_number b w)
 
 -- ---- what is said
 

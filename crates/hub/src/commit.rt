@@ -4,13 +4,13 @@ ghost use Rattle.std.specs.Option.{ForSome};
 ghost use Rattle.hub_rows.specs.Changes.{EditFits};
 ghost use Rattle.hub_rows.specs.Reads.{IsCounted};
 ghost use Rattle.pending_calls.specs.Slots.{all_slots, first_number, slot_at};
-ghost use Rattle.hub.specs.Effects.{edit_of, slots_after, effect_outputs, room_of, IsReady};
+ghost use Rattle.event_plans.specs.Effects.{IsReady};
+ghost use Rattle.hub.specs.Effects.{edit_of, slots_after, effect_outputs, room_of};
 ghost use Rattle.hub.specs.World.{rows_after, said_to};
 
 use crate::fault::Fault;
-use crate::out::{Out, Said};
-use crate::plan::{Effect, Plan};
 use crate::told::{push_ended, push_message, push_moved};
+use event_plans::{Effect, Out, Plan, Said};
 use hub_rows::{Change, Edit, Store};
 use ocpp_types::{Listed, Mem, Moment, Text};
 use operator_cmds::Command;
@@ -41,13 +41,13 @@ pub fn commit<S: Store>(
     told: &mut Vec<Out>,
 ) -> Result<(), Fault>
     requires fits { S.clean store.old → ForSome (edit_of plan.effect) (λ e. EditFits op.now e (S.rows store.old)) }
-    requires ready { S.clean store.old → IsReady (λ station. slot_at op.now station slots.old) plan.effect }
+    requires ready { IsReady (λ station. slot_at op.now station slots.old) plan.effect }
     ensures counted { IsCounted S.failures S.clean store.old store.new (result ≡ Err Fault.Store) }
     ensures rows { S.clean store.new
         → OnOk result (S.rows store.new ≡ rows_after op.now (edit_of plan.effect) (S.rows store.old)) }
-    ensures slots { S.clean store.new → OnOk result (all_slots slots.new
+    ensures slots { OnOk result (all_slots slots.new
         ≡ slots_after (first_number slots.old) op.now moment plan.effect (all_slots slots.old)) }
-    ensures told { S.clean store.new → OnOk result (told.new.items ≡ told.old.items ++ (map (said_to op.now) plan.said
+    ensures told { OnOk result (told.new.items ≡ told.old.items ++ (map (said_to op.now) plan.said
         ++ effect_outputs plan.effect (λ station. slot_at op.now station slots.old))) }
     ensures err_rows { S.clean store.new → OnErr result (S.rows store.new ≡ S.rows store.old) }
     ensures err_slots { OnErr result (all_slots slots.new ≡ all_slots slots.old) }
@@ -74,14 +74,14 @@ fn apply<S: Store>(
     outs: &mut Vec<Out>,
 ) -> Result<(), Fault>
     requires fits { S.clean store.old → ForSome (edit_of effect) (λ e. EditFits op.now e (S.rows store.old)) }
-    requires ready { S.clean store.old → IsReady (λ station. slot_at op.now station slots.old) effect }
+    requires ready { IsReady (λ station. slot_at op.now station slots.old) effect }
     requires room { vec_len outs.old + room_of effect ≤ vec_capacity outs.old }
     ensures counted { IsCounted S.failures S.clean store.old store.new (result ≡ Err Fault.Store) }
     ensures rows { S.clean store.new
         → OnOk result (S.rows store.new ≡ rows_after op.now (edit_of effect) (S.rows store.old)) }
-    ensures slots { S.clean store.new → OnOk result (all_slots slots.new
+    ensures slots { OnOk result (all_slots slots.new
         ≡ slots_after (first_number slots.old) op.now moment effect (all_slots slots.old)) }
-    ensures outs { S.clean store.new → OnOk result (outs.new.items ≡ outs.old.items
+    ensures outs { OnOk result (outs.new.items ≡ outs.old.items
         ++ effect_outputs effect (λ station. slot_at op.now station slots.old)) }
     ensures len { OnOk result (vec_len outs.new ≤ vec_len outs.old + room_of effect) }
     ensures err_rows { S.clean store.new → OnErr result (S.rows store.new ≡ S.rows store.old) }
@@ -107,23 +107,37 @@ fn apply<S: Store>(
             command,
             text,
         } => {
-            // Where the store is clean, the plan is that of a station that is ready.
-            if slots.ready(op.as_str(), station.as_str()).is_ok() {
-                let message = slots.submit(op.as_str(), station.as_str(), command, text, moment)?;
-                push_message(outs, message);
-            }
+            let message = slots.submit(op.as_str(), station.as_str(), command, text, moment)?;
+            push_message(outs, message);
         }
         Effect::Answer {
             station,
             id,
             outcome,
+            edit,
         } => {
+            edit_if_some(store, op, edit)?;
             if let Some(moved) = slots.answer(op.as_str(), station.as_str(), id.as_str(), moment) {
                 push_moved(outs, moved, outcome);
             }
         }
     }
     Ok(())
+}
+
+/// Makes an edit of an operator's records, if there is one.
+fn edit_if_some<S: Store>(store: &mut S, op: &Text, edit: Option<Edit>) -> Result<(), Fault>
+    requires { S.clean store.old → ForSome edit (λ e. EditFits op.now e (S.rows store.old)) }
+    ensures counted { IsCounted S.failures S.clean store.old store.new (result ≡ Err Fault.Store) }
+    ensures rows { S.clean store.new
+        → OnOk result (S.rows store.new ≡ rows_after op.now edit (S.rows store.old)) }
+    ensures err_rows { S.clean store.new → OnErr result (S.rows store.new ≡ S.rows store.old) }
+    ensures hosted { IfErr result (λ f. f ≢ Fault.NoSuchOperator) }
+{
+    match edit {
+        Some(edit) => edit_records(store, op, edit),
+        None => Ok(()),
+    }
 }
 
 /// Makes an edit of an operator's records.

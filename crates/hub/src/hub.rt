@@ -1,15 +1,14 @@
 //! The hub: one event is one step.
-ghost use Rattle.std.specs.Prelude.{◌≡◌, Some, Err, ◌↔◌, ◌<◌, ◌++◌, ℕ, List, [], ◌∷◌, length, take, slice_index_or, true, false, IsOk, IfOk, IfErr, IfNone, IfSome, OnOk, OnErr};
+ghost use Rattle.std.specs.Prelude.{◌≡◌, ◌≢◌, ◌&&◌, is_some, Some, Err, ◌↔◌, ◌<◌, ◌++◌, ℕ, List, [], ◌∷◌, length, take, slice_index_or, true, false, IsOk, IfOk, IfErr, IfNone, IfSome, OnOk, OnErr};
 ghost use Rattle.std.specs.List.{AllWithin};
 ghost use Rattle.hub_rows.specs.Reads.{IsCounted};
 ghost use Rattle.hub_rows.specs.Operators.{are_operators};
+ghost use Rattle.hub_rows.specs.Rows.{registration_at};
 
 use crate::commit::commit;
-use crate::event::{Event, What};
 use crate::fault::Fault;
-use crate::out::Out;
-use crate::plan_event::plan_event;
 use crate::tick::expire_all;
+use event_plans::{Event, Out, What, plan_event};
 use hub_rows::{Store, are_operators, is_hosted};
 use ocpp_types::{Moment, Text};
 use operator_cmds::Command;
@@ -42,8 +41,8 @@ impl<S: Store + Drop, V: VendorHandler> Hub<S, V> {
     ghost use Rattle.hub_rows.specs.Operators.{is_hosted};
     ghost use Rattle.hub.specs.World.{outputs_of, world_outputs, world_step, run_outputs, world_run};
     ghost use Rattle.hub.specs.View.{view, seen, operator_run_outputs, operator_run};
-    ghost use Rattle.hub.specs.declared.event.Event.{Event};
-    ghost use Rattle.hub.specs.declared.event.Event.TheVariants as event;
+    ghost use Rattle.event_plans.specs.declared.event.Event.{Event};
+    ghost use Rattle.event_plans.specs.declared.event.Event.TheVariants as event;
 
     /// A hub over a store, with no station connected. It takes no memory. Where the operators
     /// can't be hosted the store and the handlers are dropped.
@@ -77,6 +76,30 @@ impl<S: Store + Drop, V: VendorHandler> Hub<S, V> {
         ensures { is_hosted result.now ≡ (setting V.name V.gives self.now).is_hosted }
     {
         &self.hosted
+    }
+
+    /// Whether an operator is hosted.
+    #[tactic(auto, unfolding(crate::specs::Hub::setting))]
+    pub fn hosts(&self, op: &str) -> bool
+        ensures { result ≡ (setting V.name V.gives self.now).is_hosted op.now }
+    {
+        is_hosted(self.hosted.as_slice(), op)
+    }
+
+    /// Whether an operator is hosted and has a station of that name.
+    #[tactic(auto, unfolding(crate::specs::Hub::setting))]
+    pub fn knows(&mut self, op: &str, station: &str) -> Result<bool, Fault>
+        ensures counted { IsCounted (failures_of S.failures) (is_clean S.clean) self.old self.new (result ≡ Err Fault.Store) }
+        ensures known { is_clean S.clean self.new → IfOk result (λ k. k ≡ (setting V.name V.gives self.old).is_hosted op.now
+            && is_some (registration_at op.now station.now (world S.rows self.old).rows)) }
+        ensures world { is_clean S.clean self.new → world S.rows self.new ≡ world S.rows self.old }
+        ensures setting { setting V.name V.gives self.new ≡ setting V.name V.gives self.old }
+        ensures fault { IfErr result (λ f. f ≢ Fault.NoSuchOperator) }
+    {
+        if !self.hosts(op) {
+            return Ok(false);
+        }
+        Ok(self.book.store.station(op, station)?.is_some())
     }
 
     /// Takes one event and gives its outputs. An event that ends in a fault has changed nothing,
@@ -195,10 +218,19 @@ impl<S: Store + Drop, V: VendorHandler> Hub<S, V> {
         ensures not_taken { IfErr result (λ f. f ≡ Fault.NoSuchOperator
             → (setting V.name V.gives self.old).is_hosted op.now ≡ false) }
     {
-        if !is_hosted(&self.hosted, op.as_str()) {
+        let hosted = self.hosted.as_slice();
+        if !is_hosted(hosted, op.as_str()) {
             return Err(Fault::NoSuchOperator);
         }
-        let plan = plan_event(self.alloc, &mut self.book, &self.slots, op, what, moment)?;
+        let plan = plan_event(
+            self.alloc,
+            &mut self.book,
+            &self.slots,
+            hosted,
+            op,
+            what,
+            moment,
+        )?;
         commit(
             self.alloc,
             &mut self.book.store,

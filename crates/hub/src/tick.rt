@@ -4,8 +4,8 @@ ghost use Rattle.pending_calls.specs.Slots.{all_slots, first_number};
 ghost use Rattle.pending_calls.specs.Tick.{tick};
 ghost use Rattle.hub.specs.Effects.{tick_outputs};
 
-use crate::out::{Out, Outcome};
 use crate::told::push_moved;
+use event_plans::{Out, Outcome};
 use ocpp_types::{Mem, Moment, NoMemory};
 use operator_cmds::Command;
 use pending_calls::Slots;

@@ -1,6 +1,9 @@
 pub mod Steps
 pub mod ListLaws
 pub mod PlaceLaws
+pub mod OrderLaws
+pub mod TagLaws
+pub mod GrantLaws
 pub mod OwnLaws
 pub mod WellFormedLaws
 pub mod NameLaws

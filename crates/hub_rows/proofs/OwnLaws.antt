@@ -1,28 +1,30 @@
 -- What a change does to the rows of each operator.
-use Rattle.std.specs.Prelude.{◌≡◌, ◌≢◌, ℕ, ℤ, ◌+◌, List, [], ◌∷◌, Option, None, Some, true, ◌&&◌, ◌||◌, not, is_none, filter, find}
+use Rattle.std.specs.Prelude.{◌≡◌, ◌≢◌, ℕ, ℤ, ◌+◌, List, [], ◌∷◌, Option, None, Some, true, ◌&&◌, not, is_none, filter}
 use Rattle.std.proofs.Common.{refl, ap, ◌∙◌}
 use Rattle.std.specs.List.{AllByRecursion, list_any}
 use Rattle.std.specs.Option.{option_map}
 use Rattle.std.specs.Str.{bytes_eq}
 use Rattle.hub_rows.specs.declared.change.Edit.{Edit}
-use Rattle.hub_rows.specs.declared.change.Edit.TheVariants.{StationAdded, BootSeen, PolicySet, ConnectorSeen, TagPut, TagDropped, TxStarted, TxStopped, ReadingsAdded}
-use Rattle.hub_rows.specs.Rows.{Rows, station_rest, connector_rest, tag_rest, tx_rest, reading_rest, registration_of}
-use Rattle.hub_rows.specs.declared.tag_row.TagRow.{TagRow}
+use Rattle.hub_rows.specs.declared.change.Edit.TheVariants.{StationAdded, BootSeen, PolicySet, ConnectorSeen, TagPut, TagDropped, GrantPut, GrantDropped, TxStarted, TxStopped, ReadingsAdded, ReservationPut, ReservationDropped, ListSet}
+use Rattle.hub_rows.specs.Rows.{Rows, station_rest, connector_rest, tag_rest, grant_rest, tx_rest, reading_rest, reservation_rest, list_rest, registration_of}
 use Rattle.hub_rows.specs.declared.tx_row.TxRow.{TxRow}
 use Rattle.hub_rows.specs.declared.tx_row.TxKey.{TxKey}
 use Rattle.hub_rows.specs.declared.reading_row.Reading.{Reading}
 use Rattle.hub_rows.specs.declared.reading_row.ReadingRow.{ReadingRow}
-use Rattle.ocpp_types.specs.TagKey.{key_of}
+use Rattle.hub_rows.specs.declared.reservation_row.ReservationRow.{ReservationRow}
 use Rattle.ocpp_types.specs.declared.authorization_status.AuthorizationStatus.{AuthorizationStatus}
 use Rattle.ocpp_types.specs.declared.authorization_status.AuthorizationStatus.TheVariants.{Accepted, Blocked, Expired, Invalid, ConcurrentTx}
 use Rattle.hub_rows.specs.Keyed.{by_key, put_all, own, those, greatest}
 use Rattle.hub_rows.specs.WellFormed.{WellFormedRows}
-use Rattle.hub_rows.specs.Changes.{edit, new_station, with_boot, with_policy, connector_row, tag_row, tx_row, with_stop, with_readings}
-use Rattle.hub_rows.specs.Own.{own_rows, own_edit}
-use Rattle.hub_rows.specs.Tags.{tag_in, is_blocked, is_parent_blocked, own_tag_in}
+use Rattle.hub_rows.specs.Changes.{edit, new_station, with_boot, with_policy, connector_row, tag_row, grant_row, tx_row, with_stop, with_readings, reservation_row, list_row}
+use Rattle.hub_rows.specs.Grants.{granted_in, is_grant}
+use Rattle.hub_rows.specs.Own.{own_rows, own_edit, own_named}
+use Rattle.hub_rows.specs.Reservations.{is_named, is_reservation, without_named}
 use Rattle.hub_rows.specs.Transactions.{is_accepted, is_left_out, is_use, is_tx, is_sent_with, is_reading, is_used_in, readings_in, numbers_of, reading_rows}
 use Rattle.hub_rows.specs.Lookups.{lookups_at}
-use Rattle.hub_rows.specs.OwnLookups.{own_is_blocked, own_is_parent_blocked, own_tag, own_is_accepted, own_is_left_out, own_use, own_start, own_tx, own_state, own_is_sent_with, own_reading, own_lookups}
+use Rattle.hub_rows.specs.OwnLookups.{own_is_accepted, own_is_left_out, own_use, own_start, own_tx, own_state, own_is_sent_with, own_reading, own_lookups}
+use Rattle.hub_rows.proofs.GrantLaws.{granted_tag-own}
+use Rattle.hub_rows.proofs.TagLaws.{same_tag}
 use Rattle.hub_rows.proofs.ListLaws.{own-put, own-put_other, own-without, own-without_other, own-changed, own-changed_other, own-put_all, own-put_all_other, found-own, those-own, any_of-own, and-true}
 
 -- the readings of operator b are its own
@@ -35,6 +37,14 @@ own-readings a station first readings rows good = own-put_all (λ r. r.op) readi
 
 own-readings_other : (a b station : List ℕ) (first : ℕ) (readings : List Reading) (rows : Rows) → b ≢ a → own (λ r. r.op) a (with_readings b station first readings rows.readings) ≡ own (λ r. r.op) a rows.readings
 own-readings_other a b station first readings rows other = own-put_all_other (λ r. r.op) reading_rest a (reading_rows b station first readings) rows.readings (rows_of b station first readings (λ o. o ≢ a) other)
+
+-- the reservation that a start names is looked for alike
+same_named : (station : List ℕ) (id : Option ℤ) (r : ReservationRow) → is_named station id r ≡ own_named station id r
+same_named station None r = refl
+same_named station (Some id) r = refl
+
+own-named : (a station : List ℕ) (id : Option ℤ) (rows : List ReservationRow) → own (λ r. r.op) a (without_named a station id rows) ≡ filter (λ r. not (own_named station id r)) (own (λ r. r.op) a rows)
+own-named a station id rows = own-without (λ r. r.op) a (is_named station id) rows ∙ (λ i. filter (λ r. not (same_named station id r i)) (own (λ r. r.op) a rows))
 
 -- one's own edit is the edit of one's own rows
 pub own_rows-edit : (a : List ℕ) (e : Edit) (rows : Rows) → WellFormedRows rows → own_rows a (edit a e rows) ≡ own_edit a e (own_rows a rows)
@@ -49,13 +59,23 @@ own_rows-edit a (ConnectorSeen station connector report) rows good =
 own_rows-edit a (TagPut key tag) rows good =
     λ i. record (own_rows a rows) { tags = own-put (λ r. r.op) tag_rest a (tag_row a key tag) rows.tags good.tags.sorted refl i }
 own_rows-edit a (TagDropped key) rows good =
-    λ i. record (own_rows a rows) { tags = own-without (λ r. r.op) a (λ r. bytes_eq r.key key) rows.tags i }
+    λ i. record (own_rows a rows) { tags = own-without (λ r. r.op) a (λ r. bytes_eq r.key key) rows.tags i; grants = own-without (λ r. r.op) a (λ r. bytes_eq r.key key) rows.grants i }
+own_rows-edit a (GrantPut key to until) rows good =
+    λ i. record (own_rows a rows) { grants = own-put (λ r. r.op) grant_rest a (grant_row a key to until) rows.grants good.grants.sorted refl i }
+own_rows-edit a (GrantDropped key to) rows good =
+    λ i. record (own_rows a rows) { grants = own-without (λ r. r.op) a (is_grant key to) rows.grants i }
 own_rows-edit a (TxStarted station number start) rows good =
-    λ i. record (own_rows a rows) { transactions = own-put (λ r. r.op) tx_rest a (tx_row a station number start) rows.transactions good.transactions.sorted refl i }
+    λ i. record (own_rows a rows) { transactions = own-put (λ r. r.op) tx_rest a (tx_row a station number start) rows.transactions good.transactions.sorted refl i; reservations = own-named a station start.reservation rows.reservations i }
 own_rows-edit a (TxStopped station number stop first readings) rows good =
     λ i. record (own_rows a rows) { transactions = own-changed (λ r. r.op) a (is_tx station number) (with_stop stop) rows.transactions (λ r. refl) i; readings = own-readings a station first readings rows good i }
 own_rows-edit a (ReadingsAdded station first readings) rows good =
     λ i. record (own_rows a rows) { readings = own-readings a station first readings rows good i }
+own_rows-edit a (ReservationPut station id reservation) rows good =
+    λ i. record (own_rows a rows) { reservations = own-put (λ r. r.op) reservation_rest a (reservation_row a station id reservation) rows.reservations good.reservations.sorted refl i }
+own_rows-edit a (ReservationDropped station id) rows good =
+    λ i. record (own_rows a rows) { reservations = own-without (λ r. r.op) a (is_reservation station id) rows.reservations i }
+own_rows-edit a (ListSet station list) rows good =
+    λ i. record (own_rows a rows) { local_lists = own-put (λ r. r.op) list_rest a (list_row a station list) rows.local_lists good.local_lists.sorted refl i }
 
 -- the edit of another isn't seen
 pub own_rows-edit_other : (a b : List ℕ) (e : Edit) (rows : Rows) → b ≢ a → own_rows a (edit b e rows) ≡ own_rows a rows
@@ -70,13 +90,23 @@ own_rows-edit_other a b (ConnectorSeen station connector report) rows other =
 own_rows-edit_other a b (TagPut key tag) rows other =
     λ i. record (own_rows a rows) { tags = own-put_other (λ r. r.op) tag_rest a (tag_row b key tag) rows.tags other i }
 own_rows-edit_other a b (TagDropped key) rows other =
-    λ i. record (own_rows a rows) { tags = own-without_other (λ r. r.op) a b (λ r. bytes_eq r.key key) rows.tags other i }
+    λ i. record (own_rows a rows) { tags = own-without_other (λ r. r.op) a b (λ r. bytes_eq r.key key) rows.tags other i; grants = own-without_other (λ r. r.op) a b (λ r. bytes_eq r.key key) rows.grants other i }
+own_rows-edit_other a b (GrantPut key to until) rows other =
+    λ i. record (own_rows a rows) { grants = own-put_other (λ r. r.op) grant_rest a (grant_row b key to until) rows.grants other i }
+own_rows-edit_other a b (GrantDropped key to) rows other =
+    λ i. record (own_rows a rows) { grants = own-without_other (λ r. r.op) a b (is_grant key to) rows.grants other i }
 own_rows-edit_other a b (TxStarted station number start) rows other =
-    λ i. record (own_rows a rows) { transactions = own-put_other (λ r. r.op) tx_rest a (tx_row b station number start) rows.transactions other i }
+    λ i. record (own_rows a rows) { transactions = own-put_other (λ r. r.op) tx_rest a (tx_row b station number start) rows.transactions other i; reservations = own-without_other (λ r. r.op) a b (is_named station start.reservation) rows.reservations other i }
 own_rows-edit_other a b (TxStopped station number stop first readings) rows other =
     λ i. record (own_rows a rows) { transactions = own-changed_other (λ r. r.op) a b (is_tx station number) (with_stop stop) rows.transactions (λ r. refl) other i; readings = own-readings_other a b station first readings rows other i }
 own_rows-edit_other a b (ReadingsAdded station first readings) rows other =
     λ i. record (own_rows a rows) { readings = own-readings_other a b station first readings rows other i }
+own_rows-edit_other a b (ReservationPut station id reservation) rows other =
+    λ i. record (own_rows a rows) { reservations = own-put_other (λ r. r.op) reservation_rest a (reservation_row b station id reservation) rows.reservations other i }
+own_rows-edit_other a b (ReservationDropped station id) rows other =
+    λ i. record (own_rows a rows) { reservations = own-without_other (λ r. r.op) a b (is_reservation station id) rows.reservations other i }
+own_rows-edit_other a b (ListSet station list) rows other =
+    λ i. record (own_rows a rows) { local_lists = own-put_other (λ r. r.op) list_rest a (list_row b station list) rows.local_lists other i }
 
 -- ---- look-ups
 
@@ -85,17 +115,6 @@ own-those : {R : Type 0} (op : R → List ℕ) (a : List ℕ) (rows : List R) �
 own-those op a rows = λ i. filter (λ r. and-true (bytes_eq (op r) a) i) rows
 
 -- the tests of one's own rows are those of the rows of all
-same_blocked : (o : Option TagRow) → is_blocked o ≡ own_is_blocked o
-same_blocked None = refl
-same_blocked (Some r) = refl
-
-same_parent : (a : List ℕ) (tags : List TagRow) (parent : Option (List ℕ)) → is_parent_blocked (λ key. is_blocked (tag_in a key tags)) parent ≡ own_is_parent_blocked (own (λ r. r.op) a tags) parent
-same_parent a tags None = refl
-same_parent a tags (Some parent) = ap is_blocked (found-own (λ r. r.op) a (λ r. bytes_eq r.key (key_of parent)) tags) ∙ same_blocked (find (λ r. bytes_eq r.key (key_of parent)) (own (λ r. r.op) a tags))
-
-same_tag : (a key : List ℕ) (tags : List TagRow) → own_tag_in a key tags ≡ own_tag key (own (λ r. r.op) a tags)
-same_tag a key tags = λ i. option_map (λ r. record r.tag { blocked = r.tag.blocked || same_parent a tags r.tag.parent i }) (found-own (λ r. r.op) a (λ r. bytes_eq r.key key) tags i)
-
 same_accepted : (s : AuthorizationStatus) → is_accepted s ≡ own_is_accepted s
 same_accepted Accepted = refl
 same_accepted Blocked = refl
@@ -118,9 +137,9 @@ same_sent_with (Some n) (Some transaction) = refl
 same_reading : (station : List ℕ) (n : Option ℕ) (r : ReadingRow) → is_reading station n r ≡ own_reading station n r
 same_reading station n r = ap (λ t. bytes_eq r.station station && t) (same_sent_with n r.reading.transaction)
 
--- what an operator looks up is what it finds among its own rows
-pub same_lookups : (a : List ℕ) (rows : Rows) → lookups_at a rows ≡ own_lookups (own_rows a rows)
-same_lookups a rows =
+-- what an operator looks up is what it finds among its own rows and what is granted to it
+pub same_lookups : (a : List ℕ) (rows : Rows) → WellFormedRows rows → lookups_at a rows ≡ own_lookups a (own_rows a rows) (granted_in a rows.tags rows.grants)
+same_lookups a rows good =
     let txs : List TxRow = own (λ r. r.op) a rows.transactions in
     let readings : List ReadingRow = own (λ r. r.op) a rows.readings in
     let used : (key : List ℕ) (except : Option TxKey) → is_used_in a key except rows.transactions ≡ list_any (own_use key except) txs
@@ -130,8 +149,11 @@ same_lookups a rows =
     let all_readings : (station : List ℕ) → readings_in a station None rows.readings ≡ filter (λ r. bytes_eq r.station station) readings
     = (λ station. those-own (λ r. r.op) a (is_reading station None) rows.readings ∙ (λ i. filter (λ r. and-true (bytes_eq r.station station) i) readings)) in
     λ i. record {
+      op = a;
       registration = λ station. option_map registration_of (found-own (λ r. r.op) a (λ r. bytes_eq r.station station) rows.stations i);
       own_tag = λ key. same_tag a key rows.tags i;
+      granted_tag = λ key. granted_tag-own a key rows good i;
+      has_grant = λ key to. any_of-own (λ r. r.op) a (is_grant key to) rows.grants i;
       is_used = λ key except. used key except i;
       same_start = λ station k. option_map (λ r. r.number) (found-own (λ r. r.op) a (own_start station k) rows.transactions i);
       tx = λ station number. option_map own_state (found-own (λ r. r.op) a (own_tx station number) rows.transactions i);
@@ -140,9 +162,14 @@ same_lookups a rows =
         transaction = greatest (numbers_of (λ r. r.number) (those-own (λ r. r.op) a (λ r. bytes_eq r.station station) rows.transactions i));
         reading = greatest (numbers_of (λ r. r.number) (all_readings station i));
       };
+      reserved_until = λ station id. option_map (λ r. r.reservation.expiry) (found-own (λ r. r.op) a (is_reservation station id) rows.reservations i);
+      local_list = λ station. option_map (λ r. r.list) (found-own (λ r. r.op) a (λ r. bytes_eq r.station station) rows.local_lists i);
       stations = own-those (λ r. r.op) a rows.stations i;
       tags = own-those (λ r. r.op) a rows.tags i;
+      grants = own-those (λ r. r.op) a rows.grants i;
+      granted = granted_in a rows.tags rows.grants;
       connectors = λ station. those-own (λ r. r.op) a (λ r. bytes_eq r.station station) rows.connectors i;
       txs = λ station. those-own (λ r. r.op) a (λ r. bytes_eq r.station station) rows.transactions i;
       readings = λ station n. those_readings station n i;
+      reservations = λ station. those-own (λ r. r.op) a (λ r. bytes_eq r.station station) rows.reservations i;
     }

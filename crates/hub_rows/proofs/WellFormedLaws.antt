@@ -9,19 +9,26 @@ use Rattle.std.specs.Str.{bytes_eq}
 use Rattle.std.proofs.lemmas.Bool.{and_parts}
 use Rattle.std.proofs.lemmas.List.Kept.{IsStrictlySortedBy-filter}
 use Rattle.hub_rows.specs.declared.change.Edit.{Edit}
-use Rattle.hub_rows.specs.declared.change.Edit.TheVariants.{StationAdded, BootSeen, PolicySet, ConnectorSeen, TagPut, TagDropped, TxStarted, TxStopped, ReadingsAdded}
+use Rattle.hub_rows.specs.declared.change.Edit.TheVariants.{StationAdded, BootSeen, PolicySet, ConnectorSeen, TagPut, TagDropped, GrantPut, GrantDropped, TxStarted, TxStopped, ReadingsAdded, ReservationPut, ReservationDropped, ListSet}
 use Rattle.hub_rows.specs.declared.station_row.StationRow.{StationRow}
 use Rattle.hub_rows.specs.declared.connector_row.ConnectorRow.{ConnectorRow}
 use Rattle.hub_rows.specs.declared.tag_row.TagRow.{TagRow}
+use Rattle.hub_rows.specs.declared.grant_row.GrantRow.{GrantRow}
+use Rattle.hub_rows.specs.declared.info.Info.{Info}
+use Rattle.hub_rows.specs.Grants.{is_grant}
+use Rattle.hub_rows.specs.Tags.{tag_in}
 use Rattle.hub_rows.specs.declared.tx_row.TxRow.{TxRow}
 use Rattle.hub_rows.specs.declared.tx_row.Stop.{Stop}
 use Rattle.hub_rows.specs.declared.reading_row.Reading.{Reading}
 use Rattle.hub_rows.specs.declared.reading_row.ReadingRow.{ReadingRow}
-use Rattle.hub_rows.specs.Rows.{Rows, no_rows, station_in, registration_in, registration_of, station_key, connector_key, tag_key, tx_key, reading_key}
-use Rattle.hub_rows.specs.Keyed.{key_cmp, by_key, put, put_all, changed}
+use Rattle.hub_rows.specs.declared.reservation_row.ReservationRow.{ReservationRow}
+use Rattle.hub_rows.specs.declared.list_row.ListRow.{ListRow}
+use Rattle.hub_rows.specs.Rows.{Rows, no_rows, station_in, registration_in, registration_of, station_key, connector_key, tag_key, grant_key, tx_key, reading_key, reservation_key, list_key}
+use Rattle.hub_rows.specs.Keyed.{key_cmp, by_key, put, put_all, changed, without}
 use Rattle.hub_rows.specs.Transactions.{is_tx, tx_in, state_of, reading_rows, AreNext, last_of_all}
-use Rattle.hub_rows.specs.WellFormed.{IsOnRecord, IsNumber, IsGoodConnector, IsGoodTag, IsGoodTx, IsGoodReading, AreGood, WellFormedRows}
-use Rattle.hub_rows.specs.Changes.{edit, new_station, with_boot, with_policy, connector_row, tag_row, tx_row, with_stop, with_readings, IsOpen, EditFits}
+use Rattle.hub_rows.specs.WellFormed.{IsOnRecord, IsNumber, IsGoodConnector, IsGoodTag, IsGoodGrant, IsGoodTx, IsGoodReading, IsGoodReservation, IsGoodList, AreGood, WellFormedRows}
+use Rattle.hub_rows.specs.Changes.{edit, new_station, with_boot, with_policy, connector_row, tag_row, grant_row, tx_row, with_stop, with_readings, reservation_row, list_row, IsOpen, EditFits}
+use Rattle.hub_rows.specs.Reservations.{is_named, is_reservation}
 use Rattle.hub_rows.proofs.ListLaws.{by_key_total, same_key, same_text, two_parts, all-put, all-put_all, all-filter, all-changed, all-weaker, sorted-put, sorted-put_all, sorted-changed, some-put, some-map, found_all}
 
 -- ---- good lists
@@ -71,6 +78,50 @@ keeps-changed c test f same stations b station on =
     some-map t (λ r. cond (bytes_eq r.op c && test r) (f r) r)
     (λ r. elim (bytes_eq r.op c && test r) as (λ y. t (cond y (f r) r) ≡ t r) [ true ↦ λ i. bytes_eq ((same r).0 i) b && bytes_eq ((same r).1 i) station | false ↦ refl ]) stations on
 
+-- ---- tags on record
+
+-- each grant of a good list is of a tag that is still there
+still : (old new : List TagRow) → ((b key : List ℕ) → IsSome (tag_in b key old) → IsSome (tag_in b key new)) → (gs : List GrantRow) → AreGood grant_key (IsGoodGrant old) gs → AreGood grant_key (IsGoodGrant new) gs
+still old new keeps gs good = good-weaker grant_key (IsGoodGrant old) (IsGoodGrant new) (λ g it. record { tag = keeps g.op g.key it.tag; receiver = it.receiver }) gs good
+
+some_tag-put : (r : TagRow) (tags : List TagRow) (b key : List ℕ) → IsSome (tag_in b key tags) → IsSome (tag_in b key (put (by_key tag_key) r tags))
+some_tag-put r tags b key on =
+    let t : TagRow → Bool = (λ x. bytes_eq x.op b && bytes_eq x.key key) in
+    let by : (x : TagRow) → t x ≡ is_eq (key_cmp (tag_key x) (b ∷ key ∷ [])) = (λ x. two_parts x.op x.key b key) in
+    some-put (by_key tag_key) t (λ x y e. by x ∙ ap (λ k. is_eq (key_cmp k (b ∷ key ∷ []))) (same_key (tag_key x) (tag_key y) e) ∙ sym (by y)) r tags on
+
+-- a tag that is not dropped is still there
+kept_tag : (c dropped : List ℕ) (tags : List TagRow) (b key : List ℕ) → bytes_eq b c && bytes_eq key dropped ≡ false → IsSome (tag_in b key tags) → IsSome (tag_in b key (without (λ r. r.op) c (λ r. bytes_eq r.key dropped) tags))
+kept_tag c dropped [] b key other on = on
+kept_tag c dropped (x ∷ xs) b key other on =
+    elim (bytes_eq x.op b && bytes_eq x.key key) as (λ t. (bytes_eq x.op b && bytes_eq x.key key) ≡ t → IsSome (cond t (Some x) (tag_in b key xs)) → IsSome (tag_in b key (without (λ r. r.op) c (λ r. bytes_eq r.key dropped) (x ∷ xs)))) [
+      | true ↦ λ e some.
+          let parts = and_parts (bytes_eq x.op b) (bytes_eq x.key key) e in
+          let stays : bytes_eq x.op c && bytes_eq x.key dropped ≡ false = (λ i. bytes_eq (same_text x.op b parts.0 i) c && bytes_eq (same_text x.key key parts.1 i) dropped) ∙ other in
+          subst (λ t. IsSome (tag_in b key (cond (not t) (x ∷ without (λ r. r.op) c (λ r. bytes_eq r.key dropped) xs) (without (λ r. r.op) c (λ r. bytes_eq r.key dropped) xs)))) (sym stays)
+          (subst (λ t. IsSome (cond t (Some x) (tag_in b key (without (λ r. r.op) c (λ r. bytes_eq r.key dropped) xs)))) (sym e) refl)
+      | false ↦ λ e some.
+          let rest = kept_tag c dropped xs b key other some in
+          elim (bytes_eq x.op c && bytes_eq x.key dropped) as (λ t. IsSome (tag_in b key (cond (not t) (x ∷ without (λ r. r.op) c (λ r. bytes_eq r.key dropped) xs) (without (λ r. r.op) c (λ r. bytes_eq r.key dropped) xs)))) [
+            | true ↦ rest
+            | false ↦ subst (λ t. IsSome (cond t (Some x) (tag_in b key (without (λ r. r.op) c (λ r. bytes_eq r.key dropped) xs)))) (sym e) rest
+          ]
+    ] refl on
+
+-- the grants that a dropped tag leaves are of tags that are still there
+kept_grants : (c dropped : List ℕ) (tags : List TagRow) (gs : List GrantRow) → AllByRecursion (IsGoodGrant tags) gs → AllByRecursion (IsGoodGrant (without (λ r. r.op) c (λ r. bytes_eq r.key dropped) tags)) (without (λ r. r.op) c (λ r. bytes_eq r.key dropped) gs)
+kept_grants c dropped tags [] all = tt
+kept_grants c dropped tags (g ∷ gs) all =
+    let left : List TagRow = without (λ r. r.op) c (λ r. bytes_eq r.key dropped) tags in
+    elim (bytes_eq g.op c && bytes_eq g.key dropped) as (λ t. (bytes_eq g.op c && bytes_eq g.key dropped) ≡ t → AllByRecursion (IsGoodGrant left) (cond (not t) (g ∷ without (λ r. r.op) c (λ r. bytes_eq r.key dropped) gs) (without (λ r. r.op) c (λ r. bytes_eq r.key dropped) gs))) [
+      | true ↦ λ e. kept_grants c dropped tags gs all.1
+      | false ↦ λ e. (record { tag = kept_tag c dropped tags g.op g.key e all.0.tag; receiver = all.0.receiver }, kept_grants c dropped tags gs all.1)
+    ] refl
+
+some_row : (blocked : TagRow → Info) (o : Option TagRow) → IsSome (option_map blocked o) → IsSome o
+some_row blocked None some = some
+some_row blocked (Some r) some = refl
+
 -- ---- one list is another
 
 module _ (rows : Rows) (good : WellFormedRows rows) where
@@ -79,21 +130,33 @@ module _ (rows : Rows) (good : WellFormedRows rows) where
     stations = sorted;
     connectors = good-weaker connector_key (IsGoodConnector rows.stations) (IsGoodConnector rs) (λ r on. keeps r.op r.station on) rows.connectors good.connectors;
     tags = good.tags;
+    grants = good.grants;
     transactions = good-weaker tx_key (IsGoodTx rows.stations) (IsGoodTx rs) (λ r g. record { station = keeps r.op r.station g.station; number = g.number; key = g.key }) rows.transactions good.transactions;
     readings = good-weaker reading_key (IsGoodReading rows.stations) (IsGoodReading rs) (λ r g. record { station = keeps r.op r.station g.station; number = g.number }) rows.readings good.readings;
+    reservations = good-weaker reservation_key (IsGoodReservation rows.stations) (IsGoodReservation rs) (λ r on. keeps r.op r.station on) rows.reservations good.reservations;
+    local_lists = good-weaker list_key (IsGoodList rows.stations) (IsGoodList rs) (λ r g. record { station = keeps r.op r.station g.station; entries = g.entries }) rows.local_lists good.local_lists;
   }
 
   pub well_formed-connectors : (rs : List ConnectorRow) → AreGood connector_key (IsGoodConnector rows.stations) rs → WellFormedRows (record rows { connectors = rs })
-  well_formed-connectors rs new = record { stations = good.stations; connectors = new; tags = good.tags; transactions = good.transactions; readings = good.readings }
+  well_formed-connectors rs new = record { stations = good.stations; connectors = new; tags = good.tags; grants = good.grants; transactions = good.transactions; readings = good.readings; reservations = good.reservations; local_lists = good.local_lists }
 
-  pub well_formed-tags : (rs : List TagRow) → AreGood tag_key IsGoodTag rs → WellFormedRows (record rows { tags = rs })
-  well_formed-tags rs new = record { stations = good.stations; connectors = good.connectors; tags = new; transactions = good.transactions; readings = good.readings }
+  pub well_formed-tags : (rs : List TagRow) (gs : List GrantRow) → AreGood tag_key IsGoodTag rs → AreGood grant_key (IsGoodGrant rs) gs → WellFormedRows (record rows { tags = rs; grants = gs })
+  well_formed-tags rs gs new granted = record { stations = good.stations; connectors = good.connectors; tags = new; grants = granted; transactions = good.transactions; readings = good.readings; reservations = good.reservations; local_lists = good.local_lists }
+
+  pub well_formed-grants : (gs : List GrantRow) → AreGood grant_key (IsGoodGrant rows.tags) gs → WellFormedRows (record rows { grants = gs })
+  well_formed-grants gs new = record { stations = good.stations; connectors = good.connectors; tags = good.tags; grants = new; transactions = good.transactions; readings = good.readings; reservations = good.reservations; local_lists = good.local_lists }
 
   pub well_formed-transactions : (rs : List TxRow) → AreGood tx_key (IsGoodTx rows.stations) rs → WellFormedRows (record rows { transactions = rs })
-  well_formed-transactions rs new = record { stations = good.stations; connectors = good.connectors; tags = good.tags; transactions = new; readings = good.readings }
+  well_formed-transactions rs new = record { stations = good.stations; connectors = good.connectors; tags = good.tags; grants = good.grants; transactions = new; readings = good.readings; reservations = good.reservations; local_lists = good.local_lists }
 
   pub well_formed-readings : (rs : List ReadingRow) → AreGood reading_key (IsGoodReading rows.stations) rs → WellFormedRows (record rows { readings = rs })
-  well_formed-readings rs new = record { stations = good.stations; connectors = good.connectors; tags = good.tags; transactions = good.transactions; readings = new }
+  well_formed-readings rs new = record { stations = good.stations; connectors = good.connectors; tags = good.tags; grants = good.grants; transactions = good.transactions; readings = new; reservations = good.reservations; local_lists = good.local_lists }
+
+  pub well_formed-reservations : (rs : List ReservationRow) → AreGood reservation_key (IsGoodReservation rows.stations) rs → WellFormedRows (record rows { reservations = rs })
+  well_formed-reservations rs new = record { stations = good.stations; connectors = good.connectors; tags = good.tags; grants = good.grants; transactions = good.transactions; readings = good.readings; reservations = new; local_lists = good.local_lists }
+
+  pub well_formed-local_lists : (rs : List ListRow) → AreGood list_key (IsGoodList rows.stations) rs → WellFormedRows (record rows { local_lists = rs })
+  well_formed-local_lists rs new = record { stations = good.stations; connectors = good.connectors; tags = good.tags; grants = good.grants; transactions = good.transactions; readings = good.readings; reservations = good.reservations; local_lists = new }
 
 -- ---- new numbers
 
@@ -138,10 +201,21 @@ module _ (b : List ℕ) (rows : Rows) (good : WellFormedRows rows) where
   connector-put r new = well_formed-connectors rows good _ (good-put connector_key (IsGoodConnector rows.stations) r rows.connectors new good.connectors)
 
   pub tag-put : (r : TagRow) → IsGoodTag r → WellFormedRows (record rows { tags = put (by_key tag_key) r rows.tags })
-  tag-put r new = well_formed-tags rows good _ (good-put tag_key IsGoodTag r rows.tags new good.tags)
+  tag-put r new = well_formed-tags rows good _ rows.grants (good-put tag_key IsGoodTag r rows.tags new good.tags) (still rows.tags (put (by_key tag_key) r rows.tags) (some_tag-put r rows.tags) rows.grants good.grants)
 
   pub tag-dropped : (key : List ℕ) → WellFormedRows (edit b (TagDropped key) rows)
-  tag-dropped key = well_formed-tags rows good _ (good-filter tag_key IsGoodTag (λ r. not (bytes_eq r.op b && bytes_eq r.key key)) rows.tags good.tags)
+  tag-dropped key = well_formed-tags rows good _ (without (λ r. r.op) b (λ r. bytes_eq r.key key) rows.grants)
+      (good-filter tag_key IsGoodTag (λ r. not (bytes_eq r.op b && bytes_eq r.key key)) rows.tags good.tags)
+      (record {
+        sorted = IsStrictlySortedBy-filter (by_key grant_key) (λ r. not (bytes_eq r.op b && bytes_eq r.key key)) rows.grants good.grants.sorted;
+        each = kept_grants b key rows.tags rows.grants good.grants.each;
+      })
+
+  pub grant-put : (key to : List ℕ) (until : Option ℕ) → EditFits b (GrantPut key to until) rows → WellFormedRows (edit b (GrantPut key to until) rows)
+  grant-put key to until fits = well_formed-grants rows good _ (good-put grant_key (IsGoodGrant rows.tags) (grant_row b key to until) rows.grants (record { tag = some_row _ (tag_in b key rows.tags) fits.0; receiver = fits.1 }) good.grants)
+
+  pub grant-dropped : (key to : List ℕ) → WellFormedRows (edit b (GrantDropped key to) rows)
+  grant-dropped key to = well_formed-grants rows good _ (good-filter grant_key (IsGoodGrant rows.tags) (λ r. not (bytes_eq r.op b && is_grant key to r)) rows.grants good.grants)
 
   pub tx-put : (r : TxRow) → IsGoodTx rows.stations r → WellFormedRows (record rows { transactions = put (by_key tx_key) r rows.transactions })
   tx-put r new = well_formed-transactions rows good _ (good-put tx_key (IsGoodTx rows.stations) r rows.transactions new good.transactions)
@@ -154,6 +228,16 @@ module _ (b : List ℕ) (rows : Rows) (good : WellFormedRows rows) where
   readings-put station last first readings on next = well_formed-readings rows good _
       (good-put_all reading_key (IsGoodReading rows.stations) (reading_rows b station first readings) rows.readings (good_readings rows.stations b station last first readings on next) good.readings)
 
+  pub reservation-put : (r : ReservationRow) → IsGoodReservation rows.stations r → WellFormedRows (record rows { reservations = put (by_key reservation_key) r rows.reservations })
+  reservation-put r new = well_formed-reservations rows good _ (good-put reservation_key (IsGoodReservation rows.stations) r rows.reservations new good.reservations)
+
+  -- some reservations are gone
+  pub reservations-without : (test : ReservationRow → Bool) → WellFormedRows (record rows { reservations = without (λ r. r.op) b test rows.reservations })
+  reservations-without test = well_formed-reservations rows good _ (good-filter reservation_key (IsGoodReservation rows.stations) (λ r. not (bytes_eq r.op b && test r)) rows.reservations good.reservations)
+
+  pub list-put : (r : ListRow) → IsGoodList rows.stations r → WellFormedRows (record rows { local_lists = put (by_key list_key) r rows.local_lists })
+  list-put r new = well_formed-local_lists rows good _ (good-put list_key (IsGoodList rows.stations) r rows.local_lists new good.local_lists)
+
 -- rows that are well formed are so after an edit that fits
 pub well_formed-edit : (b : List ℕ) (e : Edit) (rows : Rows) → WellFormedRows rows → EditFits b e rows → WellFormedRows (edit b e rows)
 well_formed-edit b (StationAdded station policy interval) rows good fits = station-put b rows good (new_station b station policy interval)
@@ -162,11 +246,18 @@ well_formed-edit b (PolicySet station policy interval) rows good fits = station-
 well_formed-edit b (ConnectorSeen station connector report) rows good fits = connector-put b rows good (connector_row b station connector report) (on_record b station rows.stations fits)
 well_formed-edit b (TagPut key tag) rows good fits = tag-put b rows good (tag_row b key tag) (record { key = fits })
 well_formed-edit b (TagDropped key) rows good fits = tag-dropped b rows good key
+well_formed-edit b (GrantPut key to until) rows good fits = grant-put b rows good key to until fits
+well_formed-edit b (GrantDropped key to) rows good fits = grant-dropped b rows good key to
 well_formed-edit b (TxStarted station number start) rows good fits =
-    tx-put b rows good (tx_row b station number start) (record { station = on_record b station rows.stations fits.0; number = number_of _ number fits.1; key = fits.2 })
+    let begun : WellFormedRows (record rows { transactions = put (by_key tx_key) (tx_row b station number start) rows.transactions })
+    = tx-put b rows good (tx_row b station number start) (record { station = on_record b station rows.stations fits.0; number = number_of _ number fits.1; key = fits.2 }) in
+    reservations-without b (record rows { transactions = put (by_key tx_key) (tx_row b station number start) rows.transactions }) begun (is_named station start.reservation)
 well_formed-edit b (TxStopped station number stop first readings) rows good fits =
     readings-put b (record rows { transactions = changed (λ r. r.op) b (is_tx station number) (with_stop stop) rows.transactions }) (tx-stopped b rows good station number stop) station _ first readings (on_record-tx b station number rows good fits.0) fits.1
 well_formed-edit b (ReadingsAdded station first readings) rows good fits = readings-put b rows good station _ first readings (on_record b station rows.stations fits.0) fits.1
+well_formed-edit b (ReservationPut station id reservation) rows good fits = reservation-put b rows good (reservation_row b station id reservation) (on_record b station rows.stations fits)
+well_formed-edit b (ReservationDropped station id) rows good fits = reservations-without b rows good (is_reservation station id)
+well_formed-edit b (ListSet station list) rows good fits = list-put b rows good (list_row b station list) (record { station = on_record b station rows.stations fits.0; entries = fits.1 })
 
 pub well_formed-no_rows : WellFormedRows no_rows
 unfolding IsStrictlySortedBy
@@ -174,6 +265,9 @@ well_formed-no_rows = record {
   stations = tt;
   connectors = record { sorted = tt; each = tt };
   tags = record { sorted = tt; each = tt };
+  grants = record { sorted = tt; each = tt };
   transactions = record { sorted = tt; each = tt };
   readings = record { sorted = tt; each = tt };
+  reservations = record { sorted = tt; each = tt };
+  local_lists = record { sorted = tt; each = tt };
 }

@@ -1,5 +1,5 @@
 -- What a change does to the rows of all operators.
-use Rattle.std.specs.Prelude.{◌≡◌, ℕ, List, length, Option, Some, None, IsSome, true}
+use Rattle.std.specs.Prelude.{◌≡◌, ◌≢◌, ℕ, List, length, Option, Some, None, IsSome, true}
 use Rattle.std.specs.Str.{bytes_eq}
 use Rattle.ocpp_types.specs.TagKey.{key_of}
 use Rattle.ocpp_types.specs.declared.policy.Policy.{Policy}
@@ -11,17 +11,26 @@ use Rattle.hub_rows.specs.declared.connector_row.ConnectorReport.{ConnectorRepor
 use Rattle.hub_rows.specs.declared.connector_row.ConnectorRow.{ConnectorRow}
 use Rattle.hub_rows.specs.declared.tag_row.Tag.{Tag}
 use Rattle.hub_rows.specs.declared.tag_row.TagRow.{TagRow}
+use Rattle.hub_rows.specs.declared.grant_row.GrantRow.{GrantRow}
 use Rattle.hub_rows.specs.declared.tx_row.TxRow.{TxRow}
 use Rattle.hub_rows.specs.declared.tx_row.TxState.{TxState}
 use Rattle.hub_rows.specs.declared.tx_row.Start.{Start}
 use Rattle.hub_rows.specs.declared.tx_row.Stop.{Stop}
 use Rattle.hub_rows.specs.declared.reading_row.Reading.{Reading}
 use Rattle.hub_rows.specs.declared.reading_row.ReadingRow.{ReadingRow}
+use Rattle.hub_rows.specs.declared.reservation_row.Reservation.{Reservation}
+use Rattle.hub_rows.specs.declared.reservation_row.ReservationRow.{ReservationRow}
+use Rattle.hub_rows.specs.declared.list_row.ListRow.{ListRow}
+use Rattle.hub_rows.specs.declared.list_row.LocalList.{LocalList}
 use Rattle.hub_rows.specs.declared.change.Change.{Change}
 use Rattle.hub_rows.specs.declared.change.Edit.{Edit}
-use Rattle.hub_rows.specs.declared.change.Edit.TheVariants.{StationAdded, BootSeen, PolicySet, ConnectorSeen, TagPut, TagDropped, TxStarted, TxStopped, ReadingsAdded}
+use Rattle.hub_rows.specs.declared.change.Edit.TheVariants.{StationAdded, BootSeen, PolicySet, ConnectorSeen, TagPut, TagDropped, GrantPut, GrantDropped, TxStarted, TxStopped, ReadingsAdded, ReservationPut, ReservationDropped, ListSet}
 use Rattle.hub_rows.specs.Keyed.{put, put_all, by_key, changed, without}
-use Rattle.hub_rows.specs.Rows.{Rows, station_key, connector_key, tag_key, tx_key, reading_key, registration_at}
+use Rattle.hub_rows.specs.Grants.{is_grant}
+use Rattle.hub_rows.specs.LocalLists.{AreEntries}
+use Rattle.hub_rows.specs.Reservations.{is_reservation, without_named}
+use Rattle.hub_rows.specs.Rows.{Rows, station_key, connector_key, tag_key, grant_key, tx_key, reading_key, reservation_key, list_key, registration_at}
+use Rattle.hub_rows.specs.Tags.{own_tag_in}
 use Rattle.hub_rows.specs.Transactions.{is_tx, tx_in, reading_rows, last_numbers_in, AreNext}
 
 -- a station that is new
@@ -44,6 +53,10 @@ connector_row b station connector report = record { op = b; station = station; c
 abbrev pub tag_row : List ℕ → List ℕ → Tag → TagRow
 tag_row b key tag = record { op = b; key = key; tag = tag }
 
+-- a grant of an operator's tag
+abbrev pub grant_row : List ℕ → List ℕ → List ℕ → Option ℕ → GrantRow
+grant_row b key to until = record { op = b; key = key; to = to; until = until }
+
 -- a transaction that has begun
 abbrev pub tx_row : List ℕ → List ℕ → ℕ → Start → TxRow
 tx_row b station number start = record { op = b; station = station; number = number; start = start; stop = None }
@@ -56,17 +69,31 @@ with_stop stop r = record r { stop = Some stop }
 abbrev pub with_readings : List ℕ → List ℕ → ℕ → List Reading → List ReadingRow → List ReadingRow
 with_readings b station first readings rows = put_all (by_key reading_key) (reading_rows b station first readings) rows
 
--- an edit of the rows of operator b
+-- a reservation at a station
+abbrev pub reservation_row : List ℕ → List ℕ → ℕ → Reservation → ReservationRow
+reservation_row b station id reservation = record { op = b; station = station; id = id; reservation = reservation }
+
+-- the local list of a station
+abbrev pub list_row : List ℕ → List ℕ → LocalList → ListRow
+list_row b station list = record { op = b; station = station; list = list }
+
+-- an edit of the rows of operator b; a tag is dropped with its grants, and a start ends the reservation that
+-- it names
 abbrev pub edit : List ℕ → Edit → Rows → Rows
 edit b (StationAdded station policy interval) rows = record rows { stations = put (by_key station_key) (new_station b station policy interval) rows.stations }
 edit b (BootSeen station boot state) rows = record rows { stations = changed (λ r. r.op) b (λ r. bytes_eq r.station station) (with_boot boot state) rows.stations }
 edit b (PolicySet station policy interval) rows = record rows { stations = changed (λ r. r.op) b (λ r. bytes_eq r.station station) (with_policy policy interval) rows.stations }
 edit b (ConnectorSeen station connector report) rows = record rows { connectors = put (by_key connector_key) (connector_row b station connector report) rows.connectors }
 edit b (TagPut key tag) rows = record rows { tags = put (by_key tag_key) (tag_row b key tag) rows.tags }
-edit b (TagDropped key) rows = record rows { tags = without (λ r. r.op) b (λ r. bytes_eq r.key key) rows.tags }
-edit b (TxStarted station number start) rows = record rows { transactions = put (by_key tx_key) (tx_row b station number start) rows.transactions }
+edit b (TagDropped key) rows = record rows { tags = without (λ r. r.op) b (λ r. bytes_eq r.key key) rows.tags; grants = without (λ r. r.op) b (λ r. bytes_eq r.key key) rows.grants }
+edit b (GrantPut key to until) rows = record rows { grants = put (by_key grant_key) (grant_row b key to until) rows.grants }
+edit b (GrantDropped key to) rows = record rows { grants = without (λ r. r.op) b (is_grant key to) rows.grants }
+edit b (TxStarted station number start) rows = record rows { transactions = put (by_key tx_key) (tx_row b station number start) rows.transactions; reservations = without_named b station start.reservation rows.reservations }
 edit b (TxStopped station number stop first readings) rows = record rows { transactions = changed (λ r. r.op) b (is_tx station number) (with_stop stop) rows.transactions; readings = with_readings b station first readings rows.readings }
 edit b (ReadingsAdded station first readings) rows = record rows { readings = with_readings b station first readings rows.readings }
+edit b (ReservationPut station id reservation) rows = record rows { reservations = put (by_key reservation_key) (reservation_row b station id reservation) rows.reservations }
+edit b (ReservationDropped station id) rows = record rows { reservations = without (λ r. r.op) b (is_reservation station id) rows.reservations }
+edit b (ListSet station list) rows = record rows { local_lists = put (by_key list_key) (list_row b station list) rows.local_lists }
 
 abbrev pub after_change : Change → Rows → Rows
 after_change change = edit change.op change.edit
@@ -76,8 +103,9 @@ IsOpen None = ⊥
 IsOpen (Some t) = t.is_open ≡ true
 
 -- an edit that the rows allow: a new station isn't there, one that is edited or has the row is,
--- a transaction that is stopped is open, new numbers follow the station's last, if it has one, and
--- the key of a tag is the key of its text
+-- a transaction that is stopped is open, new numbers follow the station's last, if it has one, the
+-- key of a tag is the key of its text, a tag that is granted is the operator's own and is granted to
+-- another, and a local list has its entries in the order of their keys
 abbrev pub EditFits : List ℕ → Edit → Rows → Type 0
 EditFits b (StationAdded station policy interval) rows = registration_at b station rows ≡ None
 EditFits b (BootSeen station boot state) rows = IsSome (registration_at b station rows)
@@ -85,9 +113,14 @@ EditFits b (PolicySet station policy interval) rows = IsSome (registration_at b 
 EditFits b (ConnectorSeen station connector report) rows = IsSome (registration_at b station rows)
 EditFits b (TagPut key tag) rows = key ≡ key_of tag.text
 EditFits b (TagDropped key) rows = Unit {0}
+EditFits b (GrantPut key to until) rows = IsSome (own_tag_in b key rows.tags) × (to ≢ b)
+EditFits b (GrantDropped key to) rows = Unit {0}
 EditFits b (TxStarted station number start) rows = IsSome (registration_at b station rows) × AreNext (last_numbers_in b station rows.transactions rows.readings).transaction number 1 × (start.id.key ≡ key_of start.tag)
 EditFits b (TxStopped station number stop first readings) rows = IsOpen (tx_in b station number rows.transactions) × AreNext (last_numbers_in b station rows.transactions rows.readings).reading first (length readings)
 EditFits b (ReadingsAdded station first readings) rows = IsSome (registration_at b station rows) × AreNext (last_numbers_in b station rows.transactions rows.readings).reading first (length readings)
+EditFits b (ReservationPut station id reservation) rows = IsSome (registration_at b station rows)
+EditFits b (ReservationDropped station id) rows = Unit {0}
+EditFits b (ListSet station list) rows = IsSome (registration_at b station rows) × AreEntries list.entries
 
 abbrev pub Fits : Change → Rows → Type 0
 Fits change = EditFits change.op change.edit

@@ -1,5 +1,5 @@
 -- Lists of rows in the order of their keys, shared by several operators: reading and editing them.
-use Rattle.std.specs.Prelude.{ℕ, max, Option, List, [], ◌∷◌, Bool, if◌then◌else◌, ◌&&◌, not, filter, map, find}
+use Rattle.std.specs.Prelude.{ℕ, max, Option, None, Some, List, [], ◌∷◌, Bool, if◌then◌else◌, ◌&&◌, not, filter, map, find}
 use Rattle.std.specs.List.{list_any}
 use Rattle.std.specs.Ordering.{nat_cmp, match_ordering}
 use Rattle.std.specs.declared.cmp.Ordering.{Ordering}
@@ -35,6 +35,16 @@ put cmp r (x ∷ xs) = match_ordering (cmp r x) (r ∷ x ∷ xs) (r ∷ xs) (x �
 abbrev pub put_all : {R : Type 0} → (R → R → Ordering) → List R → List R → List R
 put_all cmp [] xs = xs
 put_all cmp (r ∷ rs) xs = put_all cmp rs (put cmp r xs)
+
+-- rows in order, whose keys differ
+abbrev pub in_order : {R : Type 0} → (R → R → Ordering) → List R → List R
+in_order cmp [] = []
+in_order cmp (r ∷ rs) = put cmp r (in_order cmp rs)
+
+-- the first row, if there is one
+abbrev pub first : {R : Type 0} → List R → Option R
+first [] = None
+first (r ∷ rs) = Some r
 
 -- the rows of one operator
 abbrev pub own : {R : Type 0} → (R → List ℕ) → List ℕ → List R → List R

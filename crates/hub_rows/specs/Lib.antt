@@ -5,7 +5,10 @@ pub mod Failures
 pub mod Reads
 pub mod Rows
 pub mod Tags
+pub mod Grants
 pub mod Transactions
+pub mod Reservations
+pub mod LocalLists
 pub mod WellFormed
 pub mod Changes
 pub mod Own

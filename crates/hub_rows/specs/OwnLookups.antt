@@ -1,5 +1,5 @@
--- What rules may ask of one operator's records, over the rows of that operator alone. No test of a
--- row is shared with the look-ups among the rows of all operators.
+-- What rules may ask of one operator's records, over the rows of that operator alone and the tags that
+-- are granted to it. No test of a row is shared with the look-ups among the rows of all operators.
 use Rattle.std.specs.Prelude.{ℕ, ℤ, pos, List, Bool, true, false, not, ◌&&◌, ◌||◌, ◌==◌, is_none, Option, Some, None, filter, find}
 use Rattle.std.specs.List.{list_any}
 use Rattle.std.specs.Option.{option_map}
@@ -8,7 +8,8 @@ use Rattle.std.specs.Str.{bytes_eq}
 use Rattle.ocpp_types.specs.TagKey.{key_of}
 use Rattle.ocpp_types.specs.declared.authorization_status.AuthorizationStatus.{AuthorizationStatus}
 use Rattle.ocpp_types.specs.declared.authorization_status.AuthorizationStatus.TheVariants.{Accepted, Blocked, Expired, Invalid, ConcurrentTx}
-use Rattle.hub_rows.specs.declared.tag_row.Tag.{Tag}
+use Rattle.hub_rows.specs.declared.info.GrantedTag.{GrantedTag}
+use Rattle.hub_rows.specs.declared.info.Info.{Info}
 use Rattle.hub_rows.specs.declared.tag_row.TagRow.{TagRow}
 use Rattle.hub_rows.specs.declared.tx_row.TxRow.{TxRow}
 use Rattle.hub_rows.specs.declared.tx_row.TxKey.{TxKey}
@@ -33,8 +34,12 @@ own_is_parent_blocked tags None = false
 own_is_parent_blocked tags (Some parent) = own_is_blocked (find (λ r. bytes_eq r.key (key_of parent)) tags)
 
 -- the tag of a key as it counts: blocked by itself, or by the parent that it names
-abbrev pub own_tag : List ℕ → List TagRow → Option Tag
-own_tag key tags = option_map (λ r. record r.tag { blocked = r.tag.blocked || own_is_parent_blocked tags r.tag.parent }) (find (λ r. bytes_eq r.key key) tags)
+abbrev pub own_tag : List ℕ → List TagRow → Option Info
+own_tag key tags = option_map (λ r. record { text = r.tag.text; parent = r.tag.parent; blocked = r.tag.blocked || own_is_parent_blocked tags r.tag.parent; expiry = r.tag.expiry }) (find (λ r. bytes_eq r.key key) tags)
+
+-- the first of a key among the tags that are granted to the operator
+abbrev pub own_granted_tag : List ℕ → List GrantedTag → Option Info
+own_granted_tag key granted = option_map (λ e. e.info) (find (λ e. bytes_eq e.key key) granted)
 
 -- ---- transactions
 
@@ -77,10 +82,13 @@ own_reading station n r = bytes_eq r.station station && own_is_sent_with n r.rea
 
 -- ---- all
 
-abbrev pub own_lookups : Rows → Lookups
-own_lookups rows = record {
+abbrev pub own_lookups : List ℕ → Rows → List GrantedTag → Lookups
+own_lookups a rows granted = record {
+  op = a;
   registration = λ station. option_map registration_of (find (λ r. bytes_eq r.station station) rows.stations);
   own_tag = λ key. own_tag key rows.tags;
+  granted_tag = λ key. own_granted_tag key granted;
+  has_grant = λ key to. list_any (λ r. bytes_eq r.key key && bytes_eq r.to to) rows.grants;
   is_used = λ key except. list_any (own_use key except) rows.transactions;
   same_start = λ station k. option_map (λ r. r.number) (find (own_start station k) rows.transactions);
   tx = λ station number. option_map own_state (find (own_tx station number) rows.transactions);
@@ -89,9 +97,14 @@ own_lookups rows = record {
     transaction = greatest (numbers_of (λ r. r.number) (filter (λ r. bytes_eq r.station station) rows.transactions));
     reading = greatest (numbers_of (λ r. r.number) (filter (λ r. bytes_eq r.station station) rows.readings));
   };
+  reserved_until = λ station id. option_map (λ r. r.reservation.expiry) (find (λ r. bytes_eq r.station station && r.id == id) rows.reservations);
+  local_list = λ station. option_map (λ r. r.list) (find (λ r. bytes_eq r.station station) rows.local_lists);
   stations = rows.stations;
   tags = rows.tags;
+  grants = rows.grants;
+  granted = granted;
   connectors = λ station. filter (λ r. bytes_eq r.station station) rows.connectors;
   txs = λ station. filter (λ r. bytes_eq r.station station) rows.transactions;
   readings = λ station n. filter (own_reading station n) rows.readings;
+  reservations = λ station. filter (λ r. bytes_eq r.station station) rows.reservations;
 }

@@ -6,8 +6,11 @@ use Rattle.hub_rows.specs.declared.station_row.StationRow.{StationRow}
 use Rattle.hub_rows.specs.declared.station_row.Registration.{Registration}
 use Rattle.hub_rows.specs.declared.connector_row.ConnectorRow.{ConnectorRow}
 use Rattle.hub_rows.specs.declared.tag_row.TagRow.{TagRow}
+use Rattle.hub_rows.specs.declared.grant_row.GrantRow.{GrantRow}
 use Rattle.hub_rows.specs.declared.tx_row.TxRow.{TxRow}
 use Rattle.hub_rows.specs.declared.reading_row.ReadingRow.{ReadingRow}
+use Rattle.hub_rows.specs.declared.reservation_row.ReservationRow.{ReservationRow}
+use Rattle.hub_rows.specs.declared.list_row.ListRow.{ListRow}
 use Rattle.hub_rows.specs.Keyed.{found}
 
 -- the lists of rows
@@ -15,12 +18,15 @@ pub record Rows : Type 0 where
   pub stations : List StationRow
   pub connectors : List ConnectorRow
   pub tags : List TagRow
+  pub grants : List GrantRow
   pub transactions : List TxRow
   pub readings : List ReadingRow
+  pub reservations : List ReservationRow
+  pub local_lists : List ListRow
 
 -- no rows
 abbrev pub no_rows : Rows
-no_rows = record { stations = []; connectors = []; tags = []; transactions = []; readings = [] }
+no_rows = record { stations = []; connectors = []; tags = []; grants = []; transactions = []; readings = []; reservations = []; local_lists = [] }
 
 -- what tells an operator's rows of a kind apart, and the key
 abbrev pub station_rest : StationRow → List (List ℕ)
@@ -41,6 +47,12 @@ tag_rest r = r.key ∷ []
 abbrev pub tag_key : TagRow → List (List ℕ)
 tag_key r = r.op ∷ tag_rest r
 
+abbrev pub grant_rest : GrantRow → List (List ℕ)
+grant_rest r = r.key ∷ r.to ∷ []
+
+abbrev pub grant_key : GrantRow → List (List ℕ)
+grant_key r = r.op ∷ grant_rest r
+
 abbrev pub tx_rest : TxRow → List (List ℕ)
 tx_rest r = r.station ∷ (r.number ∷ []) ∷ []
 
@@ -52,6 +64,18 @@ reading_rest r = r.station ∷ (r.number ∷ []) ∷ []
 
 abbrev pub reading_key : ReadingRow → List (List ℕ)
 reading_key r = r.op ∷ reading_rest r
+
+abbrev pub reservation_rest : ReservationRow → List (List ℕ)
+reservation_rest r = r.station ∷ (r.id ∷ []) ∷ []
+
+abbrev pub reservation_key : ReservationRow → List (List ℕ)
+reservation_key r = r.op ∷ reservation_rest r
+
+abbrev pub list_rest : ListRow → List (List ℕ)
+list_rest r = r.station ∷ []
+
+abbrev pub list_key : ListRow → List (List ℕ)
+list_key r = r.op ∷ list_rest r
 
 abbrev pub registration_of : StationRow → Registration
 registration_of r = record { policy = r.policy; interval = r.interval; state = r.state }

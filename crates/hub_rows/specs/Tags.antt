@@ -3,6 +3,7 @@ use Rattle.std.specs.Prelude.{ℕ, List, Bool, false, ◌||◌, Option, Some, No
 use Rattle.std.specs.Option.{option_map}
 use Rattle.std.specs.Str.{bytes_eq}
 use Rattle.ocpp_types.specs.TagKey.{key_of}
+use Rattle.hub_rows.specs.declared.info.Info.{Info}
 use Rattle.hub_rows.specs.declared.tag_row.Tag.{Tag}
 use Rattle.hub_rows.specs.declared.tag_row.TagRow.{TagRow}
 use Rattle.hub_rows.specs.Keyed.{found}
@@ -21,13 +22,13 @@ is_parent_blocked blocked None = false
 is_parent_blocked blocked (Some parent) = blocked (key_of parent)
 
 -- the tag as it counts: blocked by itself or by its parent; a parent's parent doesn't count
-abbrev pub effective : (List ℕ → Bool) → Tag → Tag
-effective blocked t = record t { blocked = t.blocked || is_parent_blocked blocked t.parent }
+abbrev pub effective : (List ℕ → Bool) → Tag → Info
+effective blocked t = record { text = t.text; parent = t.parent; blocked = t.blocked || is_parent_blocked blocked t.parent; expiry = t.expiry }
 
 -- by what finds the owner's rows
-abbrev pub effective_tag : (List ℕ → Option TagRow) → List ℕ → Option Tag
+abbrev pub effective_tag : (List ℕ → Option TagRow) → List ℕ → Option Info
 effective_tag find key = option_map (λ r. effective (λ parent. is_blocked (find parent)) r.tag) (find key)
 
 -- the tag of a key of operator b as it counts
-abbrev pub own_tag_in : List ℕ → List ℕ → List TagRow → Option Tag
+abbrev pub own_tag_in : List ℕ → List ℕ → List TagRow → Option Info
 own_tag_in b key tags = effective_tag (λ k. tag_in b k tags) key

@@ -1,15 +1,20 @@
 -- What holds of the rows of all operators.
-use Rattle.std.specs.Prelude.{◌≡◌, ℕ, ◌≤◌, List, IsSome}
+use Rattle.std.specs.Prelude.{◌≡◌, ◌≢◌, ℕ, ◌≤◌, List, IsSome}
 use Rattle.std.specs.List.{AllByRecursion}
 use Rattle.std.specs.List.Sorted.{IsStrictlySortedBy}
 use Rattle.ocpp_types.specs.TagKey.{key_of}
 use Rattle.hub_rows.specs.declared.station_row.StationRow.{StationRow}
 use Rattle.hub_rows.specs.declared.connector_row.ConnectorRow.{ConnectorRow}
 use Rattle.hub_rows.specs.declared.tag_row.TagRow.{TagRow}
+use Rattle.hub_rows.specs.declared.grant_row.GrantRow.{GrantRow}
 use Rattle.hub_rows.specs.declared.tx_row.TxRow.{TxRow}
 use Rattle.hub_rows.specs.declared.reading_row.ReadingRow.{ReadingRow}
+use Rattle.hub_rows.specs.declared.reservation_row.ReservationRow.{ReservationRow}
+use Rattle.hub_rows.specs.declared.list_row.ListRow.{ListRow}
 use Rattle.hub_rows.specs.Keyed.{by_key}
-use Rattle.hub_rows.specs.Rows.{Rows, station_in, station_key, connector_key, tag_key, tx_key, reading_key}
+use Rattle.hub_rows.specs.LocalLists.{AreEntries}
+use Rattle.hub_rows.specs.Rows.{Rows, station_in, station_key, connector_key, tag_key, grant_key, tx_key, reading_key, reservation_key, list_key}
+use Rattle.hub_rows.specs.Tags.{tag_in}
 use Rattle.hub_rows.specs.Transactions.{last_of_all}
 
 -- a station of operator b is among those of all
@@ -30,6 +35,11 @@ pub record IsGoodTag (r : TagRow) : Type 0 where
   -- it stands under the key of its text
   pub key : r.key ≡ key_of r.tag.text
 
+-- of a tag that its operator has, to another operator
+pub record IsGoodGrant (tags : List TagRow) (r : GrantRow) : Type 0 where
+  pub tag : IsSome (tag_in r.op r.key tags)
+  pub receiver : r.to ≢ r.op
+
 -- of a station that is on record, with a number in range
 pub record IsGoodTx (stations : List StationRow) (r : TxRow) : Type 0 where
   pub station : IsOnRecord r.op r.station stations
@@ -41,6 +51,14 @@ pub record IsGoodTx (stations : List StationRow) (r : TxRow) : Type 0 where
 pub record IsGoodReading (stations : List StationRow) (r : ReadingRow) : Type 0 where
   pub station : IsOnRecord r.op r.station stations
   pub number : IsNumber r.number
+
+abbrev pub IsGoodReservation : List StationRow → ReservationRow → Type 0
+IsGoodReservation stations r = IsOnRecord r.op r.station stations
+
+-- of a station that is on record, its entries in the order of their keys, each key once
+pub record IsGoodList (stations : List StationRow) (r : ListRow) : Type 0 where
+  pub station : IsOnRecord r.op r.station stations
+  pub entries : AreEntries r.list.entries
 
 -- ---- the lists
 
@@ -54,5 +72,8 @@ pub record WellFormedRows (rows : Rows) : Type 0 where
   pub stations : IsStrictlySortedBy (by_key station_key) rows.stations
   pub connectors : AreGood connector_key (IsGoodConnector rows.stations) rows.connectors
   pub tags : AreGood tag_key IsGoodTag rows.tags
+  pub grants : AreGood grant_key (IsGoodGrant rows.tags) rows.grants
   pub transactions : AreGood tx_key (IsGoodTx rows.stations) rows.transactions
   pub readings : AreGood reading_key (IsGoodReading rows.stations) rows.readings
+  pub reservations : AreGood reservation_key (IsGoodReservation rows.stations) rows.reservations
+  pub local_lists : AreGood list_key (IsGoodList rows.stations) rows.local_lists

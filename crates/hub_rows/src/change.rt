@@ -1,11 +1,13 @@
 //! Changes of records.
 
 use crate::connector_row::ConnectorReport;
+use crate::list_row::LocalList;
 use crate::reading_row::Reading;
+use crate::reservation_row::{Reservation, ReservationId};
 use crate::station_row::Boot;
 use crate::tag_row::Tag;
 use crate::tx_row::{Start, Stop};
-use ocpp_types::{Listed, Policy, State, TagKey, Text};
+use ocpp_types::{Listed, Moment, Policy, State, TagKey, Text};
 
 /// A change of one operator's records, which a store makes whole or not at all.
 #[derive(Drop)]
@@ -41,16 +43,27 @@ pub enum Edit {
         connector: u8,
         report: ConnectorReport,
     },
-    /// An id tag, in place of the one with its key.
+    /// An id tag, in place of the one with its key, whose grants it keeps.
     TagPut {
         key: TagKey,
         tag: Tag,
     },
-    /// The id tag of that key is gone.
+    /// The id tag of that key is gone, with its grants.
     TagDropped {
         key: TagKey,
     },
-    /// A new transaction.
+    /// A grant of an id tag to another operator, in place of the one before.
+    GrantPut {
+        key: TagKey,
+        to: Text,
+        until: Option<Moment>,
+    },
+    /// The grant of an id tag to that operator is gone.
+    GrantDropped {
+        key: TagKey,
+        to: Text,
+    },
+    /// A new transaction. The reservation that it names is gone.
     TxStarted {
         station: Text,
         number: u32,
@@ -69,5 +82,21 @@ pub enum Edit {
         station: Text,
         first: u32,
         readings: Listed<Reading>,
+    },
+    /// A reservation, in place of the one with its id.
+    ReservationPut {
+        station: Text,
+        id: ReservationId,
+        reservation: Reservation,
+    },
+    /// The reservation of that id is gone.
+    ReservationDropped {
+        station: Text,
+        id: ReservationId,
+    },
+    /// The local list of a station, in place of the one before.
+    ListSet {
+        station: Text,
+        list: LocalList,
     },
 }

@@ -3,10 +3,14 @@
 
 mod change;
 mod connector_row;
+mod grant_row;
+mod info;
+mod list_row;
 mod named_row;
 mod operators;
 mod ordered;
 mod reading_row;
+mod reservation_row;
 mod station_row;
 mod store;
 mod tag_row;
@@ -14,10 +18,14 @@ mod tx_row;
 
 pub use change::{Change, Edit};
 pub use connector_row::{ConnectorReport, ConnectorRow};
+pub use grant_row::GrantRow;
+pub use info::{GrantedTag, Info};
+pub use list_row::{ListRow, LocalList, LocalTag};
 pub use named_row::{NamedRow, place_of_name, remove_row, row_of};
 pub use operators::{MAX_OPERATOR, are_operators, is_hosted};
 pub use ordered::{Keyed, put_ready, put_row};
 pub use reading_row::{Reading, ReadingRow};
+pub use reservation_row::{Reservation, ReservationId, ReservationRow};
 pub use station_row::{Boot, Registration, StationRow};
 pub use store::{Store, StoreFault};
 pub use tag_row::{Tag, TagRow};

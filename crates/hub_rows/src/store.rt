@@ -6,16 +6,23 @@ ghost use Rattle.hub_rows.specs.Tags.{own_tag_in};
 ghost use Rattle.hub_rows.specs.Lookups.{stations_in, tags_in, connectors_in};
 ghost use Rattle.hub_rows.specs.Transactions.{is_used_in, same_start_in, tx_in, has_open_in, txs_in, readings_in, last_numbers_in};
 ghost use Rattle.hub_rows.specs.Changes.{after_change, Fits};
+ghost use Rattle.hub_rows.specs.Grants.{granted_in, granted_tag_in, grants_in, has_grant_in};
+ghost use Rattle.hub_rows.specs.LocalLists.{local_list_in};
+ghost use Rattle.hub_rows.specs.Reservations.{reservations_in, reserved_until_in};
 ghost use Rattle.hub_rows.specs.Reads.{OnlyReads, IsCounted};
 ghost use Rattle.hub_rows.specs.declared.store.StoreFault.TheVariants as store_fault;
 
 use crate::change::Change;
 use crate::connector_row::ConnectorRow;
+use crate::grant_row::GrantRow;
+use crate::info::{GrantedTag, Info};
+use crate::list_row::LocalList;
 use crate::reading_row::ReadingRow;
+use crate::reservation_row::{ReservationId, ReservationRow};
 use crate::station_row::{Registration, StationRow};
-use crate::tag_row::{Tag, TagRow};
+use crate::tag_row::TagRow;
 use crate::tx_row::{LastNumbers, StartKey, TxKey, TxRow, TxState};
-use ocpp_types::{Listed, NoMemory, TagKey};
+use ocpp_types::{Listed, Moment, NoMemory, TagKey};
 use std::alloc::{AllocError, AllocFailed};
 use thiserror::Error;
 
@@ -75,10 +82,23 @@ pub trait Store {
             → IfOk result (λ r. r ≡ registration_at op.now station.now (rows self.old)) };
 
     /// The id tag of a key of an operator, as it counts: blocked by itself or by its parent.
-    fn own_tag(&mut self, op: &str, key: &TagKey) -> Result<Option<Tag>, StoreFault>
+    fn own_tag(&mut self, op: &str, key: &TagKey) -> Result<Option<Info>, StoreFault>
         ensures reads { OnlyReads rows failures clean self.old self.new (result ≡ Err store_fault.Failed) }
         ensures found { clean self.new
             → IfOk result (λ t. t ≡ own_tag_in op.now key.now (rows self.old).tags) };
+
+    /// The id tag of a key that is granted to an operator: that of the first owner in the order of
+    /// their names.
+    fn granted_tag(&mut self, op: &str, key: &TagKey) -> Result<Option<Info>, StoreFault>
+        ensures reads { OnlyReads rows failures clean self.old self.new (result ≡ Err store_fault.Failed) }
+        ensures found { clean self.new
+            → IfOk result (λ t. t ≡ granted_tag_in op.now key.now (rows self.old).tags (rows self.old).grants) };
+
+    /// Whether an operator granted its id tag of a key to another.
+    fn has_grant(&mut self, op: &str, key: &TagKey, to: &str) -> Result<bool, StoreFault>
+        ensures reads { OnlyReads rows failures clean self.old self.new (result ≡ Err store_fault.Failed) }
+        ensures found { clean self.new
+            → IfOk result (λ r. r ≡ has_grant_in op.now key.now to.now (rows self.old).grants) };
 
     /// Whether the tag of a key is in use: whether a transaction of the operator that began
     /// Accepted with it is open, other than the one left out.
@@ -121,6 +141,23 @@ pub trait Store {
         ensures found { clean self.new
             → IfOk result (λ r. r ≡ last_numbers_in op.now station.now (rows self.old).transactions (rows self.old).readings) };
 
+    /// When the reservation of an id at a station expires.
+    fn reserved_until(
+        &mut self,
+        op: &str,
+        station: &str,
+        id: ReservationId,
+    ) -> Result<Option<Moment>, StoreFault>
+        ensures reads { OnlyReads rows failures clean self.old self.new (result ≡ Err store_fault.Failed) }
+        ensures found { clean self.new
+            → IfOk result (λ r. r ≡ reserved_until_in op.now station.now id (rows self.old).reservations) };
+
+    /// The local list of a station.
+    fn local_list(&mut self, op: &str, station: &str) -> Result<Option<LocalList>, StoreFault>
+        ensures reads { OnlyReads rows failures clean self.old self.new (result ≡ Err store_fault.Failed) }
+        ensures found { clean self.new
+            → IfOk result (λ r. r ≡ local_list_in op.now station.now (rows self.old).local_lists) };
+
     /// The stations of an operator, in the order of their names.
     fn stations(&mut self, op: &str) -> Result<Listed<StationRow>, StoreFault>
         ensures reads { OnlyReads rows failures clean self.old self.new (result ≡ Err store_fault.Failed) }
@@ -132,6 +169,18 @@ pub trait Store {
         ensures reads { OnlyReads rows failures clean self.old self.new (result ≡ Err store_fault.Failed) }
         ensures found { clean self.new
             → IfOk result (λ r. r ≡ tags_in op.now (rows self.old).tags) };
+
+    /// What an operator granted, in the order of the tags' keys, then of the receivers.
+    fn grants_out(&mut self, op: &str) -> Result<Listed<GrantRow>, StoreFault>
+        ensures reads { OnlyReads rows failures clean self.old self.new (result ≡ Err store_fault.Failed) }
+        ensures found { clean self.new
+            → IfOk result (λ r. r ≡ grants_in op.now (rows self.old).grants) };
+
+    /// The id tags that are granted to an operator, in the order of their keys, then of their owners.
+    fn granted(&mut self, op: &str) -> Result<Listed<GrantedTag>, StoreFault>
+        ensures reads { OnlyReads rows failures clean self.old self.new (result ≡ Err store_fault.Failed) }
+        ensures found { clean self.new
+            → IfOk result (λ r. r ≡ granted_in op.now (rows self.old).tags (rows self.old).grants) };
 
     /// The connectors of a station, in the order of their ids.
     fn connectors(&mut self, op: &str, station: &str) -> Result<Listed<ConnectorRow>, StoreFault>
@@ -156,6 +205,16 @@ pub trait Store {
         ensures reads { OnlyReads rows failures clean self.old self.new (result ≡ Err store_fault.Failed) }
         ensures found { clean self.new
             → IfOk result (λ r. r ≡ readings_in op.now station.now transaction (rows self.old).readings) };
+
+    /// The reservations at a station, in the order of their ids.
+    fn reservations(
+        &mut self,
+        op: &str,
+        station: &str,
+    ) -> Result<Listed<ReservationRow>, StoreFault>
+        ensures reads { OnlyReads rows failures clean self.old self.new (result ≡ Err store_fault.Failed) }
+        ensures found { clean self.new
+            → IfOk result (λ r. r ≡ reservations_in op.now station.now (rows self.old).reservations) };
 
     /// Makes a change that fits.
     fn apply(&mut self, change: &Change) -> Result<(), StoreFault>

@@ -2,9 +2,9 @@
 ghost use Rattle.std.specs.Prelude.{◌≡◌, Some, Err, IfOk};
 ghost use Rattle.hub_rows.specs.Reads.{OnlyReads};
 ghost use Rattle.hub_rows.specs.Lookups.{lookups_at};
-ghost use Rattle.id_tags.specs.Judge.{found_tag, is_in_use, info_of_tag, judge_rule, tag_status, is_past};
+ghost use Rattle.id_tags.specs.Judge.{found_tag, is_in_use, told_of_tag, judge_rule, tag_status, is_past};
 
-use hub_rows::{Store, StoreFault, Tag, TxKey};
+use hub_rows::{Info, Store, StoreFault, TxKey};
 use ocpp_types::{AuthorizationStatus, IdTagInfo, Moment, TagKey};
 
 /// What a tag is judged for.
@@ -16,13 +16,17 @@ pub enum Purpose {
     Start { except: Option<TxKey> },
 }
 
-/// The tag of a key that counts for an operator, `None` where there is none.
-pub fn find_tag<S: Store>(store: &mut S, op: &str, key: &TagKey) -> Result<Option<Tag>, StoreFault>
+/// The tag of a key that counts for an operator: its own, or else the first of those that are granted
+/// to it, by the names of their owners. `None` where there is none.
+pub fn find_tag<S: Store>(store: &mut S, op: &str, key: &TagKey) -> Result<Option<Info>, StoreFault>
     ensures reads { OnlyReads S.rows S.failures S.clean store.old store.new (result ≡ Err StoreFault.Failed) }
     ensures found { S.clean store.new → IfOk result (λ t. t
         ≡ found_tag key.now (lookups_at op.now (S.rows store.old))) }
 {
-    store.own_tag(op, key)
+    match store.own_tag(op, key)? {
+        Some(own) => Ok(Some(own)),
+        None => store.granted_tag(op, key),
+    }
 }
 
 /// Judges the tag of a key at a moment: Invalid where there is none, Blocked where it or its
@@ -48,7 +52,7 @@ pub fn judge<S: Store>(
         });
     };
     let used = is_in_use(store, op, key, purpose)?;
-    Ok(info_of_tag(moment, used, tag))
+    Ok(told_of_tag(moment, used, tag))
 }
 
 /// Whether the tag of a key is in use as far as the purpose asks.
@@ -69,8 +73,8 @@ fn is_in_use<S: Store>(
 }
 
 /// What is told of a tag that was found.
-fn info_of_tag(moment: Moment, used: bool, tag: Tag) -> IdTagInfo
-    ensures { result ≡ info_of_tag moment used (Some tag) }
+fn told_of_tag(moment: Moment, used: bool, tag: Info) -> IdTagInfo
+    ensures { result ≡ told_of_tag moment used (Some tag) }
 {
     let status = tag_status(moment, used, &tag);
     IdTagInfo {
@@ -80,7 +84,7 @@ fn info_of_tag(moment: Moment, used: bool, tag: Tag) -> IdTagInfo
     }
 }
 
-fn tag_status(moment: Moment, used: bool, tag: &Tag) -> AuthorizationStatus
+fn tag_status(moment: Moment, used: bool, tag: &Info) -> AuthorizationStatus
     ensures { result ≡ tag_status moment used tag.now }
 {
     if tag.blocked {

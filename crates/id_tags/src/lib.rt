@@ -1,8 +1,10 @@
-//! The rules on id tags: which are known, how they are judged, how operators put and drop them.
+//! The rules on id tags: which are known, how they are judged, how operators put, drop and grant them.
 #![tactic(auto)]
 
 mod judgement;
 mod plan;
+mod refusal;
 
 pub use judgement::{Purpose, find_tag, judge};
-pub use plan::{MAX_TAG, plan_drop, plan_put};
+pub use plan::{Grant, MAX_TAG, plan_drop, plan_grant, plan_put, plan_revoke};
+pub use refusal::refuse_tag;

@@ -1,11 +1,12 @@
-//! Tags put and dropped by operators (docs/RULES.md, Tag keys and judgement).
+//! Tags put, dropped, granted and taken back by operators (docs/RULES.md, Tag keys and judgement).
 ghost use Rattle.std.specs.Prelude.{◌≡◌, Err, IfOk};
 ghost use Rattle.hub_rows.specs.Reads.{OnlyReads};
 ghost use Rattle.hub_rows.specs.Lookups.{lookups_at};
-ghost use Rattle.id_tags.specs.Plan.{put_rule, drop_rule, is_tag, is_parent};
+ghost use Rattle.hub_rows.specs.Operators.{is_hosted};
+ghost use Rattle.id_tags.specs.Plan.{put_rule, drop_rule, grant_rule, revoke_rule, is_tag, is_parent};
 
-use hub_rows::{Edit, Store, StoreFault, Tag};
-use ocpp_types::{FieldName, Mem, Refusal, TagKey, Text, count_characters};
+use hub_rows::{Edit, Store, StoreFault, Tag, is_hosted};
+use ocpp_types::{FieldName, Mem, Moment, Refusal, TagKey, Text, count_characters};
 use std::alloc::Global;
 
 /// The greatest number of characters of a tag that is put, and of its parent.
@@ -40,10 +41,70 @@ pub fn plan_drop<S: Store>(
         ≡ drop_rule tag.now (lookups_at op.now (S.rows store.old))) }
 {
     let key = TagKey::of(alloc, tag)?;
+    match store.own_tag(op, &key)? {
+        Some(_) => Ok(Ok(Edit::TagDropped { key })),
+        None => Ok(Err(Refusal::NoSuchTag)),
+    }
+}
+
+/// What an operator grants.
+#[derive(Drop)]
+pub struct Grant {
+    /// The text of the tag.
+    pub tag: Text,
+    /// The operator that may use it.
+    pub to: Text,
+    /// It may before this moment, or for good.
+    pub until: Option<Moment>,
+}
+
+/// The edit that grants a tag of an operator to another, in place of an earlier grant of it to that
+/// operator, or the first refusal that applies: NoSuchTag unless the tag is its own, NoSuchOperator
+/// unless the other is hosted, SelfGrant where the other is itself.
+pub fn plan_grant<S: Store>(
+    alloc: Global,
+    store: &mut S,
+    op: &str,
+    grant: &Grant,
+    hosted: &[Text],
+) -> Result<Result<Edit, Refusal>, StoreFault>
+    ensures reads { OnlyReads S.rows S.failures S.clean store.old store.new (result ≡ Err StoreFault.Failed) }
+    ensures plan { S.clean store.new → IfOk result (λ p. p
+        ≡ grant_rule (is_hosted hosted.now) grant.now (lookups_at op.now (S.rows store.old))) }
+{
+    let key = TagKey::of(alloc, grant.tag.as_str())?;
     if store.own_tag(op, &key)?.is_none() {
         return Ok(Err(Refusal::NoSuchTag));
     }
-    Ok(Ok(Edit::TagDropped { key }))
+    if !is_hosted(hosted, grant.to.as_str()) {
+        return Ok(Err(Refusal::NoSuchOperator));
+    }
+    if grant.to.as_str() == op {
+        return Ok(Err(Refusal::SelfGrant));
+    }
+    let to = grant.to.clone()?;
+    let until = grant.until;
+    Ok(Ok(Edit::GrantPut { key, to, until }))
+}
+
+/// The edit that takes a grant back, or NoSuchGrant.
+pub fn plan_revoke<S: Store>(
+    alloc: Global,
+    store: &mut S,
+    op: &str,
+    tag: &str,
+    to: &Text,
+) -> Result<Result<Edit, Refusal>, StoreFault>
+    ensures reads { OnlyReads S.rows S.failures S.clean store.old store.new (result ≡ Err StoreFault.Failed) }
+    ensures plan { S.clean store.new → IfOk result (λ p. p
+        ≡ revoke_rule tag.now to.now (lookups_at op.now (S.rows store.old))) }
+{
+    let key = TagKey::of(alloc, tag)?;
+    if !store.has_grant(op, &key, to.as_str())? {
+        return Ok(Err(Refusal::NoSuchGrant));
+    }
+    let to = to.clone()?;
+    Ok(Ok(Edit::GrantDropped { key, to }))
 }
 
 fn is_tag(text: &str) -> bool

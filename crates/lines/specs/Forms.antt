@@ -1,10 +1,10 @@
 -- What the forms of an operator's lines say.
 use Rattle.std.specs.Prelude.{ℕ, List, [], ◌∷◌, codes, Bool, true, false, if◌then◌else◌, Option, Some, None}
-use Rattle.hub.specs.declared.event.What.{What}
-use Rattle.hub.specs.declared.event.What.TheVariants as what
-use Rattle.hub.specs.declared.event.Admin.TheVariants as admin
-use Rattle.hub.specs.declared.event.Listing.TheVariants as listing
-use Rattle.std.specs.Str.{bytes_eq}
+use Rattle.event_plans.specs.declared.event.What.{What}
+use Rattle.event_plans.specs.declared.event.What.TheVariants as what
+use Rattle.event_plans.specs.declared.event.Admin.TheVariants as admin
+use Rattle.event_plans.specs.declared.event.Listing.{Listing}
+use Rattle.event_plans.specs.declared.event.Listing.TheVariants as listing
 use Rattle.ocpp_types.specs.Named.{named}
 use Rattle.operator_cmds.specs.Command.{command}
 use Rattle.ocpp_types.specs.Policy.{policies}
@@ -79,6 +79,20 @@ tag_drop_form rest = do
   tag ← only_word rest
   Some (what.Admin (admin.TagDrop tag))
 
+-- `grant TAG OP2 UNTIL|-`
+abbrev pub grant_form : List ℕ → Option What
+grant_form rest = do
+  tag ← first_word rest
+  to ← first_word tag.1
+  if is_expiry to.1 then Some (what.Admin (admin.Grant (record { tag = tag.0; to = to.0; until = expiry_of to.1 }))) else None
+
+-- `revoke TAG OP2`
+abbrev pub revoke_form : List ℕ → Option What
+revoke_form rest = do
+  tag ← first_word rest
+  to ← only_word tag.1
+  Some (what.Admin (admin.Revoke tag.0 to))
+
 -- what the form of the first word reads after that word
 abbrev pub by_word : List (List ℕ × (List ℕ → Option What)) → List ℕ → Option What
 by_word forms text = do
@@ -121,15 +135,34 @@ readings_by_words None rest = numbered_readings_form rest
 abbrev pub readings_form : List ℕ → Option What
 readings_form rest = readings_by_words (only_word rest) rest
 
+-- `reservations ST`
+abbrev pub reservations_form : List ℕ → Option What
+reservations_form rest = do
+  station ← only_word rest
+  Some (what.List (listing.Reservations station))
+
+-- `locallist ST`
+abbrev pub local_list_form : List ℕ → Option What
+local_list_form rest = do
+  station ← only_word rest
+  Some (what.List (listing.LocalList station))
+
 -- the listings of a station
 abbrev pub station_list_form : List ℕ → Option What
-station_list_form = by_word ((codes "connectors", connectors_form) ∷ (codes "transactions", transactions_form) ∷ (codes "readings", readings_form) ∷ [])
+station_list_form = by_word ((codes "connectors", connectors_form) ∷ (codes "transactions", transactions_form) ∷ (codes "readings", readings_form) ∷ (codes "reservations", reservations_form) ∷ (codes "locallist", local_list_form) ∷ [])
+
+-- the listings of an operator
+abbrev pub plain_list : List ℕ → Option Listing
+plain_list = named ((codes "stations", listing.Stations) ∷ (codes "tags", listing.Tags) ∷ (codes "grants", listing.Grants) ∷ (codes "granted", listing.Granted) ∷ [])
 
 -- the forms after `list`
+abbrev pub list_by_word : Option Listing → List ℕ → Option What
+list_by_word (Some l) rest = Some (what.List l)
+list_by_word None rest = station_list_form rest
+
 abbrev pub list_form : List ℕ → Option What
-list_form rest =
-    if bytes_eq rest (codes "stations") then Some (what.List listing.Stations) else (if bytes_eq rest (codes "tags") then Some (what.List listing.Tags) else station_list_form rest)
+list_form rest = list_by_word (plain_list rest) rest
 
 -- the forms after `MOMENT OP`
 unfoldable pub what_of : List ℕ → Option What
-what_of = by_word ((codes "connect", connect_form) ∷ (codes "disconnect", disconnect_form) ∷ (codes "frame", frame_form) ∷ (codes "call", call_form) ∷ (codes "station", station_form) ∷ (codes "tag", tag_form) ∷ (codes "list", list_form) ∷ [])
+what_of = by_word ((codes "connect", connect_form) ∷ (codes "disconnect", disconnect_form) ∷ (codes "frame", frame_form) ∷ (codes "call", call_form) ∷ (codes "station", station_form) ∷ (codes "tag", tag_form) ∷ (codes "grant", grant_form) ∷ (codes "revoke", revoke_form) ∷ (codes "list", list_form) ∷ [])

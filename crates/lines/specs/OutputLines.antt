@@ -1,11 +1,11 @@
 -- The line of each output.
 use Rattle.std.specs.Prelude.{ℕ, List, ◌++◌, codes, Option, Some, None}
 use Rattle.std.specs.Fmt.{decimal}
-use Rattle.hub.specs.declared.out.Out.{Out}
-use Rattle.hub.specs.declared.out.Outcome.{Outcome}
-use Rattle.hub.specs.declared.out.Outcome.TheVariants as outcome
-use Rattle.hub.specs.declared.out.Said.{Said}
-use Rattle.hub.specs.declared.out.Said.TheVariants.{Send, Done, Turned, Refused, Row, Accepted}
+use Rattle.event_plans.specs.declared.out.Out.{Out}
+use Rattle.event_plans.specs.declared.out.Outcome.{Outcome}
+use Rattle.event_plans.specs.declared.out.Outcome.TheVariants as outcome
+use Rattle.event_plans.specs.declared.out.Said.{Said}
+use Rattle.event_plans.specs.declared.out.Said.TheVariants.{Send, Done, Turned, Refused, Row, Accepted}
 use Rattle.lines.specs.RowLines.{row_line}
 use Rattle.serde_json.specs.Data.{Data, array, item, no_items, string}
 use Rattle.serde_json.specs.Written.{compact_text}
@@ -13,13 +13,16 @@ use Rattle.ocpp_types.specs.ErrorCode.{error_code_name}
 use Rattle.ocpp_types.specs.AuthorizationStatus.{authorization_status_name}
 use Rattle.ocpp_types.specs.Refusal.{refusal_number, refusal_name}
 use Rattle.ocpp_types.specs.declared.refusal.Refusal.{Refusal}
-use Rattle.ocpp_types.specs.declared.refusal.Refusal.TheVariants.{NoSuchStation, StationExists, NoSuchTag, NotConnected, QueueFull, NotAllowedNow, TagRefused, NoSuchTransaction, BadField, HasOpenTransactions, NumberSpent}
+use Rattle.ocpp_types.specs.declared.refusal.Refusal.TheVariants.{NoSuchStation, StationExists, NoSuchTag, NoSuchOperator, SelfGrant, NoSuchGrant, NotConnected, QueueFull, NotAllowedNow, TagRefused, NoSuchTransaction, BadField, HasOpenTransactions, NoSuchReservation, NumberSpent}
 
 -- what stands after the name of a refusal
 abbrev pub refusal_detail : Refusal → Option (List ℕ)
 refusal_detail NoSuchStation = None
 refusal_detail StationExists = None
 refusal_detail NoSuchTag = None
+refusal_detail NoSuchOperator = None
+refusal_detail SelfGrant = None
+refusal_detail NoSuchGrant = None
 refusal_detail NotConnected = None
 refusal_detail QueueFull = None
 refusal_detail NotAllowedNow = None
@@ -27,6 +30,7 @@ refusal_detail (TagRefused status) = Some (authorization_status_name status)
 refusal_detail NoSuchTransaction = None
 refusal_detail (BadField field) = Some field
 refusal_detail HasOpenTransactions = None
+refusal_detail NoSuchReservation = None
 refusal_detail NumberSpent = None
 
 -- `OP refused NUMBER NAME`, with the detail where there is one

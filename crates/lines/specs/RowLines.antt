@@ -1,7 +1,7 @@
 -- The line of each row of a listing.
 use Rattle.std.specs.Prelude.{ℕ, ℤ, List, ◌++◌, codes, Bool, true, false, Option, Some, None, option_map}
 use Rattle.std.specs.Fmt.{decimal, signed_decimal}
-use Rattle.serde_json.specs.Data.{string}
+use Rattle.serde_json.specs.Data.{Data, object, put, no_members, string}
 use Rattle.serde_json.specs.Written.{compact_text}
 use Rattle.ocpp_types.specs.Micro.{micro}
 use Rattle.ocpp_types.specs.AuthorizationStatus.{authorization_status_name}
@@ -20,18 +20,26 @@ use Rattle.ocpp_types.specs.declared.value_format.ValueFormat.{ValueFormat}
 use Rattle.ocpp_types.specs.declared.value_format.ValueFormat.TheVariants.{Raw, SignedData}
 use Rattle.ocpp_types.specs.declared.unit_of_measure.UnitOfMeasure.{UnitOfMeasure}
 use Rattle.ocpp_payload.specs.Boot.{boot_data}
+use Rattle.ocpp_payload.specs.Table.{written}
+use Rattle.ocpp_payload.specs.TagInfo.{id_tag_info}
 use Rattle.hub_rows.specs.declared.station_row.Boot.{Boot}
 use Rattle.hub_rows.specs.declared.station_row.StationRow.{StationRow}
 use Rattle.hub_rows.specs.declared.connector_row.ConnectorReport.{ConnectorReport}
 use Rattle.hub_rows.specs.declared.connector_row.ConnectorRow.{ConnectorRow}
 use Rattle.hub_rows.specs.declared.tag_row.TagRow.{TagRow}
+use Rattle.hub_rows.specs.declared.grant_row.GrantRow.{GrantRow}
+use Rattle.hub_rows.specs.declared.info.GrantedTag.{GrantedTag}
 use Rattle.hub_rows.specs.declared.tx_row.Start.{Start}
 use Rattle.hub_rows.specs.declared.tx_row.Stop.{Stop}
 use Rattle.hub_rows.specs.declared.tx_row.TxRow.{TxRow}
 use Rattle.hub_rows.specs.declared.reading_row.Reading.{Reading}
 use Rattle.hub_rows.specs.declared.reading_row.ReadingRow.{ReadingRow}
-use Rattle.hub.specs.declared.row.Row.{Row}
-use Rattle.hub.specs.declared.row.Row.TheVariants as row
+use Rattle.hub_rows.specs.Reservations.{unshifted}
+use Rattle.hub_rows.specs.declared.list_row.LocalTag.{LocalTag}
+use Rattle.hub_rows.specs.declared.reservation_row.Reservation.{Reservation}
+use Rattle.hub_rows.specs.declared.reservation_row.ReservationRow.{ReservationRow}
+use Rattle.event_plans.specs.declared.row.Row.{Row}
+use Rattle.event_plans.specs.declared.row.Row.TheVariants as row
 
 -- ---- fields: `-` stands for none, and a text of a peer is a JSON string
 
@@ -84,6 +92,14 @@ station_line op r = op ++ (codes " row station " ++ (r.station ++ (codes " " ++ 
 abbrev pub tag_line : List ℕ → TagRow → List ℕ
 tag_line op r = op ++ (codes " row tag " ++ (quoted r.tag.text ++ (codes " " ++ (text_field r.tag.parent ++ (codes " " ++ (mark r.tag.blocked ++ (codes " " ++ moment_field r.tag.expiry)))))))
 
+-- `OP row grant TAG OP2 UNTIL`
+abbrev pub grant_line : List ℕ → GrantRow → List ℕ
+grant_line op r = op ++ (codes " row grant " ++ (quoted r.key ++ (codes " " ++ (r.to ++ (codes " " ++ moment_field r.until)))))
+
+-- `OP row granted OWNER TAG PARENT 0|1 EXPIRY`
+abbrev pub granted_line : List ℕ → GrantedTag → List ℕ
+granted_line op r = op ++ (codes " row granted " ++ (r.owner ++ (codes " " ++ (quoted r.info.text ++ (codes " " ++ (text_field r.info.parent ++ (codes " " ++ (mark r.info.blocked ++ (codes " " ++ moment_field r.info.expiry)))))))))
+
 -- what was reported of a connector
 abbrev pub report_fields : ConnectorReport → List ℕ
 report_fields r = charge_point_status_name r.status ++ (codes " " ++ (charge_point_error_code_name r.error_code ++ (codes " " ++ (signed_decimal r.at ++ (codes " " ++ (text_field r.info ++ (codes " " ++ (text_field r.vendor_id ++ (codes " " ++ text_field r.vendor_error_code)))))))))
@@ -119,9 +135,34 @@ reading_fields r = taken_fields r ++ (codes " " ++ (sampled_fields r ++ (codes "
 abbrev pub reading_line : List ℕ → ReadingRow → List ℕ
 reading_line op r = op ++ (codes " row reading " ++ (r.station ++ (codes " " ++ (decimal r.number ++ (codes " " ++ reading_fields r.reading)))))
 
+-- what is reserved, for whom and until when
+abbrev pub reservation_fields : Reservation → List ℕ
+reservation_fields r = decimal r.connector ++ (codes " " ++ (quoted r.tag ++ (codes " " ++ (text_field r.parent ++ (codes " " ++ decimal r.expiry)))))
+
+-- `OP row reservation ST ID C TAG PARENT EXPIRY`
+abbrev pub reservation_line : List ℕ → ReservationRow → List ℕ
+reservation_line op r = op ++ (codes " row reservation " ++ (r.station ++ (codes " " ++ (signed_decimal (unshifted r.id) ++ (codes " " ++ reservation_fields r.reservation)))))
+
+-- `OP row locallist ST VERSION`
+abbrev pub local_list_line : List ℕ → List ℕ → ℕ → List ℕ
+local_list_line op station version = op ++ (codes " row locallist " ++ (station ++ (codes " " ++ decimal version)))
+
+-- an entry of a local list, as the object that it is sent as
+abbrev pub entry_data : LocalTag → Data
+entry_data e = object (put (codes "idTagInfo") (written id_tag_info e.info) (put (codes "idTag") (string e.tag) no_members))
+
+-- `OP row localtag ST JSON`
+abbrev pub local_tag_line : List ℕ → List ℕ → LocalTag → List ℕ
+local_tag_line op station e = op ++ (codes " row localtag " ++ (station ++ (codes " " ++ compact_text (entry_data e))))
+
 abbrev pub row_line : List ℕ → Row → List ℕ
 row_line op (row.Station r) = station_line op r
 row_line op (row.Tag r) = tag_line op r
+row_line op (row.Grant r) = grant_line op r
+row_line op (row.Granted r) = granted_line op r
 row_line op (row.Connector r) = connector_line op r
 row_line op (row.Transaction r) = tx_line op r
 row_line op (row.Reading r) = reading_line op r
+row_line op (row.Reservation r) = reservation_line op r
+row_line op (row.LocalList station version) = local_list_line op station version
+row_line op (row.LocalTag station entry) = local_tag_line op station entry

@@ -9,10 +9,10 @@ use serde_json::Value;
 use std::alloc::Global;
 
 /// A text of a peer, as JSON.
-pub fn quoted(alloc: Global, text: &Text) -> Mem<String>
+pub fn quoted(alloc: Global, text: &str) -> Mem<String>
     ensures { IfOk result (λ s. string_bytes s ≡ quoted text.now) }
 {
-    let value = Value::String(String::from_str(alloc, text.as_str())?);
+    let value = Value::String(String::from_str(alloc, text)?);
     Ok(value.to_string(alloc)?)
 }
 
@@ -27,7 +27,7 @@ pub fn text_field(alloc: Global, text: &Option<Text>) -> Mem<String>
     ensures { IfOk result (λ s. string_bytes s ≡ text_field text.now) }
 {
     match text {
-        Some(text) => quoted(alloc, text),
+        Some(text) => quoted(alloc, text.as_str()),
         None => dash(alloc),
     }
 }
@@ -70,4 +70,14 @@ pub fn mark(blocked: bool) -> &'static str
     ensures { result.now ≡ mark blocked }
 {
     if blocked { "1" } else { "0" }
+}
+
+/// A number of 32 bits, as `signed_field` takes it.
+pub fn widened(number: Option<i32>) -> Option<i128>
+    ensures { result ≡ number }
+{
+    match number {
+        Some(number) => Some(number as i128),
+        None => None,
+    }
 }

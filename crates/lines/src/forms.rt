@@ -3,11 +3,13 @@ ghost use Rattle.std.specs.Prelude.{◌≡◌, IfOk, option_map};
 ghost use Rattle.serde_json.specs.Read.{read};
 ghost use Rattle.serde_json.specs.View.{view};
 ghost use Rattle.lines.specs.Words.{only_word, parent_of};
-ghost use Rattle.lines.specs.Forms.{what_of, connect_form, disconnect_form, frame_form, call_form, station_form, station_add_form, station_policy_form, policy_words, tag_form, tag_put_form, tag_drop_form, mark_of, list_form, station_list_form, connectors_form, transactions_form, readings_form, numbered_readings_form};
+ghost use Rattle.lines.specs.Forms.{what_of, connect_form, disconnect_form, frame_form, call_form, station_form, station_add_form, station_policy_form, policy_words, tag_form, tag_put_form, tag_drop_form, grant_form, revoke_form, mark_of};
 
-use crate::words::{expiry_of, first_word, is_expiry, number_of, only_word};
-use hub::{Admin, Listing, What};
+use crate::list_forms::list;
+use crate::words::{expiry_of, first_word, is_expiry, name_of, number_of, only_word};
+use event_plans::{Admin, What};
 use hub_rows::Tag;
+use id_tags::Grant;
 use ocpp_types::{Mem, Named, NoMemory, Policy, Text};
 use operator_cmds::read_command;
 use serde_json::{Category, Value};
@@ -29,18 +31,10 @@ pub fn read_what(alloc: Global, text: &str) -> Mem<Option<What>>
         "call" => call(alloc, rest),
         "station" => station(alloc, rest),
         "tag" => tag(alloc, rest),
+        "grant" => grant(alloc, rest),
+        "revoke" => revoke(alloc, rest),
         "list" => list(alloc, rest),
         _ => Ok(None),
-    }
-}
-
-/// The whole text as a name, where it is one word.
-fn name_of(alloc: Global, rest: &str) -> Mem<Option<Text>>
-    ensures { IfOk result (λ n. n ≡ only_word rest.now) }
-{
-    match only_word(rest) {
-        Some(word) => Ok(Some(Text::copy_of(alloc, word)?)),
-        None => Ok(None),
     }
 }
 
@@ -215,6 +209,39 @@ fn tag_drop(alloc: Global, rest: &str) -> Mem<Option<What>>
     Ok(Some(What::Admin(Admin::TagDrop { tag })))
 }
 
+fn grant(alloc: Global, rest: &str) -> Mem<Option<What>>
+    ensures { IfOk result (λ w. w ≡ grant_form rest.now) }
+{
+    let Some((tag, rest)) = first_word(rest) else {
+        return Ok(None);
+    };
+    let Some((to, until)) = first_word(rest) else {
+        return Ok(None);
+    };
+    if !is_expiry(until) {
+        return Ok(None);
+    }
+    let grant = Grant {
+        tag: Text::copy_of(alloc, tag)?,
+        to: Text::copy_of(alloc, to)?,
+        until: expiry_of(until),
+    };
+    Ok(Some(What::Admin(Admin::Grant(grant))))
+}
+
+fn revoke(alloc: Global, rest: &str) -> Mem<Option<What>>
+    ensures { IfOk result (λ w. w ≡ revoke_form rest.now) }
+{
+    let Some((tag, rest)) = first_word(rest) else {
+        return Ok(None);
+    };
+    let Some(to) = name_of(alloc, rest)? else {
+        return Ok(None);
+    };
+    let tag = Text::copy_of(alloc, tag)?;
+    Ok(Some(What::Admin(Admin::Revoke { tag, to })))
+}
+
 /// Whether a tag is blocked, `0` or `1`.
 fn mark_of(word: &str) -> Option<bool>
     ensures { result ≡ mark_of word.now }
@@ -224,74 +251,4 @@ fn mark_of(word: &str) -> Option<bool>
         "1" => Some(true),
         _ => None,
     }
-}
-
-fn list(alloc: Global, rest: &str) -> Mem<Option<What>>
-    ensures { IfOk result (λ w. w ≡ list_form rest.now) }
-{
-    match rest {
-        "stations" => Ok(Some(What::List(Listing::Stations))),
-        "tags" => Ok(Some(What::List(Listing::Tags))),
-        _ => station_list_form(alloc, rest),
-    }
-}
-
-fn station_list_form(alloc: Global, rest: &str) -> Mem<Option<What>>
-    ensures { IfOk result (λ w. w ≡ station_list_form rest.now) }
-{
-    let Some((word, rest)) = first_word(rest) else {
-        return Ok(None);
-    };
-    match word {
-        "connectors" => connectors(alloc, rest),
-        "transactions" => transactions(alloc, rest),
-        "readings" => readings(alloc, rest),
-        _ => Ok(None),
-    }
-}
-
-fn connectors(alloc: Global, rest: &str) -> Mem<Option<What>>
-    ensures { IfOk result (λ w. w ≡ connectors_form rest.now) }
-{
-    let Some(station) = name_of(alloc, rest)? else {
-        return Ok(None);
-    };
-    Ok(Some(What::List(Listing::Connectors { station })))
-}
-
-fn transactions(alloc: Global, rest: &str) -> Mem<Option<What>>
-    ensures { IfOk result (λ w. w ≡ transactions_form rest.now) }
-{
-    let Some(station) = name_of(alloc, rest)? else {
-        return Ok(None);
-    };
-    Ok(Some(What::List(Listing::Transactions { station })))
-}
-
-fn readings(alloc: Global, rest: &str) -> Mem<Option<What>>
-    ensures { IfOk result (λ w. w ≡ readings_form rest.now) }
-{
-    let Some(station) = name_of(alloc, rest)? else {
-        return numbered_readings_form(alloc, rest);
-    };
-    Ok(Some(What::List(Listing::Readings {
-        station,
-        transaction: None,
-    })))
-}
-
-/// The readings sent with the number of a transaction.
-fn numbered_readings_form(alloc: Global, rest: &str) -> Mem<Option<What>>
-    ensures { IfOk result (λ w. w ≡ numbered_readings_form rest.now) }
-{
-    let Some((station, rest)) = first_word(rest) else {
-        return Ok(None);
-    };
-    let Some(number) = number_of(rest) else {
-        return Ok(None);
-    };
-    Ok(Some(What::List(Listing::Readings {
-        station: Text::copy_of(alloc, station)?,
-        transaction: Some(number),
-    })))
 }

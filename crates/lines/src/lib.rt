@@ -3,7 +3,9 @@
 
 mod fields;
 mod forms;
+mod held;
 mod input_line;
+mod list_forms;
 mod output_line;
 mod rows;
 mod words;

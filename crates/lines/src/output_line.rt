@@ -3,7 +3,7 @@ ghost use Rattle.std.specs.Prelude.{◌≡◌, IfOk, option_map, string_bytes};
 ghost use Rattle.lines.specs.OutputLines.{line_of, outcome_text, refused_line, refusal_detail};
 
 use crate::rows::print_row;
-use hub::{Out, Outcome, Said};
+use event_plans::{Out, Outcome, Said};
 use ocpp_types::{Mem, Named, Refusal, Text};
 use serde_json::json;
 use std::alloc::Global;
@@ -77,11 +77,15 @@ fn detail(refusal: &Refusal) -> Option<&'static str>
         Refusal::NoSuchStation
         | Refusal::StationExists
         | Refusal::NoSuchTag
+        | Refusal::NoSuchOperator
+        | Refusal::SelfGrant
+        | Refusal::NoSuchGrant
         | Refusal::NotConnected
         | Refusal::QueueFull
         | Refusal::NotAllowedNow
         | Refusal::NoSuchTransaction
         | Refusal::HasOpenTransactions
+        | Refusal::NoSuchReservation
         | Refusal::NumberSpent => None,
     }
 }

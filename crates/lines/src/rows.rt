@@ -2,12 +2,14 @@
 ghost use Rattle.std.specs.Prelude.{◌≡◌, IfOk, option_map, string_bytes};
 ghost use Rattle.ocpp_types.specs.Phase.{phase_name};
 ghost use Rattle.ocpp_types.specs.UnitOfMeasure.{unit_of_measure_name};
-ghost use Rattle.lines.specs.RowLines.{row_line, station_line, tag_line, connector_line, tx_line, reading_line, reading_fields, report_fields, start_fields, stop_fields, taken_fields, sampled_fields, value_fields, name_field, micro_of};
+ghost use Rattle.lines.specs.RowLines.{row_line, station_line, tag_line, grant_line, granted_line, connector_line, tx_line, reading_line, reading_fields, report_fields, start_fields, stop_fields, taken_fields, sampled_fields, value_fields, name_field, micro_of};
 
-use crate::fields::{boot_field, mark, moment_field, quoted, signed_field, text_field};
-use hub::Row;
+use crate::fields::{boot_field, mark, moment_field, quoted, signed_field, text_field, widened};
+use crate::held::{print_local_tag, print_reservation};
+use event_plans::Row;
 use hub_rows::{
-    ConnectorReport, ConnectorRow, Reading, ReadingRow, Start, StationRow, Stop, TagRow, TxRow,
+    ConnectorReport, ConnectorRow, GrantRow, GrantedTag, Reading, ReadingRow, Start, StationRow,
+    Stop, TagRow, TxRow,
 };
 use ocpp_types::{Mem, Named, Phase, Text, UnitOfMeasure, ValueFormat, read_micro};
 use std::alloc::Global;
@@ -19,9 +21,16 @@ pub fn print_row(alloc: Global, op: &Text, row: &Row) -> Mem<String>
     match row {
         Row::Station(row) => print_station(alloc, op, row),
         Row::Tag(row) => print_tag(alloc, op, row),
+        Row::Grant(row) => print_grant(alloc, op, row),
+        Row::Granted(tag) => print_granted(alloc, op, tag),
         Row::Connector(row) => print_connector(alloc, op, row),
         Row::Transaction(row) => print_transaction(alloc, op, row),
         Row::Reading(row) => print_reading(alloc, op, row),
+        Row::Reservation(row) => print_reservation(alloc, op, row),
+        Row::LocalList { station, version } => {
+            Ok(format!(in alloc; "{op} row locallist {station} {version}")?)
+        }
+        Row::LocalTag { station, entry } => print_local_tag(alloc, op, station, entry),
     }
 }
 
@@ -39,11 +48,31 @@ fn print_station(alloc: Global, op: &Text, row: &StationRow) -> Mem<String>
 fn print_tag(alloc: Global, op: &Text, row: &TagRow) -> Mem<String>
     ensures { IfOk result (λ s. string_bytes s ≡ tag_line op.now row.now) }
 {
-    let text = quoted(alloc, &row.tag.text)?;
+    let text = quoted(alloc, row.tag.text.as_str())?;
     let parent = text_field(alloc, &row.tag.parent)?;
     let blocked = mark(row.tag.blocked);
     let expiry = moment_field(alloc, row.tag.expiry)?;
     Ok(format!(in alloc; "{op} row tag {text} {parent} {blocked} {expiry}")?)
+}
+
+fn print_grant(alloc: Global, op: &Text, row: &GrantRow) -> Mem<String>
+    ensures { IfOk result (λ s. string_bytes s ≡ grant_line op.now row.now) }
+{
+    let key = quoted(alloc, row.key.as_str())?;
+    let to = row.to.as_str();
+    let until = moment_field(alloc, row.until)?;
+    Ok(format!(in alloc; "{op} row grant {key} {to} {until}")?)
+}
+
+fn print_granted(alloc: Global, op: &Text, tag: &GrantedTag) -> Mem<String>
+    ensures { IfOk result (λ s. string_bytes s ≡ granted_line op.now tag.now) }
+{
+    let owner = tag.owner.as_str();
+    let text = quoted(alloc, tag.info.text.as_str())?;
+    let parent = text_field(alloc, &tag.info.parent)?;
+    let blocked = mark(tag.info.blocked);
+    let expiry = moment_field(alloc, tag.info.expiry)?;
+    Ok(format!(in alloc; "{op} row granted {owner} {text} {parent} {blocked} {expiry}")?)
 }
 
 fn print_connector(alloc: Global, op: &Text, row: &ConnectorRow) -> Mem<String>
@@ -81,7 +110,7 @@ fn print_start(alloc: Global, start: &Start) -> Mem<String>
     ensures { IfOk result (λ s. string_bytes s ≡ start_fields start.now) }
 {
     let connector = start.id.connector;
-    let tag = quoted(alloc, &start.tag)?;
+    let tag = quoted(alloc, start.tag.as_str())?;
     let status = start.status.name();
     let meter = start.id.meter_start;
     let at = start.id.at;
@@ -134,7 +163,7 @@ fn print_value(alloc: Global, reading: &Reading) -> Mem<String>
     ensures { IfOk result (λ s. string_bytes s ≡ value_fields reading.now) }
 {
     let micro = signed_field(alloc, micro_of(reading))?;
-    let text = quoted(alloc, &reading.text)?;
+    let text = quoted(alloc, reading.text.as_str())?;
     Ok(format!(in alloc; "{micro} {text}")?)
 }
 
@@ -175,14 +204,5 @@ fn micro_of(reading: &Reading) -> Option<i128>
     match reading.format {
         ValueFormat::Raw => read_micro(reading.text.as_str(), reading.unit),
         ValueFormat::SignedData => None,
-    }
-}
-
-fn widened(number: Option<i32>) -> Option<i128>
-    ensures { result ≡ number }
-{
-    match number {
-        Some(number) => Some(number as i128),
-        None => None,
     }
 }

@@ -1,8 +1,9 @@
 //! The words of a line.
-ghost use Rattle.std.specs.Prelude.{◌≡◌, option_map};
+ghost use Rattle.std.specs.Prelude.{◌≡◌, IfOk, option_map};
 ghost use Rattle.lines.specs.Words.{first_word, only_word, number_of, moment_at, is_expiry, expiry_of};
 
-use ocpp_types::{Moment, number_of_digits};
+use ocpp_types::{Mem, Moment, Text, number_of_digits};
+use std::alloc::Global;
 
 /// The most digits of a number in a line.
 const MAX_DIGITS: usize = 12;
@@ -27,6 +28,16 @@ pub fn only_word(text: &str) -> Option<&str>
         Some(_) => None,
         None if text.is_empty() => None,
         None => Some(text),
+    }
+}
+
+/// The whole text as a name, where it is one word.
+pub fn name_of(alloc: Global, rest: &str) -> Mem<Option<Text>>
+    ensures { IfOk result (λ n. n ≡ only_word rest.now) }
+{
+    match only_word(rest) {
+        Some(word) => Ok(Some(Text::copy_of(alloc, word)?)),
+        None => Ok(None),
     }
 }
 

@@ -11,3 +11,4 @@ pub mod Boot
 pub mod Plain
 pub mod Holds
 pub mod Table
+pub mod TagInfo

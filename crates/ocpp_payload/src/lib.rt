@@ -14,6 +14,7 @@ mod members;
 mod readings;
 mod request;
 mod request_reader;
+mod tag_info;
 mod written;
 mod written_kinds;
 

@@ -13,6 +13,12 @@ pub enum Refusal {
     StationExists,
     /// The operator has no id tag of that key.
     NoSuchTag,
+    /// No operator of that name is hosted.
+    NoSuchOperator,
+    /// The operator would grant a tag to itself.
+    SelfGrant,
+    /// The operator hasn't granted that tag to that operator.
+    NoSuchGrant,
     /// The station isn't connected.
     NotConnected,
     /// As many calls of the station wait as its queue holds.
@@ -27,6 +33,8 @@ pub enum Refusal {
     BadField(FieldName),
     /// A transaction of the station is open.
     HasOpenTransactions,
+    /// No reservation of that id counts at the station.
+    NoSuchReservation,
     /// The station has used up the numbers of its calls.
     NumberSpent,
 }
@@ -42,6 +50,9 @@ impl Refusal {
             Refusal::NoSuchStation => 1,
             Refusal::StationExists => 2,
             Refusal::NoSuchTag => 3,
+            Refusal::NoSuchOperator => 4,
+            Refusal::SelfGrant => 5,
+            Refusal::NoSuchGrant => 6,
             Refusal::NotConnected => 7,
             Refusal::QueueFull => 8,
             Refusal::NotAllowedNow => 9,
@@ -49,6 +60,7 @@ impl Refusal {
             Refusal::NoSuchTransaction => 11,
             Refusal::BadField(_) => 12,
             Refusal::HasOpenTransactions => 13,
+            Refusal::NoSuchReservation => 14,
             Refusal::NumberSpent => 15,
         }
     }
@@ -61,6 +73,9 @@ impl Refusal {
             Refusal::NoSuchStation => "NoSuchStation",
             Refusal::StationExists => "StationExists",
             Refusal::NoSuchTag => "NoSuchTag",
+            Refusal::NoSuchOperator => "NoSuchOperator",
+            Refusal::SelfGrant => "SelfGrant",
+            Refusal::NoSuchGrant => "NoSuchGrant",
             Refusal::NotConnected => "NotConnected",
             Refusal::QueueFull => "QueueFull",
             Refusal::NotAllowedNow => "NotAllowedNow",
@@ -68,6 +83,7 @@ impl Refusal {
             Refusal::NoSuchTransaction => "NoSuchTransaction",
             Refusal::BadField(_) => "BadField",
             Refusal::HasOpenTransactions => "HasOpenTransactions",
+            Refusal::NoSuchReservation => "NoSuchReservation",
             Refusal::NumberSpent => "NumberSpent",
         }
     }

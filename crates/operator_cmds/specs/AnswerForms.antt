@@ -2,10 +2,11 @@
 use Rattle.std.specs.Prelude.{ℕ, List, codes}
 use Rattle.ocpp_types.specs.DataTransferStatus.{data_transfer_status_name, data_transfer_statuses}
 use Rattle.ocpp_payload.specs.Kind.{any_text, text}
-use Rattle.ocpp_payload.specs.Holds.{holds_boolean, holds_list, holds_name, holds_text}
+use Rattle.ocpp_payload.specs.Holds.{holds_boolean, holds_int_32, holds_list, holds_name, holds_text}
 use Rattle.ocpp_payload.specs.Table.{Form, end, must, may, holds_object}
 use Rattle.operator_cmds.specs.declared.answers.DataTransferAnswer.{DataTransferAnswer}
 use Rattle.operator_cmds.specs.declared.answers.GetConfigurationAnswer.{GetConfigurationAnswer}
+use Rattle.operator_cmds.specs.declared.answers.GetLocalListVersionAnswer.{GetLocalListVersionAnswer}
 use Rattle.operator_cmds.specs.declared.answers.KeyValue.{KeyValue}
 use Rattle.operator_cmds.specs.declared.answers.Status.{Status}
 
@@ -47,4 +48,13 @@ get_configuration_answer = record {
       (may (codes "unknownKey") (holds_list (holds_text (text 50))) (λ a. a.unknown_key)
       end);
   make = λ known unknown. record { configuration_key = known; unknown_key = unknown };
+}
+
+-- GetLocalListVersion.conf
+abbrev pub get_local_list_version_answer : Form GetLocalListVersionAnswer
+get_local_list_version_answer = record {
+  table =
+      must (codes "listVersion") holds_int_32 (λ a. a.list_version)
+      end;
+  make = λ version. record { list_version = version };
 }

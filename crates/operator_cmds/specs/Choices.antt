@@ -7,6 +7,8 @@ use Rattle.operator_cmds.specs.declared.choices.MessageTrigger.{MessageTrigger}
 use Rattle.operator_cmds.specs.declared.choices.MessageTrigger.TheVariants as message_trigger
 use Rattle.operator_cmds.specs.declared.choices.ResetType.{ResetType}
 use Rattle.operator_cmds.specs.declared.choices.ResetType.TheVariants as reset_type
+use Rattle.operator_cmds.specs.declared.choices.UpdateType.{UpdateType}
+use Rattle.operator_cmds.specs.declared.choices.UpdateType.TheVariants as update_type
 
 abbrev pub availability_type_name : AvailabilityType → List ℕ
 availability_type_name availability_type.Inoperative = codes "Inoperative"
@@ -32,3 +34,10 @@ reset_type_name reset_type.Soft = codes "Soft"
 
 abbrev pub reset_types : List (List ℕ × ResetType)
 reset_types = names_of reset_type_name (reset_type.Hard ∷ reset_type.Soft ∷ [])
+
+abbrev pub update_type_name : UpdateType → List ℕ
+update_type_name update_type.Differential = codes "Differential"
+update_type_name update_type.Full = codes "Full"
+
+abbrev pub update_types : List (List ℕ × UpdateType)
+update_types = names_of update_type_name (update_type.Differential ∷ update_type.Full ∷ [])

@@ -1,13 +1,15 @@
 -- The commands, each by the table of its members (OCPP 1.6, section 6).
 use Rattle.std.specs.Prelude.{ℕ, ℤ, pos, negsuc, List, codes}
 use Rattle.ocpp_payload.specs.Kind.{any_text}
-use Rattle.ocpp_payload.specs.Holds.{Holds, holds_text, holds_name, holds_text_within, holds_integer_within, holds_list}
+use Rattle.ocpp_payload.specs.Holds.{Holds, holds_text, holds_moment, holds_name, holds_text_within, holds_integer_within, holds_list}
 use Rattle.ocpp_payload.specs.Table.{Form, end, must, may}
 use Rattle.operator_cmds.specs.Choices.{availability_type_name, availability_types, message_trigger_name, message_triggers, reset_type_name, reset_types}
 use Rattle.operator_cmds.specs.declared.configuration.ChangeConfiguration.{ChangeConfiguration}
 use Rattle.operator_cmds.specs.declared.configuration.GetConfiguration.{GetConfiguration}
 use Rattle.operator_cmds.specs.declared.remote.RemoteStartTransaction.{RemoteStartTransaction}
 use Rattle.operator_cmds.specs.declared.remote.RemoteStopTransaction.{RemoteStopTransaction}
+use Rattle.operator_cmds.specs.declared.reservations.CancelReservation.{CancelReservation}
+use Rattle.operator_cmds.specs.declared.reservations.ReserveNow.{ReserveNow}
 use Rattle.operator_cmds.specs.declared.station.ChangeAvailability.{ChangeAvailability}
 use Rattle.operator_cmds.specs.declared.station.DataTransfer.{DataTransfer}
 use Rattle.operator_cmds.specs.declared.station.Reset.{Reset}
@@ -25,6 +27,15 @@ holds_number_of_32_bits = holds_integer_within (negsuc 2147483647) (pos 21474836
 -- an id tag of at most 20 characters
 abbrev pub holds_id_tag : Holds (List ℕ)
 holds_id_tag = holds_text_within 20
+
+-- CancelReservation.req
+abbrev pub cancel_reservation : Form CancelReservation
+cancel_reservation = record {
+  table =
+      must (codes "reservationId") holds_number_of_32_bits (λ c. c.reservation_id)
+      end;
+  make = λ reservation. record { reservation_id = reservation };
+}
 
 -- ChangeAvailability.req
 abbrev pub change_availability : Form ChangeAvailability
@@ -46,9 +57,9 @@ change_configuration = record {
   make = λ key value. record { key = key; value = value };
 }
 
--- it has no members
-abbrev pub clear_cache : Form (Unit {0})
-clear_cache = record { table = end; make = tt }
+-- ClearCache.req, GetLocalListVersion.req: no members
+abbrev pub empty : Form (Unit {0})
+empty = record { table = end; make = tt }
 
 -- DataTransfer.req
 abbrev pub data_transfer : Form DataTransfer
@@ -87,6 +98,25 @@ remote_stop_transaction = record {
       must (codes "transactionId") holds_number_of_32_bits (λ c. c.transaction_id)
       end;
   make = λ transaction. record { transaction_id = transaction };
+}
+
+-- ReserveNow.req
+abbrev pub reserve_now : Form ReserveNow
+reserve_now = record {
+  table =
+      must (codes "connectorId") (holds_connector 0) (λ c. c.connector_id)
+      (must (codes "expiryDate") holds_moment (λ c. c.expiry_date)
+      (must (codes "idTag") holds_id_tag (λ c. c.id_tag)
+      (may (codes "parentIdTag") holds_id_tag (λ c. c.parent_id_tag)
+      (must (codes "reservationId") holds_number_of_32_bits (λ c. c.reservation_id)
+      end))));
+  make = λ connector expiry tag parent reservation. record {
+    connector_id = connector;
+    expiry_date = expiry;
+    id_tag = tag;
+    parent_id_tag = parent;
+    reservation_id = reservation;
+  };
 }
 
 -- Reset.req

@@ -7,10 +7,14 @@ use Rattle.operator_cmds.specs.declared.statuses.AvailabilityStatus.{Availabilit
 use Rattle.operator_cmds.specs.declared.statuses.AvailabilityStatus.TheVariants as availability_status
 use Rattle.operator_cmds.specs.declared.statuses.ConfigurationStatus.{ConfigurationStatus}
 use Rattle.operator_cmds.specs.declared.statuses.ConfigurationStatus.TheVariants as configuration_status
+use Rattle.operator_cmds.specs.declared.statuses.ReservationStatus.{ReservationStatus}
+use Rattle.operator_cmds.specs.declared.statuses.ReservationStatus.TheVariants as reservation_status
 use Rattle.operator_cmds.specs.declared.statuses.TriggerMessageStatus.{TriggerMessageStatus}
 use Rattle.operator_cmds.specs.declared.statuses.TriggerMessageStatus.TheVariants as trigger_message_status
 use Rattle.operator_cmds.specs.declared.statuses.UnlockStatus.{UnlockStatus}
 use Rattle.operator_cmds.specs.declared.statuses.UnlockStatus.TheVariants as unlock_status
+use Rattle.operator_cmds.specs.declared.statuses.UpdateStatus.{UpdateStatus}
+use Rattle.operator_cmds.specs.declared.statuses.UpdateStatus.TheVariants as update_status
 
 abbrev pub acceptance_status_name : AcceptanceStatus → List ℕ
 acceptance_status_name acceptance_status.Accepted = codes "Accepted"
@@ -36,6 +40,16 @@ configuration_status_name configuration_status.NotSupported = codes "NotSupporte
 abbrev pub configuration_statuses : List (List ℕ × ConfigurationStatus)
 configuration_statuses = names_of configuration_status_name (configuration_status.Accepted ∷ configuration_status.Rejected ∷ configuration_status.RebootRequired ∷ configuration_status.NotSupported ∷ [])
 
+abbrev pub reservation_status_name : ReservationStatus → List ℕ
+reservation_status_name reservation_status.Accepted = codes "Accepted"
+reservation_status_name reservation_status.Faulted = codes "Faulted"
+reservation_status_name reservation_status.Occupied = codes "Occupied"
+reservation_status_name reservation_status.Rejected = codes "Rejected"
+reservation_status_name reservation_status.Unavailable = codes "Unavailable"
+
+abbrev pub reservation_statuses : List (List ℕ × ReservationStatus)
+reservation_statuses = names_of reservation_status_name (reservation_status.Accepted ∷ reservation_status.Faulted ∷ reservation_status.Occupied ∷ reservation_status.Rejected ∷ reservation_status.Unavailable ∷ [])
+
 abbrev pub trigger_message_status_name : TriggerMessageStatus → List ℕ
 trigger_message_status_name trigger_message_status.Accepted = codes "Accepted"
 trigger_message_status_name trigger_message_status.Rejected = codes "Rejected"
@@ -51,3 +65,12 @@ unlock_status_name unlock_status.NotSupported = codes "NotSupported"
 
 abbrev pub unlock_statuses : List (List ℕ × UnlockStatus)
 unlock_statuses = names_of unlock_status_name (unlock_status.Unlocked ∷ unlock_status.UnlockFailed ∷ unlock_status.NotSupported ∷ [])
+
+abbrev pub update_status_name : UpdateStatus → List ℕ
+update_status_name update_status.Accepted = codes "Accepted"
+update_status_name update_status.Failed = codes "Failed"
+update_status_name update_status.NotSupported = codes "NotSupported"
+update_status_name update_status.VersionMismatch = codes "VersionMismatch"
+
+abbrev pub update_statuses : List (List ℕ × UpdateStatus)
+update_statuses = names_of update_status_name (update_status.Accepted ∷ update_status.Failed ∷ update_status.NotSupported ∷ update_status.VersionMismatch ∷ [])

@@ -3,12 +3,15 @@ ghost use Rattle.std.specs.Prelude.{◌≡◌, IfOk, false};
 ghost use Rattle.serde_json.specs.View.{view};
 ghost use Rattle.serde_json.specs.Written.{has_float};
 ghost use Rattle.ocpp_payload.specs.Gives.{Gives};
-ghost use Rattle.operator_cmds.specs.Answer.{known_members, as_sent};
+ghost use Rattle.operator_cmds.specs.Answer.{known_members, as_sent, is_accepted};
 
-use crate::answers::{DataTransferAnswer, GetConfigurationAnswer, Status};
+use crate::answers::{
+    DataTransferAnswer, GetConfigurationAnswer, GetLocalListVersionAnswer, Status,
+};
 use crate::command::Command;
 use crate::statuses::{
-    AcceptanceStatus, AvailabilityStatus, ConfigurationStatus, TriggerMessageStatus, UnlockStatus,
+    AcceptanceStatus, AvailabilityStatus, ConfigurationStatus, ReservationStatus,
+    TriggerMessageStatus, UnlockStatus, UpdateStatus,
 };
 use ocpp_frame::Payload;
 use ocpp_payload::{FieldFault, ReadError, Tabled};
@@ -47,12 +50,16 @@ fn sent_members(alloc: Global, command: &Command, payload: &Value) -> Result<Pay
     match command {
         Command::ChangeAvailability(_) => as_sent::<Status<AvailabilityStatus>>(alloc, payload),
         Command::ChangeConfiguration(_) => as_sent::<Status<ConfigurationStatus>>(alloc, payload),
-        Command::ClearCache
+        Command::CancelReservation(_)
+        | Command::ClearCache
         | Command::RemoteStartTransaction(_)
         | Command::RemoteStopTransaction(_)
         | Command::Reset(_) => as_sent::<Status<AcceptanceStatus>>(alloc, payload),
         Command::DataTransfer(_) => as_sent::<DataTransferAnswer>(alloc, payload),
         Command::GetConfiguration(_) => as_sent::<GetConfigurationAnswer>(alloc, payload),
+        Command::GetLocalListVersion => as_sent::<GetLocalListVersionAnswer>(alloc, payload),
+        Command::ReserveNow(_) => as_sent::<Status<ReservationStatus>>(alloc, payload),
+        Command::SendLocalList(_) => as_sent::<Status<UpdateStatus>>(alloc, payload),
         Command::TriggerMessage(_) => as_sent::<Status<TriggerMessageStatus>>(alloc, payload),
         Command::UnlockConnector(_) => as_sent::<Status<UnlockStatus>>(alloc, payload),
     }
@@ -63,4 +70,15 @@ fn as_sent<T: Tabled>(alloc: Global, payload: &Value) -> Result<Payload, ReadErr
 {
     let known = T::read_from(alloc, payload)?.write(alloc)?;
     Ok(Payload::from(known))
+}
+
+/// Whether the member `status` of an answer is `Accepted`. An answer without a status, as that to
+/// GetLocalListVersion, isn't.
+pub fn is_accepted(answer: &Value) -> bool
+    ensures { result ≡ is_accepted (view answer.now) }
+{
+    match answer.get("status").and_then(|status| status.as_str()) {
+        Some(status) => status == "Accepted",
+        None => false,
+    }
 }

@@ -1,10 +1,10 @@
 //! The answers of stations to commands.
 ghost use Rattle.ocpp_payload.specs.Table.{read_by};
-ghost use Rattle.operator_cmds.specs.AnswerForms.{data_transfer_answer, get_configuration_answer, key_value, status_of};
+ghost use Rattle.operator_cmds.specs.AnswerForms.{data_transfer_answer, get_configuration_answer, get_local_list_version_answer, key_value, status_of};
 
 use ocpp_payload::{
-    AnyText, Boolean, ListOf, NameOf, ObjectOf, ReadError, Readable, Tabled, TextOf, optional,
-    put_may, put_must, required,
+    AnyText, Boolean, Int32, ListOf, NameOf, ObjectOf, ReadError, Readable, Tabled, TextOf,
+    optional, put_may, put_must, required,
 };
 use ocpp_types::{DataTransferStatus, Listed, Mem, Named, Text};
 use serde_json::{Map, Value};
@@ -135,6 +135,37 @@ impl Tabled for GetConfigurationAnswer {
             "unknownKey",
             ListOf(TextOf(50)),
             &self.unknown_key,
+        )?;
+        Ok(Value::Object(members))
+    }
+}
+
+/// The version of the list of tags that a station has (OCPP 1.6, GetLocalListVersion.conf).
+#[derive(Drop)]
+pub struct GetLocalListVersionAnswer {
+    list_version: i32,
+}
+
+impl Readable for GetLocalListVersionAnswer {
+    ghost reads_as = { read_by get_local_list_version_answer };
+
+    fn read_from(alloc: Global, object: &Value) -> Result<GetLocalListVersionAnswer, ReadError> {
+        let list_version = required(alloc, object, "listVersion", Int32)?;
+        Ok(GetLocalListVersionAnswer { list_version })
+    }
+}
+
+impl Tabled for GetLocalListVersionAnswer {
+    ghost form = { get_local_list_version_answer };
+
+    fn write(&self, alloc: Global) -> Mem<Value> {
+        let mut members = Map::new(alloc);
+        put_must(
+            alloc,
+            &mut members,
+            "listVersion",
+            Int32,
+            &self.list_version,
         )?;
         Ok(Value::Object(members))
     }

@@ -103,3 +103,33 @@ impl Named for ResetType {
         }
     }
 }
+
+/// What a list of tags does to the one that a station has (OCPP 1.6, type UpdateType).
+#[derive(Clone, Copy, Debug, PartialEq, Eq)]
+pub enum UpdateType {
+    Differential,
+    Full,
+}
+
+impl Named for UpdateType {
+    ghost use Rattle.operator_cmds.specs.Choices.{update_type_name, update_types};
+
+    ghost name_of = { update_type_name };
+
+    ghost names = { update_types };
+
+    fn of(name: &str) -> Option<UpdateType> {
+        match name {
+            "Differential" => Some(UpdateType::Differential),
+            "Full" => Some(UpdateType::Full),
+            _ => None,
+        }
+    }
+
+    fn name(&self) -> &'static str {
+        match self {
+            UpdateType::Differential => "Differential",
+            UpdateType::Full => "Full",
+        }
+    }
+}

@@ -7,8 +7,10 @@ ghost use Rattle.operator_cmds.specs.Command.{bad_field, command, command_data, 
 
 use crate::command::Command;
 use crate::configuration::{ChangeConfiguration, GetConfiguration};
+use crate::local_list::SendLocalList;
 use crate::operator_action::OperatorAction;
 use crate::remote::{RemoteStartTransaction, RemoteStopTransaction};
+use crate::reservations::{CancelReservation, ReserveNow};
 use crate::station::{ChangeAvailability, DataTransfer, Reset, TriggerMessage, UnlockConnector};
 use ocpp_payload::{Checked, ReadError, Readable, Tabled};
 use ocpp_types::{FieldName, Mem, Named, NoMemory};
@@ -39,6 +41,9 @@ fn read_any(alloc: Global, action: OperatorAction, payload: &Value) -> Result<Co
     ensures { Gives result (command_of action (view payload.now)) }
 {
     Ok(match action {
+        OperatorAction::CancelReservation => {
+            Command::CancelReservation(CancelReservation::read_from(alloc, payload)?)
+        }
         OperatorAction::ChangeAvailability => {
             Command::ChangeAvailability(ChangeAvailability::read_from(alloc, payload)?)
         }
@@ -52,13 +57,18 @@ fn read_any(alloc: Global, action: OperatorAction, payload: &Value) -> Result<Co
         OperatorAction::GetConfiguration => {
             Command::GetConfiguration(GetConfiguration::read_from(alloc, payload)?)
         }
+        OperatorAction::GetLocalListVersion => Command::GetLocalListVersion,
         OperatorAction::RemoteStartTransaction => {
             Command::RemoteStartTransaction(RemoteStartTransaction::read_from(alloc, payload)?)
         }
         OperatorAction::RemoteStopTransaction => {
             Command::RemoteStopTransaction(RemoteStopTransaction::read_from(alloc, payload)?)
         }
+        OperatorAction::ReserveNow => Command::ReserveNow(ReserveNow::read_from(alloc, payload)?),
         OperatorAction::Reset => Command::Reset(Reset::read_from(alloc, payload)?),
+        OperatorAction::SendLocalList => {
+            Command::SendLocalList(SendLocalList::read_from(alloc, payload)?)
+        }
         OperatorAction::TriggerMessage => {
             Command::TriggerMessage(TriggerMessage::read_from(alloc, payload)?)
         }
@@ -68,20 +78,24 @@ fn read_any(alloc: Global, action: OperatorAction, payload: &Value) -> Result<Co
     })
 }
 
-/// The first member of a command, in the order of its table, that is longer than its length or out
-/// of its range. It takes no memory.
+/// The first bad member of a command, in the order of its table: one that is longer than its length
+/// or out of its range, an entry of a full list without its idTagInfo, a list that has a tag twice.
+/// It takes no memory.
 pub fn bad_field(command: &Command) -> Option<FieldName>
     ensures { result ≡ bad_field command.now }
 {
     match command {
+        Command::CancelReservation(fields) => fields.bad(),
         Command::ChangeAvailability(fields) => fields.bad(),
         Command::ChangeConfiguration(fields) => fields.bad(),
-        Command::ClearCache => None,
+        Command::ClearCache | Command::GetLocalListVersion => None,
         Command::DataTransfer(fields) => fields.bad(),
         Command::GetConfiguration(fields) => fields.bad(),
         Command::RemoteStartTransaction(fields) => fields.bad(),
         Command::RemoteStopTransaction(fields) => fields.bad(),
+        Command::ReserveNow(fields) => fields.bad(),
         Command::Reset(fields) => fields.bad(),
+        Command::SendLocalList(fields) => fields.bad(),
         Command::TriggerMessage(fields) => fields.bad(),
         Command::UnlockConnector(fields) => fields.bad(),
     }
@@ -101,14 +115,17 @@ fn request_of(alloc: Global, command: &Command) -> Mem<Value>
     ensures { IfOk result (λ v. view v ≡ command_data command.now) }
 {
     match command {
+        Command::CancelReservation(fields) => fields.write(alloc),
         Command::ChangeAvailability(fields) => fields.write(alloc),
         Command::ChangeConfiguration(fields) => fields.write(alloc),
-        Command::ClearCache => Ok(Value::Object(Map::new(alloc))),
+        Command::ClearCache | Command::GetLocalListVersion => Ok(Value::Object(Map::new(alloc))),
         Command::DataTransfer(fields) => fields.write(alloc),
         Command::GetConfiguration(fields) => fields.write(alloc),
         Command::RemoteStartTransaction(fields) => fields.write(alloc),
         Command::RemoteStopTransaction(fields) => fields.write(alloc),
+        Command::ReserveNow(fields) => fields.write(alloc),
         Command::Reset(fields) => fields.write(alloc),
+        Command::SendLocalList(fields) => fields.write(alloc),
         Command::TriggerMessage(fields) => fields.write(alloc),
         Command::UnlockConnector(fields) => fields.write(alloc),
     }

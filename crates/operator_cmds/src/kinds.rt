@@ -13,3 +13,6 @@ pub const NUMBER_OF_32_BITS: IntegerWithin = IntegerWithin(-2147483648, 21474836
 
 /// A tag.
 pub const ID_TAG: TextWithin = TextWithin(20);
+
+/// The version of a list of tags.
+pub const LIST_VERSION: IntegerWithin = IntegerWithin(1, 2147483647);

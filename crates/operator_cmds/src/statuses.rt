@@ -2,8 +2,8 @@
 
 use ocpp_types::Named;
 
-/// Whether a command is carried out (OCPP 1.6, types ClearCacheStatus, RemoteStartStopStatus and
-/// ResetStatus).
+/// Whether a command is carried out (OCPP 1.6, types CancelReservationStatus, ClearCacheStatus,
+/// RemoteStartStopStatus and ResetStatus).
 #[derive(Clone, Copy, Debug, PartialEq, Eq)]
 pub enum AcceptanceStatus {
     Accepted,
@@ -102,6 +102,45 @@ impl Named for ConfigurationStatus {
     }
 }
 
+/// The answer to ReserveNow (OCPP 1.6, type ReservationStatus).
+#[derive(Clone, Copy, Debug, PartialEq, Eq)]
+pub enum ReservationStatus {
+    Accepted,
+    Faulted,
+    Occupied,
+    Rejected,
+    Unavailable,
+}
+
+impl Named for ReservationStatus {
+    ghost use Rattle.operator_cmds.specs.Statuses.{reservation_status_name, reservation_statuses};
+
+    ghost name_of = { reservation_status_name };
+
+    ghost names = { reservation_statuses };
+
+    fn of(name: &str) -> Option<ReservationStatus> {
+        match name {
+            "Accepted" => Some(ReservationStatus::Accepted),
+            "Faulted" => Some(ReservationStatus::Faulted),
+            "Occupied" => Some(ReservationStatus::Occupied),
+            "Rejected" => Some(ReservationStatus::Rejected),
+            "Unavailable" => Some(ReservationStatus::Unavailable),
+            _ => None,
+        }
+    }
+
+    fn name(&self) -> &'static str {
+        match self {
+            ReservationStatus::Accepted => "Accepted",
+            ReservationStatus::Faulted => "Faulted",
+            ReservationStatus::Occupied => "Occupied",
+            ReservationStatus::Rejected => "Rejected",
+            ReservationStatus::Unavailable => "Unavailable",
+        }
+    }
+}
+
 /// The answer to TriggerMessage (OCPP 1.6, type TriggerMessageStatus).
 #[derive(Clone, Copy, Debug, PartialEq, Eq)]
 pub enum TriggerMessageStatus {
@@ -164,6 +203,42 @@ impl Named for UnlockStatus {
             UnlockStatus::Unlocked => "Unlocked",
             UnlockStatus::UnlockFailed => "UnlockFailed",
             UnlockStatus::NotSupported => "NotSupported",
+        }
+    }
+}
+
+/// The answer to SendLocalList (OCPP 1.6, type UpdateStatus).
+#[derive(Clone, Copy, Debug, PartialEq, Eq)]
+pub enum UpdateStatus {
+    Accepted,
+    Failed,
+    NotSupported,
+    VersionMismatch,
+}
+
+impl Named for UpdateStatus {
+    ghost use Rattle.operator_cmds.specs.Statuses.{update_status_name, update_statuses};
+
+    ghost name_of = { update_status_name };
+
+    ghost names = { update_statuses };
+
+    fn of(name: &str) -> Option<UpdateStatus> {
+        match name {
+            "Accepted" => Some(UpdateStatus::Accepted),
+            "Failed" => Some(UpdateStatus::Failed),
+            "NotSupported" => Some(UpdateStatus::NotSupported),
+            "VersionMismatch" => Some(UpdateStatus::VersionMismatch),
+            _ => None,
+        }
+    }
+
+    fn name(&self) -> &'static str {
+        match self {
+            UpdateStatus::Accepted => "Accepted",
+            UpdateStatus::Failed => "Failed",
+            UpdateStatus::NotSupported => "NotSupported",
+            UpdateStatus::VersionMismatch => "VersionMismatch",
         }
     }
 }

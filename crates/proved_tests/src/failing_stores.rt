@@ -10,7 +10,9 @@ use store_mem::{Failing, MemStore};
 
 /// A station is added, connects, boots, asks for a tag, charges with it, and asks again after it is
 /// dropped; its readings are listed. Another operator does the same. Three stations are sent commands,
-/// which are answered, time out and end with a connection.
+/// which are answered, time out and end with a connection. One of them reserves a connector, cancels
+/// that, and takes over a local list and a change of it. A tag is granted, taken back, granted again
+/// and dropped.
 const SCRIPT: &str = r#"1704067200 ACME station add CP01 Accepted 300
 1704067200 ACME connect CP01
 1704067200 ACME frame CP01 [2,"0","Heartbeat",{}]
@@ -46,6 +48,25 @@ const SCRIPT: &str = r#"1704067200 ACME station add CP01 Accepted 300
 1704067232 ACME frame CP01 [4,"3","InternalError","no",{}]
 1704067232 BETA call CP01 UnlockConnector {"connectorId":1}
 1704067232 BETA disconnect CP01
+1704067232 ACME call CP02 ReserveNow {"connectorId":1,"expiryDate":"2024-01-01T01:00:00Z","idTag":"k2","reservationId":-5}
+1704067232 ACME frame CP02 [3,"2",{"status":"Accepted"}]
+1704067232 ACME list reservations CP02
+1704067232 ACME call CP02 CancelReservation {"reservationId":-5}
+1704067232 ACME frame CP02 [3,"3",{"status":"Accepted"}]
+1704067232 ACME list reservations CP02
+1704067232 ACME call CP02 SendLocalList {"listVersion":1,"localAuthorizationList":[{"idTag":"b","idTagInfo":{"status":"Accepted"}},{"idTag":"A","idTagInfo":{"status":"Blocked"}}],"updateType":"Full"}
+1704067232 ACME frame CP02 [3,"4",{"status":"Accepted"}]
+1704067232 ACME call CP02 SendLocalList {"listVersion":2,"localAuthorizationList":[{"idTag":"B"}],"updateType":"Differential"}
+1704067232 ACME frame CP02 [3,"5",{"status":"Accepted"}]
+1704067232 ACME list locallist CP02
+1704067232 ACME tag put K9 - 0 -
+1704067232 ACME grant K9 BETA 1704067300
+1704067232 BETA list granted
+1704067232 ACME revoke K9 BETA
+1704067232 ACME grant K9 BETA -
+1704067232 ACME list grants
+1704067232 ACME tag drop K9
+1704067232 BETA list granted
 "#;
 
 const OUTPUT: &str = r#"ACME ok
@@ -90,10 +111,38 @@ ACME CP01 done 3 Error ["InternalError","no"]
 BETA ok 2
 BETA CP01 send [2,"2","UnlockConnector",{"connectorId":1}]
 BETA CP01 done 2 Disconnected
+ACME ok 2
+ACME CP02 send [2,"2","ReserveNow",{"connectorId":1,"expiryDate":"2024-01-01T01:00:00Z","idTag":"k2","reservationId":-5}]
+ACME CP02 done 2 Answer {"status":"Accepted"}
+ACME row reservation CP02 -5 1 "k2" - 1704070800
+ACME ok
+ACME ok 3
+ACME CP02 send [2,"3","CancelReservation",{"reservationId":-5}]
+ACME CP02 done 3 Answer {"status":"Accepted"}
+ACME ok
+ACME ok 4
+ACME CP02 send [2,"4","SendLocalList",{"listVersion":1,"localAuthorizationList":[{"idTag":"b","idTagInfo":{"status":"Accepted"}},{"idTag":"A","idTagInfo":{"status":"Blocked"}}],"updateType":"Full"}]
+ACME CP02 done 4 Answer {"status":"Accepted"}
+ACME ok 5
+ACME CP02 send [2,"5","SendLocalList",{"listVersion":2,"localAuthorizationList":[{"idTag":"B"}],"updateType":"Differential"}]
+ACME CP02 done 5 Answer {"status":"Accepted"}
+ACME row locallist CP02 2
+ACME row localtag CP02 {"idTag":"A","idTagInfo":{"status":"Blocked"}}
+ACME ok
+ACME ok
+ACME ok
+BETA row granted ACME "K9" - 0 1704067300
+BETA ok
+ACME ok
+ACME ok
+ACME row grant "k9" BETA -
+ACME ok
+ACME ok
+BETA ok
 "#;
 
 /// The store calls of the script, and some more.
-const CALLS: u64 = 90;
+const CALLS: u64 = 140;
 
 /// What the events are answered where the call after the next `before` ones fails, and the event
 /// that met the failure is handed again.

@@ -37,57 +37,68 @@ fn has_its_key(alloc: Global, start: &Start) -> Mem<bool>
     Ok(start.id.key.as_str() == key.as_str())
 }
 
-fn change_of(alloc: Global, edit: Edit) -> Mem<Change> {
-    Ok(Change {
-        op: Text::copy_of(alloc, "ACME")?,
-        edit,
-    })
-}
-
 /// Adds CP01 of ACME, unless it is there.
 fn add<S: Store>(alloc: Global, store: &mut S) -> Result<(), StoreFault> {
+    let op = Text::copy_of(alloc, "ACME")?;
     let station = Text::copy_of(alloc, "CP01")?;
-    let change = change_of(
-        alloc,
-        Edit::StationAdded {
-            station,
-            policy: Policy::Accepted,
-            interval: 300,
-        },
-    )?;
-    apply_where_it_fits(alloc, store, &change)
+    if store.station(op.as_str(), station.as_str())?.is_some() {
+        return Ok(());
+    }
+    let edit = Edit::StationAdded {
+        station,
+        policy: Policy::Accepted,
+        interval: 300,
+    };
+    store.apply(&Change { op, edit })
 }
 
-/// A transaction of K1 on connector 1 of CP01.
-fn begun(alloc: Global, number: u32, moment: Moment) -> Mem<Change> {
+/// A start of K1 on connector 1.
+fn start_of(alloc: Global, moment: Moment) -> Mem<Start> {
     let id = StartKey {
         connector: 1,
         key: TagKey::of(alloc, "K1")?,
         meter_start: 100,
         at: 1704067200000,
     };
-    let start = Start {
+    Ok(Start {
         id,
         tag: Text::copy_of(alloc, "K1")?,
         reservation: None,
         status: AuthorizationStatus::Accepted,
         begun: moment,
-    };
-    let station = Text::copy_of(alloc, "CP01")?;
-    change_of(
-        alloc,
-        Edit::TxStarted {
-            station,
-            number,
-            start,
-        },
-    )
+    })
 }
 
-/// A reading of CP01.
-fn read(alloc: Global, first: u32) -> Mem<Change> {
-    let mut readings = Listed::new(alloc);
-    let reading = Reading {
+/// Begins a transaction of CP01, where its number may be the next and its key is that of its tag.
+fn begin<S: Store>(
+    alloc: Global,
+    store: &mut S,
+    number: u32,
+    start: Start,
+) -> Result<(), StoreFault> {
+    if !has_its_key(alloc, &start)? {
+        return Ok(());
+    }
+    let op = Text::copy_of(alloc, "ACME")?;
+    let station = Text::copy_of(alloc, "CP01")?;
+    if store.station(op.as_str(), station.as_str())?.is_none() {
+        return Ok(());
+    }
+    let last = store.last_numbers(op.as_str(), station.as_str())?;
+    if !is_next(last.transaction, number) {
+        return Ok(());
+    }
+    let edit = Edit::TxStarted {
+        station,
+        number,
+        start,
+    };
+    store.apply(&Change { op, edit })
+}
+
+/// A reading on connector 1.
+fn reading_of(alloc: Global) -> Mem<Reading> {
+    Ok(Reading {
         connector: 1,
         transaction: None,
         at: 0,
@@ -98,83 +109,33 @@ fn read(alloc: Global, first: u32) -> Mem<Change> {
         location: Location::Inlet,
         unit: None,
         text: Text::copy_of(alloc, "z")?,
-    };
-    readings.push(reading)?;
-    let station = Text::copy_of(alloc, "CP01")?;
-    change_of(
-        alloc,
-        Edit::ReadingsAdded {
-            station,
-            first,
-            readings,
-        },
-    )
+    })
 }
 
-/// Makes a change of those above where it fits.
-fn apply_where_it_fits<S: Store>(
+/// Keeps a reading of CP01, where its number may be the next.
+fn keep<S: Store>(
     alloc: Global,
     store: &mut S,
-    change: &Change,
+    first: u32,
+    reading: Reading,
 ) -> Result<(), StoreFault> {
-    let op = change.op.as_str();
-    match &change.edit {
-        Edit::StationAdded { station, .. } => {
-            if store.station(op, station.as_str())?.is_none() {
-                store.apply(change)?;
-            }
-            Ok(())
-        }
-        Edit::TxStarted { .. } => begin(alloc, store, change),
-        Edit::ReadingsAdded { .. } => keep(store, change),
-        _ => Ok(()),
-    }
-}
-
-fn begin<S: Store>(alloc: Global, store: &mut S, change: &Change) -> Result<(), StoreFault> {
-    let Edit::TxStarted {
-        station,
-        number,
-        start,
-    } = &change.edit
-    else {
-        return Ok(());
-    };
-    let op = change.op.as_str();
-    if store.station(op, station.as_str())?.is_none() {
+    let mut readings = Listed::new(alloc);
+    readings.push(reading)?;
+    let op = Text::copy_of(alloc, "ACME")?;
+    let station = Text::copy_of(alloc, "CP01")?;
+    if store.station(op.as_str(), station.as_str())?.is_none() {
         return Ok(());
     }
-    if !has_its_key(alloc, start)? {
+    let last = store.last_numbers(op.as_str(), station.as_str())?;
+    if !is_next(last.reading, first) {
         return Ok(());
     }
-    let last = store.last_numbers(op, station.as_str())?.transaction;
-    if is_next(last, *number) {
-        store.apply(change)?;
-    }
-    Ok(())
-}
-
-fn keep<S: Store>(store: &mut S, change: &Change) -> Result<(), StoreFault> {
-    let Edit::ReadingsAdded {
+    let edit = Edit::ReadingsAdded {
         station,
         first,
         readings,
-    } = &change.edit
-    else {
-        return Ok(());
     };
-    if readings.as_slice().len() != 1 {
-        return Ok(());
-    }
-    let op = change.op.as_str();
-    if store.station(op, station.as_str())?.is_none() {
-        return Ok(());
-    }
-    let last = store.last_numbers(op, station.as_str())?.reading;
-    if is_next(last, *first) {
-        store.apply(change)?;
-    }
-    Ok(())
+    store.apply(&Change { op, edit })
 }
 
 const SCRIPT: &str = r#"1704067200 ACME connect CP01
@@ -214,8 +175,8 @@ ACME ok
 fn near_the_end(alloc: Global, moment: Moment) -> Result<MemStore, StoreFault> {
     let mut store = MemStore::new(alloc);
     add(alloc, &mut store)?;
-    apply_where_it_fits(alloc, &mut store, &begun(alloc, 2147483646, moment)?)?;
-    apply_where_it_fits(alloc, &mut store, &read(alloc, 2147483645)?)?;
+    begin(alloc, &mut store, 2147483646, start_of(alloc, moment)?)?;
+    keep(alloc, &mut store, 2147483645, reading_of(alloc)?)?;
     Ok(store)
 }
 

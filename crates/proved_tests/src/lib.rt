@@ -14,3 +14,5 @@ mod last_numbers;
 mod replays;
 #[cfg(test)]
 mod scripts;
+#[cfg(test)]
+mod two_systems;

@@ -82,7 +82,7 @@ pub fn run<S: Store + Drop, V: VendorHandler>(
 }
 
 /// The lines of outputs.
-fn lines_of(alloc: Global, outs: &[Out]) -> Mem<String> {
+pub fn lines_of(alloc: Global, outs: &[Out]) -> Mem<String> {
     let mut text = String::new(alloc);
     for out in outs {
         let line = print_out(alloc, out)?;

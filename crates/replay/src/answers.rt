@@ -48,12 +48,36 @@ impl Answers {
             → Begins self.new.text.items (self.old.text.items ++ answer (setting V.name V.gives hub.old) (world S.rows hub.old) self.old.number (spelled (setting V.name V.gives hub.old).is_hosted line))) }
         ensures counted { IsCounted (failures_of S.failures) (is_clean S.clean) hub.old hub.new (result ≡ Err line_fault.Store) }
     {
-        match read_held(alloc, hub.hosted(), held)? {
+        let said = read_held(alloc, hub.hosted(), held)?;
+        self.said(alloc, hub, &said)?;
+        self.number += 1;
+        Ok(())
+    }
+
+    /// Answers what a line says.
+    fn said<S: Store + Drop, V: VendorHandler>(
+        &mut self,
+        alloc: Global,
+        hub: &mut Hub<S, V>,
+        said: &Line,
+    ) -> Result<(), LineFault>
+        ensures number { self.new.number ≡ self.old.number }
+        ensures setting { setting V.name V.gives hub.new ≡ setting V.name V.gives hub.old }
+        ensures world { is_clean S.clean hub.new → OnOk result (world S.rows hub.new
+            ≡ after (setting V.name V.gives hub.old) (world S.rows hub.old) said.now) }
+        ensures text { is_clean S.clean hub.new → OnOk result (self.new.text.items
+            ≡ self.old.text.items ++ answer (setting V.name V.gives hub.old) (world S.rows hub.old) self.old.number said.now) }
+        ensures fault_world { is_clean S.clean hub.new → OnErr result (IsStep (setting V.name V.gives hub.old) (world S.rows hub.old)
+            said.now (world S.rows hub.new)) }
+        ensures fault_text { is_clean S.clean hub.new → OnErr result (Begins self.new.text.items
+            (self.old.text.items ++ answer (setting V.name V.gives hub.old) (world S.rows hub.old) self.old.number said.now)) }
+        ensures counted { IsCounted (failures_of S.failures) (is_clean S.clean) hub.old hub.new (IsOfHosted (setting V.name V.gives hub.old).is_hosted said.now × (result ≡ Err line_fault.Store)) }
+    {
+        match said {
             Line::Nothing => {}
-            Line::Event(event) => self.event(alloc, hub, &event)?,
+            Line::Event(event) => self.event(alloc, hub, event)?,
             Line::Bad => push_bad(&mut self.text, alloc, self.number)?,
         }
-        self.number += 1;
         Ok(())
     }
 

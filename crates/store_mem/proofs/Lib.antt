@@ -1,4 +1,12 @@
 pub mod Kept
+pub mod RowLaws
 pub mod StationRowsLaws
+pub mod GroupLaws
+pub mod RoomLaws
+pub mod DroppedLaws
+pub mod TripleLaws
+pub mod ReceivedLaws
+pub mod GrantedLaws
 pub mod OpenLaws
 pub mod NewRows
+pub mod Named

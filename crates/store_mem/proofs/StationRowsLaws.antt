@@ -19,28 +19,9 @@ use Rattle.hub_rows.proofs.ListLaws.{keys_total, by_key_total, all-weaker, put-f
 use Rattle.hub_rows.proofs.PlaceLaws.{all-back, map-append, map-none, put-passed, put-gap}
 use Rattle.store_mem.specs.declared.station_rows.StationRows.{StationRows}
 use Rattle.store_mem.specs.ByStation.{number_key, group_key, all_rows, AreOf, AreGrouped}
+use Rattle.store_mem.proofs.RowLaws.{all-append, all-front, all-both, filter-all, filter-no, sorted-kept, sorted-swap}
 
 -- ---- lists
-
-pub all-append : {R : Type 0} (P : R → Type 0) (xs ys : List R) → AllByRecursion P xs → AllByRecursion P ys → AllByRecursion P (xs ++ ys)
-all-append P [] ys all more = more
-all-append P (x ∷ xs) ys all more = (all.0, all-append P xs ys all.1 more)
-
-pub all-front : {R : Type 0} (P : R → Type 0) (front back : List R) → AllByRecursion P (front ++ back) → AllByRecursion P front
-all-front P [] back all = tt
-all-front P (x ∷ front) back all = (all.0, all-front P front back all.1)
-
-pub all-both : {R : Type 0} (P Q : R → Type 0) (xs : List R) → AllByRecursion P xs → AllByRecursion Q xs → AllByRecursion (λ x. P x × Q x) xs
-all-both P Q [] all more = tt
-all-both P Q (x ∷ xs) all more = ((all.0, more.0), all-both P Q xs all.1 more.1)
-
-pub filter-all : {R : Type 0} (t : R → Bool) (xs : List R) → AllByRecursion (λ r. t r ≡ true) xs → filter t xs ≡ xs
-filter-all t [] all = refl
-filter-all t (x ∷ xs) all = λ i. cond (all.0 i) (x ∷ filter-all t xs all.1 i) (filter-all t xs all.1 i)
-
-pub filter-no : {R : Type 0} (t : R → Bool) (xs : List R) → AllByRecursion (λ r. t r ≡ false) xs → filter t xs ≡ []
-filter-no t [] all = refl
-filter-no t (x ∷ xs) all = λ i. cond (all.0 i) (x ∷ filter-no t xs all.1 i) (filter-no t xs all.1 i)
 
 pub map-same : {R : Type 0} (t u : R → Bool) (f : R → R) (xs : List R) → AllByRecursion (λ r. t r ≡ u r) xs → map (λ r. cond (t r) (f r) r) xs ≡ map (λ r. cond (u r) (f r) r) xs
 map-same t u f [] all = refl
@@ -73,40 +54,6 @@ pub sorted-append : {R : Type 0} (cmp : R → R → Ordering) (xs ys : List R) �
 unfolding IsStrictlySortedBy
 sorted-append cmp [] ys sorted more across = more
 sorted-append cmp (x ∷ xs) ys sorted more across = (all-append (λ y. cmp x y ≡ Less) xs ys sorted.0 across.0, sorted-append cmp xs ys sorted.1 more across.1)
-
--- the order depends on the keys alone
-module _ {R : Type 0} (key : R → List (List ℕ)) where
-  keys-up : (P : List (List ℕ) → Type 0) (xs : List R) → AllByRecursion (λ x. P (key x)) xs → AllByRecursion P (map key xs)
-  keys-up P [] all = tt
-  keys-up P (x ∷ xs) all = (all.0, keys-up P xs all.1)
-
-  keys-down : (P : List (List ℕ) → Type 0) (xs : List R) → AllByRecursion P (map key xs) → AllByRecursion (λ x. P (key x)) xs
-  keys-down P [] all = tt
-  keys-down P (x ∷ xs) all = (all.0, keys-down P xs all.1)
-
-  sorted-up : (xs : List R) → IsStrictlySortedBy (by_key key) xs → IsStrictlySortedBy key_cmp (map key xs)
-  unfolding IsStrictlySortedBy
-  sorted-up [] sorted = tt
-  sorted-up (x ∷ xs) sorted = (keys-up (λ k. key_cmp (key x) k ≡ Less) xs sorted.0, sorted-up xs sorted.1)
-
-  sorted-down : (xs : List R) → IsStrictlySortedBy key_cmp (map key xs) → IsStrictlySortedBy (by_key key) xs
-  unfolding IsStrictlySortedBy
-  sorted-down [] sorted = tt
-  sorted-down (x ∷ xs) sorted = (keys-down (λ k. key_cmp (key x) k ≡ Less) xs sorted.0, sorted-down xs sorted.1)
-
-  -- a change that keeps the keys
-  pub sorted-kept : (g : R → R) → ((r : R) → key (g r) ≡ key r) → (xs : List R) → IsStrictlySortedBy (by_key key) xs → IsStrictlySortedBy (by_key key) (map g xs)
-  sorted-kept g same xs sorted = sorted-down (map g xs) (subst (IsStrictlySortedBy key_cmp) (sym (same-keys xs)) (sorted-up xs sorted))
-    where
-      same-keys : (xs : List R) → map key (map g xs) ≡ map key xs
-      same-keys [] = refl
-      same-keys (x ∷ xs) = λ i. same x i ∷ same-keys xs i
-
-  pub sorted-swap : (front back : List R) (x y : R) → key y ≡ key x → IsStrictlySortedBy (by_key key) (front ++ x ∷ back) → IsStrictlySortedBy (by_key key) (front ++ y ∷ back)
-  sorted-swap front back x y same sorted =
-      sorted-down (front ++ y ∷ back) (subst (IsStrictlySortedBy key_cmp)
-      (map-append key front (x ∷ back) ∙ (λ i. map key front ++ sym same i ∷ map key back) ∙ sym (map-append key front (y ∷ back)))
-      (sorted-up (front ++ x ∷ back) sorted))
 
 -- ---- parts of keys
 

@@ -1,4 +1,6 @@
 pub mod Stations
 pub mod ByStation
+pub mod Groups
 pub mod Lists
 pub mod Open
+pub mod Received

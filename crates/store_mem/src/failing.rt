@@ -2,10 +2,11 @@
 ghost use Rattle.std.specs.Prelude.{◌≡◌, ◌+◌, Some, OnOk, OnErr};
 
 use hub_rows::{
-    Change, ConnectorRow, LastNumbers, ReadingRow, Registration, StartKey, StationRow, Store,
-    StoreFault, Tag, TagRow, TxKey, TxRow, TxState,
+    Change, ConnectorRow, GrantRow, GrantedTag, Info, LastNumbers, LocalList, ReadingRow,
+    Registration, ReservationId, ReservationRow, StartKey, StationRow, Store, StoreFault, TagRow,
+    TxKey, TxRow, TxState,
 };
-use ocpp_types::{Listed, TagKey};
+use ocpp_types::{Listed, Moment, TagKey};
 
 /// A store that answers one call with Failed, and hands on all others.
 #[derive(Drop)]
@@ -63,9 +64,19 @@ impl<S: Store> Store for Failing<S> {
         self.store.station(op, station)
     }
 
-    fn own_tag(&mut self, op: &str, key: &TagKey) -> Result<Option<Tag>, StoreFault> {
+    fn own_tag(&mut self, op: &str, key: &TagKey) -> Result<Option<Info>, StoreFault> {
         self.count_call()?;
         self.store.own_tag(op, key)
+    }
+
+    fn granted_tag(&mut self, op: &str, key: &TagKey) -> Result<Option<Info>, StoreFault> {
+        self.count_call()?;
+        self.store.granted_tag(op, key)
+    }
+
+    fn has_grant(&mut self, op: &str, key: &TagKey, to: &str) -> Result<bool, StoreFault> {
+        self.count_call()?;
+        self.store.has_grant(op, key, to)
     }
 
     fn is_used(
@@ -103,6 +114,21 @@ impl<S: Store> Store for Failing<S> {
         self.store.last_numbers(op, station)
     }
 
+    fn reserved_until(
+        &mut self,
+        op: &str,
+        station: &str,
+        id: ReservationId,
+    ) -> Result<Option<Moment>, StoreFault> {
+        self.count_call()?;
+        self.store.reserved_until(op, station, id)
+    }
+
+    fn local_list(&mut self, op: &str, station: &str) -> Result<Option<LocalList>, StoreFault> {
+        self.count_call()?;
+        self.store.local_list(op, station)
+    }
+
     fn stations(&mut self, op: &str) -> Result<Listed<StationRow>, StoreFault> {
         self.count_call()?;
         self.store.stations(op)
@@ -111,6 +137,16 @@ impl<S: Store> Store for Failing<S> {
     fn tags(&mut self, op: &str) -> Result<Listed<TagRow>, StoreFault> {
         self.count_call()?;
         self.store.tags(op)
+    }
+
+    fn grants_out(&mut self, op: &str) -> Result<Listed<GrantRow>, StoreFault> {
+        self.count_call()?;
+        self.store.grants_out(op)
+    }
+
+    fn granted(&mut self, op: &str) -> Result<Listed<GrantedTag>, StoreFault> {
+        self.count_call()?;
+        self.store.granted(op)
     }
 
     fn connectors(&mut self, op: &str, station: &str) -> Result<Listed<ConnectorRow>, StoreFault> {
@@ -131,6 +167,15 @@ impl<S: Store> Store for Failing<S> {
     ) -> Result<Listed<ReadingRow>, StoreFault> {
         self.count_call()?;
         self.store.readings(op, station, transaction)
+    }
+
+    fn reservations(
+        &mut self,
+        op: &str,
+        station: &str,
+    ) -> Result<Listed<ReservationRow>, StoreFault> {
+        self.count_call()?;
+        self.store.reservations(op, station)
     }
 
     fn apply(&mut self, change: &Change) -> Result<(), StoreFault> {

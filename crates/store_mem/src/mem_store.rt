@@ -6,24 +6,30 @@ ghost use Rattle.hub_rows.specs.Rows.{no_rows};
 ghost use Rattle.hub_rows.specs.WellFormed.{WellFormedRows};
 ghost use Rattle.hub_rows.specs.Changes.{edit, with_stop, EditFits};
 ghost use Rattle.hub_rows.specs.Transactions.{is_tx};
-ghost use Rattle.hub_rows.specs.declared.change.Edit.TheVariants.{TxStarted, ReadingsAdded};
-ghost use Rattle.store_mem.specs.Lists.{rows_in, AreByStation};
+ghost use Rattle.hub_rows.specs.declared.change.Edit.TheVariants.{StationAdded, BootSeen, PolicySet, ConnectorSeen, TagPut, TagDropped, GrantPut, GrantDropped, TxStarted, ReadingsAdded, ReservationPut, ReservationDropped, ListSet};
+ghost use Rattle.store_mem.specs.Lists.{rows_in, AreByStation, AreByOperator};
 ghost use Rattle.store_mem.specs.Open.{opens_of};
 
 use crate::copies::{connectors_of, copies, own_copies};
+use crate::granted::{granted, granted_tag};
+use crate::groups::{put_in_group, rows_of_group};
 use crate::lists::Lists;
+use crate::local_lists::{copy_of, local_list_of};
 use crate::open::{OpenRow, close, is_used};
 use crate::readings::{add_readings, readings_of};
+use crate::reservations::{drop_named, drop_reservation, reservations_of, reserved_until};
 use crate::started::{start_tx, started};
 use crate::station_rows::{StationRows, last_number, rows_of};
 use crate::stations::{StationChange, change_station, registration_of};
-use crate::tags::own_tag;
+use crate::tags::{drop_tag, own_tag};
 use crate::transactions::{has_open, same_start, stop_tx, tx_state};
 use hub_rows::{
-    Change, ConnectorRow, Edit, LastNumbers, Reading, ReadingRow, Registration, Start, StartKey,
-    StationRow, Stop, Store, StoreFault, Tag, TagRow, TxKey, TxRow, TxState, put_row, remove_row,
+    Boot, Change, ConnectorReport, ConnectorRow, Edit, GrantRow, GrantedTag, Info, LastNumbers,
+    ListRow, LocalList, Reading, ReadingRow, Registration, Reservation, ReservationId,
+    ReservationRow, Start, StartKey, StationRow, Stop, Store, StoreFault, Tag, TagRow, TxKey,
+    TxRow, TxState, put_row,
 };
-use ocpp_types::{Listed, Mem, State, TagKey, Text};
+use ocpp_types::{Listed, Mem, Moment, Policy, State, TagKey, Text};
 use std::alloc::Global;
 
 /// Records in memory. It is always clean, and want of memory is its only failure.
@@ -35,6 +41,7 @@ pub struct MemStore {
     opens: Vec<OpenRow>,
     ghost good: { WellFormedRows (rows_in lists) } by { Prim.hlevel props },
     ghost by_station: { AreByStation lists } by { Prim.hlevel props },
+    ghost by_operator: { AreByOperator lists } by { Prim.hlevel props },
     ghost in_use: { opens.items ≡ opens_of (rows_in lists).transactions } by { Prim.hlevel props },
 }
 
@@ -52,7 +59,160 @@ impl MemStore {
 }
 
 impl MemStore {
-    /// Adds a transaction behind those of its station.
+    /// Adds a station, which is Fresh.
+    fn add_station(&mut self, op: &Text, station: &Text, policy: Policy, interval: u32) -> Mem<()>
+        requires { EditFits op.now (StationAdded station.now policy interval) (rows_in self.old.lists) }
+        ensures ok { OnOk result (⟦<MemStore as Store>⟧.rows self.new ≡ edit op.now (StationAdded station.now policy interval) (⟦<MemStore as Store>⟧.rows self.old)) }
+        ensures err { OnErr result (⟦<MemStore as Store>⟧.rows self.new ≡ ⟦<MemStore as Store>⟧.rows self.old) }
+    {
+        let row = StationRow {
+            op: op.clone()?,
+            station: station.clone()?,
+            policy,
+            interval,
+            state: State::Fresh,
+            boot: None,
+        };
+        put_row(&mut self.lists.stations, row)?;
+        Ok(())
+    }
+
+    /// Keeps a boot of a station in place of the one before, and the state that it leads to.
+    fn see_boot(&mut self, op: &Text, station: &Text, boot: &Boot, state: State) -> Mem<()>
+        ensures ok { OnOk result (⟦<MemStore as Store>⟧.rows self.new ≡ edit op.now (BootSeen station.now boot.now state) (⟦<MemStore as Store>⟧.rows self.old)) }
+        ensures err { OnErr result (⟦<MemStore as Store>⟧.rows self.new ≡ ⟦<MemStore as Store>⟧.rows self.old) }
+    {
+        let boot = boot.clone()?;
+        let booted = StationChange::Booted { boot, state };
+        change_station(&mut self.lists.stations, op, station, booted);
+        Ok(())
+    }
+
+    /// Sets what a station's next boot is answered, which can't fail.
+    fn set_policy(&mut self, op: &Text, station: &Text, policy: Policy, interval: u32)
+        ensures { ⟦<MemStore as Store>⟧.rows self.new ≡ edit op.now (PolicySet station.now policy interval) (⟦<MemStore as Store>⟧.rows self.old) }
+    {
+        let set = StationChange::PolicySet { policy, interval };
+        change_station(&mut self.lists.stations, op, station, set);
+    }
+
+    /// Keeps a report on a connector, in place of the one before.
+    fn put_connector(
+        &mut self,
+        op: &Text,
+        station: &Text,
+        connector: u8,
+        report: &ConnectorReport,
+    ) -> Mem<()>
+        requires { EditFits op.now (ConnectorSeen station.now connector report.now) (rows_in self.old.lists) }
+        ensures ok { OnOk result (⟦<MemStore as Store>⟧.rows self.new ≡ edit op.now (ConnectorSeen station.now connector report.now) (⟦<MemStore as Store>⟧.rows self.old)) }
+        ensures err { OnErr result (⟦<MemStore as Store>⟧.rows self.new ≡ ⟦<MemStore as Store>⟧.rows self.old) }
+    {
+        let row = ConnectorRow {
+            op: op.clone()?,
+            station: station.clone()?,
+            connector,
+            report: report.clone()?,
+        };
+        put_row(&mut self.lists.connectors, row)?;
+        Ok(())
+    }
+
+    /// Keeps a tag, in place of the one with its key.
+    fn put_tag(&mut self, op: &Text, key: &TagKey, tag: &Tag) -> Mem<()>
+        requires { EditFits op.now (TagPut key.now tag.now) (rows_in self.old.lists) }
+        ensures ok { OnOk result (⟦<MemStore as Store>⟧.rows self.new ≡ edit op.now (TagPut key.now tag.now) (⟦<MemStore as Store>⟧.rows self.old)) }
+        ensures err { OnErr result (⟦<MemStore as Store>⟧.rows self.new ≡ ⟦<MemStore as Store>⟧.rows self.old) }
+    {
+        let row = TagRow {
+            op: op.clone()?,
+            key: key.clone()?,
+            tag: tag.clone()?,
+        };
+        put_in_group(self.alloc, &mut self.lists.tags, row)
+    }
+
+    /// Takes the tag of a key out, with its grants, which can't fail.
+    fn drop_tag(&mut self, op: &Text, key: &TagKey)
+        ensures { ⟦<MemStore as Store>⟧.rows self.new ≡ edit op.now (TagDropped key.now) (⟦<MemStore as Store>⟧.rows self.old) }
+    {
+        let op = op.as_str();
+        let key = key.as_str();
+        self.lists.grants.drop_of_tag(op, key);
+        drop_tag(&mut self.lists.tags, op, key);
+    }
+
+    /// Keeps a grant of a tag, in place of the one to that operator.
+    fn put_grant(&mut self, op: &Text, key: &TagKey, to: &Text, until: Option<Moment>) -> Mem<()>
+        requires { EditFits op.now (GrantPut key.now to.now until) (rows_in self.old.lists) }
+        ensures ok { OnOk result (⟦<MemStore as Store>⟧.rows self.new ≡ edit op.now (GrantPut key.now to.now until) (⟦<MemStore as Store>⟧.rows self.old)) }
+        ensures err { OnErr result (⟦<MemStore as Store>⟧.rows self.new ≡ ⟦<MemStore as Store>⟧.rows self.old) }
+    {
+        let row = GrantRow {
+            op: op.clone()?,
+            key: key.clone()?,
+            to: to.clone()?,
+            until,
+        };
+        self.lists.grants.put(self.alloc, row)
+    }
+
+    /// Takes a grant of a tag out, which can't fail.
+    fn drop_grant(&mut self, op: &Text, key: &TagKey, to: &Text)
+        ensures { ⟦<MemStore as Store>⟧.rows self.new ≡ edit op.now (GrantDropped key.now to.now) (⟦<MemStore as Store>⟧.rows self.old) }
+    {
+        let grants = &mut self.lists.grants;
+        grants.drop_one(op.as_str(), key.as_str(), to.as_str());
+    }
+
+    /// Keeps a reservation, in place of the one with its id.
+    fn put_reservation(
+        &mut self,
+        op: &Text,
+        station: &Text,
+        id: ReservationId,
+        reservation: &Reservation,
+    ) -> Mem<()>
+        requires { EditFits op.now (ReservationPut station.now id reservation.now) (rows_in self.old.lists) }
+        ensures ok { OnOk result (⟦<MemStore as Store>⟧.rows self.new ≡ edit op.now (ReservationPut station.now id reservation.now) (⟦<MemStore as Store>⟧.rows self.old)) }
+        ensures err { OnErr result (⟦<MemStore as Store>⟧.rows self.new ≡ ⟦<MemStore as Store>⟧.rows self.old) }
+    {
+        let row = ReservationRow {
+            op: op.clone()?,
+            station: station.clone()?,
+            id,
+            reservation: reservation.clone()?,
+        };
+        put_row(&mut self.lists.reservations, row)?;
+        Ok(())
+    }
+
+    /// Takes a reservation out, which can't fail.
+    fn drop_reservation(&mut self, op: &Text, station: &Text, id: ReservationId)
+        ensures { ⟦<MemStore as Store>⟧.rows self.new ≡ edit op.now (ReservationDropped station.now id) (⟦<MemStore as Store>⟧.rows self.old) }
+    {
+        let rows = &mut self.lists.reservations;
+        drop_reservation(rows, op.as_str(), station.as_str(), id);
+    }
+
+    /// Keeps the local list of a station, in place of the one before.
+    fn set_list(&mut self, op: &Text, station: &Text, list: &LocalList) -> Mem<()>
+        requires { EditFits op.now (ListSet station.now list.now) (rows_in self.old.lists) }
+        ensures ok { OnOk result (⟦<MemStore as Store>⟧.rows self.new ≡ edit op.now (ListSet station.now list.now) (⟦<MemStore as Store>⟧.rows self.old)) }
+        ensures err { OnErr result (⟦<MemStore as Store>⟧.rows self.new ≡ ⟦<MemStore as Store>⟧.rows self.old) }
+    {
+        let row = ListRow {
+            op: op.clone()?,
+            station: station.clone()?,
+            list: copy_of(self.alloc, list)?,
+        };
+        put_row(&mut self.lists.local_lists, row)?;
+        Ok(())
+    }
+}
+
+impl MemStore {
+    /// Adds a transaction behind those of its station, and takes out the reservation that it names.
     fn start_tx(&mut self, op: &Text, station: &Text, number: u32, start: &Start) -> Mem<()>
         requires { EditFits op.now (TxStarted station.now number start.now) (rows_in self.old.lists) }
         ensures ok { OnOk result (⟦<MemStore as Store>⟧.rows self.new ≡ edit op.now (TxStarted station.now number start.now) (⟦<MemStore as Store>⟧.rows self.old)) }
@@ -66,7 +226,14 @@ impl MemStore {
             op,
             station,
             row,
-        )
+        )?;
+        drop_named(
+            &mut self.lists.reservations,
+            op.as_str(),
+            station.as_str(),
+            start.reservation,
+        );
+        Ok(())
     }
 
     /// Stops a transaction, which can't fail.
@@ -115,8 +282,18 @@ impl Store for MemStore {
         Ok(registration_of(&self.lists.stations, op, station))
     }
 
-    fn own_tag(&mut self, op: &str, key: &TagKey) -> Result<Option<Tag>, StoreFault> {
-        Ok(own_tag(self.alloc, &self.lists.tags, op, key)?)
+    fn own_tag(&mut self, op: &str, key: &TagKey) -> Result<Option<Info>, StoreFault> {
+        let tags = rows_of_group(&self.lists.tags, op);
+        Ok(own_tag(self.alloc, tags, op, key)?)
+    }
+
+    fn granted_tag(&mut self, op: &str, key: &TagKey) -> Result<Option<Info>, StoreFault> {
+        let Lists { tags, grants, .. } = &self.lists;
+        Ok(granted_tag(self.alloc, tags, grants, op, key.as_str())?)
+    }
+
+    fn has_grant(&mut self, op: &str, key: &TagKey, to: &str) -> Result<bool, StoreFault> {
+        Ok(self.lists.grants.has(op, key.as_str(), to))
     }
 
     fn is_used(
@@ -152,12 +329,35 @@ impl Store for MemStore {
         })
     }
 
+    fn reserved_until(
+        &mut self,
+        op: &str,
+        station: &str,
+        id: ReservationId,
+    ) -> Result<Option<Moment>, StoreFault> {
+        Ok(reserved_until(&self.lists.reservations, op, station, id))
+    }
+
+    fn local_list(&mut self, op: &str, station: &str) -> Result<Option<LocalList>, StoreFault> {
+        Ok(local_list_of(self.alloc, &self.lists.local_lists, op, station)?)
+    }
+
     fn stations(&mut self, op: &str) -> Result<Listed<StationRow>, StoreFault> {
         Ok(own_copies(self.alloc, &self.lists.stations, op)?)
     }
 
     fn tags(&mut self, op: &str) -> Result<Listed<TagRow>, StoreFault> {
-        Ok(own_copies(self.alloc, &self.lists.tags, op)?)
+        Ok(copies(self.alloc, rows_of_group(&self.lists.tags, op))?)
+    }
+
+    fn grants_out(&mut self, op: &str) -> Result<Listed<GrantRow>, StoreFault> {
+        let given = rows_of_group(&self.lists.grants.given, op);
+        Ok(copies(self.alloc, given)?)
+    }
+
+    fn granted(&mut self, op: &str) -> Result<Listed<GrantedTag>, StoreFault> {
+        let Lists { tags, grants, .. } = &self.lists;
+        Ok(granted(self.alloc, tags, grants, op)?)
     }
 
     fn connectors(&mut self, op: &str, station: &str) -> Result<Listed<ConnectorRow>, StoreFault> {
@@ -177,72 +377,46 @@ impl Store for MemStore {
         Ok(readings_of(self.alloc, &self.lists.readings, op, station, transaction)?)
     }
 
+    fn reservations(
+        &mut self,
+        op: &str,
+        station: &str,
+    ) -> Result<Listed<ReservationRow>, StoreFault> {
+        Ok(reservations_of(self.alloc, &self.lists.reservations, op, station)?)
+    }
+
     fn apply(&mut self, change: &Change) -> Result<(), StoreFault> {
+        let op = &change.op;
         match &change.edit {
             Edit::StationAdded {
                 station,
                 policy,
                 interval,
-            } => {
-                let row = StationRow {
-                    op: change.op.clone()?,
-                    station: station.clone()?,
-                    policy: *policy,
-                    interval: *interval,
-                    state: State::Fresh,
-                    boot: None,
-                };
-                put_row(&mut self.lists.stations, row)?;
-            }
+            } => self.add_station(op, station, *policy, *interval)?,
             Edit::BootSeen {
                 station,
                 boot,
                 state,
-            } => {
-                let boot = boot.clone()?;
-                let state = *state;
-                let booted = StationChange::Booted { boot, state };
-                change_station(&mut self.lists.stations, &change.op, station, booted);
-            }
+            } => self.see_boot(op, station, boot, *state)?,
             Edit::PolicySet {
                 station,
                 policy,
                 interval,
-            } => {
-                let policy = *policy;
-                let interval = *interval;
-                let set = StationChange::PolicySet { policy, interval };
-                change_station(&mut self.lists.stations, &change.op, station, set);
-            }
+            } => self.set_policy(op, station, *policy, *interval),
             Edit::ConnectorSeen {
                 station,
                 connector,
                 report,
-            } => {
-                let row = ConnectorRow {
-                    op: change.op.clone()?,
-                    station: station.clone()?,
-                    connector: *connector,
-                    report: report.clone()?,
-                };
-                put_row(&mut self.lists.connectors, row)?;
-            }
-            Edit::TagPut { key, tag } => {
-                let row = TagRow {
-                    op: change.op.clone()?,
-                    key: key.clone()?,
-                    tag: tag.clone()?,
-                };
-                put_row(&mut self.lists.tags, row)?;
-            }
-            Edit::TagDropped { key } => {
-                remove_row(&mut self.lists.tags, change.op.as_str(), key.as_str());
-            }
+            } => self.put_connector(op, station, *connector, report)?,
+            Edit::TagPut { key, tag } => self.put_tag(op, key, tag)?,
+            Edit::TagDropped { key } => self.drop_tag(op, key),
+            Edit::GrantPut { key, to, until } => self.put_grant(op, key, to, *until)?,
+            Edit::GrantDropped { key, to } => self.drop_grant(op, key, to),
             Edit::TxStarted {
                 station,
                 number,
                 start,
-            } => self.start_tx(&change.op, station, *number, start)?,
+            } => self.start_tx(op, station, *number, start)?,
             Edit::TxStopped {
                 station,
                 number,
@@ -251,14 +425,21 @@ impl Store for MemStore {
                 readings,
             } => {
                 let stop = stop.clone()?;
-                self.add_readings(&change.op, station, *first, readings.as_slice())?;
-                self.stop_tx(&change.op, station, *number, stop);
+                self.add_readings(op, station, *first, readings.as_slice())?;
+                self.stop_tx(op, station, *number, stop);
             }
             Edit::ReadingsAdded {
                 station,
                 first,
                 readings,
-            } => self.add_readings(&change.op, station, *first, readings.as_slice())?,
+            } => self.add_readings(op, station, *first, readings.as_slice())?,
+            Edit::ReservationPut {
+                station,
+                id,
+                reservation,
+            } => self.put_reservation(op, station, *id, reservation)?,
+            Edit::ReservationDropped { station, id } => self.drop_reservation(op, station, *id),
+            Edit::ListSet { station, list } => self.set_list(op, station, list)?,
         }
         Ok(())
     }

@@ -1,26 +1,33 @@
-//! Id tags in the order of their operators and keys.
+//! Id tags, kept in groups by their operators.
 ghost use Rattle.std.specs.Prelude.{◌≡◌, IfOk, option_map};
 ghost use Rattle.std.specs.List.Sorted.{IsStrictlySortedBy};
-ghost use Rattle.hub_rows.specs.Keyed.{by_key};
+ghost use Rattle.std.specs.Str.{bytes_eq};
+ghost use Rattle.hub_rows.specs.Keyed.{by_key, without};
 ghost use Rattle.hub_rows.specs.Rows.{tag_key};
 ghost use Rattle.hub_rows.specs.Tags.{own_tag_in, tag_in, is_blocked, is_parent_blocked};
+ghost use Rattle.store_mem.specs.Groups.{all_of, AreGroups};
 
-use hub_rows::{Tag, TagRow, row_of};
-use ocpp_types::{Mem, TagKey, Text};
+use crate::groups::{Group, place_of_group};
+use hub_rows::{Info, TagRow, remove_row, row_of};
+use ocpp_types::{Mem, TagKey, Text, copied};
 use std::alloc::Global;
 
 /// The tag of a key as it counts: blocked by itself or by its parent.
-pub fn own_tag(alloc: Global, tags: &[TagRow], op: &str, key: &TagKey) -> Mem<Option<Tag>>
+pub fn own_tag(alloc: Global, tags: &[TagRow], op: &str, key: &TagKey) -> Mem<Option<Info>>
     requires { IsStrictlySortedBy (by_key tag_key) tags.now }
     ensures { IfOk result (λ t. t ≡ own_tag_in op.now key.now tags.now) }
 {
     let Some(row) = row_of(tags, op, key.as_str()) else {
         return Ok(None);
     };
-    let by_parent = is_parent_blocked(alloc, tags, op, &row.tag.parent)?;
-    let tag = row.tag.clone()?;
-    let blocked = tag.blocked || by_parent;
-    Ok(Some(Tag { blocked, ..tag }))
+    let tag = &row.tag;
+    let by_parent = is_parent_blocked(alloc, tags, op, &tag.parent)?;
+    Ok(Some(Info {
+        text: tag.text.clone()?,
+        parent: copied(&tag.parent)?,
+        blocked: tag.blocked || by_parent,
+        expiry: tag.expiry,
+    }))
 }
 
 fn is_parent_blocked(alloc: Global, tags: &[TagRow], op: &str, parent: &Option<Text>) -> Mem<bool>
@@ -40,5 +47,17 @@ fn is_blocked(row: Option<&TagRow>) -> bool
     match row {
         Some(row) => row.tag.blocked,
         None => false,
+    }
+}
+
+/// Takes the tag of a key out, if it is there.
+pub fn drop_tag(groups: &mut Vec<Group<TagRow>>, op: &str, key: &str)
+    requires { AreGroups tag_key (λ r. r.op) groups.old.items }
+    ensures groups { AreGroups tag_key (λ r. r.op) groups.new.items }
+    ensures rows { all_of groups.new.items
+        ≡ without (λ r. r.op) op.now (λ r. bytes_eq r.key key.now) (all_of groups.old.items) }
+{
+    if let Ok(place) = place_of_group(groups.as_slice(), op) {
+        remove_row(&mut groups[place].rows, op, key);
     }
 }

@@ -3,7 +3,9 @@
 use anyhow::{Result, bail};
 use ocpp_payload::FieldFault;
 use ocpp_types::Named;
-use operator_cmds::{action_name_of, bad_field, read_answer, read_command, write_request};
+use operator_cmds::{
+    action_name_of, bad_field, is_accepted, read_answer, read_command, write_request,
+};
 use serde_json::Value;
 use std::alloc::Global;
 
@@ -36,6 +38,17 @@ pub fn answer_told(alloc: Global, action: &str, payload: &str, answer: &str) -> 
         }
         Err(fault) => fault_told(alloc, &fault),
     }
+}
+
+/// Whether the known members of an answer accept the command.
+pub fn command_accepted(alloc: Global, answer: &str) -> Result<String> {
+    let answer = Value::from_str(alloc, answer)?;
+    let told = if is_accepted(&answer) {
+        "accepted"
+    } else {
+        "not accepted"
+    };
+    Ok(told.to_string(alloc)?)
 }
 
 fn fault_told(alloc: Global, fault: &FieldFault) -> Result<String> {

@@ -1,6 +1,6 @@
 //! The function of each table.
 
-use crate::commands::{answer_told, command_sent};
+use crate::commands::{answer_told, command_accepted, command_sent};
 use crate::enumerations::{class_of_action, name_read};
 use crate::frames::{frame_read, frame_written};
 use crate::requests::request_read;
@@ -13,6 +13,7 @@ use std::alloc::Global;
 /// What the function of that table gives for those texts.
 pub fn given(alloc: Global, table: &str, texts: &[String]) -> Result<String> {
     match (table, texts) {
+        ("accepted_commands", [answer]) => command_accepted(alloc, answer.as_str()),
         ("action_classes", [name]) => class_of_action(alloc, name.as_str()),
         ("answers_of_stations", [action, payload, answer]) => {
             answer_told(alloc, action.as_str(), payload.as_str(), answer.as_str())

@@ -1,11 +1,11 @@
 use Rattle.std.proofs.Common.{◌≡◌, ◌∙◌, ap, sym}
 use Rattle.pending_calls.specs.Slots.{all_slots, first_number}
-use Rattle.hub.specs.declared.plan.Effect.TheVariants as effect
+use Rattle.event_plans.specs.declared.plan.Effect.TheVariants as effect
 use Rattle.hub.specs.Effects.{slots_after}
 use Rattle.hub.proofs.commit.apply.Goals as goal
 
 pub returns-in_ok-ended-in-Connect-clause-slots : goal.returns-in_ok-ended-in-Connect-clause-slots
-returns-in_ok-ended-in-Connect-clause-slots g c = λ clean.
+returns-in_ok-ended-in-Connect-clause-slots g c =
     let s = c.args.slots.now in
     let done : all_slots c.connect.new.self ≡ slots_after (first_number s) c.as_str.result.now c.args.moment (effect.Connect c.as_str-in-Connect.result.now) (all_slots s) = c.in_ok-ended-in-Connect.ensures.ok in
     done

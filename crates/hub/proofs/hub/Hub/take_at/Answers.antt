@@ -6,7 +6,7 @@ use Rattle.pending_calls.specs.Slots.{first_number}
 use Rattle.hub.specs.Effects.{edit_of}
 use Rattle.hub.specs.Hub.{world, setting}
 use Rattle.hub.specs.World.{Setting, World}
-use Rattle.hub.proofs.Committing.{edit_of_plan_fits, effect_of_plan_ready}
+use Rattle.hub.proofs.Committing.{edit_of_plan_fits}
 use Rattle.hub.proofs.hub.Hub.take_at.Goals as goal
 
 pub commit-requires-clause-fits : goal.commit-requires-clause-fits
@@ -16,14 +16,7 @@ commit-requires-clause-fits g c = λ clean.
     let w : World = world g.S.Store.rows c.args.self.now in
     let p = c.in_ok-plan.plan in
     subst (λ rows. ForSome (edit_of p.effect) (λ e. EditFits c.args.op.now e rows)) (sym (c.in_ok-plan.ensures.reads.kept clean))
-    (edit_of_plan_fits st.first_number st.answers c.args.op.now c.args.what.now c.args.moment w p (c.in_ok-plan.ensures.plan clean))
-
-pub commit-requires-clause-ready : goal.commit-requires-clause-ready
-unfolding setting
-commit-requires-clause-ready g c = λ clean.
-    let st : Setting = setting g.V.VendorHandler.name g.V.VendorHandler.gives c.args.self.now in
-    let w : World = world g.S.Store.rows c.args.self.now in
-    effect_of_plan_ready st.first_number st.answers c.args.op.now c.args.what.now c.args.moment w c.in_ok-plan.plan (c.in_ok-plan.ensures.plan clean)
+    (edit_of_plan_fits st.first_number st.is_hosted st.answers c.args.op.now c.args.what.now c.args.moment w p (rw c.as_slice-hosted.ensures.value at (c.in_ok-plan.ensures.plan clean)))
 
 pub returns-in_err-plan-clause-setting : goal.returns-in_err-plan-clause-setting
 unfolding setting

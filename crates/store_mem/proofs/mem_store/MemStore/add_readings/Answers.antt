@@ -18,5 +18,6 @@ invariant_of-self c =
       good = by_result (λ xs. WellFormedRows (record rows { readings = xs })) c.add_readings.result (all_rows c.add_readings.new.groups.items) (with_readings b st c.args.first c.args.readings.now rows.readings) rows.readings
           (well_formed-edit b (ReadingsAdded st c.args.first c.args.readings.now) rows s.good c.requires) s.good c.add_readings.ensures.ok c.add_readings.ensures.err;
       by_station = (s.by_station.0, c.add_readings.ensures.groups);
+      by_operator = s.by_operator;
       in_use = s.in_use;
     }

@@ -1,9 +1,12 @@
 use Rattle.std.proofs.Common.{[], sym, ap, ◌∙◌, subst}
 use Rattle.std.specs.List.Sorted.{IsStrictlySortedBy}
+use Rattle.hub_rows.specs.Rows.{tag_key}
 use Rattle.hub_rows.specs.WellFormed.{WellFormedRows}
 use Rattle.hub_rows.proofs.WellFormedLaws.{well_formed-no_rows}
 use Rattle.store_mem.specs.ByStation.{all_rows, AreGrouped}
+use Rattle.store_mem.specs.Groups.{AreGroups}
 use Rattle.store_mem.specs.Open.{opens_of}
+use Rattle.store_mem.proofs.GroupLaws.{no-groups}
 use Rattle.store_mem.proofs.mem_store.MemStore.new.Goals as goal
 
 none_grouped : {R : Type 0} (op station : R → _) (number : R → _) → AreGrouped op station number []
@@ -19,5 +22,6 @@ invariant_of-result c =
         subst (AreGrouped (λ r. r.op) (λ r. r.station) (λ r. r.number)) (sym l.transactions) (none_grouped (λ r. r.op) (λ r. r.station) (λ r. r.number)),
         subst (AreGrouped (λ r. r.op) (λ r. r.station) (λ r. r.number)) (sym l.readings) (none_grouped (λ r. r.op) (λ r. r.station) (λ r. r.number)),
       );
+      by_operator = subst (AreGroups tag_key (λ r. r.op)) (sym l.tags) (no-groups tag_key (λ r. r.op));
       in_use = c.new-2.ensures.items ∙ sym (ap (λ xs. opens_of (all_rows xs)) l.transactions);
     }

@@ -28,6 +28,7 @@ invariant_of-self c =
       good = subst (λ xs. WellFormedRows (record rows { transactions = xs })) (sym c.stop_tx.ensures.rows)
           (tx-stopped b rows s.good st n c.args.stop);
       by_station = (c.stop_tx.ensures.groups, s.by_station.1);
+      by_operator = s.by_operator;
       in_use = c.close.ensures ∙ ap (without (λ o. o.op) b (λ o. bytes_eq o.station st && o.number == n)) s.in_use
           ∙ sym (opens-stopped b st n c.args.stop txs) ∙ ap opens_of (sym c.stop_tx.ensures.rows);
     }

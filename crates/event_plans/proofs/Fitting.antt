@@ -1,0 +1,346 @@
+-- What the table changes fits the records.
+use Rattle.std.specs.Prelude.{◌≡◌, ◌≢◌, ℕ, ◌+◌, length, nat_le, List, [], ◌++◌, codes, cond, ◌&&◌, Option, None, Some, option_map, option_and_then, unwrap_or, Bool, true, false, Result, Ok, Err, is_some, IsSome, IfSome}
+use Rattle.std.specs.Option.{ForSome}
+use Rattle.std.proofs.lemmas.Bool.{leb-true, leb-false, true≢false}
+use Rattle.std.specs.Str.{bytes_eq}
+use Rattle.std.proofs.Common.{refl, sym, ◌∙◌, ap, subst, arith, inl, inr}
+use Rattle.serde_json.specs.Data.{Data}
+use Rattle.ocpp_types.specs.declared.error_code.ErrorCode.TheVariants as code
+use Rattle.ocpp_types.specs.declared.policy.Policy.{Policy}
+use Rattle.ocpp_types.specs.declared.refusal.Refusal.{Refusal}
+use Rattle.ocpp_types.specs.declared.refusal.Refusal.TheVariants.{BadField, HasOpenTransactions, NoSuchOperator, SelfGrant, NoSuchGrant}
+use Rattle.ocpp_frame.specs.declared.frame.Frame.{Frame}
+use Rattle.ocpp_frame.specs.declared.frame.Frame.TheVariants.{Call, CallResult, CallError, Broken, Ignored}
+use Rattle.ocpp_frame.specs.Frame.{frame}
+use Rattle.ocpp_payload.specs.declared.action.Action.{Action}
+use Rattle.ocpp_payload.specs.declared.class_of_action.ActionClass.{ActionClass}
+use Rattle.ocpp_payload.specs.declared.class_of_action.ActionClass.TheVariants.{Known, NotSupported, NotImplemented}
+use Rattle.ocpp_payload.specs.declared.fault.FieldFault.{FieldFault}
+use Rattle.ocpp_payload.specs.declared.request.Request.{Request}
+use Rattle.ocpp_payload.specs.declared.request.Request.TheVariants.{Authorize, BootNotification, DataTransfer, Heartbeat, MeterValues, StartTransaction, StatusNotification, StopTransaction}
+use Rattle.ocpp_payload.specs.ActionClass.{action_class}
+use Rattle.ocpp_payload.specs.Request.{request}
+use Rattle.hub_rows.specs.declared.change.Edit.{Edit}
+use Rattle.hub_rows.specs.declared.change.Edit.TheVariants.{StationAdded, BootSeen, PolicySet, ConnectorSeen, TagPut, TagDropped, GrantPut, GrantDropped, TxStarted, TxStopped, ReadingsAdded, ReservationPut, ReservationDropped, ListSet}
+use Rattle.hub_rows.specs.declared.change.Edit.TheVariants as edit_to
+use Rattle.hub_rows.specs.declared.station_row.Registration.{Registration}
+use Rattle.hub_rows.specs.Lookups.{Lookups, lookups_at}
+use Rattle.hub_rows.specs.Changes.{EditFits, IsOpen}
+use Rattle.hub_rows.specs.Transactions.{AreNext, last_of_all}
+use Rattle.hub_rows.specs.declared.reading_row.Reading.{Reading}
+use Rattle.hub_rows.specs.declared.tx_row.StartKey.{StartKey}
+use Rattle.ocpp_payload.specs.declared.conf.Conf.TheVariants as conf
+use Rattle.ocpp_payload.specs.declared.request.StartTransaction.{StartTransaction as StartRequest}
+use Rattle.ocpp_payload.specs.declared.request.StopTransaction.{StopTransaction as StopRequest}
+use Rattle.ocpp_payload.specs.declared.request.MeterValues.{MeterValues as ReadingsRequest}
+use Rattle.registry.specs.declared.decision.Reply.TheVariants.{Conf}
+use Rattle.id_tags.specs.Judge.{judge_rule}
+use Rattle.id_tags.specs.declared.judgement.Purpose.TheVariants as purpose
+use Rattle.registry.specs.InternalError.{internal_error}
+use Rattle.charging.specs.Numbers.{has_room}
+use Rattle.charging.specs.Readings.{readings_of}
+use Rattle.charging.specs.MeterValues.{meter_values_rule}
+use Rattle.charging.specs.Start.{start_rule, start_key, start_by_number, begin_decision}
+use Rattle.charging.specs.Stop.{stop_rule, stop_of, number_of_id, edit_by_number, edit_by_state, end_edit}
+use Rattle.hub_rows.specs.Rows.{Rows}
+use Rattle.hub_rows.proofs.ListLaws.{text_itself}
+use Rattle.registry.specs.Allowed.{is_allowed}
+use Rattle.ocpp_types.specs.TagKey.{key_of}
+use Rattle.hub_rows.specs.declared.tag_row.Tag.{Tag}
+use Rattle.id_tags.specs.Plan.{put_rule, drop_rule, grant_rule, grant_edit, revoke_rule, is_tag, is_parent, drop_edit}
+use Rattle.id_tags.specs.declared.plan.Grant.{Grant}
+use Rattle.registry.specs.PolicySet.{policy_rule, policy_edit, is_kept_from}
+use Rattle.registry.specs.StationAdded.{add_rule, new_station_edit, is_station_name}
+use Rattle.event_plans.specs.declared.event.What.{What}
+use Rattle.event_plans.specs.declared.event.What.TheVariants as what
+use Rattle.event_plans.specs.declared.event.Admin.{Admin}
+use Rattle.event_plans.specs.declared.event.Admin.TheVariants as admin
+use Rattle.station_calls.specs.Vendors.{Answers}
+use Rattle.operator_cmds.specs.Answer.{is_accepted, known_members}
+use Rattle.operator_cmds.specs.LocalList.{entries, list_version, update_type}
+use Rattle.operator_cmds.specs.declared.command.Command.{Command}
+use Rattle.operator_cmds.specs.declared.command.Command.TheVariants as command
+use Rattle.operator_cmds.specs.declared.local_list.AuthorizationData.{AuthorizationData}
+use Rattle.operator_cmds.specs.declared.local_list.SendLocalList.{SendLocalList}
+use Rattle.operator_cmds.specs.declared.reservations.CancelReservation.{CancelReservation}
+use Rattle.operator_cmds.specs.declared.reservations.ReserveNow.{ReserveNow}
+use Rattle.holdings.specs.LocalList.{entries_after, kept_for, list_set, not_named, version_of, with_info}
+use Rattle.holdings.specs.Reservation.{cancelled, connector_of, put_at, reservation_id, reserved}
+use Rattle.holdings.specs.Settled.{accepted_edit, settled}
+use Rattle.holdings.proofs.EntryLaws.{sorted-entries}
+use Rattle.hub_rows.specs.LocalLists.{AreEntries}
+use Rattle.hub_rows.specs.declared.list_row.LocalTag.{LocalTag}
+use Rattle.event_plans.specs.declared.out.Outcome.{Outcome}
+use Rattle.event_plans.specs.declared.out.Outcome.TheVariants as outcome
+use Rattle.event_plans.specs.declared.plan.Effect.{Effect}
+use Rattle.event_plans.specs.declared.plan.Effect.TheVariants as effect
+use Rattle.event_plans.specs.declared.plan.Plan.{Plan}
+use Rattle.event_plans.specs.Commands.{answered_command, command_plan, command_rule, edit_by, end_plan, result_edit, result_outcome}
+use Rattle.event_plans.specs.Effects.{edit_effect}
+use Rattle.event_plans.specs.Plans.{connect_plan, error_plan, edit_plan, list_plan, turned_plan}
+use Rattle.event_plans.specs.Table.{Facts, plan, frame_plan, call_plan, state_plan, payload_plan, admin_rule}
+use Rattle.event_plans.specs.Listing.{rows_rule}
+
+-- an edit that an operator's look-ups allow
+abbrev pub FitsLookups : Lookups → Edit → Type 0
+FitsLookups l (StationAdded station policy interval) = l.registration station ≡ None
+FitsLookups l (BootSeen station boot state) = IsSome (l.registration station)
+FitsLookups l (PolicySet station policy interval) = IsSome (l.registration station)
+FitsLookups l (ConnectorSeen station connector report) = IsSome (l.registration station)
+FitsLookups l (TagPut key tag) = key ≡ key_of tag.text
+FitsLookups l (TagDropped key) = Unit {0}
+FitsLookups l (GrantPut key to until) = IsSome (l.own_tag key) × (to ≢ l.op)
+FitsLookups l (GrantDropped key to) = Unit {0}
+FitsLookups l (TxStarted station number start) = IsSome (l.registration station) × AreNext (l.last_numbers station).transaction number 1 × (start.id.key ≡ key_of start.tag)
+FitsLookups l (TxStopped station number stop first readings) = IsOpen (l.tx station number) × AreNext (l.last_numbers station).reading first (length readings)
+FitsLookups l (ReadingsAdded station first readings) = IsSome (l.registration station) × AreNext (l.last_numbers station).reading first (length readings)
+FitsLookups l (ReservationPut station id reservation) = IsSome (l.registration station)
+FitsLookups l (ReservationDropped station id) = Unit {0}
+FitsLookups l (ListSet station list) = IsSome (l.registration station) × AreEntries list.entries
+
+-- an effect that an operator's facts allow
+abbrev pub EffectFits : Facts → Effect → Type 0
+EffectFits f effect.Nothing = Unit {0}
+EffectFits f (effect.Edit e) = FitsLookups f.lookups e
+EffectFits f (effect.Connect station) = Unit {0}
+EffectFits f (effect.Disconnect station) = Unit {0}
+EffectFits f (effect.Submit station command text) = Unit {0}
+EffectFits f (effect.Answer station id outcome edit) = IfSome edit (FitsLookups f.lookups)
+
+abbrev pub PlanFits : Facts → Plan → Type 0
+PlanFits f p = EffectFits f p.effect
+
+edit_fits_as : (f : Facts) (o : Option Edit) → IfSome o (FitsLookups f.lookups) → EffectFits f (edit_effect o)
+edit_fits_as f None fits = tt
+edit_fits_as f (Some e) fits = fits
+
+-- numbers that are left
+room_fits : (last count : ℕ) → has_room last count ≡ true → AreNext last (last + 1) count
+room_fits last count room = inr (record { next = inr refl; from_one = omega arith; to_the_end = omega (arith, leb-true (last + count) last_of_all room) })
+
+start_fits : (station : List ℕ) (r : StartRequest) (m : ℕ) (l : Lookups) → IsSome (l.registration station) → IfSome (start_rule station r m l).edit (FitsLookups l)
+start_fits station r m l here =
+    let id : StartKey = start_key r in
+    elim (l.same_start station id) as (λ o. IfSome (start_by_number station r id m l o).edit (FitsLookups l)) [
+      | None ↦ let last = (l.last_numbers station).transaction in
+          elim (nat_le last_of_all last) as (λ b. nat_le last_of_all last ≡ b → IfSome (cond b internal_error (begin_decision station r id m (judge_rule m id.key (purpose.Start None) l) (last + 1))).edit (FitsLookups l)) [
+            | true ↦ λ full. tt
+            | false ↦ λ room. (here, inr (record { next = inr refl; from_one = omega arith; to_the_end = omega (arith, leb-false last_of_all last room) }), refl)
+          ] refl
+      | Some n ↦ tt
+    ]
+
+meter_values_fit : (station : List ℕ) (r : ReadingsRequest) (l : Lookups) → IsSome (l.registration station) → IfSome (meter_values_rule station r l).edit (FitsLookups l)
+meter_values_fit station r l here =
+    let readings : List Reading = readings_of r.connector_id r.transaction_id r.meter_value in
+    let last = (l.last_numbers station).reading in
+    elim (has_room last (length readings)) as (λ b. has_room last (length readings) ≡ b → IfSome (cond b (record { reply = Conf conf.MeterValues; edit = Some (ReadingsAdded station (last + 1) readings) }) internal_error).edit (FitsLookups l)) [
+      | true ↦ λ room. (here, room_fits last (length readings) room)
+      | false ↦ λ full. tt
+    ] refl
+
+stop_fits : (station : List ℕ) (r : StopRequest) (m : ℕ) (l : Lookups) → IfSome (stop_rule station r m l).edit (FitsLookups l)
+stop_fits station r m l =
+    let last = (l.last_numbers station).reading in
+    elim (number_of_id r.transaction_id) as (λ o. IfSome (edit_by_number station r m l o) (FitsLookups l)) [
+      | None ↦ tt
+      | Some n ↦ elim (l.tx station n) as (λ o. l.tx station n ≡ o → IfSome (edit_by_state station r m l n o) (FitsLookups l)) [
+        | None ↦ λ e. tt
+        | Some t ↦ λ e.
+            let readings : List Reading = readings_of t.connector (Some r.transaction_id) r.transaction_data in
+            elim t.is_open as (λ b. t.is_open ≡ b → IfSome (cond b (Some (end_edit station r m n t.connector last)) None) (FitsLookups l)) [
+              | true ↦ λ open_now.
+                  let fits : IsOpen (l.tx station n) = subst IsOpen (sym e) open_now in
+                  elim (has_room last (length readings)) as (λ b. has_room last (length readings) ≡ b → FitsLookups l (cond b (TxStopped station n (stop_of r m) (last + 1) readings) (TxStopped station n (stop_of r m) 0 []))) [
+                    | true ↦ λ room. (fits, room_fits last (length readings) room)
+                    | false ↦ λ full. (fits, inl refl)
+                  ] refl
+              | false ↦ λ closed. tt
+            ] refl
+      ] refl
+    ]
+
+-- the station is registered so
+payload_fits : (answers : Answers) (station : List ℕ) (g : Registration) (id : List ℕ) (r : Result Request FieldFault) (m : ℕ) (f : Facts) → IsSome (f.lookups.registration station) → PlanFits f (payload_plan answers station g id r m f.lookups)
+payload_fits answers station g id (Ok (Authorize r)) m f here = tt
+payload_fits answers station g id (Ok (BootNotification texts)) m f here = here
+payload_fits answers station g id (Ok (DataTransfer r)) m f here = tt
+payload_fits answers station g id (Ok Heartbeat) m f here = tt
+payload_fits answers station g id (Ok (MeterValues r)) m f here = edit_fits_as f (meter_values_rule station r f.lookups).edit (meter_values_fit station r f.lookups here)
+payload_fits answers station g id (Ok (StartTransaction r)) m f here = edit_fits_as f (start_rule station r m f.lookups).edit (start_fits station r m f.lookups here)
+payload_fits answers station g id (Ok (StatusNotification r)) m f here = here
+payload_fits answers station g id (Ok (StopTransaction r)) m f here = edit_fits_as f (stop_rule station r m f.lookups).edit (stop_fits station r m f.lookups)
+payload_fits answers station g id (Err fault) m f here = tt
+
+state_fits : (answers : Answers) (station : List ℕ) (o : Option Registration) (id : List ℕ) (action : Action) (payload : Data) (m : ℕ) (f : Facts) → f.lookups.registration station ≡ o → PlanFits f (state_plan answers station o id action payload m f.lookups)
+state_fits answers station None id action payload m f is = tt
+state_fits answers station (Some g) id action payload m f is =
+    elim (is_allowed g.state action) as (λ b. PlanFits f (cond b (payload_plan answers station g id (request action payload) m f.lookups) (error_plan station id code.SecurityError []))) [
+      | true ↦ payload_fits answers station g id (request action payload) m f (ap is_some is)
+      | false ↦ tt
+    ]
+
+call_fits : (answers : Answers) (station id : List ℕ) (class : ActionClass) (payload : Data) (m : ℕ) (f : Facts) → PlanFits f (call_plan answers station id class payload m f.lookups)
+call_fits answers station id (Known action) payload m f = state_fits answers station (f.lookups.registration station) id action payload m f refl
+call_fits answers station id NotSupported payload m f = tt
+call_fits answers station id NotImplemented payload m f = tt
+
+-- what an answer to an accepted command edits
+list_fits : (station : List ℕ) (c : SendLocalList) (l : Lookups) → IsSome (l.registration station) → IfSome (list_set station (l.local_list station) c) (FitsLookups l)
+list_fits station c l here =
+    let kept : List LocalTag = kept_for (update_type c) (l.local_list station) in
+    let sent : List AuthorizationData = unwrap_or (entries c) [] in
+    elim (version_of (list_version c)) as (λ o. IfSome (option_map (λ version. ListSet station (record { version = version; entries = entries_after kept sent })) o) (FitsLookups l)) [
+      | None ↦ tt
+      | Some version ↦ (here, sorted-entries (not_named sent kept ++ with_info sent))
+    ]
+
+put_at_fits : (station : List ℕ) (c : ReserveNow) (connector : ℕ) (id : Option ℕ) (l : Lookups) → IsSome (l.registration station) → IfSome (put_at station c connector id) (FitsLookups l)
+put_at_fits station c connector None l here = tt
+put_at_fits station c connector (Some id) l here = here
+
+reserved_fits : (station : List ℕ) (c : ReserveNow) (l : Lookups) → IsSome (l.registration station) → IfSome (reserved station c) (FitsLookups l)
+reserved_fits station c l here =
+    elim (connector_of c.connector_id) as (λ o. IfSome (option_and_then (λ connector. put_at station c connector (reservation_id c.reservation_id)) o) (FitsLookups l)) [
+      | None ↦ tt
+      | Some connector ↦ put_at_fits station c connector (reservation_id c.reservation_id) l here
+    ]
+
+cancelled_fits : (station : List ℕ) (c : CancelReservation) (l : Lookups) → IfSome (cancelled station c) (FitsLookups l)
+cancelled_fits station c l = elim (reservation_id c.reservation_id) as (λ o. IfSome (option_map (λ id. ReservationDropped station id) o) (FitsLookups l)) [ None ↦ tt | Some id ↦ tt ]
+
+accepted_fits : (station : List ℕ) (c : Command) (l : Lookups) → IsSome (l.registration station) → IfSome (accepted_edit station c l) (FitsLookups l)
+accepted_fits station (command.CancelReservation c) l here = cancelled_fits station c l
+accepted_fits station (command.ReserveNow c) l here = reserved_fits station c l here
+accepted_fits station (command.SendLocalList c) l here = list_fits station c l here
+accepted_fits station (command.ChangeAvailability c) l here = tt
+accepted_fits station (command.ChangeConfiguration c) l here = tt
+accepted_fits station command.ClearCache l here = tt
+accepted_fits station (command.DataTransfer c) l here = tt
+accepted_fits station (command.GetConfiguration c) l here = tt
+accepted_fits station command.GetLocalListVersion l here = tt
+accepted_fits station (command.RemoteStartTransaction c) l here = tt
+accepted_fits station (command.RemoteStopTransaction c) l here = tt
+accepted_fits station (command.Reset c) l here = tt
+accepted_fits station (command.TriggerMessage c) l here = tt
+accepted_fits station (command.UnlockConnector c) l here = tt
+
+settled_fits : (station : List ℕ) (c : Command) (answer : Data) (l : Lookups) → IfSome (settled station c answer l) (FitsLookups l)
+settled_fits station c answer l =
+    elim (is_accepted answer) as (λ a. IfSome (cond (a && is_some (l.registration station)) (accepted_edit station c l) None) (FitsLookups l)) [
+      | true ↦ elim (is_some (l.registration station)) as (λ t. is_some (l.registration station) ≡ t → IfSome (cond t (accepted_edit station c l) None) (FitsLookups l)) [
+        | true ↦ λ here. accepted_fits station c l here
+        | false ↦ λ none. tt
+      ] refl
+      | false ↦ tt
+    ]
+
+edit_by_fits : (station : List ℕ) (c : Command) (read : Result Data FieldFault) (l : Lookups) → IfSome (edit_by station c read l) (FitsLookups l)
+edit_by_fits station c (Ok known) l = settled_fits station c known l
+edit_by_fits station c (Err fault) l = tt
+
+answer_fits : (station id : List ℕ) (gives : Command → Outcome) (edits : Command → Option Edit) (o : Option Command) (f : Facts) → ((c : Command) → IfSome (edits c) (FitsLookups f.lookups)) → PlanFits f (end_plan station id gives edits o)
+answer_fits station id gives edits None f fit = tt
+answer_fits station id gives edits (Some c) f fit = fit c
+
+frame_fits : (answers : Answers) (station : List ℕ) (t : Frame) (m : ℕ) (f : Facts) → PlanFits f (frame_plan answers station t m f)
+frame_fits answers station (Call id action payload) m f = call_fits answers station id (action_class action) payload m f
+frame_fits answers station (CallResult id payload) m f = answer_fits station id (λ c. result_outcome c payload) (λ c. result_edit station c payload f.lookups) (answered_command id (f.slot station)) f (λ c. edit_by_fits station c (known_members c payload) f.lookups)
+frame_fits answers station (CallError id error description) m f = answer_fits station id (λ c. outcome.Error error description) (λ c. None) (answered_command id (f.slot station)) f (λ c. tt)
+frame_fits answers station (Broken id) m f = tt
+frame_fits answers station Ignored m f = tt
+
+command_fits : (station : List ℕ) (c : Command) (n : Result ℕ Refusal) (f : Facts) → PlanFits f (command_plan station c n)
+command_fits station c (Ok n) f = tt
+command_fits station c (Err refusal) f = tt
+
+add_fits : (station : List ℕ) (policy : Policy) (interval : ℕ) (f : Facts) → PlanFits f (edit_plan (add_rule station policy interval f.lookups))
+add_fits station policy interval f =
+    elim (is_station_name station) as (λ b. PlanFits f (edit_plan (cond b (cond (nat_le interval 86_400) (new_station_edit station policy interval (f.lookups.registration station)) (Err (BadField (codes "interval")))) (Err (BadField (codes "station")))))) [
+      | true ↦ elim (nat_le interval 86_400) as (λ b. PlanFits f (edit_plan (cond b (new_station_edit station policy interval (f.lookups.registration station)) (Err (BadField (codes "interval")))))) [
+        | true ↦ elim (f.lookups.registration station) as (λ o. f.lookups.registration station ≡ o → PlanFits f (edit_plan (new_station_edit station policy interval o))) [
+          | None ↦ λ e. e
+          | Some r ↦ λ e. tt
+        ] refl
+        | false ↦ tt
+      ]
+      | false ↦ tt
+    ]
+
+policy_fits : (station : List ℕ) (policy : Policy) (interval : ℕ) (f : Facts) → PlanFits f (edit_plan (policy_rule station policy interval f.lookups))
+policy_fits station policy interval f =
+    let kept : Bool = is_kept_from station policy f.lookups in
+    elim (f.lookups.registration station) as (λ o. f.lookups.registration station ≡ o → PlanFits f (edit_plan (policy_edit station policy interval kept o))) [
+      | None ↦ λ e. tt
+      | Some r ↦ λ e. elim (nat_le interval 86_400) as (λ b. PlanFits f (edit_plan (cond b (cond kept (Err HasOpenTransactions) (Ok (edit_to.PolicySet station policy interval))) (Err (BadField (codes "interval")))))) [
+        | true ↦ elim kept as (λ b. PlanFits f (edit_plan (cond b (Err HasOpenTransactions) (Ok (edit_to.PolicySet station policy interval))))) [ true ↦ tt | false ↦ ap is_some e ]
+        | false ↦ tt
+      ]
+    ] refl
+
+put_fits : (t : Tag) (f : Facts) → PlanFits f (edit_plan (put_rule t))
+put_fits t f =
+    elim (is_tag t.text) as (λ b. PlanFits f (edit_plan (cond b (cond (is_parent t.parent) (Ok (edit_to.TagPut (key_of t.text) t)) (Err (BadField (codes "parent")))) (Err (BadField (codes "tag")))))) [
+      | true ↦ elim (is_parent t.parent) as (λ b. PlanFits f (edit_plan (cond b (Ok (edit_to.TagPut (key_of t.text) t)) (Err (BadField (codes "parent")))))) [ true ↦ refl | false ↦ tt ]
+      | false ↦ tt
+    ]
+
+drop_fits : (text : List ℕ) (f : Facts) → PlanFits f (edit_plan (drop_rule text f.lookups))
+drop_fits text f = elim (f.lookups.own_tag (key_of text)) as (λ o. PlanFits f (edit_plan (drop_edit (key_of text) o))) [ None ↦ tt | Some t ↦ tt ]
+
+grant_fits : (is_hosted : List ℕ → Bool) (g : Grant) (f : Facts) → PlanFits f (edit_plan (grant_rule is_hosted g f.lookups))
+grant_fits is_hosted g f =
+    elim (f.lookups.own_tag (key_of g.tag)) as (λ o. f.lookups.own_tag (key_of g.tag) ≡ o → PlanFits f (edit_plan (grant_edit is_hosted f.lookups.op g o))) [
+      | None ↦ λ e. tt
+      | Some info ↦ λ e. elim (is_hosted g.to) as (λ h. PlanFits f (edit_plan (cond h (cond (bytes_eq g.to f.lookups.op) (Err SelfGrant) (Ok (GrantPut (key_of g.tag) g.to g.until))) (Err NoSuchOperator)))) [
+        | true ↦ elim (bytes_eq g.to f.lookups.op) as (λ s. bytes_eq g.to f.lookups.op ≡ s → PlanFits f (edit_plan (cond s (Err SelfGrant) (Ok (GrantPut (key_of g.tag) g.to g.until))))) [
+          | true ↦ λ same. tt
+          | false ↦ λ other. (ap is_some e, λ is. true≢false (sym (text_itself g.to f.lookups.op is) ∙ other))
+        ] refl
+        | false ↦ tt
+      ]
+    ] refl
+
+revoke_fits : (tag to : List ℕ) (f : Facts) → PlanFits f (edit_plan (revoke_rule tag to f.lookups))
+revoke_fits tag to f = elim (f.lookups.has_grant (key_of tag) to) as (λ h. PlanFits f (edit_plan (cond h (Ok (GrantDropped (key_of tag) to)) (Err NoSuchGrant)))) [ true ↦ tt | false ↦ tt ]
+
+admin_fits : (is_hosted : List ℕ → Bool) (a : Admin) (f : Facts) → PlanFits f (edit_plan (admin_rule is_hosted a f.lookups))
+admin_fits is_hosted (admin.StationAdd station policy interval) f = add_fits station policy interval f
+admin_fits is_hosted (admin.StationPolicy station policy interval) f = policy_fits station policy interval f
+admin_fits is_hosted (admin.TagPut tag) f = put_fits tag f
+admin_fits is_hosted (admin.TagDrop tag) f = drop_fits tag f
+admin_fits is_hosted (admin.Grant grant) f = grant_fits is_hosted grant f
+admin_fits is_hosted (admin.Revoke tag to) f = revoke_fits tag to f
+
+pub plan_fits : (is_hosted : List ℕ → Bool) (answers : Answers) (what : What) (m : ℕ) (f : Facts) → PlanFits f (plan is_hosted answers what m f)
+plan_fits is_hosted answers (what.Connect station) m f = elim (f.lookups.registration station) as (λ o. PlanFits f (connect_plan station o)) [ None ↦ tt | Some r ↦ tt ]
+plan_fits is_hosted answers (what.Disconnect station) m f = tt
+plan_fits is_hosted answers (what.Frame station text) m f = elim (f.slot station).is_connected as (λ c. PlanFits f (cond c (frame_plan answers station (frame text) m f) (turned_plan station))) [ true ↦ frame_fits answers station (frame text) m f | false ↦ tt ]
+plan_fits is_hosted answers (what.Do station command) m f = command_fits station command (command_rule station command (f.lookups.registration station) (f.slot station) m f.lookups) f
+plan_fits is_hosted answers (what.Admin a) m f = admin_fits is_hosted a f
+plan_fits is_hosted answers (what.List listing) m f = elim (rows_rule listing m f.lookups) as (λ r. PlanFits f (list_plan r)) [ Ok rows ↦ tt | Err refusal ↦ tt ]
+
+-- what the look-ups over the rows allow, the rows allow
+pub edit_fits : (b : List ℕ) (rows : Rows) (e : Edit) → FitsLookups (lookups_at b rows) e → EditFits b e rows
+edit_fits b rows (StationAdded station policy interval) fits = fits
+edit_fits b rows (BootSeen station boot state) fits = fits
+edit_fits b rows (PolicySet station policy interval) fits = fits
+edit_fits b rows (ConnectorSeen station connector report) fits = fits
+edit_fits b rows (TagPut key tag) fits = fits
+edit_fits b rows (TagDropped key) fits = tt
+edit_fits b rows (GrantPut key to until) fits = fits
+edit_fits b rows (GrantDropped key to) fits = tt
+edit_fits b rows (TxStarted station number start) fits = fits
+edit_fits b rows (TxStopped station number stop first readings) fits = fits
+edit_fits b rows (ReadingsAdded station first readings) fits = fits
+edit_fits b rows (ReservationPut station id reservation) fits = fits
+edit_fits b rows (ReservationDropped station id) fits = tt
+edit_fits b rows (ListSet station list) fits = fits
+
+-- the same of an edit that may be none
+pub option_fits : (b : List ℕ) (rows : Rows) (o : Option Edit) → IfSome o (FitsLookups (lookups_at b rows)) → ForSome o (λ d. EditFits b d rows)
+option_fits b rows None fits = λ d same. absurd (cc)
+option_fits b rows (Some e) fits = λ d same. edit_fits b rows d (subst (FitsLookups (lookups_at b rows)) (some_is e d same) fits)
+  where
+    some_is : (e d : Edit) → Some e ≡ Some d → e ≡ d
+    some_is e d same = cc

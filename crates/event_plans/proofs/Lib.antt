@@ -1,0 +1,3 @@
+pub mod ConfLaws
+pub mod Fitting
+pub mod Readiness

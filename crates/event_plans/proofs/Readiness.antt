@@ -1,0 +1,41 @@
+-- A plan that submits no command is ready whatever the slots are.
+use Rattle.std.specs.Prelude.{◌≡◌, ℕ, List, Option, Some, None, Result, Ok, Err, IfOk}
+use Rattle.ocpp_types.specs.declared.refusal.Refusal.{Refusal}
+use Rattle.hub_rows.specs.declared.change.Edit.{Edit}
+use Rattle.hub_rows.specs.declared.store.StoreFault.{StoreFault}
+use Rattle.hub_rows.specs.declared.station_row.Registration.{Registration}
+use Rattle.registry.specs.declared.decision.Decision.{Decision}
+use Rattle.operator_cmds.specs.declared.command.Command.{Command}
+use Rattle.event_plans.specs.declared.out.Outcome.{Outcome}
+use Rattle.event_plans.specs.declared.out.Outcome.TheVariants as outcome
+use Rattle.event_plans.specs.declared.plan.Plan.{Plan}
+use Rattle.event_plans.specs.Commands.{answered_command, end_plan, failure_plan}
+use Rattle.event_plans.specs.Effects.{StationSlot, IsReady, edit_effect}
+use Rattle.event_plans.specs.Plans.{connect_plan, decided_plan, edit_plan}
+
+pub connect_ready : (slot : List ℕ → StationSlot) (station : List ℕ) (o : Option Registration) (p : Plan) → p ≡ connect_plan station o → IsReady slot p.effect
+connect_ready slot station None p is = rw is tt
+connect_ready slot station (Some r) p is = rw is tt
+
+pub edit_ready : (slot : List ℕ → StationSlot) (answer : Result Edit Refusal) (p : Plan) → p ≡ edit_plan answer → IsReady slot p.effect
+edit_ready slot (Ok e) p is = rw is tt
+edit_ready slot (Err refusal) p is = rw is tt
+
+effect_ready : (slot : List ℕ → StationSlot) (o : Option Edit) → IsReady slot (edit_effect o)
+effect_ready slot None = tt
+effect_ready slot (Some e) = tt
+
+pub decided_ready : (slot : List ℕ → StationSlot) (station id : List ℕ) (d : Decision) (p : Plan) → p ≡ decided_plan station id d → IsReady slot p.effect
+decided_ready slot station id d p is = rw is (effect_ready slot d.edit)
+
+pub end_ready : (slot : List ℕ → StationSlot) (station id : List ℕ) (gives : Command → Outcome) (edits : Command → Option Edit) (o : Option Command) → IsReady slot (end_plan station id gives edits o).effect
+end_ready slot station id gives edits None = tt
+end_ready slot station id gives edits (Some c) = tt
+
+pub failure_ready : (slot : List ℕ → StationSlot) (station id code description : List ℕ) (s : StationSlot) (p : Plan) → p ≡ failure_plan station id code description s → IsReady slot p.effect
+failure_ready slot station id code description s p is = rw is (end_ready slot station id (λ c. outcome.Error code description) (λ c. None) (answered_command id s))
+
+-- what is ready whatever the slots are is ready at those of an operator
+pub ready_at : (slot : List ℕ → StationSlot) (r : Result Plan StoreFault) → IfOk r (λ p. (any : List ℕ → StationSlot) → IsReady any p.effect) → IfOk r (λ p. IsReady slot p.effect)
+ready_at slot (Ok p) ready = ready slot
+ready_at slot (Err fault) ready = tt

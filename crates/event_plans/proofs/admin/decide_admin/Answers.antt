@@ -1,0 +1,13 @@
+use Rattle.std.proofs.Common.{◌≡◌, IfOk, subst, sym}
+use Rattle.hub_rows.specs.Lookups.{Lookups, lookups_at}
+use Rattle.hub_rows.specs.Operators.{is_hosted}
+use Rattle.registry.specs.PolicySet.{policy_rule}
+use Rattle.event_plans.specs.Table.{admin_rule}
+use Rattle.event_plans.proofs.admin.decide_admin.Goals as goal
+
+pub returns-in-StationPolicy-clause-decision : goal.returns-in-StationPolicy-clause-decision
+returns-in-StationPolicy-clause-decision g c =
+    let l : Lookups = lookups_at c.args.op.now (g.S.Store.rows c.args.store.now) in
+    let asked = c.in-StationPolicy in
+    λ clean. subst (λ a. IfOk c.plan_policy.result (λ p. p ≡ admin_rule (is_hosted c.args.hosted.now) a l)) (sym asked.is)
+    (subst (λ st. IfOk c.plan_policy.result (λ p. p ≡ policy_rule st asked.policy asked.interval l)) c.as_str-in-StationPolicy.ensures (c.plan_policy.ensures.plan clean))

@@ -1,0 +1,133 @@
+-- How a command of an operator is taken or refused, and how its answer ends it.
+use Rattle.std.specs.Prelude.{ℕ, ℤ, pos, negsuc, nat_le, List, [], ◌∷◌, Bool, true, false, not, if◌then◌else◌, Option, Some, None, option_map, option_and_then, Result, Ok, Err}
+use Rattle.std.specs.Fmt.{decimal}
+use Rattle.std.specs.Option.{option_or}
+use Rattle.serde_json.specs.Data.{Data}
+use Rattle.serde_json.specs.Written.{compact_text}
+use Rattle.ocpp_types.specs.declared.refusal.Refusal.{Refusal}
+use Rattle.ocpp_types.specs.declared.refusal.Refusal.TheVariants.{NoSuchStation, NotAllowedNow, BadField, NoSuchTransaction}
+use Rattle.ocpp_types.specs.declared.state.State.{State}
+use Rattle.ocpp_types.specs.declared.state.State.TheVariants as state
+use Rattle.ocpp_frame.specs.Written.{call_data}
+use Rattle.ocpp_payload.specs.declared.fault.FieldFault.{FieldFault}
+use Rattle.hub_rows.specs.declared.change.Edit.{Edit}
+use Rattle.hub_rows.specs.declared.station_row.Registration.{Registration}
+use Rattle.hub_rows.specs.declared.tx_row.TxState.{TxState}
+use Rattle.hub_rows.specs.Lookups.{Lookups}
+use Rattle.holdings.specs.Reservation.{cancel_rule, reserve_rule}
+use Rattle.holdings.specs.Settled.{settled}
+use Rattle.id_tags.specs.Refusal.{refuse_rule}
+use Rattle.operator_cmds.specs.Answer.{known_members}
+use Rattle.operator_cmds.specs.Command.{action_name_of, bad_field, command_data}
+use Rattle.operator_cmds.specs.declared.command.Command.{Command}
+use Rattle.operator_cmds.specs.declared.command.Command.TheVariants.{CancelReservation, RemoteStartTransaction, RemoteStopTransaction, ReserveNow}
+use Rattle.pending_calls.specs.Slot.{call_in_flight, is_answered, ready}
+use Rattle.event_plans.specs.declared.out.Outcome.{Outcome}
+use Rattle.event_plans.specs.declared.out.Outcome.TheVariants as outcome
+use Rattle.event_plans.specs.declared.out.Said.TheVariants as said
+use Rattle.event_plans.specs.declared.plan.Effect.TheVariants as effect
+use Rattle.event_plans.specs.declared.plan.Plan.{Plan}
+use Rattle.event_plans.specs.Effects.{StationSlot}
+use Rattle.event_plans.specs.Plans.{nothing, only, changing}
+
+-- ---- what refuses a command
+
+-- a command that starts or stops a transaction
+abbrev pub is_remote : Command → Bool
+is_remote (RemoteStartTransaction c) = true
+is_remote (RemoteStopTransaction c) = true
+is_remote c = false
+
+-- the commands that a station in a state may be sent
+abbrev pub is_command_allowed : State → Command → Bool
+is_command_allowed state.Fresh c = false
+is_command_allowed state.Rejected c = false
+is_command_allowed state.Pending c = not (is_remote c)
+is_command_allowed state.Accepted c = true
+
+-- the number that a transaction's id names; the last one is 2147483647
+abbrev pub transaction_number : ℤ → Option ℕ
+transaction_number (pos n) = if nat_le n 2147483647 then Some n else None
+transaction_number (negsuc n) = None
+
+-- the refusal of a stop, unless the transaction is open
+abbrev pub transaction_refusal : Option TxState → Option Refusal
+transaction_refusal None = Some NoSuchTransaction
+transaction_refusal (Some t) = if t.is_open then None else Some NoSuchTransaction
+
+-- a tag that is to charge or to reserve is judged as for an Authorize, a transaction that is to stop is
+-- open, a reservation that is to be cancelled counts
+abbrev pub record_refusal : List ℕ → Command → ℕ → Lookups → Option Refusal
+record_refusal station (CancelReservation c) m l = cancel_rule station c m l
+record_refusal station (RemoteStartTransaction c) m l = refuse_rule m c.id_tag l
+record_refusal station (RemoteStopTransaction c) m l = transaction_refusal (option_and_then (l.tx station) (transaction_number c.transaction_id))
+record_refusal station (ReserveNow c) m l = reserve_rule c m l
+record_refusal station c m l = None
+
+-- the first refusal of a command to a station that is ready for a call
+abbrev pub command_refusal : List ℕ → Command → Registration → ℕ → Lookups → Option Refusal
+command_refusal station c r m l =
+    if is_command_allowed r.state c then option_or (option_map BadField (bad_field c)) (record_refusal station c m l) else Some NotAllowedNow
+
+-- a number, unless something refuses it
+abbrev pub number_unless : Option Refusal → ℕ → Result ℕ Refusal
+number_unless None n = Ok n
+number_unless (Some refusal) n = Err refusal
+
+-- the number of its call, where the station is ready
+abbrev pub number_of_ready : Option Refusal → Result ℕ Refusal → Result ℕ Refusal
+number_of_ready refusal (Ok n) = number_unless refusal n
+number_of_ready refusal (Err unready) = Err unready
+
+-- the number of the call that a command becomes, or its first refusal
+abbrev pub command_rule : List ℕ → Command → Option Registration → StationSlot → ℕ → Lookups → Result ℕ Refusal
+command_rule station c None s m l = Err NoSuchStation
+command_rule station c (Some r) s m l = number_of_ready (command_refusal station c r m l) (ready s)
+
+-- ---- its plan
+
+-- the text of a call: the number in decimal is its id
+unfoldable pub call_text : ℕ → Command → List ℕ
+call_text n c = compact_text (call_data (decimal n) (action_name_of c) (command_data c))
+
+-- it is accepted with its number, and becomes a call
+abbrev pub command_plan : List ℕ → Command → Result ℕ Refusal → Plan
+command_plan station c (Ok n) = record { said = said.Accepted (Some n) ∷ []; effect = effect.Submit station c (call_text n c) }
+command_plan station c (Err refusal) = only (said.Refused refusal)
+
+-- ---- its answer
+
+-- the text of the known members of an answer, or its first fault
+unfoldable pub read_outcome : Result Data FieldFault → Outcome
+read_outcome (Ok known) = outcome.Answer (compact_text known)
+read_outcome (Err fault) = outcome.BadAnswer fault.code fault.field
+
+-- the outcome of a call that is answered with a result
+abbrev pub result_outcome : Command → Data → Outcome
+result_outcome c payload = read_outcome (known_members c payload)
+
+-- the edit that an answer makes
+abbrev pub edit_by : List ℕ → Command → Result Data FieldFault → Lookups → Option Edit
+edit_by station c (Ok known) l = settled station c known l
+edit_by station c (Err fault) l = None
+
+-- the edit of a call that is answered with a result
+abbrev pub result_edit : List ℕ → Command → Data → Lookups → Option Edit
+result_edit station c payload l = edit_by station c (known_members c payload) l
+
+-- the command of the call in flight, if the answer bears its number
+abbrev pub answered_command : List ℕ → StationSlot → Option Command
+answered_command id s = if is_answered id s then option_map (λ call. call.1) (call_in_flight s) else None
+
+-- the call in flight ends with the outcome and the edit that its command gives, if there is one
+abbrev pub end_plan : List ℕ → List ℕ → (Command → Outcome) → (Command → Option Edit) → Option Command → Plan
+end_plan station id gives edits None = nothing
+end_plan station id gives edits (Some c) = changing (effect.Answer station id (gives c) (edits c))
+
+-- the call in flight ends if a result bears its number
+abbrev pub result_plan : List ℕ → List ℕ → Data → StationSlot → Lookups → Plan
+result_plan station id payload s l = end_plan station id (λ c. result_outcome c payload) (λ c. result_edit station c payload l) (answered_command id s)
+
+-- the call in flight ends if an error bears its number; it edits nothing
+abbrev pub failure_plan : List ℕ → List ℕ → List ℕ → List ℕ → StationSlot → Plan
+failure_plan station id code description s = end_plan station id (λ c. outcome.Error code description) (λ c. None) (answered_command id s)

@@ -1,0 +1,5 @@
+pub mod Effects
+pub mod Listing
+pub mod Plans
+pub mod Commands
+pub mod Table

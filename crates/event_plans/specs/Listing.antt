@@ -1,0 +1,39 @@
+-- The rows of each listing.
+use Rattle.std.specs.Prelude.{ℕ, List, [], ◌∷◌, map, filter, Option, Some, None, Result, Ok, Err}
+use Rattle.ocpp_types.specs.declared.refusal.Refusal.{Refusal}
+use Rattle.ocpp_types.specs.declared.refusal.Refusal.TheVariants.{NoSuchStation}
+use Rattle.hub_rows.specs.declared.station_row.Registration.{Registration}
+use Rattle.hub_rows.specs.declared.list_row.LocalList.{LocalList}
+use Rattle.hub_rows.specs.declared.reservation_row.ReservationRow.{ReservationRow}
+use Rattle.hub_rows.specs.Lookups.{Lookups}
+use Rattle.holdings.specs.Reservation.{is_current}
+use Rattle.event_plans.specs.declared.event.Listing.{Listing}
+use Rattle.event_plans.specs.declared.event.Listing.TheVariants as listing
+use Rattle.event_plans.specs.declared.row.Row.{Row}
+use Rattle.event_plans.specs.declared.row.Row.TheVariants as row
+
+-- of a station that is there
+abbrev pub of_station : Option Registration → List Row → Result (List Row) Refusal
+of_station None rows = Err NoSuchStation
+of_station (Some found) rows = Ok rows
+
+-- the reservations that count at a moment
+abbrev pub current : ℕ → List ReservationRow → List ReservationRow
+current m rows = filter (λ r. is_current m r.reservation.expiry) rows
+
+-- the version of a station's list, 0 where none is kept, and its entries
+abbrev pub list_rows : List ℕ → Option LocalList → List Row
+list_rows station None = row.LocalList station 0 ∷ []
+list_rows station (Some list) = row.LocalList station list.version ∷ map (row.LocalTag station) list.entries
+
+-- the rows that a listing shows at a moment, or its refusal
+abbrev pub rows_rule : Listing → ℕ → Lookups → Result (List Row) Refusal
+rows_rule listing.Stations m l = Ok (map row.Station l.stations)
+rows_rule listing.Tags m l = Ok (map row.Tag l.tags)
+rows_rule listing.Grants m l = Ok (map row.Grant l.grants)
+rows_rule listing.Granted m l = Ok (map row.Granted l.granted)
+rows_rule (listing.Connectors station) m l = of_station (l.registration station) (map row.Connector (l.connectors station))
+rows_rule (listing.Transactions station) m l = of_station (l.registration station) (map row.Transaction (l.txs station))
+rows_rule (listing.Readings station n) m l = of_station (l.registration station) (map row.Reading (l.readings station n))
+rows_rule (listing.Reservations station) m l = of_station (l.registration station) (map row.Reservation (current m (l.reservations station)))
+rows_rule (listing.LocalList station) m l = of_station (l.registration station) (list_rows station (l.local_list station))

@@ -1,0 +1,94 @@
+-- How each event of an operator is answered: a plan, made of that operator's own look-ups and slots.
+use Rattle.std.specs.Prelude.{ℕ, List, [], Bool, Option, Some, None, if◌then◌else◌, Result, Ok, Err}
+use Rattle.serde_json.specs.Data.{Data}
+use Rattle.ocpp_types.specs.declared.error_code.ErrorCode.TheVariants as code
+use Rattle.ocpp_types.specs.declared.refusal.Refusal.{Refusal}
+use Rattle.ocpp_frame.specs.declared.frame.Frame.{Frame}
+use Rattle.ocpp_frame.specs.declared.frame.Frame.TheVariants.{Call, CallResult, CallError, Broken, Ignored}
+use Rattle.ocpp_frame.specs.Frame.{frame}
+use Rattle.ocpp_payload.specs.declared.action.Action.{Action}
+use Rattle.ocpp_payload.specs.declared.class_of_action.ActionClass.{ActionClass}
+use Rattle.ocpp_payload.specs.declared.class_of_action.ActionClass.TheVariants.{Known, NotSupported, NotImplemented}
+use Rattle.ocpp_payload.specs.declared.fault.FieldFault.{FieldFault}
+use Rattle.ocpp_payload.specs.declared.request.Request.{Request}
+use Rattle.ocpp_payload.specs.ActionClass.{action_class}
+use Rattle.ocpp_payload.specs.Request.{request}
+use Rattle.hub_rows.specs.declared.change.Edit.{Edit}
+use Rattle.hub_rows.specs.declared.station_row.Registration.{Registration}
+use Rattle.hub_rows.specs.Lookups.{Lookups}
+use Rattle.id_tags.specs.Plan.{put_rule, drop_rule, grant_rule, revoke_rule}
+use Rattle.registry.specs.Allowed.{is_allowed}
+use Rattle.registry.specs.PolicySet.{policy_rule}
+use Rattle.registry.specs.StationAdded.{add_rule}
+use Rattle.station_calls.specs.Decided.{decision}
+use Rattle.station_calls.specs.Vendors.{Answers}
+use Rattle.event_plans.specs.declared.event.What.{What}
+use Rattle.event_plans.specs.declared.event.What.TheVariants as what
+use Rattle.event_plans.specs.declared.event.Admin.{Admin}
+use Rattle.event_plans.specs.declared.event.Admin.TheVariants as admin
+use Rattle.event_plans.specs.declared.plan.Plan.{Plan}
+use Rattle.event_plans.specs.Listing.{rows_rule}
+use Rattle.event_plans.specs.Commands.{command_plan, command_rule, failure_plan, result_plan}
+use Rattle.event_plans.specs.Effects.{StationSlot}
+use Rattle.event_plans.specs.Plans.{nothing, turned_plan, connect_plan, disconnect_plan, error_plan, decided_plan, edit_plan, list_plan}
+
+-- what an operator's answers are made of: its own records and the tags that are granted to it, and the
+-- slots of its stations
+pub record Facts : Type 0 where
+  pub lookups : Lookups
+  pub slot : List ℕ → StationSlot
+
+-- ---- frames
+
+-- the last check of a call is its payload
+abbrev pub payload_plan : Answers → List ℕ → Registration → List ℕ → Result Request FieldFault → ℕ → Lookups → Plan
+payload_plan answers station r id (Ok request) m l = decided_plan station id (decision answers station r request m l)
+payload_plan answers station r id (Err fault) m l = error_plan station id fault.code fault.field
+
+-- before it comes the state of the station; one without a record, which is never connected, can't
+-- be answered
+abbrev pub state_plan : Answers → List ℕ → Option Registration → List ℕ → Action → Data → ℕ → Lookups → Plan
+state_plan answers station None id action payload m l = error_plan station id code.InternalError []
+state_plan answers station (Some r) id action payload m l =
+    if is_allowed r.state action then payload_plan answers station r id (request action payload) m l else error_plan station id code.SecurityError []
+
+-- and before that, whether the action is known and supported
+abbrev pub call_plan : Answers → List ℕ → List ℕ → ActionClass → Data → ℕ → Lookups → Plan
+call_plan answers station id (Known action) payload m l = state_plan answers station (l.registration station) id action payload m l
+call_plan answers station id NotSupported payload m l = error_plan station id code.NotSupported []
+call_plan answers station id NotImplemented payload m l = error_plan station id code.NotImplemented []
+
+-- the first check is the frame's form; an answer ends the call in flight whatever the state
+abbrev pub frame_plan : Answers → List ℕ → Frame → ℕ → Facts → Plan
+frame_plan answers station (Call id action payload) m f = call_plan answers station id (action_class action) payload m f.lookups
+frame_plan answers station (CallResult id payload) m f = result_plan station id payload (f.slot station) f.lookups
+frame_plan answers station (CallError id error description) m f = failure_plan station id error description (f.slot station)
+frame_plan answers station (Broken id) m f = error_plan station id code.FormationViolation []
+frame_plan answers station Ignored m f = nothing
+
+-- the text of a station that isn't connected is not looked at
+abbrev pub text_plan : Answers → List ℕ → List ℕ → ℕ → Facts → Plan
+text_plan answers station text m f = if (f.slot station).is_connected then frame_plan answers station (frame text) m f else turned_plan station
+
+-- ---- requests of the operator
+
+-- the rule of each edit
+abbrev pub admin_rule : (List ℕ → Bool) → Admin → Lookups → Result Edit Refusal
+admin_rule is_hosted (admin.StationAdd station policy interval) l = add_rule station policy interval l
+admin_rule is_hosted (admin.StationPolicy station policy interval) l = policy_rule station policy interval l
+admin_rule is_hosted (admin.TagPut tag) l = put_rule tag
+admin_rule is_hosted (admin.TagDrop tag) l = drop_rule tag l
+admin_rule is_hosted (admin.Grant grant) l = grant_rule is_hosted grant l
+admin_rule is_hosted (admin.Revoke tag to) l = revoke_rule tag to l
+
+-- ---- the table
+
+-- the plan of each event of an operator, by which operators are hosted and what vendors' messages are
+-- answered
+abbrev pub plan : (List ℕ → Bool) → Answers → What → ℕ → Facts → Plan
+plan is_hosted answers (what.Connect station) m f = connect_plan station (f.lookups.registration station)
+plan is_hosted answers (what.Disconnect station) m f = disconnect_plan station
+plan is_hosted answers (what.Frame station text) m f = text_plan answers station text m f
+plan is_hosted answers (what.Do station command) m f = command_plan station command (command_rule station command (f.lookups.registration station) (f.slot station) m f.lookups)
+plan is_hosted answers (what.Admin a) m f = edit_plan (admin_rule is_hosted a f.lookups)
+plan is_hosted answers (what.List listing) m f = list_plan (rows_rule listing m f.lookups)

@@ -1,0 +1,44 @@
+//! The requests of an operator (docs/RULES.md, Requests of operators).
+ghost use Rattle.std.specs.Prelude.{◌≡◌, Err, IfOk};
+ghost use Rattle.hub_rows.specs.Reads.{OnlyReads};
+ghost use Rattle.hub_rows.specs.Lookups.{lookups_at};
+ghost use Rattle.hub_rows.specs.Operators.{is_hosted};
+ghost use Rattle.event_plans.specs.Table.{admin_rule};
+
+use crate::event::Admin;
+use hub_rows::{Edit, Store, StoreFault};
+use id_tags::{plan_drop, plan_grant, plan_put, plan_revoke};
+use ocpp_types::{Refusal, Text};
+use registry::{plan_add, plan_policy};
+use std::alloc::Global;
+
+/// The edit that an operator's request asks for, or the refusal of its rule. `hosted` are the
+/// hosted operators.
+pub fn decide_admin<S: Store>(
+    alloc: Global,
+    store: &mut S,
+    op: &str,
+    admin: &Admin,
+    hosted: &[Text],
+) -> Result<Result<Edit, Refusal>, StoreFault>
+    ensures reads { OnlyReads S.rows S.failures S.clean store.old store.new (result ≡ Err StoreFault.Failed) }
+    ensures decision { S.clean store.new → IfOk result (λ p. p
+        ≡ admin_rule (is_hosted hosted.now) admin.now (lookups_at op.now (S.rows store.old))) }
+{
+    match admin {
+        Admin::StationAdd {
+            station,
+            policy,
+            interval,
+        } => plan_add(alloc, store, op, station.as_str(), *policy, *interval),
+        Admin::StationPolicy {
+            station,
+            policy,
+            interval,
+        } => plan_policy(alloc, store, op, station.as_str(), *policy, *interval),
+        Admin::TagPut { tag } => Ok(plan_put(alloc, tag)?),
+        Admin::TagDrop { tag } => plan_drop(alloc, store, op, tag.as_str()),
+        Admin::Grant(grant) => plan_grant(alloc, store, op, grant, hosted),
+        Admin::Revoke { tag, to } => plan_revoke(alloc, store, op, tag.as_str(), to),
+    }
+}

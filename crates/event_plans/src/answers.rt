@@ -1,0 +1,152 @@
+//! The answers of stations to calls (docs/RULES.md, Outgoing calls).
+ghost use Rattle.std.specs.Prelude.{◌≡◌, ℕ, List, Err, IfOk, false, option_map};
+ghost use Rattle.serde_json.specs.Written.{has_float};
+ghost use Rattle.hub_rows.specs.Reads.{OnlyReads};
+ghost use Rattle.hub_rows.specs.Lookups.{lookups_at};
+ghost use Rattle.pending_calls.specs.Slots.{slot_at};
+ghost use Rattle.event_plans.specs.Commands.{answered_command, edit_by, failure_plan, read_outcome, result_plan};
+ghost use Rattle.event_plans.specs.Effects.{StationSlot, IsReady};
+ghost use Rattle.event_plans.specs.Plans.{changing};
+ghost use Rattle.event_plans.specs.declared.plan.Effect.TheVariants as effect;
+
+use crate::out::Outcome;
+use crate::plan::{Effect, Plan};
+use holdings::settle;
+use hub_rows::{Edit, Store, StoreFault};
+use ocpp_frame::Payload;
+use ocpp_payload::FieldFault;
+use ocpp_types::{Mem, Text};
+use operator_cmds::{Command, read_answer};
+use pending_calls::Slots;
+use std::alloc::Global;
+
+/// The plan for the result of a call: it ends, and the records change as its command asked for, if
+/// the station accepted one that changes them.
+pub fn plan_result<S: Store>(
+    alloc: Global,
+    store: &mut S,
+    slots: &Slots<Command>,
+    op: &Text,
+    station: &Text,
+    id: &Text,
+    payload: &Payload,
+) -> Result<Plan, StoreFault>
+    ensures reads { OnlyReads S.rows S.failures S.clean store.old store.new (result ≡ Err StoreFault.Failed) }
+    ensures plan { S.clean store.new → IfOk result (λ p. p ≡ result_plan station.now id.now payload.now
+        (slot_at op.now station.now slots.now) (lookups_at op.now (S.rows store.old))) }
+    ensures ready { IfOk result (λ p. (slot : List ℕ → StationSlot) → IsReady slot p.effect) }
+{
+    let Some(command) = answered_command(slots, op, station, id) else {
+        return Ok(Plan::nothing(alloc));
+    };
+    let read = read_answer(alloc, command, payload.as_value())?;
+    ended_plan(alloc, store, op, station, id, command, &read)
+}
+
+/// The plan for an error in answer to a call: it ends.
+pub fn plan_error(
+    alloc: Global,
+    slots: &Slots<Command>,
+    op: &Text,
+    station: &Text,
+    id: &Text,
+    code: Text,
+    description: Text,
+) -> Mem<Plan>
+    ensures { IfOk result (λ p. p ≡ failure_plan station.now id.now code description (slot_at op.now station.now slots.now)) }
+{
+    if answered_command(slots, op, station, id).is_none() {
+        return Ok(Plan::nothing(alloc));
+    }
+    let effect = Effect::Answer {
+        station: station.clone()?,
+        id: id.clone()?,
+        outcome: Outcome::Error { code, description },
+        edit: None,
+    };
+    Ok(Plan::changing(alloc, effect))
+}
+
+/// The command of the call in flight, if an answer with that id ends it.
+fn answered_command<'a>(
+    slots: &'a Slots<Command>,
+    op: &Text,
+    station: &Text,
+    id: &Text,
+) -> Option<&'a Command>
+    ensures { option_map (λ c. c.now) result ≡ answered_command id.now (slot_at op.now station.now slots.now) }
+{
+    if !slots.is_answered(op.as_str(), station.as_str(), id.as_str()) {
+        return None;
+    }
+    let (_, command) = slots.in_flight(op.as_str(), station.as_str())?;
+    Some(command)
+}
+
+/// The call in flight ends with what was read of its answer.
+fn ended_plan<S: Store>(
+    alloc: Global,
+    store: &mut S,
+    op: &Text,
+    station: &Text,
+    id: &Text,
+    command: &Command,
+    read: &Result<Payload, FieldFault>,
+) -> Result<Plan, StoreFault>
+    requires { IfOk read.now (λ known. has_float known ≡ false) }
+    ensures reads { OnlyReads S.rows S.failures S.clean store.old store.new (result ≡ Err StoreFault.Failed) }
+    ensures plan { S.clean store.new → IfOk result (λ p. p ≡ changing (effect.Answer station.now id.now
+        (read_outcome read.now) (edit_by station.now command.now read.now (lookups_at op.now (S.rows store.old))))) }
+    ensures ready { IfOk result (λ p. (slot : List ℕ → StationSlot) → IsReady slot p.effect) }
+{
+    let answered = station.clone()?;
+    let number = id.clone()?;
+    let outcome = read_outcome(alloc, read)?;
+    let edit = read_edit(alloc, store, op, station, command, read)?;
+    let effect = Effect::Answer {
+        station: answered,
+        id: number,
+        outcome,
+        edit,
+    };
+    Ok(Plan::changing(alloc, effect))
+}
+
+/// The outcome of a call: the known members of its answer, or their first fault.
+#[tactic(auto, unfolding(crate::specs::Commands::read_outcome))]
+fn read_outcome(alloc: Global, read: &Result<Payload, FieldFault>) -> Mem<Outcome>
+    requires { IfOk read.now (λ known. has_float known ≡ false) }
+    ensures { IfOk result (λ o. o ≡ read_outcome read.now) }
+{
+    match read {
+        Ok(known) => {
+            let json = known.as_value().to_string(alloc)?;
+            Ok(Outcome::Answer {
+                json: Text::from(json),
+            })
+        }
+        Err(fault) => Ok(Outcome::BadAnswer {
+            code: fault.code,
+            field: fault.field.clone()?,
+        }),
+    }
+}
+
+/// The edit that an answer makes.
+fn read_edit<S: Store>(
+    alloc: Global,
+    store: &mut S,
+    op: &Text,
+    station: &Text,
+    command: &Command,
+    read: &Result<Payload, FieldFault>,
+) -> Result<Option<Edit>, StoreFault>
+    ensures reads { OnlyReads S.rows S.failures S.clean store.old store.new (result ≡ Err StoreFault.Failed) }
+    ensures edit { S.clean store.new → IfOk result (λ e. e
+        ≡ edit_by station.now command.now read.now (lookups_at op.now (S.rows store.old))) }
+{
+    match read {
+        Ok(known) => settle(alloc, store, op, station, command, known.as_value()),
+        Err(_fault) => Ok(None),
+    }
+}

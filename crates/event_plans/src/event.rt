@@ -1,0 +1,104 @@
+//! What the hub is handed.
+
+use hub_rows::Tag;
+use id_tags::Grant;
+use ocpp_types::{Moment, Policy, Text};
+use operator_cmds::Command;
+
+/// One event. Each carries its moment; moments need not grow.
+#[derive(Drop)]
+pub enum Event {
+    /// Something happens at an operator.
+    At {
+        op: Text,
+        moment: Moment,
+        what: What,
+    },
+    /// Time has passed, for all operators: calls that were sent too long ago end.
+    Tick {
+        moment: Moment,
+    },
+}
+
+/// What happens at an operator.
+#[derive(Drop)]
+pub enum What {
+    /// A station has connected.
+    Connect { station: Text },
+    /// A station's connection has ended.
+    Disconnect { station: Text },
+    /// A station has sent a text.
+    Frame { station: Text, text: Text },
+    /// The operator sends a command to a station.
+    Do { station: Text, command: Command },
+    /// The operator edits its records.
+    Admin(Admin),
+    /// The operator asks for a list of its records.
+    List(Listing),
+}
+
+/// A list of an operator's records.
+#[derive(Drop)]
+pub enum Listing {
+    /// Its stations.
+    Stations,
+    /// Its id tags.
+    Tags,
+    /// What it granted to other operators.
+    Grants,
+    /// The id tags that are granted to it.
+    Granted,
+    /// The connectors of a station that were reported on.
+    Connectors {
+        station: Text,
+    },
+    /// The transactions of a station.
+    Transactions {
+        station: Text,
+    },
+    /// All readings of a station, or those that were sent with the number of a transaction.
+    Readings {
+        station: Text,
+        transaction: Option<u64>,
+    },
+    /// The reservations at a station that count at the moment.
+    Reservations {
+        station: Text,
+    },
+    /// The local list of a station.
+    LocalList {
+        station: Text,
+    },
+}
+
+/// An operator's edit of its records.
+#[derive(Drop)]
+pub enum Admin {
+    /// A new station, with its policy and its heartbeat interval in seconds.
+    StationAdd {
+        station: Text,
+        policy: Policy,
+        interval: u64,
+    },
+    /// An id tag, in place of the one with its key.
+    TagPut {
+        tag: Tag,
+    },
+    /// The id tag of that text's key is dropped.
+    TagDrop {
+        tag: Text,
+    },
+    /// An id tag of the operator is granted to another.
+    Grant(Grant),
+    /// The grant of the id tag of that text's key to that operator is taken back.
+    Revoke {
+        tag: Text,
+        to: Text,
+    },
+    /// What a station's next boot is answered, and its heartbeat interval in seconds.
+    StationPolicy {
+        station: Text,
+        policy: Policy,
+        interval: u64,
+    },
+}

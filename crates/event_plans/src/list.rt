@@ -1,0 +1,261 @@
+//! Listings of an operator's records (docs/RULES.md, Requests of operators).
+ghost use Rattle.std.specs.Prelude.{◌≡◌, ℕ, List, ◌∷◌, [], ◌++◌, map, Ok, Err, IfOk, OnOk};
+ghost use Rattle.hub_rows.specs.Reads.{OnlyReads};
+ghost use Rattle.hub_rows.specs.Lookups.{lookups_at};
+ghost use Rattle.holdings.specs.Reservation.{is_current};
+ghost use Rattle.event_plans.specs.Listing.{current, list_rows, of_station, rows_rule};
+ghost use Rattle.event_plans.specs.Plans.{list_plan};
+ghost use Rattle.event_plans.specs.declared.row.Row.TheVariants as row;
+ghost use Rattle.event_plans.specs.Effects.{StationSlot, IsReady};
+
+use crate::event::Listing;
+use crate::out::Said;
+use crate::plan::{Effect, Plan};
+use crate::row::{Row, Shown};
+use holdings::is_current;
+use hub_rows::{LocalList, LocalTag, ReservationRow, Store, StoreFault};
+use ocpp_types::{Listed, Mem, Moment, Refusal, Text};
+use std::alloc::Global;
+
+/// The plan for a listing: its rows, in the order of their keys, and then that it is taken.
+pub fn plan_list<S: Store>(
+    alloc: Global,
+    store: &mut S,
+    op: &Text,
+    listing: &Listing,
+    moment: Moment,
+) -> Result<Plan, StoreFault>
+    ensures reads { OnlyReads S.rows S.failures S.clean store.old store.new (result ≡ Err StoreFault.Failed) }
+    ensures plan { S.clean store.new → IfOk result (λ p. p
+        ≡ list_plan (rows_rule listing.now moment (lookups_at op.now (S.rows store.old)))) }
+    ensures ready { IfOk result (λ p. (slot : List ℕ → StationSlot) → IsReady slot p.effect) }
+{
+    match listing {
+        Listing::Stations => stations(alloc, store, op),
+        Listing::Tags => tags(alloc, store, op),
+        Listing::Grants => grants(alloc, store, op),
+        Listing::Granted => granted(alloc, store, op),
+        Listing::Connectors { station } => connectors(alloc, store, op, station),
+        Listing::Transactions { station } => transactions(alloc, store, op, station),
+        Listing::Readings {
+            station,
+            transaction,
+        } => readings(alloc, store, op, station, *transaction),
+        Listing::Reservations { station } => reservations(alloc, store, op, station, moment),
+        Listing::LocalList { station } => local_list(alloc, store, op, station),
+    }
+}
+
+fn stations<S: Store>(alloc: Global, store: &mut S, op: &Text) -> Result<Plan, StoreFault>
+    ensures reads { OnlyReads S.rows S.failures S.clean store.old store.new (result ≡ Err StoreFault.Failed) }
+    ensures plan { S.clean store.new → IfOk result (λ p. p
+        ≡ list_plan (Ok (map row.Station (lookups_at op.now (S.rows store.old)).stations))) }
+    ensures ready { IfOk result (λ p. (slot : List ℕ → StationSlot) → IsReady slot p.effect) }
+{
+    let rows = store.stations(op.as_str())?;
+    Ok(show(alloc, rows)?)
+}
+
+fn tags<S: Store>(alloc: Global, store: &mut S, op: &Text) -> Result<Plan, StoreFault>
+    ensures reads { OnlyReads S.rows S.failures S.clean store.old store.new (result ≡ Err StoreFault.Failed) }
+    ensures plan { S.clean store.new → IfOk result (λ p. p
+        ≡ list_plan (Ok (map row.Tag (lookups_at op.now (S.rows store.old)).tags))) }
+    ensures ready { IfOk result (λ p. (slot : List ℕ → StationSlot) → IsReady slot p.effect) }
+{
+    let rows = store.tags(op.as_str())?;
+    Ok(show(alloc, rows)?)
+}
+
+fn grants<S: Store>(alloc: Global, store: &mut S, op: &Text) -> Result<Plan, StoreFault>
+    ensures reads { OnlyReads S.rows S.failures S.clean store.old store.new (result ≡ Err StoreFault.Failed) }
+    ensures plan { S.clean store.new → IfOk result (λ p. p
+        ≡ list_plan (Ok (map row.Grant (lookups_at op.now (S.rows store.old)).grants))) }
+    ensures ready { IfOk result (λ p. (slot : List ℕ → StationSlot) → IsReady slot p.effect) }
+{
+    let rows = store.grants_out(op.as_str())?;
+    Ok(show(alloc, rows)?)
+}
+
+fn granted<S: Store>(alloc: Global, store: &mut S, op: &Text) -> Result<Plan, StoreFault>
+    ensures reads { OnlyReads S.rows S.failures S.clean store.old store.new (result ≡ Err StoreFault.Failed) }
+    ensures plan { S.clean store.new → IfOk result (λ p. p
+        ≡ list_plan (Ok (map row.Granted (lookups_at op.now (S.rows store.old)).granted))) }
+    ensures ready { IfOk result (λ p. (slot : List ℕ → StationSlot) → IsReady slot p.effect) }
+{
+    let rows = store.granted(op.as_str())?;
+    Ok(show(alloc, rows)?)
+}
+
+fn connectors<S: Store>(
+    alloc: Global,
+    store: &mut S,
+    op: &Text,
+    station: &Text,
+) -> Result<Plan, StoreFault>
+    ensures reads { OnlyReads S.rows S.failures S.clean store.old store.new (result ≡ Err StoreFault.Failed) }
+    ensures plan { S.clean store.new → IfOk result (λ p. p
+        ≡ list_plan (of_station ((lookups_at op.now (S.rows store.old)).registration station.now) (map row.Connector ((lookups_at op.now (S.rows store.old)).connectors station.now)))) }
+    ensures ready { IfOk result (λ p. (slot : List ℕ → StationSlot) → IsReady slot p.effect) }
+{
+    if store.station(op.as_str(), station.as_str())?.is_none() {
+        return Ok(no_station(alloc)?);
+    }
+    let rows = store.connectors(op.as_str(), station.as_str())?;
+    Ok(show(alloc, rows)?)
+}
+
+fn transactions<S: Store>(
+    alloc: Global,
+    store: &mut S,
+    op: &Text,
+    station: &Text,
+) -> Result<Plan, StoreFault>
+    ensures reads { OnlyReads S.rows S.failures S.clean store.old store.new (result ≡ Err StoreFault.Failed) }
+    ensures plan { S.clean store.new → IfOk result (λ p. p
+        ≡ list_plan (of_station ((lookups_at op.now (S.rows store.old)).registration station.now) (map row.Transaction ((lookups_at op.now (S.rows store.old)).txs station.now)))) }
+    ensures ready { IfOk result (λ p. (slot : List ℕ → StationSlot) → IsReady slot p.effect) }
+{
+    if store.station(op.as_str(), station.as_str())?.is_none() {
+        return Ok(no_station(alloc)?);
+    }
+    let rows = store.txs(op.as_str(), station.as_str())?;
+    Ok(show(alloc, rows)?)
+}
+
+fn readings<S: Store>(
+    alloc: Global,
+    store: &mut S,
+    op: &Text,
+    station: &Text,
+    transaction: Option<u64>,
+) -> Result<Plan, StoreFault>
+    ensures reads { OnlyReads S.rows S.failures S.clean store.old store.new (result ≡ Err StoreFault.Failed) }
+    ensures plan { S.clean store.new → IfOk result (λ p. p
+        ≡ list_plan (of_station ((lookups_at op.now (S.rows store.old)).registration station.now) (map row.Reading ((lookups_at op.now (S.rows store.old)).readings station.now transaction)))) }
+    ensures ready { IfOk result (λ p. (slot : List ℕ → StationSlot) → IsReady slot p.effect) }
+{
+    if store.station(op.as_str(), station.as_str())?.is_none() {
+        return Ok(no_station(alloc)?);
+    }
+    let rows = store.readings(op.as_str(), station.as_str(), transaction)?;
+    Ok(show(alloc, rows)?)
+}
+
+fn reservations<S: Store>(
+    alloc: Global,
+    store: &mut S,
+    op: &Text,
+    station: &Text,
+    moment: Moment,
+) -> Result<Plan, StoreFault>
+    ensures reads { OnlyReads S.rows S.failures S.clean store.old store.new (result ≡ Err StoreFault.Failed) }
+    ensures plan { S.clean store.new → IfOk result (λ p. p
+        ≡ list_plan (of_station ((lookups_at op.now (S.rows store.old)).registration station.now) (map row.Reservation (current moment ((lookups_at op.now (S.rows store.old)).reservations station.now))))) }
+    ensures ready { IfOk result (λ p. (slot : List ℕ → StationSlot) → IsReady slot p.effect) }
+{
+    if store.station(op.as_str(), station.as_str())?.is_none() {
+        return Ok(no_station(alloc)?);
+    }
+    let rows = store.reservations(op.as_str(), station.as_str())?;
+    Ok(show(alloc, current(alloc, moment, rows)?)?)
+}
+
+/// The reservations that count at a moment.
+fn current(
+    alloc: Global,
+    moment: Moment,
+    rows: Listed<ReservationRow>,
+) -> Mem<Listed<ReservationRow>>
+    ensures { IfOk result (λ l. l ≡ current moment rows) }
+{
+    let mut list = Listed::new(alloc);
+    for row in rows.into_vec() {
+        if is_shown(moment, &row) {
+            list.push(row)?;
+        }
+    }
+    Ok(list)
+}
+
+fn is_shown(moment: Moment, row: &ReservationRow) -> bool
+    ensures { result ≡ is_current moment row.now.reservation.expiry }
+{
+    is_current(moment, row.reservation.expiry)
+}
+
+fn local_list<S: Store>(
+    alloc: Global,
+    store: &mut S,
+    op: &Text,
+    station: &Text,
+) -> Result<Plan, StoreFault>
+    ensures reads { OnlyReads S.rows S.failures S.clean store.old store.new (result ≡ Err StoreFault.Failed) }
+    ensures plan { S.clean store.new → IfOk result (λ p. p
+        ≡ list_plan (of_station ((lookups_at op.now (S.rows store.old)).registration station.now) (list_rows station.now ((lookups_at op.now (S.rows store.old)).local_list station.now)))) }
+    ensures ready { IfOk result (λ p. (slot : List ℕ → StationSlot) → IsReady slot p.effect) }
+{
+    if store.station(op.as_str(), station.as_str())?.is_none() {
+        return Ok(no_station(alloc)?);
+    }
+    let list = store.local_list(op.as_str(), station.as_str())?;
+    Ok(show_list(alloc, station, list)?)
+}
+
+/// The plan that shows a local list: its version, 0 where there is none, and its entries.
+fn show_list(alloc: Global, station: &Text, list: Option<LocalList>) -> Mem<Plan>
+    ensures { IfOk result (λ p. p ≡ list_plan (Ok (list_rows station.now list))) }
+{
+    let (version, entries) = match list {
+        Some(list) => (list.version, list.entries),
+        None => (0, Listed::new(alloc)),
+    };
+    let mut said = Listed::new(alloc);
+    said.push(Said::Row(Row::LocalList {
+        station: station.clone()?,
+        version,
+    }))?;
+    add_entries(&mut said, station, entries)?;
+    said.push(Said::Accepted { number: None })?;
+    Ok(Plan {
+        said,
+        effect: Effect::Nothing,
+    })
+}
+
+fn add_entries(said: &mut Listed<Said>, station: &Text, entries: Listed<LocalTag>) -> Mem<()>
+    ensures { OnOk result (said.new ≡ said.old ++ map Said.Row (map (row.LocalTag station.now) entries)) }
+{
+    for entry in entries.into_vec() {
+        let station = station.clone()?;
+        said.push(Said::Row(Row::LocalTag { station, entry }))?;
+    }
+    Ok(())
+}
+
+fn no_station(alloc: Global) -> Mem<Plan>
+    ensures { IfOk result (λ p. p ≡ list_plan (Err Refusal.NoSuchStation)) }
+{
+    Plan::only(alloc, Said::Refused(Refusal::NoSuchStation))
+}
+
+/// The plan that shows rows.
+fn show<R: Shown>(alloc: Global, rows: Listed<R>) -> Mem<Plan>
+    ensures { IfOk result (λ p. p ≡ list_plan (Ok (map R.as_row rows))) }
+{
+    let mut said = Listed::new(alloc);
+    add_rows(&mut said, rows)?;
+    said.push(Said::Accepted { number: None })?;
+    Ok(Plan {
+        said,
+        effect: Effect::Nothing,
+    })
+}
+
+fn add_rows<R: Shown>(said: &mut Listed<Said>, rows: Listed<R>) -> Mem<()>
+    ensures { OnOk result (said.new ≡ said.old ++ map Said.Row (map R.as_row rows)) }
+{
+    for row in rows.into_vec() {
+        said.push(Said::Row(row.into_row()))?;
+    }
+    Ok(())
+}

@@ -1,0 +1,137 @@
+//! Plans from facts: one small function for each kind of event (docs/RULES.md).
+ghost use Rattle.std.specs.Prelude.{◌≡◌, [], ◌∷◌, IfOk};
+ghost use Rattle.event_plans.specs.declared.out.Said.TheVariants as said;
+ghost use Rattle.event_plans.specs.Plans.{turned_plan, connect_plan, disconnect_plan, sent_plan, error_plan, error_text, conf_text, reply_text, decided_plan, edit_plan};
+
+use crate::out::Said;
+use crate::plan::{Effect, Plan, one};
+use hub_rows::{Edit, Registration};
+use ocpp_frame::{write_error, write_result};
+use ocpp_payload::{Conf, write_conf};
+use ocpp_types::{ErrorCode, Listed, Mem, Named, Refusal, Text};
+use registry::{Decision, Reply};
+use std::alloc::Global;
+
+/// A station is turned away.
+pub fn turned_plan(alloc: Global, station: &Text) -> Mem<Plan>
+    ensures { IfOk result (λ p. p ≡ turned_plan station.now) }
+{
+    Plan::only(
+        alloc,
+        Said::Turned {
+            station: station.clone()?,
+        },
+    )
+}
+
+/// A station connects: it is turned away where it isn't registered.
+pub fn connect_plan(alloc: Global, station: &Text, registration: Option<Registration>) -> Mem<Plan>
+    ensures { IfOk result (λ p. p ≡ connect_plan station.now registration) }
+{
+    match registration {
+        Some(_) => {
+            let station = station.clone()?;
+            Ok(Plan::changing(alloc, Effect::Connect { station }))
+        }
+        None => turned_plan(alloc, station),
+    }
+}
+
+/// A station's connection ends, and its calls end.
+pub fn disconnect_plan(alloc: Global, station: &Text) -> Mem<Plan>
+    ensures { IfOk result (λ p. p ≡ disconnect_plan station.now) }
+{
+    let station = station.clone()?;
+    Ok(Plan::changing(alloc, Effect::Disconnect { station }))
+}
+
+fn sent_plan(alloc: Global, station: &Text, text: Text) -> Mem<Plan>
+    ensures { IfOk result (λ p. p ≡ sent_plan station.now text) }
+{
+    Plan::only(
+        alloc,
+        Said::Send {
+            station: station.clone()?,
+            text,
+        },
+    )
+}
+
+fn error_text(alloc: Global, id: &Text, code: ErrorCode, description: &str) -> Mem<Text>
+    ensures { IfOk result (λ t. t ≡ error_text id.now code description.now) }
+{
+    let text = write_error(alloc, id.as_str(), code.name(), description)?;
+    Ok(Text::from(text))
+}
+
+fn conf_text(alloc: Global, id: &Text, conf: &Conf) -> Mem<Text>
+    ensures { IfOk result (λ t. t ≡ conf_text id.now conf.now) }
+{
+    let payload = write_conf(alloc, conf)?;
+    let text = write_result(alloc, id.as_str(), payload)?;
+    Ok(Text::from(text))
+}
+
+fn reply_text(alloc: Global, id: &Text, reply: &Reply) -> Mem<Text>
+    ensures { IfOk result (λ t. t ≡ reply_text id.now reply.now) }
+{
+    match reply {
+        Reply::Conf(conf) => conf_text(alloc, id, conf),
+        Reply::Error(code) => error_text(alloc, id, *code, ""),
+    }
+}
+
+/// A call is answered with an error.
+pub fn error_plan(
+    alloc: Global,
+    station: &Text,
+    id: &Text,
+    code: ErrorCode,
+    description: &str,
+) -> Mem<Plan>
+    ensures { IfOk result (λ p. p ≡ error_plan station.now id.now code description.now) }
+{
+    let text = error_text(alloc, id, code, description)?;
+    sent_plan(alloc, station, text)
+}
+
+/// The text of a reply goes to the station.
+fn sent(alloc: Global, station: &Text, id: &Text, reply: &Reply) -> Mem<Listed<Said>>
+    ensures { IfOk result (λ list. list ≡ said.Send station.now (reply_text id.now reply.now) ∷ []) }
+{
+    let text = reply_text(alloc, id, reply)?;
+    one(
+        alloc,
+        Said::Send {
+            station: station.clone()?,
+            text,
+        },
+    )
+}
+
+/// A call is answered as a rule decided.
+pub fn decided_plan(alloc: Global, station: &Text, id: &Text, decision: Decision) -> Mem<Plan>
+    ensures { IfOk result (λ p. p ≡ decided_plan station.now id.now decision) }
+{
+    let said = sent(alloc, station, id, &decision.reply)?;
+    Ok(Plan {
+        said,
+        effect: Effect::from(decision.edit),
+    })
+}
+
+/// A request of the operator is taken, with its edit, or refused.
+pub fn edit_plan(alloc: Global, answer: Result<Edit, Refusal>) -> Mem<Plan>
+    ensures { IfOk result (λ p. p ≡ edit_plan answer) }
+{
+    match answer {
+        Ok(edit) => {
+            let said = one(alloc, Said::Accepted { number: None })?;
+            Ok(Plan {
+                said,
+                effect: Effect::Edit(edit),
+            })
+        }
+        Err(refusal) => Plan::only(alloc, Said::Refused(refusal)),
+    }
+}

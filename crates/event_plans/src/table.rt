@@ -1,0 +1,64 @@
+//! The plan for an event of an operator: the store is asked, nothing is changed.
+ghost use Rattle.std.specs.Prelude.{◌≡◌, Err, IfOk};
+ghost use Rattle.hub_rows.specs.Reads.{OnlyReads};
+ghost use Rattle.hub_rows.specs.Lookups.{lookups_at};
+ghost use Rattle.hub_rows.specs.Operators.{is_hosted};
+ghost use Rattle.pending_calls.specs.Slots.{slot_at};
+ghost use Rattle.station_calls.specs.Book.{book_rows, book_failures, book_answers, IsCleanBook};
+ghost use Rattle.event_plans.specs.Effects.{IsReady};
+ghost use Rattle.event_plans.specs.Table.{plan};
+
+use crate::admin::decide_admin;
+use crate::commands::plan_command;
+use crate::event::What;
+use crate::frames::plan_text;
+use crate::list::plan_list;
+use crate::plan::Plan;
+use crate::plans::{connect_plan, disconnect_plan, edit_plan, turned_plan};
+use hub_rows::{Store, StoreFault};
+use ocpp_types::{Moment, Text};
+use operator_cmds::Command;
+use pending_calls::Slots;
+use station_calls::{Book, VendorHandler};
+use std::alloc::Global;
+
+/// The plan for an event of an operator. `hosted` are the hosted operators.
+#[tactic(auto, using(crate::proofs::Readiness::connect_ready, crate::proofs::Readiness::edit_ready))]
+pub fn plan_event<S: Store, V: VendorHandler>(
+    alloc: Global,
+    book: &mut Book<S, V>,
+    slots: &Slots<Command>,
+    hosted: &[Text],
+    op: &Text,
+    what: &What,
+    moment: Moment,
+) -> Result<Plan, StoreFault>
+    ensures reads { OnlyReads (book_rows S.rows) (book_failures S.failures) (IsCleanBook S.clean) book.old book.new (result ≡ Err StoreFault.Failed) }
+    ensures plan { IsCleanBook S.clean book.new → IfOk result (λ p. p ≡ plan (is_hosted hosted.now) (book_answers V.name V.gives book.old) what.now moment
+        (record { lookups = lookups_at op.now (book_rows S.rows book.old); slot = λ st. slot_at op.now st slots.now })) }
+    ensures answers { book_answers V.name V.gives book.new ≡ book_answers V.name V.gives book.old }
+    ensures ready { IfOk result (λ p. IsReady (λ st. slot_at op.now st slots.now) p.effect) }
+{
+    match what {
+        What::Connect { station } => {
+            let registration = book.store.station(op.as_str(), station.as_str())?;
+            Ok(connect_plan(alloc, station, registration)?)
+        }
+        What::Disconnect { station } => Ok(disconnect_plan(alloc, station)?),
+        What::Frame { station, text } => {
+            if !slots.is_connected(op.as_str(), station.as_str()) {
+                return Ok(turned_plan(alloc, station)?);
+            }
+            plan_text(alloc, book, slots, op, station, text, moment)
+        }
+        What::Do { station, command } => {
+            let store = &mut book.store;
+            plan_command(alloc, store, slots, op, station, command, moment)
+        }
+        What::Admin(admin) => {
+            let answer = decide_admin(alloc, &mut book.store, op.as_str(), admin, hosted)?;
+            Ok(edit_plan(alloc, answer)?)
+        }
+        What::List(listing) => plan_list(alloc, &mut book.store, op, listing, moment),
+    }
+}

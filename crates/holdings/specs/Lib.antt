@@ -1,0 +1,4 @@
+pub mod Reservation
+pub mod LocalList
+pub mod Entries
+pub mod Settled

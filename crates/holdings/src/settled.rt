@@ -1,0 +1,89 @@
+//! What an answer to a command changes on record (docs/RULES.md, Reservations and Local lists).
+ghost use Rattle.std.specs.Prelude.{◌≡◌, Err, IfOk};
+ghost use Rattle.serde_json.specs.View.{view};
+ghost use Rattle.hub_rows.specs.Reads.{OnlyReads};
+ghost use Rattle.hub_rows.specs.Lookups.{lookups_at};
+ghost use Rattle.holdings.specs.LocalList.{kept_for};
+ghost use Rattle.holdings.specs.Settled.{accepted_edit, is_held, settled};
+
+use crate::local_list::list_answer;
+use crate::reservation::{cancelled, reserved};
+use hub_rows::{Edit, LocalList, Store, StoreFault};
+use ocpp_types::Text;
+use operator_cmds::{Command, UpdateType, is_accepted};
+use serde_json::Value;
+use std::alloc::Global;
+
+/// The edit that the known members of an answer make: an answer Accepted to ReserveNow keeps the
+/// reservation, to CancelReservation drops it, to SendLocalList sets the list. Any other answer, and
+/// one of a station that isn't on record, edits nothing.
+pub fn settle<S: Store>(
+    alloc: Global,
+    store: &mut S,
+    op: &Text,
+    station: &Text,
+    command: &Command,
+    answer: &Value,
+) -> Result<Option<Edit>, StoreFault>
+    ensures reads { OnlyReads S.rows S.failures S.clean store.old store.new (result ≡ Err StoreFault.Failed) }
+    ensures edit { S.clean store.new → IfOk result (λ e. e
+        ≡ settled station.now command.now (view answer.now) (lookups_at op.now (S.rows store.old))) }
+{
+    if !is_held(command) || !is_accepted(answer) {
+        return Ok(None);
+    }
+    if store.station(op.as_str(), station.as_str())?.is_none() {
+        return Ok(None);
+    }
+    accepted_edit(alloc, store, op, station, command)
+}
+
+/// Whether a command is about what a station holds.
+fn is_held(command: &Command) -> bool
+    ensures { result ≡ is_held command.now }
+{
+    matches!(
+        command,
+        Command::ReserveNow(_) | Command::CancelReservation(_) | Command::SendLocalList(_)
+    )
+}
+
+/// The edit of a command that the station has accepted.
+fn accepted_edit<S: Store>(
+    alloc: Global,
+    store: &mut S,
+    op: &Text,
+    station: &Text,
+    command: &Command,
+) -> Result<Option<Edit>, StoreFault>
+    ensures reads { OnlyReads S.rows S.failures S.clean store.old store.new (result ≡ Err StoreFault.Failed) }
+    ensures edit { S.clean store.new → IfOk result (λ e. e
+        ≡ accepted_edit station.now command.now (lookups_at op.now (S.rows store.old))) }
+{
+    match command {
+        Command::ReserveNow(fields) => Ok(reserved(station, fields)?),
+        Command::CancelReservation(fields) => Ok(cancelled(station, fields)?),
+        Command::SendLocalList(fields) => {
+            let kept = kept_list(store, op, station, fields.update_type())?;
+            Ok(list_answer(alloc, station, kept, fields)?)
+        }
+        _ => Ok(None),
+    }
+}
+
+/// The list that a command builds on; a Full update needs none.
+fn kept_list<S: Store>(
+    store: &mut S,
+    op: &Text,
+    station: &Text,
+    update: UpdateType,
+) -> Result<Option<LocalList>, StoreFault>
+    ensures reads { OnlyReads S.rows S.failures S.clean store.old store.new (result ≡ Err StoreFault.Failed) }
+    ensures kept { S.clean store.new → IfOk result (λ k. kept_for update k
+        ≡ kept_for update ((lookups_at op.now (S.rows store.old)).local_list station.now)) }
+{
+    match update {
+        UpdateType::Differential => store.local_list(op.as_str(), station.as_str()),
+        UpdateType::Full => Ok(None),
+    }
+}

@@ -1,0 +1,47 @@
+//! Id tags as they count for an operator.
+ghost use Rattle.std.specs.Prelude.{◌≡◌};
+ghost use Rattle.hub_rows.specs.Grants.{earlier, granted_until};
+
+use ocpp_types::{Moment, TagKey, Text};
+
+/// What counts of an id tag for an operator that may use it.
+#[derive(Drop)]
+pub struct Info {
+    /// Its text as its owner put it.
+    pub text: Text,
+    /// The tag of the group that it belongs to, as its owner put it.
+    pub parent: Option<Text>,
+    /// Whether it is blocked, or the tag of that group among its owner's tags is.
+    pub blocked: bool,
+    /// It counts before this moment. For a granted tag the end of the grant is regarded too.
+    pub expiry: Option<Moment>,
+}
+
+impl Info {
+    /// The tag as it counts for an operator that has it until `end`: the earlier end counts.
+    pub fn until(self, end: Option<Moment>) -> Info
+        ensures { result ≡ granted_until end self }
+    {
+        let expiry = earlier(self.expiry, end);
+        Info { expiry, ..self }
+    }
+}
+
+/// The earlier of two ends; `None` is later than all.
+fn earlier(end: Option<Moment>, other: Option<Moment>) -> Option<Moment>
+    ensures { result ≡ earlier end other }
+{
+    match (end, other) {
+        (Some(end), Some(other)) => Some(end.min(other)),
+        (None, end) | (end, None) => end,
+    }
+}
+
+/// An id tag that another operator granted.
+#[derive(Drop)]
+pub struct GrantedTag {
+    pub key: TagKey,
+    /// The operator that owns it.
+    pub owner: Text,
+    pub info: Info,
+}

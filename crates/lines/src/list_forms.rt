@@ -1,0 +1,111 @@
+//! The forms of listings (docs/RULES.md, Lines).
+ghost use Rattle.std.specs.Prelude.{◌≡◌, IfOk};
+ghost use Rattle.lines.specs.Forms.{list_form, plain_list, station_list_form, connectors_form, transactions_form, readings_form, numbered_readings_form, reservations_form, local_list_form};
+
+use crate::words::{first_word, name_of, number_of};
+use event_plans::{Listing, What};
+use ocpp_types::{Mem, Text};
+use std::alloc::Global;
+
+/// What follows `list`.
+pub fn list(alloc: Global, rest: &str) -> Mem<Option<What>>
+    ensures { IfOk result (λ w. w ≡ list_form rest.now) }
+{
+    match plain_list(rest) {
+        Some(listing) => Ok(Some(What::List(listing))),
+        None => station_list_form(alloc, rest),
+    }
+}
+
+/// A listing of the operator, which names no station.
+fn plain_list(rest: &str) -> Option<Listing>
+    ensures { result ≡ plain_list rest.now }
+{
+    match rest {
+        "stations" => Some(Listing::Stations),
+        "tags" => Some(Listing::Tags),
+        "grants" => Some(Listing::Grants),
+        "granted" => Some(Listing::Granted),
+        _ => None,
+    }
+}
+
+fn station_list_form(alloc: Global, rest: &str) -> Mem<Option<What>>
+    ensures { IfOk result (λ w. w ≡ station_list_form rest.now) }
+{
+    let Some((word, rest)) = first_word(rest) else {
+        return Ok(None);
+    };
+    match word {
+        "connectors" => connectors(alloc, rest),
+        "transactions" => transactions(alloc, rest),
+        "readings" => readings(alloc, rest),
+        "reservations" => reservations(alloc, rest),
+        "locallist" => local_list(alloc, rest),
+        _ => Ok(None),
+    }
+}
+
+fn connectors(alloc: Global, rest: &str) -> Mem<Option<What>>
+    ensures { IfOk result (λ w. w ≡ connectors_form rest.now) }
+{
+    let Some(station) = name_of(alloc, rest)? else {
+        return Ok(None);
+    };
+    Ok(Some(What::List(Listing::Connectors { station })))
+}
+
+fn transactions(alloc: Global, rest: &str) -> Mem<Option<What>>
+    ensures { IfOk result (λ w. w ≡ transactions_form rest.now) }
+{
+    let Some(station) = name_of(alloc, rest)? else {
+        return Ok(None);
+    };
+    Ok(Some(What::List(Listing::Transactions { station })))
+}
+
+fn readings(alloc: Global, rest: &str) -> Mem<Option<What>>
+    ensures { IfOk result (λ w. w ≡ readings_form rest.now) }
+{
+    let Some(station) = name_of(alloc, rest)? else {
+        return numbered_readings_form(alloc, rest);
+    };
+    Ok(Some(What::List(Listing::Readings {
+        station,
+        transaction: None,
+    })))
+}
+
+/// The readings sent with the number of a transaction.
+fn numbered_readings_form(alloc: Global, rest: &str) -> Mem<Option<What>>
+    ensures { IfOk result (λ w. w ≡ numbered_readings_form rest.now) }
+{
+    let Some((station, rest)) = first_word(rest) else {
+        return Ok(None);
+    };
+    let Some(number) = number_of(rest) else {
+        return Ok(None);
+    };
+    Ok(Some(What::List(Listing::Readings {
+        station: Text::copy_of(alloc, station)?,
+        transaction: Some(number),
+    })))
+}
+
+fn reservations(alloc: Global, rest: &str) -> Mem<Option<What>>
+    ensures { IfOk result (λ w. w ≡ reservations_form rest.now) }
+{
+    let Some(station) = name_of(alloc, rest)? else {
+        return Ok(None);
+    };
+    Ok(Some(What::List(Listing::Reservations { station })))
+}
+
+fn local_list(alloc: Global, rest: &str) -> Mem<Option<What>>
+    ensures { IfOk result (λ w. w ≡ local_list_form rest.now) }
+{
+    let Some(station) = name_of(alloc, rest)? else {
+        return Ok(None);
+    };
+    Ok(Some(What::List(Listing::LocalList { station })))
+}

@@ -1,0 +1,210 @@
+//! The list of tags that a station keeps, to judge them by while it is offline.
+ghost use Rattle.std.specs.Prelude.{◌≡◌, [], IfOk, unwrap_or, option_map};
+ghost use Rattle.ocpp_payload.specs.Holds.{first_bad};
+ghost use Rattle.ocpp_payload.specs.Table.{read_by};
+ghost use Rattle.operator_cmds.specs.LocalList.{authorization_data, bad_entry, bad_of_entries, bad_of_keys, entries, list_version, missing_info, repeats_key, send_local_list, update_type};
+
+use crate::choices::UpdateType;
+use crate::kinds::{ID_TAG, LIST_VERSION};
+use ocpp_payload::{
+    Bounded, Checked, ListOf, NameOf, ObjectOf, ReadError, Readable, Tabled, bad_may, optional,
+    put_may, put_must, required,
+};
+use ocpp_types::{FieldName, IdTagInfo, Listed, Mem, TagKey, Text};
+use serde_json::{Map, Value};
+use std::alloc::Global;
+use std::collections::BTreeSet;
+
+/// An entry of a list of tags (OCPP 1.6, type AuthorizationData).
+#[derive(Drop)]
+pub struct AuthorizationData {
+    /// At most 20 characters.
+    pub id_tag: Text,
+    /// Where it is missing, the entry takes the tag out of the list.
+    pub id_tag_info: Option<IdTagInfo>,
+}
+
+impl Readable for AuthorizationData {
+    ghost reads_as = { read_by authorization_data };
+
+    fn read_from(alloc: Global, object: &Value) -> Result<AuthorizationData, ReadError> {
+        Ok(AuthorizationData {
+            id_tag: required(alloc, object, "idTag", ID_TAG)?,
+            id_tag_info: optional(alloc, object, "idTagInfo", ObjectOf::new())?,
+        })
+    }
+}
+
+impl Tabled for AuthorizationData {
+    ghost form = { authorization_data };
+
+    fn write(&self, alloc: Global) -> Mem<Value> {
+        let mut members = Map::new(alloc);
+        put_must(alloc, &mut members, "idTag", ID_TAG, &self.id_tag)?;
+        put_may(
+            alloc,
+            &mut members,
+            "idTagInfo",
+            ObjectOf::new(),
+            &self.id_tag_info,
+        )?;
+        Ok(Value::Object(members))
+    }
+}
+
+impl Checked for AuthorizationData {
+    fn bad(&self) -> Option<FieldName> {
+        let tag = ID_TAG.bad("idTag", &self.id_tag);
+        tag.or(bad_may("idTagInfo", ObjectOf::new(), &self.id_tag_info))
+    }
+}
+
+/// Sets or changes the list of tags of a station (OCPP 1.6, SendLocalList.req). One is made by reading
+/// alone, and its fields are private, so that what it knows of its entries stays true.
+#[derive(Drop)]
+pub struct SendLocalList {
+    pub(crate) list_version: i64,
+    pub(crate) entries: Option<Listed<AuthorizationData>>,
+    pub(crate) update_type: UpdateType,
+    /// Whether two entries have tags of one key.
+    pub(crate) repeats_key: bool,
+}
+
+impl SendLocalList {
+    /// The version that the list has then: 1 to 2147483647.
+    pub fn list_version(&self) -> i64
+        ensures { result ≡ list_version self.now }
+    {
+        self.list_version
+    }
+
+    /// The entries in their order, if the list isn't left out.
+    pub fn entries(&self) -> Option<&[AuthorizationData]>
+        ensures { option_map (λ entries. entries.now) result ≡ entries self.now }
+    {
+        match &self.entries {
+            Some(entries) => Some(entries.as_slice()),
+            None => None,
+        }
+    }
+
+    /// Whether the list is set anew or changed.
+    pub fn update_type(&self) -> UpdateType
+        ensures { result ≡ update_type self.now }
+    {
+        self.update_type
+    }
+
+    fn bad_of_entries(&self) -> Option<FieldName>
+        ensures { result ≡ bad_of_entries self.now }
+    {
+        match &self.entries {
+            Some(entries) => first_bad(self.update_type, entries.as_slice()),
+            None => None,
+        }
+    }
+
+    fn bad_of_keys(&self) -> Option<FieldName>
+        ensures { result ≡ bad_of_keys self.now }
+    {
+        if self.repeats_key {
+            Some(FieldName::new("localAuthorizationList"))
+        } else {
+            None
+        }
+    }
+}
+
+impl Readable for SendLocalList {
+    ghost reads_as = { read_by send_local_list };
+
+    fn read_from(alloc: Global, object: &Value) -> Result<SendLocalList, ReadError> {
+        let list_version = required(alloc, object, "listVersion", LIST_VERSION)?;
+        let kind = ListOf(ObjectOf::new());
+        let entries = optional(alloc, object, "localAuthorizationList", kind)?;
+        let update_type = required(alloc, object, "updateType", NameOf::new())?;
+        let repeats_key = repeats(alloc, &entries)?;
+        Ok(SendLocalList {
+            list_version,
+            entries,
+            update_type,
+            repeats_key,
+        })
+    }
+}
+
+impl Tabled for SendLocalList {
+    ghost form = { send_local_list };
+
+    fn write(&self, alloc: Global) -> Mem<Value> {
+        let mut members = Map::new(alloc);
+        let version = &self.list_version;
+        put_must(alloc, &mut members, "listVersion", LIST_VERSION, version)?;
+        put_may(
+            alloc,
+            &mut members,
+            "localAuthorizationList",
+            ListOf(ObjectOf::new()),
+            &self.entries,
+        )?;
+        let update = &self.update_type;
+        put_must(alloc, &mut members, "updateType", NameOf::new(), update)?;
+        Ok(Value::Object(members))
+    }
+}
+
+impl Checked for SendLocalList {
+    fn bad(&self) -> Option<FieldName> {
+        let version = LIST_VERSION.bad("listVersion", &self.list_version);
+        version.or(self.bad_of_entries()).or(self.bad_of_keys())
+    }
+}
+
+fn first_bad(update: UpdateType, entries: &[AuthorizationData]) -> Option<FieldName>
+    ensures { result ≡ first_bad (bad_entry update) entries.now }
+{
+    for entry in entries {
+        if let Some(name) = bad_entry(update, entry) {
+            return Some(name);
+        }
+    }
+    None
+}
+
+fn bad_entry(update: UpdateType, entry: &AuthorizationData) -> Option<FieldName>
+    ensures { result ≡ bad_entry update entry.now }
+{
+    entry.bad().or(missing_info(update, &entry.id_tag_info))
+}
+
+fn missing_info(update: UpdateType, info: &Option<IdTagInfo>) -> Option<FieldName>
+    ensures { result ≡ missing_info update info.now }
+{
+    match (update, info) {
+        (UpdateType::Full, None) => Some(FieldName::new("idTagInfo")),
+        _ => None,
+    }
+}
+
+fn repeats(alloc: Global, entries: &Option<Listed<AuthorizationData>>) -> Mem<bool>
+    ensures { IfOk result (λ repeats. repeats ≡ repeats_key (unwrap_or entries.now [])) }
+{
+    match entries {
+        Some(entries) => repeats_key(alloc, entries.as_slice()),
+        None => Ok(false),
+    }
+}
+
+/// Whether two entries have tags of one key, in one pass.
+fn repeats_key(alloc: Global, entries: &[AuthorizationData]) -> Mem<bool>
+    ensures { IfOk result (λ repeats. repeats ≡ repeats_key entries.now) }
+{
+    let mut keys = BTreeSet::new(alloc);
+    for entry in entries {
+        let key = TagKey::of(alloc, entry.id_tag.as_str())?;
+        if !keys.insert(key)? {
+            return Ok(true);
+        }
+    }
+    Ok(false)
+}

@@ -1,0 +1,66 @@
+-- Lists of rows: their parts, and their order.
+use Rattle.std.specs.Prelude.{◌≡◌, ℕ, List, [], ◌∷◌, ◌++◌, Bool, true, false, cond, filter, map}
+use Rattle.std.specs.List.{AllByRecursion}
+use Rattle.std.specs.List.Sorted.{IsStrictlySortedBy}
+use Rattle.std.specs.declared.cmp.Ordering.TheVariants.{Less}
+use Rattle.std.proofs.Common.{refl, sym, ◌∙◌, subst}
+use Rattle.hub_rows.specs.Keyed.{key_cmp, by_key}
+use Rattle.hub_rows.proofs.PlaceLaws.{map-append}
+
+-- ---- lists
+
+pub all-append : {R : Type 0} (P : R → Type 0) (xs ys : List R) → AllByRecursion P xs → AllByRecursion P ys → AllByRecursion P (xs ++ ys)
+all-append P [] ys all more = more
+all-append P (x ∷ xs) ys all more = (all.0, all-append P xs ys all.1 more)
+
+pub all-front : {R : Type 0} (P : R → Type 0) (front back : List R) → AllByRecursion P (front ++ back) → AllByRecursion P front
+all-front P [] back all = tt
+all-front P (x ∷ front) back all = (all.0, all-front P front back all.1)
+
+pub all-both : {R : Type 0} (P Q : R → Type 0) (xs : List R) → AllByRecursion P xs → AllByRecursion Q xs → AllByRecursion (λ x. P x × Q x) xs
+all-both P Q [] all more = tt
+all-both P Q (x ∷ xs) all more = ((all.0, more.0), all-both P Q xs all.1 more.1)
+
+pub filter-all : {R : Type 0} (t : R → Bool) (xs : List R) → AllByRecursion (λ r. t r ≡ true) xs → filter t xs ≡ xs
+filter-all t [] all = refl
+filter-all t (x ∷ xs) all = λ i. cond (all.0 i) (x ∷ filter-all t xs all.1 i) (filter-all t xs all.1 i)
+
+pub filter-no : {R : Type 0} (t : R → Bool) (xs : List R) → AllByRecursion (λ r. t r ≡ false) xs → filter t xs ≡ []
+filter-no t [] all = refl
+filter-no t (x ∷ xs) all = λ i. cond (all.0 i) (x ∷ filter-no t xs all.1 i) (filter-no t xs all.1 i)
+
+-- ---- the order
+
+-- the order depends on the keys alone
+module _ {R : Type 0} (key : R → List (List ℕ)) where
+  keys-up : (P : List (List ℕ) → Type 0) (xs : List R) → AllByRecursion (λ x. P (key x)) xs → AllByRecursion P (map key xs)
+  keys-up P [] all = tt
+  keys-up P (x ∷ xs) all = (all.0, keys-up P xs all.1)
+
+  keys-down : (P : List (List ℕ) → Type 0) (xs : List R) → AllByRecursion P (map key xs) → AllByRecursion (λ x. P (key x)) xs
+  keys-down P [] all = tt
+  keys-down P (x ∷ xs) all = (all.0, keys-down P xs all.1)
+
+  sorted-up : (xs : List R) → IsStrictlySortedBy (by_key key) xs → IsStrictlySortedBy key_cmp (map key xs)
+  unfolding IsStrictlySortedBy
+  sorted-up [] sorted = tt
+  sorted-up (x ∷ xs) sorted = (keys-up (λ k. key_cmp (key x) k ≡ Less) xs sorted.0, sorted-up xs sorted.1)
+
+  sorted-down : (xs : List R) → IsStrictlySortedBy key_cmp (map key xs) → IsStrictlySortedBy (by_key key) xs
+  unfolding IsStrictlySortedBy
+  sorted-down [] sorted = tt
+  sorted-down (x ∷ xs) sorted = (keys-down (λ k. key_cmp (key x) k ≡ Less) xs sorted.0, sorted-down xs sorted.1)
+
+  -- a change that keeps the keys
+  pub sorted-kept : (g : R → R) → ((r : R) → key (g r) ≡ key r) → (xs : List R) → IsStrictlySortedBy (by_key key) xs → IsStrictlySortedBy (by_key key) (map g xs)
+  sorted-kept g same xs sorted = sorted-down (map g xs) (subst (IsStrictlySortedBy key_cmp) (sym (same-keys xs)) (sorted-up xs sorted))
+    where
+      same-keys : (xs : List R) → map key (map g xs) ≡ map key xs
+      same-keys [] = refl
+      same-keys (x ∷ xs) = λ i. same x i ∷ same-keys xs i
+
+  pub sorted-swap : (front back : List R) (x y : R) → key y ≡ key x → IsStrictlySortedBy (by_key key) (front ++ x ∷ back) → IsStrictlySortedBy (by_key key) (front ++ y ∷ back)
+  sorted-swap front back x y same sorted =
+      sorted-down (front ++ y ∷ back) (subst (IsStrictlySortedBy key_cmp)
+      (map-append key front (x ∷ back) ∙ (λ i. map key front ++ sym same i ∷ map key back) ∙ sym (map-append key front (y ∷ back)))
+      (sorted-up (front ++ x ∷ back) sorted))
