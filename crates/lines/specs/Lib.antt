@@ -3,3 +3,4 @@ pub mod Forms
 pub mod InputLines
 pub mod RowLines
 pub mod OutputLines
+pub mod Orders

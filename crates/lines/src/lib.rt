@@ -6,9 +6,11 @@ mod forms;
 mod held;
 mod input_line;
 mod list_forms;
+mod order;
 mod output_line;
 mod rows;
 mod words;
 
 pub use input_line::{Line, MAX_LINE, read_line};
+pub use order::read_order;
 pub use output_line::print_out;

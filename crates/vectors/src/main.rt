@@ -10,6 +10,7 @@ mod cases;
 mod commands;
 mod enumerations;
 mod frames;
+mod paths;
 mod requests;
 mod tables;
 mod values;

@@ -3,6 +3,7 @@
 use crate::commands::{answer_told, command_accepted, command_sent};
 use crate::enumerations::{class_of_action, name_read};
 use crate::frames::{frame_read, frame_written};
+use crate::paths::path_followed;
 use crate::requests::request_read;
 use crate::values::{
     characters, moment_printed, number_of_reading, operators_hosted, tag_key, time_read,
@@ -32,6 +33,7 @@ pub fn given(alloc: Global, table: &str, texts: &[String]) -> Result<String> {
             number_of_reading(alloc, unit.as_str(), text.as_str())
         }
         ("operators", names) => operators_hosted(alloc, names),
+        ("paths", [path]) => path_followed(alloc, path.as_str()),
         ("requests", [action, payload]) => {
             request_read(alloc, action.as_str(), payload.as_str())
         }

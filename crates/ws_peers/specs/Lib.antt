@@ -1,0 +1,5 @@
+pub mod Paths
+pub mod Stages
+pub mod Peers
+pub mod Sends
+pub mod Reads

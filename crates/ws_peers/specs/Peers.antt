@@ -1,0 +1,39 @@
+-- A peer, as contracts see it: its socket, its route and its stage.
+use Rattle.std.specs.Prelude.{◌≡◌, false}
+use Rattle.tungstenite.specs.Socket.{Socket}
+use Rattle.ws_peers.specs.declared.peer.Peer.{Peer}
+use Rattle.ws_peers.specs.declared.routes.Route.{Route}
+use Rattle.ws_peers.specs.declared.stage.Stage.{Stage}
+use Rattle.ws_peers.specs.declared.stage.Stage.TheVariants.{Open, Gone}
+use Rattle.ws_peers.specs.Stages.{leaving, is_held}
+
+module _ {T : Type 0} where
+  abbrev pub socket_of : Peer T → Socket T
+  socket_of p = p.socket
+
+  abbrev pub route_of : Peer T → Route
+  route_of p = p.route
+
+  abbrev pub stage_of : Peer T → Stage
+  stage_of p = p.stage
+
+  -- a peer of that socket and route, which is served
+  abbrev pub open_peer : Socket T → Route → Peer T
+  open_peer socket route = record { socket = socket; route = route; stage = Open }
+
+  -- the peer with another stage
+  abbrev pub at_stage : Stage → Peer T → Peer T
+  at_stage stage p = record p { stage = stage }
+
+  -- the peer as a turn has served all: an ended connection leaves
+  abbrev pub leaves : Peer T → Peer T
+  leaves p = record p { stage = leaving p.route p.stage }
+
+  -- another connection takes its place: it is gone, and its socket may have been closed
+  pub record IsReplaced (old new : Peer T) : Type 0 where
+    pub rest : new ≡ record old { socket = new.socket; stage = Gone }
+
+  -- the peer keeps its route, and doesn't come back
+  pub record Kept (old new : Peer T) : Type 0 where
+    pub route : new.route ≡ old.route
+    pub gone : is_held old.stage ≡ false → is_held new.stage ≡ false

@@ -1,0 +1,38 @@
+-- The stages of a connection.
+use Rattle.std.specs.Prelude.{Bool, true, false, Result, Ok, Err}
+use Rattle.tungstenite.specs.declared.error.Error.{Error}
+use Rattle.ws_peers.specs.declared.routes.Route.{Route}
+use Rattle.ws_peers.specs.declared.routes.Route.TheVariants.{Station, Operator, Nothing}
+use Rattle.ws_peers.specs.declared.stage.Stage.{Stage}
+use Rattle.ws_peers.specs.declared.stage.Stage.TheVariants.{Open, Ended, Leaving, Gone}
+
+-- it is served
+abbrev pub is_open : Stage → Bool
+is_open Open = true
+is_open Ended = false
+is_open Leaving = false
+is_open Gone = false
+
+-- something of it is left to be done
+abbrev pub is_held : Stage → Bool
+is_held Open = true
+is_held Ended = true
+is_held Leaving = true
+is_held Gone = false
+
+-- a send that isn't Ok ends the connection
+abbrev pub stage_after : Result (Unit {0}) Error → Stage → Stage
+stage_after (Ok u) stage = stage
+stage_after (Err e) stage = Ended
+
+-- an ended connection leaves: a station's has a hub to leave, an operator's is gone
+abbrev pub left : Route → Stage
+left (Station op name) = Leaving
+left (Operator op) = Gone
+left Nothing = Gone
+
+abbrev pub leaving : Route → Stage → Stage
+leaving route Open = Open
+leaving route Ended = left route
+leaving route Leaving = Leaving
+leaving route Gone = Gone

@@ -1,0 +1,32 @@
+//! The stages of a connection.
+ghost use Rattle.std.specs.Prelude.{◌≡◌};
+ghost use Rattle.ws_peers.specs.Stages.{is_open, is_held};
+
+/// How far a connection has come.
+#[derive(Clone, Copy, Debug, PartialEq, Eq, Drop)]
+pub enum Stage {
+    /// It is served.
+    Open,
+    /// It has ended. Its peer has not left the hub yet.
+    Ended,
+    /// Its peer leaves the hub in this turn, or in the next one if that fails.
+    Leaving,
+    /// Nothing of it is left to be done.
+    Gone,
+}
+
+impl Stage {
+    /// Whether it is served.
+    pub fn is_open(self) -> bool
+        ensures { result ≡ is_open self }
+    {
+        matches!(self, Stage::Open)
+    }
+
+    /// Whether it may still hand something on.
+    pub fn is_held(self) -> bool
+        ensures { result ≡ is_held self }
+    {
+        !matches!(self, Stage::Gone)
+    }
+}
