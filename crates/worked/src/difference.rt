@@ -1,4 +1,5 @@
 //! Where two texts differ.
+ghost use Rattle.std.specs.Prelude.{◌≡◌, ◌≢◌, IfNone, IfSome};
 
 use std::fmt;
 
@@ -19,22 +20,34 @@ impl fmt::Display for Difference<'_> {
     }
 }
 
-/// The first difference between what is wanted and what was got.
-pub fn first_difference<'a>(wanted: &'a str, got: &'a str) -> Option<Difference<'a>> {
+/// The first difference between what is wanted and what was got, `None` where they are equal.
+pub fn first_difference<'a>(wanted: &'a str, got: &'a str) -> Option<Difference<'a>>
+    ensures equal { IfNone result (wanted.now ≡ got.now) }
+    ensures apart { IfSome result (λ _. wanted.now ≢ got.now) }
+{
+    if wanted == got {
+        return None;
+    }
+    Some(first_line_apart(wanted, got))
+}
+
+/// The first line in which two texts differ, or the last if they differ in none.
+fn first_line_apart<'a>(wanted: &'a str, got: &'a str) -> Difference<'a> {
     let mut wanted_lines = wanted.split('\n');
     let mut got_lines = got.split('\n');
     for number in 1..u64::MAX {
-        match (wanted_lines.next(), got_lines.next()) {
-            (None, None) => return None,
-            (Some(wanted), Some(got)) if wanted == got => {}
-            (wanted, got) => {
-                return Some(Difference {
-                    number,
-                    wanted,
-                    got,
-                });
-            }
+        let (wanted, got) = (wanted_lines.next(), got_lines.next());
+        if wanted != got || wanted.is_none() {
+            return Difference {
+                number,
+                wanted,
+                got,
+            };
         }
     }
-    None
+    Difference {
+        number: u64::MAX,
+        wanted: None,
+        got: None,
+    }
 }

@@ -17,7 +17,8 @@ module _ {T : Type 0} where
   pub unsent : (contents : T → Option (List ℕ)) (t : List ℕ) (old : Peer T) → Sent contents t old (record old { stage = Ended })
   unsent contents t old = record {
     gave = Err OutOfMemory;
-    sends = record { wrote = tt; empty = tt; failed = inr (inl tt); memory = λ _. refl };
+    sends = record { wrote = tt; empty = tt; failed = inr (inl tt); stream_failed = λ io. absurd io; memory = λ _. refl };
+    full = λ _. refl;
     rest = refl;
   }
 

@@ -4,7 +4,7 @@ use Rattle.tungstenite.specs.Socket.{Socket}
 use Rattle.ws_peers.specs.declared.peer.Peer.{Peer}
 use Rattle.ws_peers.specs.declared.routes.Route.{Route}
 use Rattle.ws_peers.specs.declared.stage.Stage.{Stage}
-use Rattle.ws_peers.specs.declared.stage.Stage.TheVariants.{Open, Gone}
+use Rattle.ws_peers.specs.declared.stage.Stage.TheVariants.{Open}
 use Rattle.ws_peers.specs.Stages.{leaving, is_held}
 
 module _ {T : Type 0} where
@@ -25,13 +25,9 @@ module _ {T : Type 0} where
   abbrev pub at_stage : Stage → Peer T → Peer T
   at_stage stage p = record p { stage = stage }
 
-  -- the peer as a turn has served all: an ended connection leaves
+  -- the peer as those that have ended leave
   abbrev pub leaves : Peer T → Peer T
   leaves p = record p { stage = leaving p.route p.stage }
-
-  -- another connection takes its place: it is gone, and its socket may have been closed
-  pub record IsReplaced (old new : Peer T) : Type 0 where
-    pub rest : new ≡ record old { socket = new.socket; stage = Gone }
 
   -- the peer keeps its route, and doesn't come back
   pub record Kept (old new : Peer T) : Type 0 where

@@ -1,15 +1,15 @@
 -- One read of a peer.
-use Rattle.std.specs.Prelude.{ℕ, List, [], Option, Some, None, true, false, ◌≡◌, Result, Ok, Err, OnOk, nat_le, length, if◌then◌else◌}
+use Rattle.std.specs.Prelude.{ℕ, List, [], Option, Some, None, true, false, ◌≡◌, Result, Ok, Err, nat_le, length, if◌then◌else◌}
 use Rattle.std.specs.IoError.{error_kind}
 use Rattle.std.specs.declared.io.ErrorKind.{ErrorKind}
-use Rattle.tungstenite.specs.Connection.{close_step}
-use Rattle.tungstenite.specs.Socket.{Socket, Reads, Writes, Flushed}
+use Rattle.tungstenite.specs.Socket.{Socket, Reads, Flushed}
 use Rattle.tungstenite.specs.declared.CloseCode.TheVariants.{Size}
 use Rattle.tungstenite.specs.declared.error.Error.{Error}
 use Rattle.tungstenite.specs.declared.message.Message.{Message}
 use Rattle.ws_peers.specs.declared.heard.Heard.{Heard}
 use Rattle.ws_peers.specs.declared.peer.Peer.{Peer}
 use Rattle.ws_peers.specs.declared.stage.Stage.TheVariants.{Ended}
+use Rattle.ws_peers.specs.Sends.{Closed}
 use Rattle.ws_peers.specs.Stages.{is_open}
 
 -- a text may have 1,048,576 bytes
@@ -33,17 +33,12 @@ heard_of (Err (Error.Capacity e)) = Heard.TooLong
 heard_of (Err e) = Heard.Ends
 
 module _ {T : Type 0} where
-  -- the connection ends, and one `close` with code 1009 is tried
-  pub record ClosedLong (contents : T → Option (List ℕ)) (old new : Peer T) : Type 0 where
-    pub gave : Result (Unit {0}) Error
-    pub wrote : OnOk gave (Writes contents old.socket new.socket (close_step old.socket.conn (Some (Size, []))))
-    pub rest : new ≡ record old { socket = new.socket; stage = Ended }
-
-  -- what is left of a peer after a read that left its socket as `mid`, and the text handed on
+  -- what is left of a peer after a read that left its socket as `mid`, and the text handed on: a text that is
+  -- too long ends the connection with the code 1009
   abbrev pub After : (T → Option (List ℕ)) → Heard → Socket T → Peer T → Peer T → Option (List ℕ) → Type 0
   After contents (Heard.Text t) mid old new text = (new ≡ record old { socket = mid }) × (text ≡ Some t)
   After contents Heard.Nothing mid old new text = (new ≡ record old { socket = mid }) × (text ≡ None)
-  After contents Heard.TooLong mid old new text = ClosedLong contents (record old { socket = mid }) new × (text ≡ None)
+  After contents Heard.TooLong mid old new text = Closed contents (Some (Size, [])) Ended (record old { socket = mid }) new × (text ≡ None)
   After contents Heard.Ends mid old new text = (new ≡ record old { socket = new.socket; stage = Ended }) × Flushed contents mid new.socket × (text ≡ None)
 
   -- one read of an open connection

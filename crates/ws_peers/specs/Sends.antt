@@ -1,25 +1,43 @@
--- One send to a peer.
-use Rattle.std.specs.Prelude.{ℕ, List, [], Option, ◌≡◌, Result, OnOk, IfErr}
+-- One send to a peer, and one close.
+use Rattle.std.specs.Prelude.{ℕ, List, [], Option, None, ◌≡◌, Result, OnOk, IfErr, true, false}
+use Rattle.websocket.specs.Connection.{Effect}
+use Rattle.websocket.specs.declared.error.Error.{Error as FrameError}
 use Rattle.tungstenite.specs.Socket.{Socket, Writes}
-use Rattle.tungstenite.specs.Connection.{write_step}
+use Rattle.tungstenite.specs.Connection.{write_step, close_step}
 use Rattle.tungstenite.specs.Content.{text as text_content}
-use Rattle.tungstenite.specs.Failure.{WriteFails}
+use Rattle.tungstenite.specs.Failure.{WriteFails, IsIo}
+use Rattle.websocket.specs.declared.protocol.frame.coding.CloseCode.{CloseCode}
 use Rattle.tungstenite.specs.declared.error.Error.{Error}
-use Rattle.tungstenite.specs.declared.error.Error.TheVariants.{OutOfMemory}
+use Rattle.tungstenite.specs.declared.error.Error.TheVariants.{OutOfMemory, WriteBufferFull}
 use Rattle.ws_peers.specs.declared.peer.Peer.{Peer}
-use Rattle.ws_peers.specs.Stages.{stage_after}
+use Rattle.ws_peers.specs.declared.stage.Stage.{Stage}
+use Rattle.ws_peers.specs.declared.stage.Stage.TheVariants.{Gone}
+use Rattle.ws_peers.specs.Stages.{is_open, stage_after}
 
 module _ {T : Type 0} where
-  -- one `send` of a text on a socket: what it gave, and what it did
-  pub record SendGives (contents : T → Option (List ℕ)) (t : List ℕ) (old new : Socket T) (r : Result (Unit {0}) Error) : Type 0 where
-    pub wrote : OnOk r (Writes contents old new (write_step old.conn (text_content t)))
+  -- one call of a socket that sends, by the step of RFC 6455 that it takes: what it gave, and what it did
+  pub record SendGives (contents : T → Option (List ℕ)) (step : Result Effect FrameError) (old new : Socket T) (r : Result (Unit {0}) Error) : Type 0 where
+    pub wrote : OnOk r (Writes contents old new step)
     pub empty : OnOk r (new.output ≡ [])
-    pub failed : IfErr r (WriteFails (write_step old.conn (text_content t)))
+    pub failed : IfErr r (WriteFails step)
+    pub stream_failed : IfErr r (λ e. IsIo e → Writes contents old new step)
     pub memory : IfErr r (λ e. e ≡ OutOfMemory → new ≡ old)
 
   -- one `send` of a text to a peer, whose connection ends where that isn't Ok; a text that finds no memory
   -- is a send that gave that
   pub record Sent (contents : T → Option (List ℕ)) (t : List ℕ) (old new : Peer T) : Type 0 where
     pub gave : Result (Unit {0}) Error
-    pub sends : SendGives contents t old.socket new.socket gave
+    pub sends : SendGives contents (write_step old.socket.conn (text_content t)) old.socket new.socket gave
+    pub full : IfErr gave (λ e. e ≡ WriteBufferFull → new.socket ≡ old.socket)
     pub rest : new ≡ record old { socket = new.socket; stage = stage_after gave old.stage }
+
+  -- one `close` of a peer's socket with that code, whatever it gave; the connection comes to that stage
+  pub record Closed (contents : T → Option (List ℕ)) (code : Option (CloseCode × List ℕ)) (stage : Stage) (old new : Peer T) : Type 0 where
+    pub gave : Result (Unit {0}) Error
+    pub sends : SendGives contents (close_step old.socket.conn code) old.socket new.socket gave
+    pub rest : new ≡ record old { socket = new.socket; stage = stage }
+
+  -- another connection takes the place of a peer: it is gone, and an open one is closed without a code
+  pub record Replaced (contents : T → Option (List ℕ)) (old new : Peer T) : Type 0 where
+    pub while_open : is_open old.stage ≡ true → Closed contents None Gone old new
+    pub once_ended : is_open old.stage ≡ false → new ≡ record old { stage = Gone }

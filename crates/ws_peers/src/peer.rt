@@ -18,9 +18,10 @@ pub struct Peer<T> {
 
 #[tactic(auto, using(crate::proofs::PeerLaws::unsent, crate::proofs::PeerLaws::took, crate::proofs::PeerLaws::took_none))]
 impl<T: Read + Write + Drop> Peer<T> {
-    ghost use Rattle.ws_peers.specs.Peers.{socket_of, route_of, stage_of, open_peer, at_stage, leaves, IsReplaced, Kept};
-    ghost use Rattle.ws_peers.specs.Reads.{ClosedLong, Took};
-    ghost use Rattle.ws_peers.specs.Sends.{Sent};
+    ghost use Rattle.tungstenite.specs.Socket.{close_of};
+    ghost use Rattle.ws_peers.specs.Peers.{socket_of, route_of, stage_of, open_peer, at_stage, leaves, Kept};
+    ghost use Rattle.ws_peers.specs.Reads.{Took};
+    ghost use Rattle.ws_peers.specs.Sends.{Sent, Closed, Replaced};
     ghost use Rattle.ws_peers.specs.Stages.{is_open};
     ghost use Rattle.ws_peers.specs.declared.stage.Stage.TheVariants.{Ended};
 
@@ -79,7 +80,11 @@ impl<T: Read + Write + Drop> Peer<T> {
             Heard::Text(text) => Some(text),
             Heard::Nothing => None,
             Heard::TooLong => {
-                self.close_long();
+                let size = CloseFrame {
+                    code: CloseCode::Size,
+                    reason: Utf8Bytes::from_static(""),
+                };
+                self.close(Some(size), Stage::Ended);
                 None
             }
             Heard::Ends => {
@@ -90,15 +95,11 @@ impl<T: Read + Write + Drop> Peer<T> {
         }
     }
 
-    fn close_long(&mut self)
-        ensures { ClosedLong T.contents self.old self.new }
+    fn close(&mut self, code: Option<CloseFrame>, stage: Stage)
+        ensures { Closed T.contents (close_of code) stage self.old self.new }
     {
-        self.stage = Stage::Ended;
-        let frame = CloseFrame {
-            code: CloseCode::Size,
-            reason: Utf8Bytes::from_static(""),
-        };
-        let _closed = self.socket.close(Some(frame));
+        let _closed = self.socket.close(code);
+        self.stage = stage;
     }
 
     /// Its connection ends.
@@ -110,12 +111,13 @@ impl<T: Read + Write + Drop> Peer<T> {
 
     /// Another connection takes its place. An open one gets a close frame.
     pub fn replace(&mut self)
-        ensures { IsReplaced self.old self.new }
+        ensures { Replaced T.contents self.old self.new }
     {
         if self.stage.is_open() {
-            let _closed = self.socket.close(None);
+            self.close(None, Stage::Gone);
+        } else {
+            self.stage = Stage::Gone;
         }
-        self.stage = Stage::Gone;
     }
 
     /// An ended connection leaves: a station has its hub to leave, of an operator nothing is left.

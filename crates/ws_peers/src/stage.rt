@@ -9,7 +9,7 @@ pub enum Stage {
     Open,
     /// It has ended. Its peer has not left the hub yet.
     Ended,
-    /// Its peer leaves the hub in this turn, or in the next one if that fails.
+    /// Its peer is to leave the hub now.
     Leaving,
     /// Nothing of it is left to be done.
     Gone,
