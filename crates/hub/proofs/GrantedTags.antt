@@ -4,8 +4,8 @@ use Rattle.std.proofs.Common.{refl, sym, ap}
 use Rattle.std.specs.Bool.{Decides}
 use Rattle.std.specs.Option.{option_eq}
 use Rattle.std.specs.Str.{bytes_eq}
-use Rattle.std.proofs.lemmas.Bool.{and_parts, and_from, true≢false}
-use Rattle.std.proofs.lemmas.Bool.Decides.{Decides-eqb}
+use Rattle.std.proofs.lemmas.Bool.{true≢false}
+use Rattle.std.proofs.lemmas.Bool.Decides.{Decides-and, Decides-eqb, Decides-like}
 use Rattle.std.proofs.lemmas.Slice.Eq.{bytes_eq-Decides, slice_eq-Decides}
 use Rattle.std.proofs.Math.Bool.{beq}
 use Rattle.std.specs.Cmp.{booleans_Decides}
@@ -22,29 +22,22 @@ Decides-option {X} E decides (Some x) (Some y) = ((λ e. ap Some ((decides x y).
     inside : Some x ≡ Some y → x ≡ y
     inside e = cc
 
--- two tests of two parts
-Decides-both : (b c : Bool) (P Q : Type 0) → Decides b P → Decides c Q → Decides (b && c) (P × Q)
-Decides-both b c P Q first second = ((λ e. let parts = and_parts b c e in (first.0 parts.0, second.0 parts.1)), (λ both. and_from b c (first.1 both.0) (second.1 both.1)))
-
-Decides-as : (b : Bool) (P Q : Type 0) → (P → Q) → (Q → P) → Decides b P → Decides b Q
-Decides-as b P Q to from decides = ((λ e. to (decides.0 e)), (λ q. decides.1 (from q)))
-
 Decides-info : (i j : Info) → Decides (is_same_info i j) (i ≡ j)
 Decides-info i j =
-    Decides-as (is_same_info i j) (((i.text ≡ j.text) × (i.parent ≡ j.parent)) × ((i.blocked ≡ j.blocked) × (i.expiry ≡ j.expiry))) (i ≡ j)
+    Decides-like {P = ((i.text ≡ j.text) × (i.parent ≡ j.parent)) × ((i.blocked ≡ j.blocked) × (i.expiry ≡ j.expiry))} (is_same_info i j)
     (λ e k. record { text = e.0.0 k; parent = e.0.1 k; blocked = e.1.0 k; expiry = e.1.1 k })
     (λ e. (((λ k. (e k).text), (λ k. (e k).parent)), ((λ k. (e k).blocked), (λ k. (e k).expiry))))
-    (Decides-both (bytes_eq i.text j.text && option_eq bytes_eq i.parent j.parent) (beq i.blocked j.blocked && option_eq (λ m n. m == n) i.expiry j.expiry) ((i.text ≡ j.text) × (i.parent ≡ j.parent)) ((i.blocked ≡ j.blocked) × (i.expiry ≡ j.expiry))
-    (Decides-both (bytes_eq i.text j.text) (option_eq bytes_eq i.parent j.parent) (i.text ≡ j.text) (i.parent ≡ j.parent) (bytes_eq-Decides i.text j.text) (Decides-option bytes_eq bytes_eq-Decides i.parent j.parent))
-    (Decides-both (beq i.blocked j.blocked) (option_eq (λ m n. m == n) i.expiry j.expiry) (i.blocked ≡ j.blocked) (i.expiry ≡ j.expiry) (booleans_Decides i.blocked j.blocked) (Decides-option (λ m n. m == n) Decides-eqb i.expiry j.expiry)))
+    (Decides-and (bytes_eq i.text j.text && option_eq bytes_eq i.parent j.parent) (beq i.blocked j.blocked && option_eq (λ m n. m == n) i.expiry j.expiry)
+    (Decides-and (bytes_eq i.text j.text) (option_eq bytes_eq i.parent j.parent) (bytes_eq-Decides i.text j.text) (Decides-option bytes_eq bytes_eq-Decides i.parent j.parent))
+    (Decides-and (beq i.blocked j.blocked) (option_eq (λ m n. m == n) i.expiry j.expiry) (booleans_Decides i.blocked j.blocked) (Decides-option (λ m n. m == n) Decides-eqb i.expiry j.expiry)))
 
 Decides-tag : (e f : GrantedTag) → Decides (is_same e f) (e ≡ f)
 Decides-tag e f =
-    Decides-as (is_same e f) (((e.key ≡ f.key) × (e.owner ≡ f.owner)) × (e.info ≡ f.info)) (e ≡ f)
+    Decides-like {P = ((e.key ≡ f.key) × (e.owner ≡ f.owner)) × (e.info ≡ f.info)} (is_same e f)
     (λ q k. record { key = q.0.0 k; owner = q.0.1 k; info = q.1 k })
     (λ q. (((λ k. (q k).key), (λ k. (q k).owner)), (λ k. (q k).info)))
-    (Decides-both (bytes_eq e.key f.key && bytes_eq e.owner f.owner) (is_same_info e.info f.info) ((e.key ≡ f.key) × (e.owner ≡ f.owner)) (e.info ≡ f.info)
-    (Decides-both (bytes_eq e.key f.key) (bytes_eq e.owner f.owner) (e.key ≡ f.key) (e.owner ≡ f.owner) (bytes_eq-Decides e.key f.key) (bytes_eq-Decides e.owner f.owner)) (Decides-info e.info f.info))
+    (Decides-and (bytes_eq e.key f.key && bytes_eq e.owner f.owner) (is_same_info e.info f.info)
+    (Decides-and (bytes_eq e.key f.key) (bytes_eq e.owner f.owner) (bytes_eq-Decides e.key f.key) (bytes_eq-Decides e.owner f.owner)) (Decides-info e.info f.info))
 
 pub same_granted : (es fs : List GrantedTag) → are_same es fs ≡ true → es ≡ fs
 same_granted es fs e = (slice_eq-Decides Decides-tag es fs (are_same es fs) refl).0 e

@@ -1,2 +1,3 @@
 pub mod PathLaws
 pub mod PeerLaws
+pub mod ListLaws

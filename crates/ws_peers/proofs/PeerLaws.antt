@@ -1,20 +1,18 @@
 -- One send, and one read.
-use Rattle.std.proofs.Common.{◌≡◌, ◌∙◌, ℕ, List, Option, None, true, false, sym, refl, subst, true≢false, inl, inr, Err}
+use Rattle.std.proofs.Common.{◌≡◌, ◌∙◌, ℕ, List, Option, None, true, false, sym, refl, subst, true≢false, inl, inr, Result, Err}
 use Rattle.tungstenite.specs.Socket.{Socket, Reads}
 use Rattle.tungstenite.specs.declared.error.Error.{Error}
 use Rattle.tungstenite.specs.declared.error.Error.TheVariants.{OutOfMemory}
 use Rattle.tungstenite.specs.declared.message.Message.{Message}
-use Rattle.std.proofs.Common.{Result}
 use Rattle.ws_peers.specs.declared.heard.Heard.{Heard}
 use Rattle.ws_peers.specs.declared.peer.Peer.{Peer}
-use Rattle.ws_peers.specs.declared.stage.Stage.TheVariants.{Ended}
 use Rattle.ws_peers.specs.Sends.{Sent}
-use Rattle.ws_peers.specs.Stages.{is_open}
+use Rattle.ws_peers.specs.Stages.{is_open, ended}
 use Rattle.ws_peers.specs.Reads.{Took, After, heard_of}
 
 module _ {T : Type 0} where
   -- a text that finds no memory
-  pub unsent : (contents : T → Option (List ℕ)) (t : List ℕ) (old : Peer T) → Sent contents t old (record old { stage = Ended })
+  pub unsent : (contents : T → Option (List ℕ)) (t : List ℕ) (old : Peer T) → Sent contents t old (record old { stage = ended old.stage })
   unsent contents t old = record {
     gave = Err OutOfMemory;
     sends = record { wrote = tt; empty = tt; failed = inr (inl tt); stream_failed = λ io. absurd io; memory = λ _. refl };

@@ -3,3 +3,5 @@ pub mod Stages
 pub mod Peers
 pub mod Sends
 pub mod Reads
+pub mod Routes
+pub mod Lists

@@ -31,7 +31,8 @@ module _ {T : Type 0} where
     pub full : IfErr gave (λ e. e ≡ WriteBufferFull → new.socket ≡ old.socket)
     pub rest : new ≡ record old { socket = new.socket; stage = stage_after gave old.stage }
 
-  -- one `close` of a peer's socket with that code, whatever it gave; the connection comes to that stage
+  -- one `close` of a peer's socket with that code, whatever it gave; the connection comes to that stage.
+  -- Of the socket after a close whose output was full `tungstenite` says nothing.
   pub record Closed (contents : T → Option (List ℕ)) (code : Option (CloseCode × List ℕ)) (stage : Stage) (old new : Peer T) : Type 0 where
     pub gave : Result (Unit {0}) Error
     pub sends : SendGives contents (close_step old.socket.conn code) old.socket new.socket gave

@@ -20,10 +20,17 @@ is_held Ended = true
 is_held Leaving = true
 is_held Gone = false
 
+-- an open connection ends; one that has ended stays as it is
+abbrev pub ended : Stage → Stage
+ended Open = Ended
+ended Ended = Ended
+ended Leaving = Leaving
+ended Gone = Gone
+
 -- a send that isn't Ok ends the connection
 abbrev pub stage_after : Result (Unit {0}) Error → Stage → Stage
 stage_after (Ok u) stage = stage
-stage_after (Err e) stage = Ended
+stage_after (Err e) stage = ended stage
 
 -- an ended connection leaves: a station's has a hub to leave, an operator's is gone
 abbrev pub left : Route → Stage

@@ -17,7 +17,7 @@ pub enum Heard {
     Nothing,
     /// A text over the limit, or a message over the limit of the socket.
     TooLong,
-    /// A close, or a fault.
+    /// A close, a breach of the protocol, or a fault of the stream.
     Ends,
 }
 

@@ -62,6 +62,7 @@ fn patterns(alloc: Global) -> Mem<Router<Pattern>>
     Ok(router)
 }
 
+/// Adds a pattern. One that the router refused would be NoMemory too; it refuses neither of the two.
 fn put(router: &mut Router<Pattern>, text: &str, pattern: Pattern) -> Mem<()>
     ensures { OnOk result (InsertsRead (parse_route text.now) pattern router.old router.new (Ok tt)) }
 {

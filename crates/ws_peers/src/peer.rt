@@ -1,5 +1,5 @@
 //! One connected peer.
-ghost use Rattle.std.specs.Prelude.{◌≡◌, true, IfSome};
+ghost use Rattle.std.specs.Prelude.{◌≡◌, true, IfSome, option_map};
 
 use crate::heard::{Heard, what_is_heard};
 use crate::routes::Route;
@@ -19,11 +19,11 @@ pub struct Peer<T> {
 #[tactic(auto, using(crate::proofs::PeerLaws::unsent, crate::proofs::PeerLaws::took, crate::proofs::PeerLaws::took_none))]
 impl<T: Read + Write + Drop> Peer<T> {
     ghost use Rattle.tungstenite.specs.Socket.{close_of};
-    ghost use Rattle.ws_peers.specs.Peers.{socket_of, route_of, stage_of, open_peer, at_stage, leaves, Kept};
+    ghost use Rattle.ws_peers.specs.Peers.{route_of, stage_of, open_peer, ends, leaves, finishes, Kept};
+    ghost use Rattle.ws_peers.specs.Lists.{is_open_at, ForText, Hears, GivesWay};
     ghost use Rattle.ws_peers.specs.Reads.{Took};
     ghost use Rattle.ws_peers.specs.Sends.{Sent, Closed, Replaced};
     ghost use Rattle.ws_peers.specs.Stages.{is_open};
-    ghost use Rattle.ws_peers.specs.declared.stage.Stage.TheVariants.{Ended};
 
     /// A peer whose handshake is done.
     pub fn new(socket: WebSocket<T, NoMask>, route: Route) -> Peer<T>
@@ -52,15 +52,16 @@ impl<T: Read + Write + Drop> Peer<T> {
 
     /// Sends a text. The connection ends where that isn't Ok, or where there is no memory for it.
     pub fn send(&mut self, alloc: Global, text: &str)
-        ensures { Sent T.contents text.now self.old self.new }
+        ensures sent { Sent T.contents text.now self.old self.new }
+        ensures kept { Kept self.old self.new }
     {
         match Message::text(alloc, text) {
             Ok(message) => {
                 if self.socket.send(message).is_err() {
-                    self.stage = Stage::Ended;
+                    self.stage = self.stage.ended();
                 }
             }
-            Err(_) => self.stage = Stage::Ended,
+            Err(_) => self.stage = self.stage.ended(),
         }
     }
 
@@ -102,11 +103,12 @@ impl<T: Read + Write + Drop> Peer<T> {
         self.stage = stage;
     }
 
-    /// Its connection ends.
+    /// Its connection ends, if it is open.
     pub fn end(&mut self)
-        ensures { self.new ≡ at_stage Ended self.old }
+        ensures end { self.new ≡ ends self.old }
+        ensures kept { Kept self.old self.new }
     {
-        self.stage = Stage::Ended;
+        self.stage = self.stage.ended();
     }
 
     /// Another connection takes its place. An open one gets a close frame.
@@ -129,6 +131,45 @@ impl<T: Read + Write + Drop> Peer<T> {
                 Route::Station(_, _) => Stage::Leaving,
                 Route::Operator(_) | Route::Nothing => Stage::Gone,
             };
+        }
+    }
+
+    /// Nothing of it is left to be done.
+    pub fn finish(&mut self)
+        ensures { self.new ≡ finishes self.old }
+    {
+        self.stage = Stage::Gone;
+    }
+
+    /// Whether it is an open connection of that station.
+    pub fn is_open_at(&self, op: &str, station: &str) -> bool
+        ensures { result ≡ is_open_at op.now station.now self.now }
+    {
+        self.stage.is_open() && self.route.is_station(op, station)
+    }
+
+    /// Sends a text to it, if it is an open connection of that operator. Where the text is none, for
+    /// want of memory, the connection ends.
+    pub fn hear(&mut self, alloc: Global, op: &str, text: Option<&str>)
+        ensures heard { ForText (option_map (λ t. t.now) text.entry) (λ t. Hears T.contents op.now t self.old self.new) }
+        ensures kept { Kept self.old self.new }
+    {
+        if !self.stage.is_open() || !self.route.is_operator_of(op) {
+            return;
+        }
+        match text {
+            Some(text) => self.send(alloc, text),
+            None => self.end(),
+        }
+    }
+
+    /// It is replaced, if it is a connection of that station.
+    pub fn give_way(&mut self, op: &str, station: &str)
+        ensures gives_way { GivesWay T.contents op.now station.now self.old self.new }
+        ensures kept { Kept self.old self.new }
+    {
+        if self.route.is_station(op, station) {
+            self.replace();
         }
     }
 }

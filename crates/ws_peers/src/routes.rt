@@ -1,4 +1,7 @@
 //! What a connection stands for.
+ghost use Rattle.std.specs.Prelude.{◌≡◌};
+ghost use Rattle.ws_peers.specs.Routes.{is_station, is_operator, is_operator_of};
+
 use ocpp_types::Text;
 
 /// What a connection stands for, by the path that it asked for.
@@ -10,4 +13,33 @@ pub enum Route {
     Operator(Text),
     /// Neither.
     Nothing,
+}
+
+impl Route {
+    /// Whether it is that station of that operator.
+    pub fn is_station(&self, op: &str, station: &str) -> bool
+        ensures { result ≡ is_station op.now station.now self.now }
+    {
+        match self {
+            Route::Station(own, name) => own.as_str() == op && name.as_str() == station,
+            Route::Operator(_) | Route::Nothing => false,
+        }
+    }
+
+    /// Whether it is that operator.
+    pub fn is_operator_of(&self, op: &str) -> bool
+        ensures { result ≡ is_operator_of op.now self.now }
+    {
+        match self {
+            Route::Operator(own) => own.as_str() == op,
+            Route::Station(_, _) | Route::Nothing => false,
+        }
+    }
+
+    /// Whether it is an operator.
+    pub fn is_operator(&self) -> bool
+        ensures { result ≡ is_operator self.now }
+    {
+        matches!(self, Route::Operator(_))
+    }
 }

@@ -1,6 +1,6 @@
 //! The stages of a connection.
 ghost use Rattle.std.specs.Prelude.{◌≡◌};
-ghost use Rattle.ws_peers.specs.Stages.{is_open, is_held};
+ghost use Rattle.ws_peers.specs.Stages.{is_open, is_held, ended};
 
 /// How far a connection has come.
 #[derive(Clone, Copy, Debug, PartialEq, Eq, Drop)]
@@ -23,7 +23,17 @@ impl Stage {
         matches!(self, Stage::Open)
     }
 
-    /// Whether it may still hand something on.
+    /// An open connection ends; one that has ended stays as it is.
+    pub fn ended(self) -> Stage
+        ensures { result ≡ ended self }
+    {
+        match self {
+            Stage::Open => Stage::Ended,
+            other => other,
+        }
+    }
+
+    /// Whether something of it is left to be done.
     pub fn is_held(self) -> bool
         ensures { result ≡ is_held self }
     {

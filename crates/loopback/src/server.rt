@@ -1,0 +1,100 @@
+//! The server's end: a hub in memory, and its gateway.
+
+use anyhow::{Result, bail};
+use hub::{Event, Fault, Hub};
+use lines::{Line, read_line};
+use ocpp_types::{Moment, Text};
+use station_calls::Echo;
+use std::alloc::Global;
+use std::net::{TcpListener, TcpStream};
+use store_mem::MemStore;
+use ws_server::{Gateway, Lobby, listen};
+
+/// A hub of the operators ACME and BETA, its gateway and its listener.
+#[derive(Drop)]
+pub struct Server {
+    alloc: Global,
+    operators: Vec<Text>,
+    hub: Hub<MemStore, Echo>,
+    gateway: Gateway<TcpStream>,
+    lobby: Lobby,
+    listener: TcpListener,
+    moment: Moment,
+}
+
+impl Server {
+    /// A server with no records and no connection, on a port that the system chooses.
+    pub fn new(rt: &HostRuntime) -> Result<Server> {
+        let alloc = rt.alloc();
+        let mut vendors = Vec::new(alloc);
+        vendors.push(Echo { alloc })?;
+        let store = MemStore::new(alloc);
+        let Ok(hub) = Hub::new(alloc, store, operators(alloc)?, vendors) else {
+            bail!("bad operators");
+        };
+        Ok(Server {
+            alloc,
+            operators: operators(alloc)?,
+            hub,
+            gateway: Gateway::new(alloc),
+            lobby: Lobby::new(alloc)?,
+            listener: listen(rt, 0)?,
+            moment: moment_at(alloc, 0)?,
+        })
+    }
+
+    /// The port that it listens on.
+    pub fn port(&self) -> Result<u16> {
+        Ok(self.listener.local_addr()?.port())
+    }
+
+    /// Sets its clock.
+    pub fn set_moment(&mut self, seconds: u64) -> Result<()> {
+        self.moment = moment_at(self.alloc, seconds)?;
+        Ok(())
+    }
+
+    /// How many peers its gateway has.
+    pub fn count(&self) -> usize {
+        self.gateway.count()
+    }
+
+    /// Hands an operator's line to the hub, and tells its outputs.
+    pub fn hand(&mut self, line: &str) -> Result<()> {
+        let seconds = self.moment.seconds();
+        let line = format!(in self.alloc; "{seconds} {line}")?;
+        let Line::Event(event) = read_line(self.alloc, self.operators.as_slice(), line.as_bytes())? else {
+            bail!("bad line {line}");
+        };
+        self.handle(&event)
+    }
+
+    fn handle(&mut self, event: &Event) -> Result<()> {
+        let outs = self.hub.handle(event)?;
+        for out in &outs {
+            self.gateway.tell(out);
+        }
+        Ok(())
+    }
+
+    /// One turn: accepts one connection, looks at those that wait, and serves each peer.
+    pub fn turn(&mut self) -> Result<(), Fault> {
+        self.lobby.accept(&self.listener, self.moment)?;
+        self.lobby.serve(self.alloc, &mut self.gateway, &mut self.hub, self.moment)?;
+        self.gateway.turn(&mut self.hub, self.moment)
+    }
+}
+
+fn operators(alloc: Global) -> Result<Vec<Text>> {
+    let mut operators = Vec::new(alloc);
+    operators.push(Text::copy_of(alloc, "ACME")?)?;
+    operators.push(Text::copy_of(alloc, "BETA")?)?;
+    Ok(operators)
+}
+
+fn moment_at(alloc: Global, seconds: u64) -> Result<Moment> {
+    match Moment::new(seconds) {
+        Some(moment) => Ok(moment),
+        None => bail!("{seconds} is no moment"),
+    }
+}

@@ -1,0 +1,71 @@
+-- All peers, in order of admission.
+use Rattle.std.specs.Prelude.{ℕ, zero, suc, List, [], ◌∷◌, ◌≡◌, ◌+◌, ◌≤◌, ◌⊎◌, Bool, true, false, ◌&&◌, Option, None, Some, ⊤, vec_len, vec_capacity}
+use Rattle.std.specs.List.{AllZip, list_any}
+use Rattle.ws_peers.specs.declared.peer.Peer.{Peer}
+use Rattle.ws_peers.specs.declared.peers.Peers.{Peers}
+use Rattle.ws_peers.specs.declared.routes.Route.{Route}
+use Rattle.ws_peers.specs.declared.routes.Route.TheVariants.{Station, Operator, Nothing}
+use Rattle.ws_peers.specs.Routes.{is_station, is_operator_of}
+use Rattle.ws_peers.specs.Sends.{Sent, Replaced}
+use Rattle.ws_peers.specs.Stages.{is_open}
+
+-- R holds of the items at place n, and the others stay
+abbrev pub At : {A : Type 0} → (A → A → Type 0) → ℕ → List A → List A → Type 0
+At R n [] ys = ⊥
+At R n (x ∷ xs) [] = ⊥
+At R zero (x ∷ xs) (y ∷ ys) = R x y × (ys ≡ xs)
+At R (suc n) (x ∷ xs) (y ∷ ys) = (y ≡ x) × At R n xs ys
+
+module _ {T : Type 0} where
+  abbrev pub peers : Peers T → List (Peer T)
+  peers all = all.items.items
+
+  -- there is room for one more
+  abbrev pub has_room : Peers T → Type 0
+  has_room all = vec_len all.items + 1 ≤ vec_capacity all.items
+
+  -- an open connection of that station
+  abbrev pub is_open_at : List ℕ → List ℕ → Peer T → Bool
+  is_open_at op station p = is_open p.stage && is_station op station p.route
+
+  -- an open connection of that operator
+  abbrev pub is_open_for : List ℕ → Peer T → Bool
+  is_open_for op p = is_open p.stage && is_operator_of op p.route
+
+  -- a text to a station is sent on an open connection of it; where there is none it is dropped
+  abbrev pub ToStation : (T → Option (List ℕ)) → List ℕ → List ℕ → List ℕ → List (Peer T) → List (Peer T) → Type 0
+  ToStation contents op station text old new =
+      ((n : ℕ) × At (λ p q. (is_open_at op station p ≡ true) × Sent contents text p q) n old new)
+      ⊎ ((list_any (is_open_at op station) old ≡ false) × (new ≡ old))
+
+  -- a peer as an operator is sent a text: on each open connection of it
+  pub record Hears (contents : T → Option (List ℕ)) (op text : List ℕ) (old new : Peer T) : Type 0 where
+    pub own : is_open_for op old ≡ true → Sent contents text old new
+    pub other : is_open_for op old ≡ false → new ≡ old
+
+  abbrev pub ToOperator : (T → Option (List ℕ)) → List ℕ → List ℕ → List (Peer T) → List (Peer T) → Type 0
+  ToOperator contents op text = AllZip (Hears contents op text)
+
+  -- a peer as another connection of a station is admitted: one of the same station is replaced
+  pub record GivesWay (contents : T → Option (List ℕ)) (op station : List ℕ) (old new : Peer T) : Type 0 where
+    pub same : is_station op station old.route ≡ true → Replaced contents old new
+    pub other : is_station op station old.route ≡ false → new ≡ old
+
+  -- the peers as one of that route is admitted
+  abbrev pub GiveWay : (T → Option (List ℕ)) → Route → List (Peer T) → List (Peer T) → Type 0
+  GiveWay contents (Station op station) = AllZip (GivesWay contents op station)
+  GiveWay contents (Operator op) = λ old new. new ≡ old
+  GiveWay contents Nothing = λ old new. new ≡ old
+
+-- what is so of a text, or of any text where it found no memory
+abbrev pub ForText : Option (List ℕ) → (List ℕ → Type 0) → Type 0
+ForText None P = (text : List ℕ) → P text
+ForText (Some text) P = P text
+
+-- so many of the items in front have changed, the others not
+abbrev pub Front : {A : Type 0} → (A → A → Type 0) → ℕ → List A → List A → Type 0
+Front R zero old now = now ≡ old
+Front R (suc i) [] [] = ⊤
+Front R (suc i) [] (y ∷ ys) = ⊥
+Front R (suc i) (x ∷ xs) [] = ⊥
+Front R (suc i) (x ∷ xs) (y ∷ ys) = R x y × Front R i xs ys

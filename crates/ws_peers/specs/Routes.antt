@@ -1,0 +1,23 @@
+-- What a connection stands for.
+use Rattle.std.specs.Prelude.{ℕ, List, Bool, true, false, ◌&&◌}
+use Rattle.std.specs.Str.{bytes_eq}
+use Rattle.ws_peers.specs.declared.routes.Route.{Route}
+use Rattle.ws_peers.specs.declared.routes.Route.TheVariants.{Station, Operator, Nothing}
+
+-- it is that station of that operator
+abbrev pub is_station : List ℕ → List ℕ → Route → Bool
+is_station op station (Station o s) = bytes_eq o op && bytes_eq s station
+is_station op station (Operator o) = false
+is_station op station Nothing = false
+
+-- it is that operator
+abbrev pub is_operator_of : List ℕ → Route → Bool
+is_operator_of op (Operator o) = bytes_eq o op
+is_operator_of op (Station o s) = false
+is_operator_of op Nothing = false
+
+-- it is an operator
+abbrev pub is_operator : Route → Bool
+is_operator (Operator o) = true
+is_operator (Station o s) = false
+is_operator Nothing = false

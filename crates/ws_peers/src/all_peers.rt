@@ -1,0 +1,140 @@
+//! Over all connected peers.
+ghost use Rattle.std.specs.Prelude.{◌+◌, ◌≤◌, vec_len, vec_capacity, ℕ, List, ◌≡◌, ◌++◌, ◌∷◌, [], map, length, OnOk, OnErr, IfSome, IfNone, true, false, ◌<◌, slice_index_or, option_map};
+ghost use Rattle.std.specs.List.{AllZip, filter, list_any, position};
+ghost use Rattle.ws_peers.specs.Lists.{is_open_at};
+ghost use Rattle.ws_peers.specs.Peers.{is_operator_peer};
+
+use crate::peer::Peer;
+use crate::peers::Peers;
+use crate::routes::Route;
+use ocpp_types::Mem;
+use std::io::{Read, Write};
+use tungstenite::{NoMask, WebSocket};
+
+#[tactic(auto, using(crate::proofs::ListLaws::sent_at, crate::proofs::ListLaws::to_nobody, crate::proofs::ListLaws::position_within, crate::proofs::ListLaws::position_found, crate::proofs::ListLaws::position_missing))]
+impl<T: Read + Write + Drop> Peers<T> {
+    ghost use Rattle.ws_peers.specs.Lists.{peers, has_room, ForText, ToStation, ToOperator, GivesWay, GiveWay};
+    ghost use Rattle.ws_peers.specs.Peers.{stage_of, open_peer, leaves};
+    ghost use Rattle.ws_peers.specs.Stages.{is_held};
+
+    /// Sends a text to a station, on an open connection of it, if there is one. The peer at `near` is
+    /// looked at first.
+    pub fn to_station(&mut self, near: usize, op: &str, station: &str, text: &str)
+        ensures sent { ToStation T.contents op.now station.now text.now (peers self.old) (peers self.new) }
+        ensures count { length (peers self.new) ≡ length (peers self.old) }
+    {
+        if let Some(n) = self.place_of(near, op, station) {
+            self.send(n, text);
+        }
+    }
+
+    fn place_of(&self, near: usize, op: &str, station: &str) -> Option<usize>
+        ensures within { IfSome result (λ n. n < length (peers self.now)) }
+        ensures found { IfSome result (λ n. (other : Peer T)
+            → is_open_at op.now station.now (slice_index_or (peers self.now) n other) ≡ true) }
+        ensures missing { IfNone result (list_any (is_open_at op.now station.now) (peers self.now) ≡ false) }
+    {
+        if near < self.items.len() && self.items[near].is_open_at(op, station) {
+            return Some(near);
+        }
+        first_open(&self.items, op, station)
+    }
+
+    /// Sends a text to an operator, on each open connection of it. Where the text is none, for want of
+    /// memory, these end.
+    pub fn to_operator(&mut self, op: &str, text: Option<&str>)
+        ensures sent { ForText (option_map (λ t. t.now) text.entry) (λ t. ToOperator T.contents op.now t (peers self.old) (peers self.new)) }
+        ensures count { length (peers self.new) ≡ length (peers self.old) }
+    {
+        if !self.has_operators {
+            return;
+        }
+        let alloc = self.alloc;
+        for peer in self.items.iter_mut() {
+            peer.hear(alloc, op, text);
+        }
+    }
+
+    /// Makes room for one more.
+    pub fn reserve(&mut self) -> Mem<()>
+        ensures room { OnOk result (has_room self.new) }
+        ensures peers { peers self.new ≡ peers self.old }
+    {
+        self.items.reserve(1)?;
+        Ok(())
+    }
+
+    /// Those that have ended leave.
+    pub fn leave(&mut self)
+        ensures { peers self.new ≡ map leaves (peers self.old) }
+    {
+        for peer in self.items.iter_mut() {
+            peer.leave();
+        }
+    }
+
+    /// Drops those of which nothing is left to be done.
+    pub fn sweep(&mut self)
+        ensures { peers self.new ≡ filter (λ p. is_held (stage_of p)) (peers self.old) }
+    {
+        self.items.retain(|peer| peer.stage().is_held());
+        self.has_operators = has_operator(&self.items);
+    }
+
+    /// Adds a peer, for which there is room. Another connection of the same station is replaced.
+    pub fn push(&mut self, socket: WebSocket<T, NoMask>, route: Route)
+        requires { has_room self.old }
+        ensures { (older : List (Peer T)) × GiveWay T.contents route (peers self.old) older
+            × (peers self.new ≡ older ++ open_peer socket route ∷ []) }
+    {
+        self.make_way(&route);
+        self.has_operators |= route.is_operator();
+        push_ready(&mut self.items, Peer::new(socket, route));
+    }
+
+    fn make_way(&mut self, route: &Route)
+        requires { has_room self.old }
+        ensures way { GiveWay T.contents route.now (peers self.old) (peers self.new) }
+        ensures room { has_room self.new }
+    {
+        match route {
+            Route::Station(op, station) => self.give_way(op.as_str(), station.as_str()),
+            Route::Operator(_) | Route::Nothing => {}
+        }
+    }
+
+    fn give_way(&mut self, op: &str, station: &str)
+        requires { has_room self.old }
+        ensures way { AllZip (GivesWay T.contents op.now station.now) (peers self.old) (peers self.new) }
+        ensures room { has_room self.new }
+    {
+        for peer in self.items.iter_mut() {
+            peer.give_way(op, station);
+        }
+    }
+}
+
+/// The place of the first open connection of a station.
+fn first_open<T: Read + Write + Drop>(peers: &[Peer<T>], op: &str, station: &str) -> Option<usize>
+    ensures { result ≡ position (is_open_at op.now station.now) peers.now }
+{
+    peers.iter().position(|peer| peer.is_open_at(op, station))
+}
+
+/// Whether an operator is among them.
+fn has_operator<T: Read + Write + Drop>(peers: &[Peer<T>]) -> bool
+    ensures { result ≡ list_any is_operator_peer peers.now }
+{
+    peers.iter().any(|peer| peer.route().is_operator())
+}
+
+/// Adds a peer, for which there is room.
+fn push_ready<T: Read + Write + Drop>(peers: &mut Vec<Peer<T>>, peer: Peer<T>)
+    requires { vec_len peers.old + 1 ≤ vec_capacity peers.old }
+    ensures { peers.new.items ≡ peers.old.items ++ peer ∷ [] }
+{
+    match peers.push(peer) {
+        Ok(()) => {}
+        Err(_) => unreachable!(),
+    }
+}

@@ -1,0 +1,78 @@
+//! One of the connected peers.
+ghost use Rattle.std.specs.Prelude.{◌≡◌, ◌<◌, [], length, slice_index_or};
+
+use crate::peer::Peer;
+use crate::peers::Peers;
+use std::alloc::Global;
+use std::io::{Read, Write};
+use tungstenite::Utf8Bytes;
+
+#[tactic(auto, using(crate::proofs::ListLaws::at_set, crate::proofs::ListLaws::kept_set))]
+impl<T: Read + Write + Drop> Peers<T> {
+    ghost use Rattle.ws_peers.specs.Lists.{peers, At};
+    ghost use Rattle.ws_peers.specs.Peers.{ends, finishes};
+    ghost use Rattle.ws_peers.specs.Reads.{Took};
+    ghost use Rattle.ws_peers.specs.Sends.{Sent};
+
+    /// No peer. It takes no memory yet.
+    pub fn new(alloc: Global) -> Peers<T>
+        ensures { peers result ≡ [] }
+    {
+        Peers {
+            alloc,
+            items: Vec::new(alloc),
+            has_operators: false,
+        }
+    }
+
+    /// How many there are, those that have ended too.
+    pub fn count(&self) -> usize
+        ensures { result ≡ length (peers self.now) }
+    {
+        self.items.len()
+    }
+
+    /// One of them.
+    pub fn peer(&self, n: usize) -> &Peer<T>
+        requires { n < length (peers self.now) }
+        ensures { (other : Peer T) → result.now ≡ slice_index_or (peers self.now) n other }
+    {
+        &self.items[n]
+    }
+
+    /// Reads once from a peer: a text, or nothing (`Peer::take`).
+    pub fn take(&mut self, n: usize) -> Option<Utf8Bytes>
+        requires { n < length (peers self.old) }
+        ensures took { At (λ old new. Took T.remaining T.contents old new result) n (peers self.old) (peers self.new) }
+        ensures count { length (peers self.new) ≡ length (peers self.old) }
+    {
+        self.items[n].take()
+    }
+
+    /// Sends a text to a peer.
+    pub fn send(&mut self, n: usize, text: &str)
+        requires { n < length (peers self.old) }
+        ensures sent { At (Sent T.contents text.now) n (peers self.old) (peers self.new) }
+        ensures count { length (peers self.new) ≡ length (peers self.old) }
+    {
+        self.items[n].send(self.alloc, text);
+    }
+
+    /// The connection of a peer ends, if it is open.
+    pub fn end(&mut self, n: usize)
+        requires { n < length (peers self.old) }
+        ensures ended { At (λ old new. new ≡ ends old) n (peers self.old) (peers self.new) }
+        ensures count { length (peers self.new) ≡ length (peers self.old) }
+    {
+        self.items[n].end();
+    }
+
+    /// Nothing of a peer is left to be done.
+    pub fn finish(&mut self, n: usize)
+        requires { n < length (peers self.old) }
+        ensures finished { At (λ old new. new ≡ finishes old) n (peers self.old) (peers self.new) }
+        ensures count { length (peers self.new) ≡ length (peers self.old) }
+    {
+        self.items[n].finish();
+    }
+}

@@ -1,0 +1,18 @@
+use Rattle.std.proofs.Common.{◌≡◌, List, [], ◌++◌, refl, subst, sym, inr}
+use Rattle.ws_server.specs.Admits.{Welcomes}
+use Rattle.ws_server.specs.Steps.{Step}
+use Rattle.ws_server.specs.Tells.{peers_of}
+use Rattle.ws_server.proofs.StepLaws.{taken_on, nothing}
+use Rattle.ws_server.proofs.gateway.Gateway.welcome.Goals as goal
+
+pub returns-in-Some-clause-takes : goal.returns-in-Some-clause-takes
+returns-in-Some-clause-takes g c =
+    let old = peers_of c.args.self.now in
+    let new = peers_of c.admit.new.self in
+    let r = c.admit.result in
+    let None : List Step → Type 0 = λ steps. steps ≡ [] in
+    let Welcomed : List Step → Type 0 = λ steps. Welcomes g.T.Write.contents c.args.moment c.args.route old new steps r in
+    taken_on _ _ g.S.Store.failures _ _ _ _ _ None _ Welcomed
+    (λ before after none change. subst (λ steps. Welcomed (steps ++ after)) (sym none) (inr (c.in-Some.socket, change)))
+    c.in_ok-is_known.ensures.setting c.admit.ensures.counted.was_clean
+    (nothing _ _ _ _ _ _ None refl c.in_ok-is_known.ensures.world) c.admit.ensures.takes

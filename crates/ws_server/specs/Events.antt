@@ -1,0 +1,48 @@
+-- What a peer hands to the hub.
+use Rattle.std.specs.Prelude.{ℕ, List, Option, Some, None, Bool, true, false}
+use Rattle.std.specs.List.{list_any}
+use Rattle.event_plans.specs.declared.event.Event.{Event}
+use Rattle.event_plans.specs.declared.event.Event.TheVariants.{At}
+use Rattle.event_plans.specs.declared.event.What.TheVariants as what
+use Rattle.event_plans.specs.declared.out.Out.{Out}
+use Rattle.event_plans.specs.declared.out.Said.{Said}
+use Rattle.event_plans.specs.declared.out.Said.TheVariants as said
+use Rattle.lines.specs.Orders.{order_of}
+use Rattle.ws_peers.specs.declared.peer.Peer.{Peer}
+use Rattle.ws_peers.specs.declared.routes.Route.{Route}
+use Rattle.ws_peers.specs.declared.routes.Route.TheVariants.{Station, Operator, Nothing}
+use Rattle.ws_peers.specs.declared.stage.Stage.{Stage}
+use Rattle.ws_peers.specs.declared.stage.Stage.TheVariants.{Open, Ended, Leaving, Gone}
+use Rattle.ws_peers.specs.Peers.{route_of, stage_of}
+
+-- a text of a station is a frame, one of an operator an order
+abbrev pub event_of : Route → ℕ → List ℕ → Option Event
+event_of (Station op station) m text = Some (At op m (what.Frame station text))
+event_of (Operator op) m text = order_of op m text
+event_of Nothing m text = None
+
+abbrev pub disconnect_of : Route → ℕ → Option Event
+disconnect_of (Station op station) m = Some (At op m (what.Disconnect station))
+disconnect_of (Operator op) m = None
+disconnect_of Nothing m = None
+
+-- a peer that is to leave now hands on its disconnect
+abbrev pub parting_at : Stage → Route → ℕ → Option Event
+parting_at Leaving route m = disconnect_of route m
+parting_at Open route m = None
+parting_at Ended route m = None
+parting_at Gone route m = None
+
+abbrev pub parting : {T : Type 0} → ℕ → Peer T → Option Event
+parting m p = parting_at (stage_of p) (route_of p) m
+
+abbrev pub is_said_turned : Said → Bool
+is_said_turned (said.Turned station) = true
+is_said_turned _ = false
+
+abbrev pub is_turned : Out → Bool
+is_turned out = is_said_turned out.said
+
+-- the outputs of a connect turn the station away
+abbrev pub turns_away : List Out → Bool
+turns_away outs = list_any is_turned outs

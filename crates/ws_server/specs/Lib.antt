@@ -1,0 +1,5 @@
+pub mod Events
+pub mod Tells
+pub mod Steps
+pub mod Turns
+pub mod Admits

@@ -1,0 +1,94 @@
+-- What serving peers does: to them, and which steps the hub takes.
+use Rattle.std.specs.Prelude.{ℕ, zero, suc, List, [], ◌∷◌, ◌++◌, Option, Some, None, ◌≡◌, ◌<◌, ◌⊎◌, Result, Ok, Err, map, length, slice_index_or, codes}
+use Rattle.std.specs.List.{filter}
+use Rattle.event_plans.specs.declared.event.Event.{Event}
+use Rattle.event_plans.specs.declared.event.Event.TheVariants.{Tick}
+use Rattle.event_plans.specs.declared.out.Out.{Out}
+use Rattle.hub.specs.declared.fault.Fault.{Fault}
+use Rattle.ws_peers.specs.declared.peer.Peer.{Peer}
+use Rattle.ws_peers.specs.Lists as lists
+use Rattle.ws_peers.specs.Peers.{route_of, stage_of, ends, leaves, finishes}
+use Rattle.ws_peers.specs.Reads.{Took}
+use Rattle.ws_peers.specs.Sends.{Sent}
+use Rattle.ws_peers.specs.Stages.{is_held}
+use Rattle.ws_server.specs.Events.{event_of, parting}
+use Rattle.ws_server.specs.Steps.{Step}
+use Rattle.ws_server.specs.Tells.{TellsAll}
+
+-- a change of peers: those before, those after, the steps that the hub takes, and how it ends
+abbrev pub Change : Type 0 → Type 1
+Change P = List P → List P → List Step → Result (Unit {0}) Fault → Type 0
+
+module _ {P : Type 0} where
+  -- one change after the other, where the first ends well
+  abbrev pub Then : Change P → Change P → Change P
+  Then First Second old new steps r =
+      ((mid : List P) × (before after : List Step) × First old mid before (Ok tt) × Second mid new after r × (steps ≡ before ++ after))
+      ⊎ ((fault : Fault) × First old new steps (Err fault) × (r ≡ Err fault))
+
+  -- the change of the first n places, one after the other
+  abbrev pub FirstPlaces : (ℕ → Change P) → ℕ → List P → List P → List Step → Type 0
+  FirstPlaces C zero old new steps = (new ≡ old) × (steps ≡ [])
+  FirstPlaces C (suc n) old new steps =
+      (mid : List P) × (before after : List Step) × FirstPlaces C n old mid before × C n mid new after (Ok tt) × (steps ≡ before ++ after)
+
+  -- the change of each place, in order, up to the first that ends in a fault
+  abbrev pub Each : (ℕ → Change P) → Change P
+  Each C old new steps (Ok u) = FirstPlaces C (length old) old new steps
+  Each C old new steps (Err fault) =
+      (n : ℕ) × (mid : List P) × (before after : List Step) × (n < length old) × FirstPlaces C n old mid before × C n mid new after (Err fault) × (steps ≡ before ++ after)
+
+  -- a change that the hub has no part in
+  abbrev pub Becomes : (List P → List P) → Change P
+  Becomes f old new steps r = (new ≡ f old) × (steps ≡ []) × (r ≡ Ok tt)
+
+module _ {T : Type 0} (contents : T → Option (List ℕ)) where
+  -- an event is handed to the hub: its outputs are told, or nothing has happened
+  abbrev pub Hands : Event → Change (Peer T)
+  Hands event old new steps (Ok u) = (outs : List Out) × (steps ≡ record { event = event; outs = outs } ∷ []) × TellsAll contents outs old new
+  Hands event old new steps (Err fault) = (new ≡ old) × (steps ≡ [])
+
+  -- peer n has said what the hub is to be handed, or a text that is no order
+  abbrev pub HandsOrRefuses : ℕ → Option Event → Change (Peer T)
+  HandsOrRefuses n (Some event) old new steps r = Hands event old new steps r
+  HandsOrRefuses n None old new steps r = lists.At (Sent contents (codes "bad line")) n old new × (steps ≡ []) × (r ≡ Ok tt)
+
+  -- a text of peer n at moment m; where it ends in a fault nothing has happened
+  abbrev pub HandsText : ℕ → ℕ → List ℕ → Change (Peer T)
+  HandsText m n text old new steps (Ok u) = (event : Option Event) × ((d : Peer T) → event ≡ event_of (route_of (slice_index_or old n d)) m text) × HandsOrRefuses n event old new steps (Ok u)
+  HandsText m n text old new steps (Err fault) = (new ≡ old) × (steps ≡ [])
+
+  -- what was read from peer n; a text that ends in a fault is lost, and the connection ends
+  abbrev pub Handles : ℕ → ℕ → Option (List ℕ) → Change (Peer T)
+  Handles m n None old new steps r = (new ≡ old) × (steps ≡ []) × (r ≡ Ok tt)
+  Handles m n (Some text) old new steps (Ok u) = HandsText m n text old new steps (Ok u)
+  Handles m n (Some text) old new steps (Err fault) = lists.At (λ p q. q ≡ ends p) n old new × (steps ≡ [])
+
+  -- peer n leaves the hub, if it is to leave now; where that ends in a fault it leaves later
+  abbrev pub PartsAs : ℕ → Option Event → Change (Peer T)
+  PartsAs n None old new steps r = (new ≡ old) × (steps ≡ [])
+  PartsAs n (Some event) old new steps (Ok u) = (mid : List (Peer T)) × Hands event old mid steps (Ok u) × lists.At (λ p q. q ≡ finishes p) n mid new
+  PartsAs n (Some event) old new steps (Err fault) = (new ≡ old) × (steps ≡ [])
+
+  abbrev pub Parts : ℕ → ℕ → Change (Peer T)
+  Parts m n old new steps r = (event : Option Event) × ((d : Peer T) → event ≡ parting m (slice_index_or old n d)) × PartsAs n event old new steps r
+
+  -- those of which nothing is left are dropped, and the hub is handed a tick
+  abbrev pub SweepsAndTicks : ℕ → Change (Peer T)
+  SweepsAndTicks m = Then (Becomes (filter (λ p. is_held (stage_of p)))) (Hands (Tick m))
+
+  -- those that have ended leave, and each hands on its disconnect; then the sweep and the tick
+  abbrev pub PartsAndTicks : ℕ → Change (Peer T)
+  PartsAndTicks m = Then (Becomes (map leaves)) (Then (Each (Parts m)) (SweepsAndTicks m))
+
+module _ {T : Type 0} (remaining contents : T → Option (List ℕ)) where
+  -- peer n is served at moment m: one read, and what was read is handled
+  pub record Serves (m n : ℕ) (old new : List (Peer T)) (steps : List Step) (r : Result (Unit {0}) Fault) : Type 0 where
+    pub text : Option (List ℕ)
+    pub mid : List (Peer T)
+    pub took : lists.At (λ p q. Took remaining contents p q text) n old mid
+    pub handled : Handles contents m n text mid new steps r
+
+  -- a turn at moment m: each peer is served; then those that have ended leave
+  abbrev pub Turns : ℕ → Change (Peer T)
+  Turns m = Then (Each (Serves m)) (PartsAndTicks contents m)

@@ -1,0 +1,104 @@
+//! Admitting a connection.
+ghost use Rattle.std.specs.Prelude.{◌≡◌, true, false, Err, IfErr, OnOk};
+ghost use Rattle.hub_rows.specs.Reads.{IsCounted};
+ghost use Rattle.hub.specs.Hub.{setting, is_clean, failures_of, is_taken};
+ghost use Rattle.ws_peers.specs.Lists.{peers, has_room};
+ghost use Rattle.ws_server.specs.Admits.{Enters};
+ghost use Rattle.ws_server.specs.Steps.{Takes};
+ghost use Rattle.ws_server.specs.Tells.{peers_of};
+
+use crate::events::{connect_of, turns_away};
+use crate::gateway::Gateway;
+use hub::{Event, Fault, Hub};
+use hub_rows::Store;
+use ocpp_types::Moment;
+use station_calls::VendorHandler;
+use std::io::{Read, Write};
+use tungstenite::{NoMask, WebSocket};
+use ws_peers::{Peers, Route};
+
+impl<T: Read + Write + Drop> Gateway<T> {
+    ghost use Rattle.ws_server.specs.Admits.{Admits, Connects, is_of_hosted};
+
+    /// Admits a connection whose handshake is done. A station connects to the hub, and its outputs are
+    /// told; where it is turned away its socket is closed, and else older connections of it are
+    /// replaced. An operator that isn't hosted is the fault `NoSuchOperator`. A route to nothing closes
+    /// the socket. After a fault nothing was admitted, and the socket is dropped.
+    pub fn admit<S: Store + Drop, V: VendorHandler>(
+        &mut self,
+        hub: &mut Hub<S, V>,
+        socket: WebSocket<T, NoMask>,
+        route: Route,
+        moment: Moment,
+    ) -> Result<(), Fault>
+        ensures takes { Takes S.clean S.rows V.name V.gives hub.old hub.new
+            (λ steps. Admits T.contents socket moment route (peers_of self.old) (peers_of self.new) steps result) }
+        ensures hosted { OnOk result (is_of_hosted (setting V.name V.gives hub.old).is_hosted route ≡ true) }
+        ensures not_hosted { IfErr result (λ f. f ≡ Fault.NoSuchOperator → is_of_hosted (setting V.name V.gives hub.old).is_hosted route ≡ false) }
+        ensures counted { IsCounted (failures_of S.failures) (is_clean S.clean) hub.old hub.new (result ≡ Err Fault.Store) }
+        ensures setting { setting V.name V.gives hub.new ≡ setting V.name V.gives hub.old }
+    {
+        match &route {
+            Route::Station(op, station) => {
+                let event = connect_of(op, station, moment)?;
+                self.connect(hub, socket, route, &event)
+            }
+            Route::Operator(op) => {
+                if !hub.hosts(op.as_str()) {
+                    return Err(Fault::NoSuchOperator);
+                }
+                self.peers.reserve()?;
+                self.peers.push(socket, route);
+                Ok(())
+            }
+            Route::Nothing => {
+                close(socket);
+                Ok(())
+            }
+        }
+    }
+
+    fn connect<S: Store + Drop, V: VendorHandler>(
+        &mut self,
+        hub: &mut Hub<S, V>,
+        socket: WebSocket<T, NoMask>,
+        route: Route,
+        event: &Event,
+    ) -> Result<(), Fault>
+        ensures takes { Takes S.clean S.rows V.name V.gives hub.old hub.new
+            (λ steps. Connects T.contents socket event.now route (peers_of self.old) (peers_of self.new) steps result) }
+        ensures taken { OnOk result (is_taken (setting V.name V.gives hub.old) event.now ≡ true) }
+        ensures not_taken { IfErr result (λ f. f ≡ Fault.NoSuchOperator → is_taken (setting V.name V.gives hub.old) event.now ≡ false) }
+        ensures counted { IsCounted (failures_of S.failures) (is_clean S.clean) hub.old hub.new (result ≡ Err Fault.Store) }
+        ensures setting { setting V.name V.gives hub.new ≡ setting V.name V.gives hub.old }
+    {
+        self.peers.reserve()?;
+        let outs = hub.handle(event)?;
+        let place = self.peers.count();
+        enter(&mut self.peers, turns_away(&outs), socket, route);
+        self.tell_all(place, &outs);
+        Ok(())
+    }
+}
+
+/// Adds a station, or closes the socket of one that is turned away.
+fn enter<T: Read + Write + Drop>(
+    all: &mut Peers<T>,
+    is_turned_away: bool,
+    socket: WebSocket<T, NoMask>,
+    route: Route,
+)
+    requires { has_room all.old }
+    ensures { Enters T.contents socket is_turned_away route (peers all.old) (peers all.new) }
+{
+    if is_turned_away {
+        close(socket);
+    } else {
+        all.push(socket, route);
+    }
+}
+
+fn close<T: Read + Write + Drop>(socket: WebSocket<T, NoMask>) {
+    let mut socket = socket;
+    let _closed = socket.close(None);
+}

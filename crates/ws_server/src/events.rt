@@ -1,0 +1,78 @@
+//! What a peer hands to the hub.
+ghost use Rattle.std.specs.Prelude.{◌≡◌, IfOk};
+ghost use Rattle.std.specs.List.{list_any};
+ghost use Rattle.event_plans.specs.declared.event.Event.TheVariants as event;
+ghost use Rattle.event_plans.specs.declared.event.What.TheVariants as what;
+ghost use Rattle.ws_server.specs.Events.{event_of, disconnect_of, parting, is_turned, turns_away};
+
+use event_plans::{Event, Out, Said, What};
+use lines::read_order;
+use ocpp_types::{Mem, Moment, Text};
+use std::alloc::Global;
+use std::io::{Read, Write};
+use ws_peers::{Peer, Route, Stage};
+
+/// What a text of a peer hands on: a frame of a station, or an order of an operator. `None` is a text
+/// of an operator that is no order.
+pub fn event_of(alloc: Global, route: &Route, moment: Moment, text: &str) -> Mem<Option<Event>>
+    ensures { IfOk result (λ e. e ≡ event_of route.now moment text.now) }
+{
+    match route {
+        Route::Station(op, station) => {
+            let op = op.clone()?;
+            let station = station.clone()?;
+            let text = Text::copy_of(alloc, text)?;
+            let what = What::Frame { station, text };
+            Ok(Some(Event::At { op, moment, what }))
+        }
+        Route::Operator(op) => read_order(alloc, op, moment, text),
+        Route::Nothing => Ok(None),
+    }
+}
+
+/// The disconnect that a peer is still to hand on, if it is to leave now.
+pub fn parting<T: Read + Write + Drop>(peer: &Peer<T>, moment: Moment) -> Mem<Option<Event>>
+    ensures { IfOk result (λ e. e ≡ parting moment peer.now) }
+{
+    match peer.stage() {
+        Stage::Leaving => disconnect_of(peer.route(), moment),
+        Stage::Open | Stage::Ended | Stage::Gone => Ok(None),
+    }
+}
+
+fn disconnect_of(route: &Route, moment: Moment) -> Mem<Option<Event>>
+    ensures { IfOk result (λ e. e ≡ disconnect_of route.now moment) }
+{
+    match route {
+        Route::Station(op, station) => {
+            let op = op.clone()?;
+            let station = station.clone()?;
+            let what = What::Disconnect { station };
+            Ok(Some(Event::At { op, moment, what }))
+        }
+        Route::Operator(_) | Route::Nothing => Ok(None),
+    }
+}
+
+/// The connect of a station.
+pub fn connect_of(op: &Text, station: &Text, moment: Moment) -> Mem<Event>
+    ensures { IfOk result (λ e. e ≡ event.At op.now moment (what.Connect station.now)) }
+{
+    let op = op.clone()?;
+    let station = station.clone()?;
+    let what = What::Connect { station };
+    Ok(Event::At { op, moment, what })
+}
+
+/// Whether one of the outputs of a connect turns the station away.
+pub fn turns_away(outs: &[Out]) -> bool
+    ensures { result ≡ turns_away outs.now }
+{
+    outs.iter().any(is_turned)
+}
+
+fn is_turned(out: &Out) -> bool
+    ensures { result ≡ is_turned out.now }
+{
+    matches!(out.said, Said::Turned { .. })
+}

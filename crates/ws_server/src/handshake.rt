@@ -1,0 +1,102 @@
+//! The handshake of one connection.
+
+use http::header::{HeaderName, HeaderValue};
+use http::{Request, Response, StatusCode};
+use std::alloc::Global;
+use std::io::{Read, Write};
+use tungstenite::handshake::server::{ErrorResponse, start};
+use tungstenite::{Callback, NoMask, WebSocket, WebSocketConfig};
+
+/// The subprotocol of a station (OCPP-J 1.6, section 3.1.2).
+const SUBPROTOCOL: &str = "ocpp1.6";
+
+/// The bytes that a socket reads at once. Each connection keeps room for as many.
+const READ_SIZE: usize = 4096;
+
+/// The most bytes of a message of any kind. A text may have 1,048,576 (`ws_peers::MAX_TEXT`).
+const MAX_MESSAGE: usize = 4_194_304;
+
+/// Answers a request whose path is judged.
+#[derive(Drop)]
+struct Answer<'a> {
+    alloc: Global,
+    is_known: bool,
+    has_agreed: &'a mut bool,
+}
+
+impl<'a> Callback for Answer<'a> {
+    fn on_request(
+        self,
+        request: &Request<()>,
+        mut response: Response<()>,
+    ) -> Result<Response<()>, ErrorResponse> {
+        let Answer {
+            alloc,
+            is_known,
+            has_agreed,
+        } = self;
+        if !is_known {
+            return Err(refused(alloc, StatusCode::NOT_FOUND));
+        }
+        if offers_subprotocol(request) {
+            let name = HeaderName::from_static("sec-websocket-protocol");
+            let value = HeaderValue::from_static(SUBPROTOCOL);
+            if response.headers_mut().insert(name, value).is_err() {
+                return Err(refused(alloc, StatusCode::SERVICE_UNAVAILABLE));
+            }
+            *has_agreed = true;
+        }
+        Ok(response)
+    }
+}
+
+fn refused(alloc: Global, status: StatusCode) -> ErrorResponse {
+    let mut response = Response::new(alloc, None);
+    *response.status_mut() = status;
+    response
+}
+
+/// Whether `ocpp1.6` is among the subprotocols that a request offers (RFC 6455, section 11.3.4).
+fn offers_subprotocol(request: &Request<()>) -> bool {
+    let name = HeaderName::from_static("sec-websocket-protocol");
+    for value in request.headers().get_all(&name).iter() {
+        if let Ok(offered) = value.to_str() {
+            if offered.split(',').any(|word| word.trim() == SUBPROTOCOL) {
+                return true;
+            }
+        }
+    }
+    false
+}
+
+fn limits() -> WebSocketConfig {
+    WebSocketConfig::default()
+        .read_buffer_size(READ_SIZE)
+        .max_message_size(Some(MAX_MESSAGE))
+        .max_frame_size(Some(MAX_MESSAGE))
+}
+
+/// Makes the handshake of a stream whose whole head is there, and gives its socket. A path that isn't
+/// known is answered 404. A station that doesn't offer the subprotocol is accepted without it and closed
+/// at once (OCPP-J 1.6, section 3.1.2). `None` is a connection that has ended.
+pub fn shake<T: Read + Write + Drop>(
+    alloc: Global,
+    stream: T,
+    is_known: bool,
+    is_station: bool,
+) -> Option<WebSocket<T, NoMask>> {
+    let mut has_agreed = false;
+    let answer = Answer {
+        alloc,
+        is_known,
+        has_agreed: &mut has_agreed,
+    };
+    let mut socket = start(alloc, stream, answer, Some(limits()))
+        .handshake()
+        .ok()?;
+    if is_station && !has_agreed {
+        let _closed = socket.close(None);
+        return None;
+    }
+    Some(socket)
+}

@@ -1,0 +1,15 @@
+//! The gateway: connected stations and operators over one hub.
+#![tactic(auto)]
+
+mod admit;
+mod events;
+mod gateway;
+mod handshake;
+mod head;
+mod lobby;
+mod tell;
+mod turn;
+mod welcome;
+
+pub use gateway::Gateway;
+pub use lobby::{Lobby, listen};

@@ -1,0 +1,81 @@
+//! Sending outputs to the peers.
+ghost use Rattle.std.specs.Prelude.{◌≡◌, [], length};
+
+use crate::gateway::Gateway;
+use event_plans::{Out, Said};
+use lines::print_out;
+use std::alloc::Global;
+use std::io::{Read, Write};
+use ws_peers::Peers;
+
+impl<T: Read + Write + Drop> Gateway<T> {
+    ghost use Rattle.lines.specs.OutputLines.{line_of};
+    ghost use Rattle.ws_peers.specs.Lists.{ToOperator};
+    ghost use Rattle.ws_server.specs.Tells.{peers_of, Tells, TellsAll};
+
+    /// No peer. It takes no memory yet.
+    pub fn new(alloc: Global) -> Gateway<T>
+        ensures { peers_of result ≡ [] }
+    {
+        Gateway {
+            alloc,
+            peers: Peers::new(alloc),
+        }
+    }
+
+    /// How many peers there are. Those that have ended count until a turn has dropped them.
+    pub fn count(&self) -> usize
+        ensures { result ≡ length (peers_of self.now) }
+    {
+        self.peers.count()
+    }
+
+    /// Sends one output: a text to its station's open connection, if there is one, and all else as a
+    /// line to each open connection of its operator (docs/RULES.md, Connections). A connection ends
+    /// where a send isn't Ok or finds no memory.
+    pub fn tell(&mut self, out: &Out)
+        ensures told { Tells T.contents out.now (peers_of self.old) (peers_of self.new) }
+        ensures count { length (peers_of self.new) ≡ length (peers_of self.old) }
+    {
+        self.tell_near(0, out);
+    }
+
+    fn tell_near(&mut self, near: usize, out: &Out)
+        ensures told { Tells T.contents out.now (peers_of self.old) (peers_of self.new) }
+        ensures count { length (peers_of self.new) ≡ length (peers_of self.old) }
+    {
+        match &out.said {
+            Said::Send { station, text } => {
+                let op = out.op.as_str();
+                self.peers
+                    .to_station(near, op, station.as_str(), text.as_str());
+            }
+            Said::Done { .. }
+            | Said::Turned { .. }
+            | Said::Refused(_)
+            | Said::Row(_)
+            | Said::Accepted { .. } => self.tell_line(out),
+        }
+    }
+
+    fn tell_line(&mut self, out: &Out)
+        ensures told { ToOperator T.contents out.now.op (line_of out.now) (peers_of self.old) (peers_of self.new) }
+        ensures count { length (peers_of self.new) ≡ length (peers_of self.old) }
+    {
+        let op = out.op.as_str();
+        match print_out(self.alloc, out) {
+            Ok(line) => self.peers.to_operator(op, Some(line.as_str())),
+            Err(_) => self.peers.to_operator(op, None),
+        }
+    }
+
+    /// Sends outputs in order. The peer at `near` is looked at first for each text.
+    pub(crate) fn tell_all(&mut self, near: usize, outs: &[Out])
+        ensures told { TellsAll T.contents outs.now (peers_of self.old) (peers_of self.new) }
+        ensures count { length (peers_of self.new) ≡ length (peers_of self.old) }
+    {
+        for out in outs {
+            self.tell_near(near, out);
+        }
+    }
+}

@@ -1,0 +1,193 @@
+//! Serving the peers.
+ghost use Rattle.std.specs.Prelude.{◌≡◌, ◌<◌, List, ℕ, Err, IfErr, OnErr, length};
+ghost use Rattle.hub_rows.specs.Reads.{IsCounted};
+ghost use Rattle.hub.specs.Hub.{setting, is_clean, failures_of};
+ghost use Rattle.ws_server.specs.Steps.{Takes};
+ghost use Rattle.ws_server.specs.Tells.{peers_of};
+
+use crate::events::{event_of, parting};
+use crate::gateway::Gateway;
+use hub::{Event, Fault, Hub};
+use hub_rows::Store;
+use ocpp_types::Moment;
+use station_calls::VendorHandler;
+use std::io::{Read, Write};
+
+#[tactic(auto, using(crate::proofs::StepLaws::handed, crate::proofs::StepLaws::nothing))]
+impl<T: Read + Write + Drop> Gateway<T> {
+    ghost use Rattle.ws_server.specs.Turns.{Hands, HandsText, Serves, Parts, Each, SweepsAndTicks, PartsAndTicks, Turns};
+
+    /// Hands an event to the hub, and tells its outputs. Where it ends in a fault nothing has happened.
+    pub(crate) fn hand<S: Store + Drop, V: VendorHandler>(
+        &mut self,
+        hub: &mut Hub<S, V>,
+        near: usize,
+        event: &Event,
+    ) -> Result<(), Fault>
+        ensures takes { Takes S.clean S.rows V.name V.gives hub.old hub.new
+            (λ steps. Hands T.contents event.now (peers_of self.old) (peers_of self.new) steps result) }
+        ensures counted { IsCounted (failures_of S.failures) (is_clean S.clean) hub.old hub.new (result ≡ Err Fault.Store) }
+        ensures setting { setting V.name V.gives hub.new ≡ setting V.name V.gives hub.old }
+        ensures count { length (peers_of self.new) ≡ length (peers_of self.old) }
+    {
+        let outs = hub.handle(event)?;
+        self.tell_all(near, &outs);
+        Ok(())
+    }
+
+    /// Hands on a text of peer n. A text of an operator that is no order is answered `bad line`.
+    fn hand_text<S: Store + Drop, V: VendorHandler>(
+        &mut self,
+        hub: &mut Hub<S, V>,
+        n: usize,
+        moment: Moment,
+        text: &str,
+    ) -> Result<(), Fault>
+        requires { n < length (peers_of self.old) }
+        ensures takes { Takes S.clean S.rows V.name V.gives hub.old hub.new
+            (λ steps. HandsText T.contents moment n text.now (peers_of self.old) (peers_of self.new) steps result) }
+        ensures counted { IsCounted (failures_of S.failures) (is_clean S.clean) hub.old hub.new (result ≡ Err Fault.Store) }
+        ensures setting { setting V.name V.gives hub.new ≡ setting V.name V.gives hub.old }
+        ensures count { length (peers_of self.new) ≡ length (peers_of self.old) }
+    {
+        let route = self.peers.peer(n).route();
+        match event_of(self.alloc, route, moment, text)? {
+            Some(event) => self.hand(hub, n, &event),
+            None => {
+                self.peers.send(n, "bad line");
+                Ok(())
+            }
+        }
+    }
+
+    /// Serves peer n: reads once, and hands on the text that was read, if there is one. After a fault
+    /// the text is lost and the connection of peer n ends; the hub is as it was.
+    pub fn serve<S: Store + Drop, V: VendorHandler>(
+        &mut self,
+        hub: &mut Hub<S, V>,
+        n: usize,
+        moment: Moment,
+    ) -> Result<(), Fault>
+        requires { n < length (peers_of self.old) }
+        ensures takes { Takes S.clean S.rows V.name V.gives hub.old hub.new
+            (λ steps. Serves T.remaining T.contents moment n (peers_of self.old) (peers_of self.new) steps result) }
+        ensures counted { IsCounted (failures_of S.failures) (is_clean S.clean) hub.old hub.new (result ≡ Err Fault.Store) }
+        ensures setting { setting V.name V.gives hub.new ≡ setting V.name V.gives hub.old }
+        ensures count { length (peers_of self.new) ≡ length (peers_of self.old) }
+    {
+        let Some(text) = self.peers.take(n) else {
+            return Ok(());
+        };
+        match self.hand_text(hub, n, moment, text.as_str()) {
+            Ok(()) => Ok(()),
+            Err(fault) => {
+                self.peers.end(n);
+                Err(fault)
+            }
+        }
+    }
+
+    /// Hands on the disconnect of peer n, if it is to leave now.
+    fn part<S: Store + Drop, V: VendorHandler>(
+        &mut self,
+        hub: &mut Hub<S, V>,
+        n: usize,
+        moment: Moment,
+    ) -> Result<(), Fault>
+        requires { n < length (peers_of self.old) }
+        ensures takes { Takes S.clean S.rows V.name V.gives hub.old hub.new
+            (λ steps. Parts T.contents moment n (peers_of self.old) (peers_of self.new) steps result) }
+        ensures counted { IsCounted (failures_of S.failures) (is_clean S.clean) hub.old hub.new (result ≡ Err Fault.Store) }
+        ensures setting { setting V.name V.gives hub.new ≡ setting V.name V.gives hub.old }
+        ensures count { length (peers_of self.new) ≡ length (peers_of self.old) }
+    {
+        let Some(event) = parting(self.peers.peer(n), moment)? else {
+            return Ok(());
+        };
+        self.hand(hub, n, &event)?;
+        self.peers.finish(n);
+        Ok(())
+    }
+
+    /// Serves each peer in order of admission, up to the first fault.
+    fn serve_each<S: Store + Drop, V: VendorHandler>(
+        &mut self,
+        hub: &mut Hub<S, V>,
+        moment: Moment,
+    ) -> Result<(), Fault>
+        ensures takes { Takes S.clean S.rows V.name V.gives hub.old hub.new
+            (λ steps. Each (Serves T.remaining T.contents moment) (peers_of self.old) (peers_of self.new) steps result) }
+        ensures counted { IsCounted (failures_of S.failures) (is_clean S.clean) hub.old hub.new (result ≡ Err Fault.Store) }
+        ensures setting { setting V.name V.gives hub.new ≡ setting V.name V.gives hub.old }
+    {
+        for n in 0..self.count() {
+            self.serve(hub, n, moment)?;
+        }
+        Ok(())
+    }
+
+    /// Hands on the disconnects of those that are to leave now, up to the first fault.
+    fn part_each<S: Store + Drop, V: VendorHandler>(
+        &mut self,
+        hub: &mut Hub<S, V>,
+        moment: Moment,
+    ) -> Result<(), Fault>
+        ensures takes { Takes S.clean S.rows V.name V.gives hub.old hub.new
+            (λ steps. Each (Parts T.contents moment) (peers_of self.old) (peers_of self.new) steps result) }
+        ensures counted { IsCounted (failures_of S.failures) (is_clean S.clean) hub.old hub.new (result ≡ Err Fault.Store) }
+        ensures setting { setting V.name V.gives hub.new ≡ setting V.name V.gives hub.old }
+    {
+        for n in 0..self.count() {
+            self.part(hub, n, moment)?;
+        }
+        Ok(())
+    }
+
+    /// One turn: serves each peer, in order of admission; hands on the disconnects of those that have
+    /// ended, in that order; and hands on a tick. It stops at the first fault. A disconnect that met
+    /// one is handed on again in the next turn.
+    pub fn turn<S: Store + Drop, V: VendorHandler>(
+        &mut self,
+        hub: &mut Hub<S, V>,
+        moment: Moment,
+    ) -> Result<(), Fault>
+        ensures takes { Takes S.clean S.rows V.name V.gives hub.old hub.new
+            (λ steps. Turns T.remaining T.contents moment (peers_of self.old) (peers_of self.new) steps result) }
+        ensures counted { IsCounted (failures_of S.failures) (is_clean S.clean) hub.old hub.new (result ≡ Err Fault.Store) }
+        ensures setting { setting V.name V.gives hub.new ≡ setting V.name V.gives hub.old }
+    {
+        self.serve_each(hub, moment)?;
+        self.part_and_tick(hub, moment)
+    }
+
+    /// Those that have ended leave; their disconnects and a tick are handed on.
+    fn part_and_tick<S: Store + Drop, V: VendorHandler>(
+        &mut self,
+        hub: &mut Hub<S, V>,
+        moment: Moment,
+    ) -> Result<(), Fault>
+        ensures takes { Takes S.clean S.rows V.name V.gives hub.old hub.new
+            (λ steps. PartsAndTicks T.contents moment (peers_of self.old) (peers_of self.new) steps result) }
+        ensures counted { IsCounted (failures_of S.failures) (is_clean S.clean) hub.old hub.new (result ≡ Err Fault.Store) }
+        ensures setting { setting V.name V.gives hub.new ≡ setting V.name V.gives hub.old }
+    {
+        self.peers.leave();
+        self.part_each(hub, moment)?;
+        self.sweep_and_tick(hub, moment)
+    }
+
+    /// Those of which nothing is left are dropped, and a tick is handed on.
+    fn sweep_and_tick<S: Store + Drop, V: VendorHandler>(
+        &mut self,
+        hub: &mut Hub<S, V>,
+        moment: Moment,
+    ) -> Result<(), Fault>
+        ensures takes { Takes S.clean S.rows V.name V.gives hub.old hub.new
+            (λ steps. SweepsAndTicks T.contents moment (peers_of self.old) (peers_of self.new) steps result) }
+        ensures counted { IsCounted (failures_of S.failures) (is_clean S.clean) hub.old hub.new (result ≡ Err Fault.Store) }
+        ensures setting { setting V.name V.gives hub.new ≡ setting V.name V.gives hub.old }
+    {
+        self.peers.sweep();
+        self.hand(hub, 0, &Event::Tick { moment })
+    }
+}

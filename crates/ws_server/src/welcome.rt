@@ -1,0 +1,60 @@
+//! A connection, from its head to its admission.
+ghost use Rattle.std.specs.Prelude.{◌≡◌, ◌≢◌, ◌&&◌, IfOk, IfErr, Err};
+ghost use Rattle.hub_rows.specs.Reads.{IsCounted};
+ghost use Rattle.hub.specs.Hub.{world, setting, is_clean, failures_of};
+ghost use Rattle.ws_server.specs.Admits.{is_known};
+ghost use Rattle.ws_server.specs.Steps.{Takes};
+ghost use Rattle.ws_server.specs.Tells.{peers_of};
+
+use crate::gateway::Gateway;
+use crate::handshake::shake;
+use hub::{Fault, Hub};
+use hub_rows::Store;
+use ocpp_types::Moment;
+use station_calls::VendorHandler;
+use std::io::{Read, Write};
+use ws_peers::Route;
+
+impl<T: Read + Write + Drop> Gateway<T> {
+    ghost use Rattle.ws_server.specs.Admits.{Welcomes};
+
+    /// Makes the handshake of a stream whose whole head is there, and whose path leads there; then admits
+    /// it. A path to nothing, to a station that the hub doesn't know, or to an operator that it doesn't
+    /// host is answered 404.
+    pub fn welcome<S: Store + Drop, V: VendorHandler>(
+        &mut self,
+        hub: &mut Hub<S, V>,
+        stream: T,
+        route: Route,
+        moment: Moment,
+    ) -> Result<(), Fault>
+        ensures takes { Takes S.clean S.rows V.name V.gives hub.old hub.new
+            (λ steps. Welcomes T.contents moment route (peers_of self.old) (peers_of self.new) steps result) }
+        ensures counted { IsCounted (failures_of S.failures) (is_clean S.clean) hub.old hub.new (result ≡ Err Fault.Store) }
+        ensures setting { setting V.name V.gives hub.new ≡ setting V.name V.gives hub.old }
+    {
+        let is_known = is_known(hub, &route)?;
+        let is_station = matches!(route, Route::Station(_, _));
+        match shake(self.alloc, stream, is_known, is_station) {
+            Some(socket) => self.admit(hub, socket, route, moment),
+            None => Ok(()),
+        }
+    }
+}
+
+/// Whether a path leads to a station that the hub knows or to an operator that it hosts.
+fn is_known<S: Store + Drop, V: VendorHandler>(
+    hub: &mut Hub<S, V>,
+    route: &Route,
+) -> Result<bool, Fault>
+    ensures known { is_clean S.clean hub.new → IfOk result (λ k. k ≡ is_known (setting V.name V.gives hub.old).is_hosted (world S.rows hub.old).rows route.now) }
+    ensures world { is_clean S.clean hub.new → world S.rows hub.new ≡ world S.rows hub.old }
+    ensures counted { IsCounted (failures_of S.failures) (is_clean S.clean) hub.old hub.new (result ≡ Err Fault.Store) }
+    ensures setting { setting V.name V.gives hub.new ≡ setting V.name V.gives hub.old }
+{
+    match route {
+        Route::Station(op, station) => hub.knows(op.as_str(), station.as_str()),
+        Route::Operator(op) => Ok(hub.hosts(op.as_str())),
+        Route::Nothing => Ok(false),
+    }
+}
