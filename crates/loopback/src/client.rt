@@ -38,7 +38,13 @@ pub struct Client {
 
 impl Client {
     /// A client that asks for a path, and offers those subprotocols, if any.
-    pub fn ask(alloc: Global, name: &str, stream: TcpStream, path: &str, offer: &str) -> Result<Client> {
+    pub fn ask(
+        alloc: Global,
+        name: &str,
+        stream: TcpStream,
+        path: &str,
+        offer: &str,
+    ) -> Result<Client> {
         let mut stream = stream;
         write_head(alloc, &mut stream, path, offer)?;
         Client::connect(alloc, name, stream)

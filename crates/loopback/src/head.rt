@@ -10,7 +10,9 @@ const MAX_HEAD: usize = 4096;
 
 /// Asks for a path with the key of RFC 6455, section 1.3. An offer of `-` is none.
 pub fn write_head(alloc: Global, stream: &mut TcpStream, path: &str, offer: &str) -> Result<()> {
-    let mut head = format!(in alloc; "GET {path} HTTP/1.1\r\nHost: 127.0.0.1\r\nUpgrade: websocket\r\nConnection: Upgrade\r\nSec-WebSocket-Key: dGhlIHNhbXBsZSBub25jZQ==\r\nSec-WebSocket-Version: 13\r\n")?;
+    let mut head = format!(in alloc;
+        "GET {path} HTTP/1.1\r\nHost: 127.0.0.1\r\nUpgrade: websocket\r\nConnection: Upgrade\r\nSec-WebSocket-Key: dGhlIHNhbXBsZSBub25jZQ==\r\nSec-WebSocket-Version: 13\r\n"
+    )?;
     if offer != "-" {
         let line = format!(in alloc; "Sec-WebSocket-Protocol: {offer}\r\n")?;
         head.push_str(line.as_str())?;

@@ -112,7 +112,13 @@ impl Script {
         }
     }
 
-    fn send_or_read(&mut self, name: &str, word: &str, words: &str, rest: &str) -> Result<Option<String>> {
+    fn send_or_read(
+        &mut self,
+        name: &str,
+        word: &str,
+        words: &str,
+        rest: &str,
+    ) -> Result<Option<String>> {
         let alloc = self.alloc;
         let client = client_of(&mut self.clients, name)?;
         let is_sent = match word {
@@ -148,7 +154,8 @@ impl Script {
 
     fn connect(&mut self, rt: &HostRuntime, name: &str) -> Result<Option<String>> {
         let stream = TcpStream::connect(rt, ("127.0.0.1", self.server.port()?))?;
-        self.clients.push(Client::connect(self.alloc, name, stream)?)?;
+        self.clients
+            .push(Client::connect(self.alloc, name, stream)?)?;
         Ok(None)
     }
 
@@ -178,7 +185,11 @@ impl Script {
 
 /// The last client of that name.
 fn client_of<'a>(clients: &'a mut [Client], name: &str) -> Result<&'a mut Client> {
-    match clients.iter_mut().rev().find(|client| client.name.as_str() == name) {
+    match clients
+        .iter_mut()
+        .rev()
+        .find(|client| client.name.as_str() == name)
+    {
         Some(client) => Ok(client),
         None => bail!("no client {name}"),
     }
@@ -195,7 +206,11 @@ fn letters(alloc: Global, count: &str) -> Result<String> {
 
 /// What was got, unless it is what is wanted.
 fn unless_equal(got: String, wanted: &str) -> Option<String> {
-    if got.as_str() == wanted { None } else { Some(got) }
+    if got.as_str() == wanted {
+        None
+    } else {
+        Some(got)
+    }
 }
 
 fn bytes_of(alloc: Global, text: &str) -> Result<Bytes> {

@@ -63,7 +63,8 @@ impl Server {
     pub fn hand(&mut self, line: &str) -> Result<()> {
         let seconds = self.moment.seconds();
         let line = format!(in self.alloc; "{seconds} {line}")?;
-        let Line::Event(event) = read_line(self.alloc, self.operators.as_slice(), line.as_bytes())? else {
+        let Line::Event(event) = read_line(self.alloc, self.operators.as_slice(), line.as_bytes())?
+        else {
             bail!("bad line {line}");
         };
         self.handle(&event)
@@ -80,7 +81,8 @@ impl Server {
     /// One turn: accepts one connection, looks at those that wait, and serves each peer.
     pub fn turn(&mut self) -> Result<(), Fault> {
         self.lobby.accept(&self.listener, self.moment)?;
-        self.lobby.serve(self.alloc, &mut self.gateway, &mut self.hub, self.moment)?;
+        self.lobby
+            .serve(self.alloc, &mut self.gateway, &mut self.hub, self.moment)?;
         self.gateway.turn(&mut self.hub, self.moment)
     }
 }
