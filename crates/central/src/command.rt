@@ -1,59 +1,146 @@
 //! The words of a command line.
 
 use clap::error::ErrorKind;
-use clap::{Arg, ArgMatches, Command, Error};
+use clap::{Arg, ArgMatches, Command, Error, value_parser};
 use ocpp_types::Text;
 use std::alloc::{AllocError, Global};
+
+/// The most turns that `--turns` takes.
+const MAX_TURNS: u32 = 1_000_000;
 
 /// What a command line asks for.
 #[derive(Drop)]
 pub enum Plan {
     /// A replay of the lines of standard input.
     Replay { operators: Vec<Text> },
+    /// A server.
+    Serve(ServeOptions),
+    /// A simulated station.
+    Sim(SimOptions),
+}
+
+/// What a server is to do.
+#[derive(Drop)]
+pub struct ServeOptions {
+    pub port: u16,
+    pub operators: Vec<Text>,
+    /// It ends after so many turns; without them it serves until it is ended.
+    pub turns: Option<u32>,
+}
+
+/// What a simulated station is to do.
+#[derive(Drop)]
+pub struct SimOptions {
+    pub port: u16,
+    pub path: Text,
 }
 
 /// Reads the words of a command line, the program's name first. An error prints itself; it is
-/// also the answer to `--help`.
+/// also the answer to `--help` and to `--version`.
 pub fn read(alloc: Global, words: &[String]) -> Result<Plan, Error> {
     let matches = central(alloc)?.try_get_matches_from(words)?;
-    match replay_of(alloc, &matches)? {
-        Some(plan) => Ok(plan),
-        None => Err(no_command(alloc)?),
+    if let Some(found) = matches.subcommand_matches("replay") {
+        let operators = parts(alloc, found.get_str("operators"))?;
+        return Ok(Plan::Replay { operators });
+    }
+    if let Some(found) = matches.subcommand_matches("serve") {
+        return Ok(Plan::Serve(serve_options(alloc, found)?));
+    }
+    if let Some(found) = matches.subcommand_matches("sim") {
+        return Ok(Plan::Sim(sim_options(alloc, found)?));
+    }
+    Err(central(alloc)?.error(ErrorKind::MissingSubcommand, "no command")?)
+}
+
+fn serve_options(alloc: Global, found: &ArgMatches) -> Result<ServeOptions, Error> {
+    let turns = found.get_one::<u32>("turns");
+    if turns.unwrap_or(0) > MAX_TURNS {
+        return Err(invalid(alloc, "turns: more than 1000000")?);
+    }
+    Ok(ServeOptions {
+        port: port_of(alloc, found)?,
+        operators: parts(alloc, found.get_str("operators"))?,
+        turns,
+    })
+}
+
+fn sim_options(alloc: Global, found: &ArgMatches) -> Result<SimOptions, Error> {
+    Ok(SimOptions {
+        port: port_of(alloc, found)?,
+        path: Text::from(found.get_str("path").unwrap_or("").to_string(alloc)?),
+    })
+}
+
+/// The port, from 1 to 65535.
+fn port_of(alloc: Global, found: &ArgMatches) -> Result<u16, Error> {
+    match found.get_one::<u16>("port") {
+        Some(port) if port > 0 => Ok(port),
+        _ => Err(invalid(alloc, "port: not from 1 to 65535")?),
     }
 }
 
-/// The replay that was asked for, if it was.
-fn replay_of(alloc: Global, matches: &ArgMatches) -> Result<Option<Plan>, AllocError> {
-    match matches.subcommand_matches("replay") {
-        Some(found) => {
-            let operators = parts(alloc, found.get_str("operators"))?;
-            Ok(Some(Plan::Replay { operators }))
-        }
-        None => Ok(None),
-    }
-}
-
-fn no_command(alloc: Global) -> Result<Error, AllocError> {
-    central(alloc)?.error(ErrorKind::MissingSubcommand, "no command")
+fn invalid(alloc: Global, reason: &str) -> Result<Error, AllocError> {
+    central(alloc)?.error(ErrorKind::ValueValidation, reason)
 }
 
 fn central<'a>(alloc: Global) -> Result<Command<'a>, AllocError> {
     Command::new(alloc, "central")
+        .version("0.1.0")
         .about("A central system for charging stations of several operators (OCPP 1.6 JSON)")
         .subcommand_required(true)
-        .subcommand(replay_command(alloc)?)
+        .subcommand(replay_command(alloc)?)?
+        .subcommand(serve_command(alloc)?)?
+        .subcommand(sim_command(alloc)?)
 }
 
 fn replay_command<'a>(alloc: Global) -> Result<Command<'a>, AllocError> {
-    let operators = Arg::new(alloc, "operators")
+    Command::new(alloc, "replay")
+        .about("Reads lines of events from standard input and writes what the hub answers")
+        .arg(operators_arg(alloc))
+}
+
+fn serve_command<'a>(alloc: Global) -> Result<Command<'a>, AllocError> {
+    let turns = Arg::new(alloc, "turns")
+        .long("turns")
+        .value_name("N")
+        .help("Ends after N turns, up to 1000000, without waiting; else serves until it is ended")
+        .value_parser(value_parser!(u32));
+    Command::new(alloc, "serve")
+        .about("Serves stations and operators over WebSocket on 127.0.0.1, with records in memory")
+        .arg(port_arg(alloc, "The port to listen on"))?
+        .arg(operators_arg(alloc))?
+        .arg(turns)
+}
+
+fn sim_command<'a>(alloc: Global) -> Result<Command<'a>, AllocError> {
+    let path = Arg::new(alloc, "path")
+        .long("path")
+        .value_name("/ocpp/A/S")
+        .help("The path of the station: its operator and its name")
+        .allow_hyphen_values(true)
+        .required(true);
+    Command::new(alloc, "sim")
+        .about("Runs one charging session as a station, and prints each message")
+        .arg(port_arg(alloc, "The port of the server on 127.0.0.1"))?
+        .arg(path)
+}
+
+fn port_arg<'a>(alloc: Global, help: &'a str) -> Arg<'a> {
+    Arg::new(alloc, "port")
+        .long("port")
+        .value_name("P")
+        .help(help)
+        .value_parser(value_parser!(u16))
+        .required(true)
+}
+
+fn operators_arg<'a>(alloc: Global) -> Arg<'a> {
+    Arg::new(alloc, "operators")
         .long("operators")
         .value_name("A,B")
         .help("The operators that are hosted, parted by commas")
         .allow_hyphen_values(true)
-        .required(true);
-    Command::new(alloc, "replay")
-        .about("Reads lines of events from standard input and writes what the hub answers")
-        .arg(operators)
+        .required(true)
 }
 
 /// The parts between commas, empty ones too.

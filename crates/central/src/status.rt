@@ -1,10 +1,8 @@
 //! The statuses of the program.
 ghost use Rattle.std.specs.Prelude.{◌≡◌, OnOk, OnErr, if◌then◌else◌};
 
-use replay::ReplayFault;
-
-/// 0 where a replay came to its end, 2 after a fault.
-pub fn of_replay(answer: &Result<(), ReplayFault>) -> u8
+/// 0 for what came to its end, 2 after a fault.
+pub fn of_run<E: Drop>(answer: &Result<(), E>) -> u8
     ensures ok { OnOk answer.now (result ≡ 0) }
     ensures fault { OnErr answer.now (result ≡ 2) }
 {

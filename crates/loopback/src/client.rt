@@ -1,7 +1,7 @@
 //! A client's end of a connection.
 
 use crate::head::{read_head, write_head};
-use anyhow::Result;
+use anyhow::{Result, bail};
 use std::alloc::Global;
 use std::io::{ErrorKind, Write};
 use std::mem;
@@ -90,6 +90,14 @@ impl Client {
             Link::Open(socket) => socket.get_mut().write_all(bytes).is_ok(),
             Link::Asking(stream) => stream.write_all(bytes).is_ok(),
             Link::Gone => false,
+        }
+    }
+
+    /// Its socket, once the handshake is done.
+    pub fn socket(&mut self) -> Result<&mut WebSocket<TcpStream, SampleKey>> {
+        match &mut self.link {
+            Link::Open(socket) => Ok(socket),
+            Link::Asking(_) | Link::Gone => bail!("no socket"),
         }
     }
 

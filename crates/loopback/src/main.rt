@@ -8,6 +8,7 @@ mod client;
 mod head;
 mod script;
 mod server;
+mod station;
 
 use script::{Tally, check_all};
 use std::fs;

@@ -2,10 +2,16 @@
 
 use crate::client::Client;
 use crate::server::Server;
+use crate::station::Station;
 use anyhow::{Context, Result, bail};
 use std::alloc::Global;
 use std::net::TcpStream;
+use std::thread;
+use std::time::Duration;
 use tungstenite::{Bytes, Message};
+
+/// How many turns more a line waits for what it is to give. Loopback may deliver bytes late.
+const MORE_TURNS: usize = 2_000;
 
 /// How many lines passed, and how many failed.
 #[derive(Drop)]
@@ -20,6 +26,7 @@ struct Script {
     alloc: Global,
     server: Server,
     clients: Vec<Client>,
+    stations: Vec<Station>,
 }
 
 /// Runs the scripts of a text, each with a server of its own. A line `== TITLE` begins one.
@@ -56,6 +63,7 @@ impl Script {
             alloc: rt.alloc(),
             server: Server::new(rt)?,
             clients: Vec::new(rt.alloc()),
+            stations: Vec::new(rt.alloc()),
         })
     }
 
@@ -71,33 +79,57 @@ impl Script {
                 self.server.hand(rest)?;
                 Ok(None)
             }
-            "turn" => self.turn(),
-            "turns" => self.turns(rest.parse()?),
-            "count" => self.count(rest),
+            "turn" => self.turn(rt),
+            "turns" => self.turns(rt, rest.parse()?),
+            "count" => self.count(rt, rest),
             _ => self.run_of(rt, word, rest),
         }
     }
 
-    fn turn(&mut self) -> Result<Option<String>> {
+    /// One turn of the server, after a millisecond in which bytes that were sent arrive.
+    fn turn(&mut self, rt: &HostRuntime) -> Result<Option<String>> {
+        thread::sleep(rt, Duration::from_millis(1));
         match self.server.turn() {
             Ok(()) => Ok(None),
             Err(fault) => Ok(Some(format!(in self.alloc; "fault {fault}")?)),
         }
     }
 
-    fn turns(&mut self, times: u64) -> Result<Option<String>> {
+    fn turns(&mut self, rt: &HostRuntime, times: u64) -> Result<Option<String>> {
         for _ in 0..times {
-            if let Some(fault) = self.turn()? {
+            if let Some(fault) = self.turn(rt)? {
                 return Ok(Some(fault));
             }
         }
         Ok(None)
     }
 
-    fn count(&mut self, wanted: &str) -> Result<Option<String>> {
+    /// How many peers the server has.
+    fn count(&mut self, rt: &HostRuntime, wanted: &str) -> Result<Option<String>> {
+        let wanted: usize = wanted.parse()?;
+        for _ in 0..MORE_TURNS {
+            if self.server.count() == wanted {
+                return Ok(None);
+            }
+            self.turn(rt)?;
+        }
         let count = self.server.count();
-        let count = format!(in self.alloc; "{count}")?;
-        Ok(unless_equal(count, wanted))
+        Ok(Some(format!(in self.alloc; "{count}")?))
+    }
+
+    /// What a client reads next.
+    fn read(&mut self, rt: &HostRuntime, name: &str, wanted: &str) -> Result<Option<String>> {
+        for _ in 0..MORE_TURNS {
+            let got = client_of(&mut self.clients, name)?.next(self.alloc)?;
+            if got.as_str() == wanted {
+                return Ok(None);
+            }
+            if got.as_str() != "silent" {
+                return Ok(Some(got));
+            }
+            self.turn(rt)?;
+        }
+        Ok(Some("silent".to_string(self.alloc)?))
     }
 
     /// A line of a client: something that it does, or what it reads next.
@@ -106,19 +138,19 @@ impl Script {
         match word {
             "open" => self.open(rt, name, words),
             "connect" => self.connect(rt, name),
-            "long" => self.long(name, words, false),
-            "long-binary" => self.long(name, words, true),
-            _ => self.send_or_read(name, word, words, rest),
+            "long" => self.long(rt, name, words, false),
+            "long-binary" => self.long(rt, name, words, true),
+            ">" | "ping" | "binary" | "raw" | "line" | "letters" | "close" | "drop" => {
+                self.send(name, word, words)
+            }
+            "sim" => self.simulate(name),
+            "drove" => self.drive(rt, name, rest),
+            "done" => self.done(name),
+            _ => self.read(rt, name, rest),
         }
     }
 
-    fn send_or_read(
-        &mut self,
-        name: &str,
-        word: &str,
-        words: &str,
-        rest: &str,
-    ) -> Result<Option<String>> {
+    fn send(&mut self, name: &str, word: &str, words: &str) -> Result<Option<String>> {
         let alloc = self.alloc;
         let client = client_of(&mut self.clients, name)?;
         let is_sent = match word {
@@ -129,19 +161,46 @@ impl Script {
             "line" => client.send_raw(words.as_bytes()) && client.send_raw(b"\r\n"),
             "letters" => client.send_raw(letters(alloc, words)?.as_bytes()),
             "close" => client.close(),
-            "drop" => {
+            _ => {
                 client.drop_link();
                 true
-            }
-            _ => {
-                let got = client.next(alloc)?;
-                return Ok(unless_equal(got, rest));
             }
         };
         if is_sent {
             return Ok(None);
         }
         Ok(Some("not sent".to_string(alloc)?))
+    }
+
+    /// The client is a simulated station from now on.
+    fn simulate(&mut self, name: &str) -> Result<Option<String>> {
+        self.stations.push(Station::new(self.alloc, name)?)?;
+        Ok(None)
+    }
+
+    /// Drives a simulated station once, or again until it reads what is on its way.
+    fn drive(&mut self, rt: &HostRuntime, name: &str, wanted: &str) -> Result<Option<String>> {
+        let moment = self.server.moment();
+        for _ in 0..MORE_TURNS {
+            let socket = client_of(&mut self.clients, name)?.socket()?;
+            let got = station_of(&mut self.stations, name)?.drive(self.alloc, socket, moment)?;
+            if got.as_str() == wanted {
+                return Ok(None);
+            }
+            if got.as_str() != "drove -" {
+                return Ok(Some(got));
+            }
+            self.turn(rt)?;
+        }
+        Ok(Some("drove -".to_string(self.alloc)?))
+    }
+
+    /// The session of a simulated station has ended.
+    fn done(&mut self, name: &str) -> Result<Option<String>> {
+        if station_of(&mut self.stations, name)?.is_done() {
+            return Ok(None);
+        }
+        Ok(Some("not done".to_string(self.alloc)?))
     }
 
     fn open(&mut self, rt: &HostRuntime, name: &str, words: &str) -> Result<Option<String>> {
@@ -160,7 +219,13 @@ impl Script {
     }
 
     /// Sends a message of so many letters, with turns of the server while the stream is full.
-    fn long(&mut self, name: &str, size: &str, is_binary: bool) -> Result<Option<String>> {
+    fn long(
+        &mut self,
+        rt: &HostRuntime,
+        name: &str,
+        size: &str,
+        is_binary: bool,
+    ) -> Result<Option<String>> {
         let alloc = self.alloc;
         let text = letters(alloc, size)?;
         let mut message = Some(if is_binary {
@@ -177,7 +242,7 @@ impl Script {
             if is_sent {
                 return Ok(None);
             }
-            self.turn()?;
+            self.turn(rt)?;
         }
         Ok(Some("not sent".to_string(alloc)?))
     }
@@ -195,6 +260,17 @@ fn client_of<'a>(clients: &'a mut [Client], name: &str) -> Result<&'a mut Client
     }
 }
 
+/// The simulated station of that client.
+fn station_of<'a>(stations: &'a mut [Station], name: &str) -> Result<&'a mut Station> {
+    match stations
+        .iter_mut()
+        .find(|station| station.name.as_str() == name)
+    {
+        Some(station) => Ok(station),
+        None => bail!("no station {name}"),
+    }
+}
+
 fn letters(alloc: Global, count: &str) -> Result<String> {
     let count: usize = count.parse()?;
     let mut text = String::new(alloc);
@@ -202,15 +278,6 @@ fn letters(alloc: Global, count: &str) -> Result<String> {
         text.push('x')?;
     }
     Ok(text)
-}
-
-/// What was got, unless it is what is wanted.
-fn unless_equal(got: String, wanted: &str) -> Option<String> {
-    if got.as_str() == wanted {
-        None
-    } else {
-        Some(got)
-    }
 }
 
 fn bytes_of(alloc: Global, text: &str) -> Result<Bytes> {

@@ -3,7 +3,7 @@
 use anyhow::{Result, bail};
 use hub::{Event, Fault, Hub};
 use lines::{Line, read_line};
-use ocpp_types::{Moment, Text};
+use ocpp_types::{Mem, Moment, Text};
 use station_calls::Echo;
 use std::alloc::Global;
 use std::net::{TcpListener, TcpStream};
@@ -17,7 +17,7 @@ pub struct Server {
     operators: Vec<Text>,
     hub: Hub<MemStore, Echo>,
     gateway: Gateway<TcpStream>,
-    lobby: Lobby,
+    lobby: Lobby<TcpStream>,
     listener: TcpListener,
     moment: Moment,
 }
@@ -54,6 +54,11 @@ impl Server {
         Ok(())
     }
 
+    /// What its clock shows.
+    pub fn moment(&self) -> Moment {
+        self.moment
+    }
+
     /// How many peers its gateway has.
     pub fn count(&self) -> usize {
         self.gateway.count()
@@ -78,9 +83,20 @@ impl Server {
         Ok(())
     }
 
+    /// Accepts one connection, if there is one.
+    fn accept(&mut self) -> Mem<()> {
+        let Ok((stream, _address)) = self.listener.accept() else {
+            return Ok(());
+        };
+        if stream.set_nonblocking(true).is_ok() && stream.set_nodelay(true).is_ok() {
+            self.lobby.enter(stream, self.moment)?;
+        }
+        Ok(())
+    }
+
     /// One turn: accepts one connection, looks at those that wait, and serves each peer.
     pub fn turn(&mut self) -> Result<(), Fault> {
-        self.lobby.accept(&self.listener, self.moment)?;
+        self.accept()?;
         self.lobby
             .serve(self.alloc, &mut self.gateway, &mut self.hub, self.moment)?;
         self.gateway.turn(&mut self.hub, self.moment)

@@ -15,4 +15,6 @@ mod replays;
 #[cfg(test)]
 mod scripts;
 #[cfg(test)]
+mod streams;
+#[cfg(test)]
 mod two_systems;

@@ -6,10 +6,12 @@ mod events;
 mod gateway;
 mod handshake;
 mod head;
+mod listener;
 mod lobby;
 mod tell;
 mod turn;
 mod welcome;
 
 pub use gateway::Gateway;
-pub use lobby::{Lobby, listen};
+pub use listener::listen;
+pub use lobby::Lobby;

@@ -6,11 +6,10 @@ use crate::head::{Asked, read_head};
 use hub::{Fault, Hub};
 use hub_rows::Store;
 use ocpp_types::{Mem, Moment};
+use ready_streams::Peek;
 use station_calls::VendorHandler;
 use std::alloc::Global;
-use std::io;
-use std::io::ErrorKind;
-use std::net::{Net, TcpListener, TcpStream};
+use std::io::{ErrorKind, Read, Write};
 use ws_peers::Route;
 
 /// The most bytes of the head of a request.
@@ -22,28 +21,18 @@ const PATIENCE: u64 = 2;
 /// The most connections that wait at once. More are left to the system's own queue.
 const MAX_WAITING: usize = 1024;
 
-/// A listener on 127.0.0.1, whose `accept` doesn't wait. `rt` gives the network.
-pub fn listen<R: Net<Stream = TcpStream, Listener = TcpListener>>(
-    rt: &R,
-    port: u16,
-) -> io::Result<TcpListener> {
-    let listener = TcpListener::bind(rt, ("127.0.0.1", port))?;
-    listener.set_nonblocking(true)?;
-    Ok(listener)
-}
-
 /// A connection that was accepted.
 #[derive(Drop)]
-struct Waiting {
-    stream: TcpStream,
+struct Waiting<T> {
+    stream: T,
     since: Moment,
 }
 
 /// Connections whose head has not come whole. None of them is ever waited for: each is looked at once a
 /// turn, and dropped after 2 seconds.
 #[derive(Drop)]
-pub struct Lobby {
-    waiting: Vec<Waiting>,
+pub struct Lobby<T> {
+    waiting: Vec<Waiting<T>>,
     head: Vec<u8>,
 }
 
@@ -58,9 +47,9 @@ enum Next {
     Welcome(Route),
 }
 
-impl Lobby {
+impl<T: Peek + Read + Write + Drop> Lobby<T> {
     /// No connection.
-    pub fn new(alloc: Global) -> Mem<Lobby> {
+    pub fn new(alloc: Global) -> Mem<Lobby<T>> {
         let mut head = Vec::new(alloc);
         head.resize(MAX_HEAD, 0)?;
         Ok(Lobby {
@@ -74,21 +63,17 @@ impl Lobby {
         self.waiting.len()
     }
 
-    /// Accepts one connection, if there is one and there is room for it. A connection that can't be taken
-    /// is dropped.
-    pub fn accept(&mut self, listener: &TcpListener, moment: Moment) -> Mem<()> {
-        if self.waiting.len() >= MAX_WAITING {
-            return Ok(());
-        }
-        let Ok((stream, _address)) = listener.accept() else {
-            return Ok(());
-        };
-        if stream.set_nonblocking(true).is_ok() && stream.set_nodelay(true).is_ok() {
-            self.waiting.push(Waiting {
-                stream,
-                since: moment,
-            })?;
-        }
+    /// Whether there is room for one more.
+    pub fn has_room(&self) -> bool {
+        self.waiting.len() < MAX_WAITING
+    }
+
+    /// Takes a connection that was accepted at that moment.
+    pub fn enter(&mut self, stream: T, moment: Moment) -> Mem<()> {
+        self.waiting.push(Waiting {
+            stream,
+            since: moment,
+        })?;
         Ok(())
     }
 
@@ -97,7 +82,7 @@ impl Lobby {
     pub fn serve<S: Store + Drop, V: VendorHandler>(
         &mut self,
         alloc: Global,
-        gateway: &mut Gateway<TcpStream>,
+        gateway: &mut Gateway<T>,
         hub: &mut Hub<S, V>,
         moment: Moment,
     ) -> Result<(), Fault> {

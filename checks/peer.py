@@ -1,0 +1,66 @@
+"""A client of the server: a station or an operator, over loopback, with Python's library alone."""
+
+import socket
+import sys
+import time
+
+HEAD = (
+    "GET {} HTTP/1.1\r\nHost: 127.0.0.1\r\nUpgrade: websocket\r\nConnection: Upgrade\r\n"
+    "Sec-WebSocket-Key: dGhlIHNhbXBsZSBub25jZQ==\r\nSec-WebSocket-Version: 13\r\n"
+    "Sec-WebSocket-Protocol: ocpp1.6\r\n\r\n"
+)
+
+
+def frame(text):
+    """A text as a client sends it, with 0 as its masking key (RFC 6455, section 5.3)."""
+    payload = text.encode()
+    size = len(payload)
+    length = bytes([0x80 | size]) if size < 126 else b"\xfe" + size.to_bytes(2, "big")
+    return b"\x81" + length + b"\0\0\0\0" + payload
+
+
+class Peer:
+    """One connection. Its texts are read whole."""
+
+    def __init__(self, port, path):
+        self.stream = socket.create_connection(("127.0.0.1", port), timeout=10)
+        self.stream.setsockopt(socket.IPPROTO_TCP, socket.TCP_NODELAY, 1)
+        self.stream.sendall(HEAD.format(path).encode())
+        self.data = b""
+        while b"\r\n\r\n" not in self.data:
+            self.read()
+        head, self.data = self.data.split(b"\r\n\r\n", 1)
+        if b" 101 " not in head:
+            sys.exit(f"{path}: {head.decode()}")
+
+    def read(self):
+        data = self.stream.recv(65536)
+        if not data:
+            sys.exit("the server closed a connection")
+        self.data += data
+
+    def send(self, text):
+        self.sent_at = time.perf_counter()
+        self.stream.sendall(frame(text))
+
+    def text(self):
+        """The next text, if it is there."""
+        if len(self.data) < 2:
+            return None
+        size, start = self.data[1] & 127, 2
+        if size == 126:
+            size, start = int.from_bytes(self.data[2:4], "big"), 4
+        if len(self.data) < start + size:
+            return None
+        text, self.data = self.data[start : start + size], self.data[start + size :]
+        return text.decode()
+
+    def next(self):
+        """The next text, as soon as it is there."""
+        while (text := self.text()) is None:
+            self.read()
+        return text
+
+    def ask(self, text):
+        self.send(text)
+        return self.next()

@@ -1,0 +1,134 @@
+"""Checks the built program over loopback: its statuses and texts, and one charging session of a
+simulated station that an operator watches. Prints `N passed, M failed`.
+
+    python3 checks/programs.py crates/central/out/central
+"""
+
+import re
+import socket
+import subprocess
+import sys
+import time
+
+from peer import Peer
+
+PORT = 9281
+TIME = re.compile(r"\d{4}-\d\d-\d\dT\d\d:\d\d:\d\dZ")
+
+# What the simulated station prints, with T for each time.
+SESSION = """\
+> [2,"s1","BootNotification",{"chargePointModel":"SimModel","chargePointVendor":"SimVendor"}]
+< [3,"s1",{"currentTime":"T","interval":300,"status":"Accepted"}]
+> [2,"s2","StatusNotification",{"connectorId":0,"errorCode":"NoError","status":"Available"}]
+< [3,"s2",{}]
+> [2,"s3","Authorize",{"idTag":"SIM1"}]
+< [3,"s3",{"idTagInfo":{"status":"Accepted"}}]
+> [2,"s4","StartTransaction",{"connectorId":1,"idTag":"SIM1","meterStart":0,"timestamp":"T"}]
+< [3,"s4",{"idTagInfo":{"status":"Accepted"},"transactionId":1}]
+> [2,"s5","MeterValues",{"connectorId":1,"meterValue":[{"sampledValue":[{"unit":"Wh","value":"500"}],"timestamp":"T"}],"transactionId":1}]
+< [3,"s5",{}]
+> [2,"s6","MeterValues",{"connectorId":1,"meterValue":[{"sampledValue":[{"unit":"Wh","value":"1000"}],"timestamp":"T"}],"transactionId":1}]
+< [3,"s6",{}]
+> [2,"s7","StopTransaction",{"idTag":"SIM1","meterStop":1000,"reason":"Local","timestamp":"T","transactionId":1}]
+< [3,"s7",{"idTagInfo":{"status":"Accepted"}}]
+"""
+
+
+class Checks:
+    def __init__(self, program):
+        self.program = program
+        self.passed = self.failed = 0
+
+    def check(self, what, got, wanted):
+        if got == wanted:
+            self.passed += 1
+        else:
+            self.failed += 1
+            print(f"{what}\n  wanted {wanted!r}\n  got    {got!r}")
+
+    def run(self, *words):
+        """The status of a run, its output and its errors."""
+        ran = subprocess.run([self.program, *words], capture_output=True, text=True, timeout=60)
+        return ran.returncode, ran.stdout, ran.stderr
+
+    def serve(self, *words):
+        return subprocess.Popen([self.program, "serve", "--port", str(PORT), *words])
+
+    def ends(self, what, words, status, text):
+        code, _, errors = self.run(*words.split(" "))
+        self.check(f"{what}: status", code, status)
+        self.check(f"{what}: {text}", text in errors, True)
+
+
+def wait_for(port):
+    for _ in range(200):
+        try:
+            socket.create_connection(("127.0.0.1", port)).close()
+            return
+        except ConnectionRefusedError:
+            time.sleep(0.02)
+    sys.exit("the server doesn't listen")
+
+
+def check_statuses(checks):
+    serve = f"serve --port {PORT} --turns 0 --operators"
+    checks.check("0 turns", checks.run(*serve.split(" "), "ACME"), (0, "", ""))
+    checks.ends("an operator twice", f"{serve} A,A", 2, "fault BadOperators")
+    checks.ends("an operator with no name", f"{serve} ", 2, "fault BadOperators")
+    checks.ends("no operators", f"serve --port {PORT}", 1, "--operators")
+    checks.ends("no port", "serve --operators A", 1, "--port")
+    checks.ends("port 0", "serve --port 0 --operators A", 1, "port")
+    checks.ends("port 65536", "serve --port 65536 --operators A", 1, "port")
+    checks.ends("too many turns", f"serve --port {PORT} --operators A --turns 1000001", 1, "turns")
+    checks.ends("no such command", "charge", 1, "charge")
+    checks.ends("nobody listens", "sim --port 9 --path /ocpp/ACME/CP01", 2, "fault Stream")
+    with socket.create_server(("127.0.0.1", PORT)):
+        checks.ends("a port in use", f"{serve} ACME", 2, "fault Stream")
+    code, text, _ = checks.run("--version")
+    checks.check("--version", (code, text.split(" ")[0]), (0, "central"))
+    code, text, _ = checks.run("--help")
+    checks.check("--help", (code, "serve" in text and "sim" in text), (0, True))
+
+
+def check_turns(checks):
+    began = time.monotonic()
+    server = checks.serve("--operators", "ACME", "--turns", "1000000")
+    wait_for(PORT)
+    checks.check("1000000 turns: status", server.wait(60), 0)
+    print(f"1000000 turns took {time.monotonic() - began:.1f} s")
+
+
+def check_session(checks):
+    server = checks.serve("--operators", "ACME,BETA")
+    try:
+        wait_for(PORT)
+        acme, beta = Peer(PORT, "/operator/ACME"), Peer(PORT, "/operator/BETA")
+        checks.check("a station is added", acme.ask("station add CP01 Accepted 300"), "ACME ok")
+        checks.check("a tag is put", acme.ask("tag put SIM1 - 0 -"), "ACME ok")
+        unknown = checks.run("sim", "--port", str(PORT), "--path", "/ocpp/ACME/CP02")
+        checks.check("an unknown station", unknown, (2, "", "fault Stream\n"))
+        unknown = checks.run("sim", "--port", str(PORT), "--path", "/ocpp/BETA/CP01")
+        checks.check("another operator's station", unknown, (2, "", "fault Stream\n"))
+        code, text, errors = checks.run("sim", "--port", str(PORT), "--path", "/ocpp/ACME/CP01")
+        checks.check("a session: status", (code, errors), (0, ""))
+        checks.check("a session", TIME.sub("T", text), SESSION)
+        row = acme.ask("list transactions CP01")
+        checks.check("its transaction", row.startswith('ACME row transaction CP01 1 1 "SIM1" Accepted 0 '), True)
+        checks.check("the end of the list", acme.next(), "ACME ok")
+        checks.check("another operator's list", beta.ask("list stations"), "BETA ok")
+    finally:
+        server.kill()
+        server.wait()
+
+
+def main():
+    checks = Checks(sys.argv[1])
+    check_statuses(checks)
+    check_turns(checks)
+    check_session(checks)
+    print(f"{checks.passed} passed, {checks.failed} failed")
+    sys.exit(1 if checks.failed else 0)
+
+
+if __name__ == "__main__":
+    main()

@@ -1,0 +1,51 @@
+//! Why a server or a station stops.
+
+use ocpp_types::NoMemory;
+use station_sim::SimFault;
+use std::alloc::AllocError;
+use std::io;
+use thiserror::Error;
+
+/// Why a server or a simulated station stops.
+#[derive(Debug, Drop, Error)]
+pub enum RunFault {
+    /// An allocation was refused.
+    #[error("NoMemory")]
+    NoMemory,
+    /// The operators can't be hosted.
+    #[error("BadOperators")]
+    BadOperators,
+    /// A socket isn't opened, or fails.
+    #[error("Stream")]
+    Stream,
+    /// The clock gives no moment.
+    #[error("Clock")]
+    Clock,
+}
+
+impl From<NoMemory> for RunFault {
+    fn from(_fault: NoMemory) -> RunFault {
+        RunFault::NoMemory
+    }
+}
+
+impl From<AllocError> for RunFault {
+    fn from(_fault: AllocError) -> RunFault {
+        RunFault::NoMemory
+    }
+}
+
+impl From<io::Error> for RunFault {
+    fn from(_fault: io::Error) -> RunFault {
+        RunFault::Stream
+    }
+}
+
+impl From<SimFault> for RunFault {
+    fn from(fault: SimFault) -> RunFault {
+        match fault {
+            SimFault::NoMemory => RunFault::NoMemory,
+            SimFault::Stream => RunFault::Stream,
+        }
+    }
+}

@@ -1,0 +1,95 @@
+//! The server.
+
+use crate::clock::now;
+use crate::command::ServeOptions;
+use crate::fault::RunFault;
+use crate::handlers::vendors;
+use hub::{Fault, Hub};
+use ocpp_types::Moment;
+use ready_streams::{ReadyStream, Streams};
+use station_calls::VendorHandler;
+use std::alloc::Global;
+use std::io;
+use std::time::Duration;
+use store_mem::MemStore;
+use ws_server::{Gateway, Lobby, listen};
+
+/// The most seconds between two turns. Calls that stations leave unanswered end in such turns.
+const MAX_WAIT: u64 = 1;
+
+/// A server as it runs.
+#[derive(Drop)]
+struct Server {
+    alloc: Global,
+    hub: Hub<MemStore, Box<dyn VendorHandler>>,
+    gateway: Gateway<ReadyStream>,
+    lobby: Lobby<ReadyStream>,
+    streams: Streams,
+}
+
+/// Serves, by records in memory that begin empty. A fault of a turn is written to standard error as
+/// `fault NAME`, and the next turn follows.
+pub fn serve(rt: &HostRuntime, options: ServeOptions) -> Result<(), RunFault> {
+    let turns = options.turns;
+    let mut server = Server::new(rt, options)?;
+    for _ in 0..turns.map_or(u64::MAX, u64::from) {
+        let moment = now(rt).ok_or(RunFault::Clock)?;
+        server.wait(turns.is_none())?;
+        server.turn(rt, moment);
+    }
+    Ok(())
+}
+
+impl Server {
+    fn new(rt: &HostRuntime, options: ServeOptions) -> Result<Server, RunFault> {
+        let alloc = rt.alloc();
+        let store = MemStore::new(alloc);
+        let Ok(hub) = Hub::new(alloc, store, options.operators, vendors(alloc)?) else {
+            return Err(RunFault::BadOperators);
+        };
+        let listener = listen(rt, options.port)?;
+        Ok(Server {
+            alloc,
+            hub,
+            gateway: Gateway::new(alloc),
+            lobby: Lobby::new(alloc)?,
+            streams: Streams::new(alloc, rt, listener)?,
+        })
+    }
+
+    /// Takes the system's reports on streams. It waits for one where nothing can be done without.
+    fn wait(&mut self, may_wait: bool) -> io::Result<()> {
+        let is_idle = may_wait && !self.streams.is_pending(self.lobby.has_room());
+        self.streams
+            .wait(Duration::from_secs(if is_idle { MAX_WAIT } else { 0 }))
+    }
+
+    /// One turn: accepts at most one connection, looks at those that wait, and serves each peer.
+    fn turn(&mut self, rt: &HostRuntime, moment: Moment) {
+        if let Err(fault) = self.accept(moment) {
+            let _ = eprintln!(rt; "fault {fault}");
+        }
+        let welcomed = self
+            .lobby
+            .serve(self.alloc, &mut self.gateway, &mut self.hub, moment);
+        report(rt, welcomed);
+        report(rt, self.gateway.turn(&mut self.hub, moment));
+    }
+
+    fn accept(&mut self, moment: Moment) -> Result<(), RunFault> {
+        if !self.lobby.has_room() {
+            return Ok(());
+        }
+        if let Some(stream) = self.streams.accept()? {
+            self.lobby.enter(stream, moment)?;
+        }
+        Ok(())
+    }
+}
+
+/// Writes a fault to standard error. Where that fails too the fault is not told.
+fn report(rt: &HostRuntime, answer: Result<(), Fault>) {
+    if let Err(fault) = answer {
+        let _ = eprintln!(rt; "fault {fault}");
+    }
+}

@@ -1,0 +1,18 @@
+//! Streams whose first bytes can be looked at.
+ghost use Rattle.std.specs.Io.{ReadsAtMost};
+
+use std::io;
+use std::net::TcpStream;
+
+/// A stream whose next bytes can be looked at, and are left for the next read.
+pub trait Peek {
+    /// Copies the next bytes, and says how many. It doesn't wait for any.
+    fn peek(&self, buf: &mut [u8]) -> io::Result<usize>
+        ensures at_most { ReadsAtMost result buf.new };
+}
+
+impl Peek for TcpStream {
+    fn peek(&self, buf: &mut [u8]) -> io::Result<usize> {
+        TcpStream::peek(self, buf)
+    }
+}

@@ -1,0 +1,6 @@
+pub mod Ids
+pub mod Keeps
+pub mod Read
+pub mod Rounds
+pub mod Texts
+pub mod Writable

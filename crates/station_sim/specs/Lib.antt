@@ -1,0 +1,9 @@
+pub mod Bounds
+pub mod Calls
+pub mod Results
+pub mod Replies
+pub mod Session
+pub mod Sim
+pub mod Written
+pub mod Drives
+pub mod Kept

@@ -1,0 +1,167 @@
+//! The calls of a script as JSON.
+ghost use Rattle.std.specs.Prelude.{◌≡◌, ◌≤◌, IfOk, option_map, slice_get, string_bytes};
+ghost use Rattle.ocpp_frame.specs.declared.frame.Frame.TheVariants.{Call};
+ghost use Rattle.ocpp_payload.specs.Action.{action_name};
+ghost use Rattle.ocpp_types.specs.Text.{characters};
+ghost use Rattle.serde_json.specs.View.{view};
+ghost use Rattle.station_sim.specs.Calls.{call_id, boot_payload, status_payload, authorize_payload, start_payload, meter_value, reading_payload, stop_payload, refused_payload, charging_call, call_of};
+ghost use Rattle.station_sim.specs.Written.{IsTextOf, IsWritable};
+
+use crate::script::Script;
+use crate::stage::Stage;
+use ocpp_frame::write_call;
+use ocpp_payload::Action;
+use ocpp_types::{Mem, Named, Text};
+use serde_json::{Value, json};
+use std::alloc::Global;
+
+/// A call that is to be made.
+#[derive(Drop)]
+pub struct DueCall {
+    pub action: Action,
+    pub payload: Value,
+}
+
+/// The text of a call with that id.
+pub fn call_text(alloc: Global, id: &str, call: DueCall) -> Mem<String>
+    requires short { characters id.now ≤ 36 }
+    requires writable { IsWritable (view call.payload) }
+    ensures { IfOk result (λ s. IsTextOf (Call id.now (action_name call.action) (view call.payload)) (string_bytes s)) }
+{
+    write_call(alloc, id, call.action.name(), call.payload)
+}
+
+/// The call of a stage at a time, `None` once the script has ended (OCPP 1.6, section 4).
+pub fn call_of(alloc: Global, script: &Script, stage: Stage, time: &str) -> Mem<Option<DueCall>>
+    ensures { IfOk result (λ call. option_map (λ c. (c.action, view c.payload)) call
+        ≡ call_of script.now stage time.now) }
+{
+    let (action, payload) = match stage {
+        Stage::Boot => (Action::BootNotification, boot(alloc, script)?),
+        Stage::Status => (Action::StatusNotification, status(alloc)?),
+        Stage::Authorize => (Action::Authorize, authorize(alloc, script)?),
+        Stage::Start => (Action::StartTransaction, start(alloc, script, time)?),
+        Stage::Charging { transaction, sent } => charging(alloc, script, transaction, sent, time)?,
+        Stage::Refused { transaction } => (
+            Action::StopTransaction,
+            refused(alloc, script, transaction, time)?,
+        ),
+        Stage::Ended => return Ok(None),
+    };
+    Ok(Some(DueCall { action, payload }))
+}
+
+/// The id of the call of that number.
+pub fn call_id(alloc: Global, number: u32) -> Mem<Text>
+    ensures { IfOk result (λ id. id ≡ call_id number) }
+{
+    Ok(Text::from(format!(in alloc; "s{number}")?))
+}
+
+fn charging(
+    alloc: Global,
+    script: &Script,
+    transaction: i32,
+    sent: usize,
+    time: &str,
+) -> Mem<(Action, Value)>
+    ensures { IfOk result (λ call. (call.0, view call.1)
+        ≡ charging_call script.now transaction (slice_get script.now.readings.items sent) time.now) }
+{
+    match script.readings.get(sent) {
+        Some(reading) => {
+            let payload = meter_values(alloc, script, transaction, *reading, time)?;
+            Ok((Action::MeterValues, payload))
+        }
+        None => Ok((
+            Action::StopTransaction,
+            stop(alloc, script, transaction, time)?,
+        )),
+    }
+}
+
+fn boot(alloc: Global, script: &Script) -> Mem<Value>
+    ensures { IfOk result (λ v. view v ≡ boot_payload script.now) }
+{
+    let model = script.model.as_str();
+    let vendor = script.vendor.as_str();
+    Ok(json!(in alloc; {"chargePointModel": model, "chargePointVendor": vendor})?)
+}
+
+fn status(alloc: Global) -> Mem<Value>
+    ensures { IfOk result (λ v. view v ≡ status_payload) }
+{
+    Ok(json!(in alloc; {"connectorId": 0u8, "errorCode": "NoError", "status": "Available"})?)
+}
+
+fn authorize(alloc: Global, script: &Script) -> Mem<Value>
+    ensures { IfOk result (λ v. view v ≡ authorize_payload script.now) }
+{
+    let tag = script.tag.as_str();
+    Ok(json!(in alloc; {"idTag": tag})?)
+}
+
+fn start(alloc: Global, script: &Script, time: &str) -> Mem<Value>
+    ensures { IfOk result (λ v. view v ≡ start_payload script.now time.now) }
+{
+    let tag = script.tag.as_str();
+    let connector = script.connector;
+    let meter = script.meter_start;
+    Ok(json!(in alloc; {
+        "connectorId": connector,
+        "idTag": tag,
+        "meterStart": meter,
+        "timestamp": time
+    })?)
+}
+
+fn meter_values(
+    alloc: Global,
+    script: &Script,
+    transaction: i32,
+    reading: i64,
+    time: &str,
+) -> Mem<Value>
+    ensures { IfOk result (λ v. view v ≡ reading_payload script.now transaction reading time.now) }
+{
+    let value = meter_value(alloc, reading, time)?;
+    let connector = script.connector;
+    Ok(json!(in alloc; {
+        "connectorId": connector,
+        "meterValue": [value],
+        "transactionId": transaction
+    })?)
+}
+
+fn meter_value(alloc: Global, reading: i64, time: &str) -> Mem<Value>
+    ensures { IfOk result (λ v. view v ≡ meter_value reading time.now) }
+{
+    let value = format!(in alloc; "{reading}")?;
+    Ok(json!(in alloc; {"sampledValue": [{"unit": "Wh", "value": value}], "timestamp": time})?)
+}
+
+fn stop(alloc: Global, script: &Script, transaction: i32, time: &str) -> Mem<Value>
+    ensures { IfOk result (λ v. view v ≡ stop_payload script.now transaction time.now) }
+{
+    let tag = script.tag.as_str();
+    let meter = script.meter_stop;
+    Ok(json!(in alloc; {
+        "idTag": tag,
+        "meterStop": meter,
+        "reason": "Local",
+        "timestamp": time,
+        "transactionId": transaction
+    })?)
+}
+
+fn refused(alloc: Global, script: &Script, transaction: i32, time: &str) -> Mem<Value>
+    ensures { IfOk result (λ v. view v ≡ refused_payload script.now transaction time.now) }
+{
+    let meter = script.meter_start;
+    Ok(json!(in alloc; {
+        "meterStop": meter,
+        "reason": "DeAuthorized",
+        "timestamp": time,
+        "transactionId": transaction
+    })?)
+}

@@ -1,0 +1,132 @@
+//! The replies to the messages of the central system.
+ghost use Rattle.std.specs.Prelude.{◌≡◌, IfOk, option_map, string_bytes};
+ghost use Rattle.ocpp_frame.specs.declared.frame.Frame.TheVariants.{CallResult};
+ghost use Rattle.ocpp_types.specs.Named.{named};
+ghost use Rattle.serde_json.specs.Data.{string};
+ghost use Rattle.serde_json.specs.View.{view, items_view};
+ghost use Rattle.station_sim.specs.Replies.{commands, status, texts, keys_of, configuration, version_data, answer_payload, reply_with, reply_to};
+ghost use Rattle.station_sim.specs.Written.{IsTextOf, IsWritten, IsWritable};
+
+use crate::command::{Answer, answer_of};
+use crate::version::ListVersion;
+use ocpp_frame::{Frame, Payload, write_error, write_result};
+use ocpp_types::{ErrorCode, Mem, Named, Text};
+use serde_json::{Value, json};
+use std::alloc::Global;
+
+/// The text of the reply to a message: to a command its answer, or the error NotImplemented for an
+/// action that it doesn't answer; to a broken call the error FormationViolation; to another message none
+/// (OCPP-J 1.6, sections 4.2.2 and 4.2.3). `version` is that of the local list.
+pub fn reply_to(alloc: Global, version: ListVersion, frame: &Frame) -> Mem<Option<String>>
+    ensures { IfOk result (λ reply. IsWritten (reply_to version frame.now) (option_map string_bytes reply)) }
+{
+    match frame {
+        Frame::Call {
+            id,
+            action,
+            payload,
+        } => Ok(Some(command_reply(alloc, version, id, action, payload)?)),
+        Frame::Broken { id } => {
+            let code = ErrorCode::FormationViolation.name();
+            Ok(Some(write_error(alloc, id.as_str(), code, "")?))
+        }
+        Frame::CallResult { .. } | Frame::CallError { .. } | Frame::Ignored => Ok(None),
+    }
+}
+
+fn command_reply(
+    alloc: Global,
+    version: ListVersion,
+    id: &Text,
+    action: &Text,
+    payload: &Payload,
+) -> Mem<String>
+    ensures { IfOk result (λ s. IsTextOf (reply_with id.now
+        (option_map (answer_payload version payload.now) (named commands action.now))) (string_bytes s)) }
+{
+    match answer_of(action.as_str()) {
+        Some(answer) => {
+            let payload = answer_payload(alloc, version, payload.as_value(), answer)?;
+            result_text(alloc, id.as_str(), payload)
+        }
+        None => write_error(alloc, id.as_str(), ErrorCode::NotImplemented.name(), ""),
+    }
+}
+
+fn result_text(alloc: Global, id: &str, payload: Value) -> Mem<String>
+    requires { IsWritable (view payload) }
+    ensures { IfOk result (λ s. IsTextOf (CallResult id.now (view payload)) (string_bytes s)) }
+{
+    write_result(alloc, id, payload)
+}
+
+fn answer_payload(
+    alloc: Global,
+    version: ListVersion,
+    payload: &Value,
+    answer: Answer,
+) -> Mem<Value>
+    ensures value { IfOk result (λ v. view v ≡ answer_payload version (view payload.now) answer) }
+    ensures writable { IfOk result (λ v. IsWritable (view v)) }
+{
+    let payload = payload_of(alloc, version, payload, answer)?;
+    Ok(payload)
+}
+
+fn payload_of(alloc: Global, version: ListVersion, payload: &Value, answer: Answer) -> Mem<Value>
+    ensures { IfOk result (λ v. view v ≡ answer_payload version (view payload.now) answer) }
+{
+    match answer {
+        Answer::Accepted => status(alloc, "Accepted"),
+        Answer::Rejected => status(alloc, "Rejected"),
+        Answer::Unlocked => status(alloc, "Unlocked"),
+        Answer::NotImplemented => status(alloc, "NotImplemented"),
+        Answer::UnknownVendorId => status(alloc, "UnknownVendorId"),
+        Answer::Version => {
+            let version = version.to_value();
+            Ok(json!(in alloc; {"listVersion": version})?)
+        }
+        Answer::Keys => configuration(alloc, keys_of(alloc, payload)?),
+    }
+}
+
+fn status(alloc: Global, text: &str) -> Mem<Value>
+    ensures { IfOk result (λ v. view v ≡ status text.now) }
+{
+    Ok(json!(in alloc; {"status": text})?)
+}
+
+fn configuration(alloc: Global, keys: Vec<Value>) -> Mem<Value>
+    ensures { IfOk result (λ v. view v ≡ configuration (items_view keys.items)) }
+{
+    let keys = Value::Array(keys);
+    Ok(json!(in alloc; {"configurationKey": [], "unknownKey": keys})?)
+}
+
+/// The texts of the member `key`.
+fn keys_of(alloc: Global, payload: &Value) -> Mem<Vec<Value>>
+    ensures { IfOk result (λ keys. items_view keys.items ≡ keys_of (view payload.now)) }
+{
+    match payload.get("key").and_then(|key| key.as_array()) {
+        Some(items) => texts(alloc, items.as_slice()),
+        None => Ok(Vec::new(alloc)),
+    }
+}
+
+fn texts(alloc: Global, items: &[Value]) -> Mem<Vec<Value>>
+    ensures { IfOk result (λ found. items_view found.items ≡ texts (items_view items.now)) }
+{
+    let mut found = Vec::new(alloc);
+    for item in items {
+        if let Some(text) = item.as_str() {
+            found.push(text_value(alloc, text)?)?;
+        }
+    }
+    Ok(found)
+}
+
+fn text_value(alloc: Global, text: &str) -> Mem<Value>
+    ensures { IfOk result (λ v. view v ≡ string text.now) }
+{
+    Ok(Value::String(String::from_str(alloc, text)?))
+}

@@ -1,0 +1,36 @@
+//! The version of the list of tags that a station has.
+ghost use Rattle.std.specs.Prelude.{◌≡◌};
+ghost use Rattle.serde_json.specs.View.{view};
+ghost use Rattle.station_sim.specs.Replies.{version_data, version_of};
+
+use serde_json::Value;
+
+/// The version of the local list: an integer, as JSON has it.
+#[derive(Clone, Copy, Debug, PartialEq, Eq, Drop)]
+pub enum ListVersion {
+    Unsigned(u64),
+    Signed(i64),
+}
+
+impl ListVersion {
+    /// The integer as JSON. It takes no memory.
+    pub fn to_value(self) -> Value
+        ensures { view result ≡ version_data self }
+    {
+        match self {
+            ListVersion::Unsigned(n) => Value::from(n),
+            ListVersion::Signed(n) => Value::from(n),
+        }
+    }
+}
+
+/// The member `listVersion` of a command, where that is an integer.
+pub fn version_of(payload: &Value) -> Option<ListVersion>
+    ensures { result ≡ version_of (view payload.now) }
+{
+    let number = payload.get("listVersion")?.as_number()?;
+    match number.as_u64() {
+        Some(n) => Some(ListVersion::Unsigned(n)),
+        None => number.as_i64().map(|n| ListVersion::Signed(n)),
+    }
+}

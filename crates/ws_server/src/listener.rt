@@ -1,0 +1,14 @@
+//! Listening on loopback.
+
+use std::io;
+use std::net::{Net, TcpListener, TcpStream};
+
+/// A listener on 127.0.0.1, whose `accept` doesn't wait. `rt` gives the network.
+pub fn listen<R: Net<Stream = TcpStream, Listener = TcpListener>>(
+    rt: &R,
+    port: u16,
+) -> io::Result<TcpListener> {
+    let listener = TcpListener::bind(rt, ("127.0.0.1", port))?;
+    listener.set_nonblocking(true)?;
+    Ok(listener)
+}
