@@ -4,17 +4,15 @@
 mod clock;
 mod command;
 mod fault;
-mod handlers;
 mod server;
 mod simulation;
 mod status;
 
 use command::Plan;
-use handlers::vendors;
-use ocpp_types::Text;
-use replay::{ReplayFault, replay_in_memory};
+use replay::replay_in_memory;
 use server::serve;
 use simulation::simulate;
+use station_calls::{Echo, VendorHandler};
 use std::fmt::Display;
 use std::process::ExitCode;
 use std::{env, io};
@@ -30,22 +28,18 @@ fn main(rt: HostRuntime) -> anyhow::Result<ExitCode> {
             return Ok(ExitCode::from(status::of_usage(error.use_stderr())));
         }
     };
+    let mut vendors: Vec<Box<dyn VendorHandler>> = Vec::new(alloc);
+    vendors.push(Box::new(alloc, Echo { alloc })?)?;
     match plan {
-        Plan::Replay { operators } => ended(&rt, replay_of(&rt, operators)),
-        Plan::Serve(options) => ended(&rt, serve(&rt, options)),
+        Plan::Replay { operators } => {
+            let mut reader = rt.reader();
+            let mut writer = io::writer(&rt);
+            let answer = replay_in_memory(alloc, operators, vendors, &mut reader, &mut writer);
+            ended(&rt, answer)
+        }
+        Plan::Serve(options) => ended(&rt, serve(&rt, options, vendors)),
         Plan::Sim(options) => ended(&rt, simulate(&rt, &options)),
     }
-}
-
-/// Replays standard input to standard output.
-fn replay_of(rt: &HostRuntime, operators: Vec<Text>) -> Result<(), ReplayFault> {
-    let alloc = rt.alloc();
-    let Ok(vendors) = vendors(alloc) else {
-        return Err(ReplayFault::NoMemory);
-    };
-    let mut reader = rt.reader();
-    let mut writer = io::writer(rt);
-    replay_in_memory(alloc, operators, vendors, &mut reader, &mut writer)
 }
 
 /// The status of what has ended. A fault is named on standard error.

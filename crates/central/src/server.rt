@@ -3,7 +3,6 @@
 use crate::clock::now;
 use crate::command::ServeOptions;
 use crate::fault::RunFault;
-use crate::handlers::vendors;
 use hub::{Fault, Hub};
 use ocpp_types::Moment;
 use ready_streams::{ReadyStream, Streams};
@@ -19,19 +18,23 @@ const MAX_WAIT: u64 = 1;
 
 /// A server as it runs.
 #[derive(Drop)]
-struct Server {
+struct Server<V> {
     alloc: Global,
-    hub: Hub<MemStore, Box<dyn VendorHandler>>,
+    hub: Hub<MemStore, V>,
     gateway: Gateway<ReadyStream>,
     lobby: Lobby<ReadyStream>,
     streams: Streams,
 }
 
-/// Serves, by records in memory that begin empty. A fault of a turn is written to standard error as
-/// `fault NAME`, and the next turn follows.
-pub fn serve(rt: &HostRuntime, options: ServeOptions) -> Result<(), RunFault> {
+/// Serves, by records in memory that begin empty and by those handlers of vendors' messages. A fault of a
+/// turn is written to standard error as `fault NAME`, and the next turn follows.
+pub fn serve<V: VendorHandler>(
+    rt: &HostRuntime,
+    options: ServeOptions,
+    vendors: Vec<V>,
+) -> Result<(), RunFault> {
     let turns = options.turns;
-    let mut server = Server::new(rt, options)?;
+    let mut server = Server::new(rt, options, vendors)?;
     for _ in 0..turns.map_or(u64::MAX, u64::from) {
         let moment = now(rt).ok_or(RunFault::Clock)?;
         server.wait(turns.is_none())?;
@@ -40,11 +43,15 @@ pub fn serve(rt: &HostRuntime, options: ServeOptions) -> Result<(), RunFault> {
     Ok(())
 }
 
-impl Server {
-    fn new(rt: &HostRuntime, options: ServeOptions) -> Result<Server, RunFault> {
+impl<V: VendorHandler> Server<V> {
+    fn new(
+        rt: &HostRuntime,
+        options: ServeOptions,
+        vendors: Vec<V>,
+    ) -> Result<Server<V>, RunFault> {
         let alloc = rt.alloc();
         let store = MemStore::new(alloc);
-        let Ok(hub) = Hub::new(alloc, store, options.operators, vendors(alloc)?) else {
+        let Ok(hub) = Hub::new(alloc, store, options.operators, vendors) else {
             return Err(RunFault::BadOperators);
         };
         let listener = listen(rt, options.port)?;

@@ -82,6 +82,7 @@ impl Script {
             "turn" => self.turn(rt),
             "turns" => self.turns(rt, rest.parse()?),
             "count" => self.count(rt, rest),
+            "session" => self.session(rest),
             _ => self.run_of(rt, word, rest),
         }
     }
@@ -170,6 +171,19 @@ impl Script {
             return Ok(None);
         }
         Ok(Some("not sent".to_string(alloc)?))
+    }
+
+    /// Runs a session over the hub alone: the operator, the station, and how many calls it makes.
+    fn session(&mut self, words: &str) -> Result<Option<String>> {
+        let (op, rest) = words.split_once(' ').unwrap_or((words, ""));
+        let (name, wanted) = rest.split_once(' ').unwrap_or((rest, ""));
+        let mut station = Station::new(self.alloc, name)?;
+        let calls = station.run(self.alloc, &mut self.server, op)?;
+        let got = format!(in self.alloc; "{calls}")?;
+        if station.is_done() && got.as_str() == wanted {
+            return Ok(None);
+        }
+        Ok(Some(got))
     }
 
     /// The client is a simulated station from now on.

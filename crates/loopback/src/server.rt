@@ -1,8 +1,8 @@
 //! The server's end: a hub in memory, and its gateway.
 
 use anyhow::{Result, bail};
-use hub::{Event, Fault, Hub};
-use lines::{Line, read_line};
+use hub::{Fault, Hub, Out};
+use lines::{Line, print_out, read_line};
 use ocpp_types::{Mem, Moment, Text};
 use station_calls::Echo;
 use std::alloc::Global;
@@ -66,21 +66,29 @@ impl Server {
 
     /// Hands an operator's line to the hub, and tells its outputs.
     pub fn hand(&mut self, line: &str) -> Result<()> {
+        for out in &self.outputs(line)? {
+            self.gateway.tell(out);
+        }
+        Ok(())
+    }
+
+    /// Hands an operator's line to the hub alone. Its outputs, as lines.
+    pub fn ask(&mut self, line: &str) -> Result<Vec<String>> {
+        let mut lines = Vec::new(self.alloc);
+        for out in &self.outputs(line)? {
+            lines.push(print_out(self.alloc, out)?)?;
+        }
+        Ok(lines)
+    }
+
+    fn outputs(&mut self, line: &str) -> Result<Vec<Out>> {
         let seconds = self.moment.seconds();
         let line = format!(in self.alloc; "{seconds} {line}")?;
         let Line::Event(event) = read_line(self.alloc, self.operators.as_slice(), line.as_bytes())?
         else {
             bail!("bad line {line}");
         };
-        self.handle(&event)
-    }
-
-    fn handle(&mut self, event: &Event) -> Result<()> {
-        let outs = self.hub.handle(event)?;
-        for out in &outs {
-            self.gateway.tell(out);
-        }
-        Ok(())
+        Ok(self.hub.handle(&event)?)
     }
 
     /// Accepts one connection, if there is one.

@@ -1,12 +1,16 @@
 //! A simulated station over a client's connection.
 
 use crate::client::SampleKey;
+use crate::server::Server;
 use anyhow::{Result, bail};
 use ocpp_types::{Moment, Text};
 use station_sim::{Drove, Script, Sim, drive};
 use std::alloc::Global;
 use std::net::TcpStream;
 use tungstenite::WebSocket;
+
+/// The most calls of a session.
+const MAX_CALLS: u64 = 100;
 
 /// A client's simulated station.
 #[derive(Drop)]
@@ -38,6 +42,25 @@ impl Station {
             Ok(drove) => described(alloc, &drove),
             Err(fault) => Ok(format!(in alloc; "fault {fault}")?),
         }
+    }
+
+    /// Runs its session over the hub alone, as that station: how many calls it made.
+    pub fn run(&mut self, alloc: Global, server: &mut Server, op: &str) -> Result<u64> {
+        let mut calls = 0;
+        for _ in 0..MAX_CALLS {
+            let Some(call) = self.sim.step(server.moment())? else {
+                break;
+            };
+            calls += 1;
+            let frame = format!(in alloc; "{op} frame {} {call}", self.name)?;
+            let sent = format!(in alloc; "{op} {} send ", self.name)?;
+            for line in &server.ask(frame.as_str())? {
+                if let Some(text) = line.as_str().strip_prefix(sent.as_str()) {
+                    let _reply = self.sim.on_text(text)?;
+                }
+            }
+        }
+        Ok(calls)
     }
 
     /// Whether its session has ended.
