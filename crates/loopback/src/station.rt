@@ -46,12 +46,10 @@ impl Station {
 
     /// Runs its session over the hub alone, as that station: how many calls it made.
     pub fn run(&mut self, alloc: Global, server: &mut Server, op: &str) -> Result<u64> {
-        let mut calls = 0;
-        for _ in 0..MAX_CALLS {
+        for calls in 0..MAX_CALLS {
             let Some(call) = self.sim.step(server.moment())? else {
-                break;
+                return Ok(calls);
             };
-            calls += 1;
             let frame = format!(in alloc; "{op} frame {} {call}", self.name)?;
             let sent = format!(in alloc; "{op} {} send ", self.name)?;
             for line in &server.ask(frame.as_str())? {
@@ -60,7 +58,7 @@ impl Station {
                 }
             }
         }
-        Ok(calls)
+        Ok(MAX_CALLS)
     }
 
     /// Whether its session has ended.
