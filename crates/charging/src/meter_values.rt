@@ -8,7 +8,7 @@ use crate::numbers::has_room;
 use crate::readings::readings_of;
 use hub_rows::{Edit, Reading, Store, StoreFault};
 use ocpp_payload::{Conf, MeterValues};
-use ocpp_types::{Listed, Text};
+use ocpp_types::{Boxed, Listed, Mem, Text};
 use registry::{Decision, Reply, internal_error};
 use std::alloc::Global;
 
@@ -33,22 +33,27 @@ pub fn on_meter_values<S: Store>(
         request.transaction_id,
         request.meter_value,
     )?;
-    Ok(decision_of_readings(station, last, readings))
+    Ok(decision_of_readings(alloc, station, last, readings)?)
 }
 
-fn decision_of_readings(station: Text, last: u32, readings: Listed<Reading>) -> Decision
-    ensures { result ≡ decision_of_readings station last readings }
+fn decision_of_readings(
+    alloc: Global,
+    station: Text,
+    last: u32,
+    readings: Listed<Reading>,
+) -> Mem<Decision>
+    ensures { IfOk result (λ d. d ≡ decision_of_readings station last readings) }
 {
     if !has_room(last, readings.as_slice().len()) {
-        return internal_error();
+        return Ok(internal_error());
     }
     let edit = Edit::ReadingsAdded {
         station,
         first: last + 1,
         readings,
     };
-    Decision {
+    Ok(Decision {
         reply: Reply::Conf(Conf::MeterValues),
-        edit: Some(edit),
-    }
+        edit: Some(Boxed::new(alloc, edit)?),
+    })
 }

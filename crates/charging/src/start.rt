@@ -8,7 +8,7 @@ use crate::numbers::LAST_NUMBER;
 use hub_rows::{Edit, Start, StartKey, Store, StoreFault, TxKey};
 use id_tags::{Purpose, judge};
 use ocpp_payload::{Conf, StartTransaction};
-use ocpp_types::{AuthorizationStatus, IdTagInfo, Mem, Moment, TagKey, Text};
+use ocpp_types::{AuthorizationStatus, Boxed, IdTagInfo, Mem, Moment, TagKey, Text};
 use registry::{Decision, Reply, internal_error};
 use std::alloc::Global;
 
@@ -114,19 +114,20 @@ fn new_start<S: Store>(
     let id_tag_info = judge(store, op, &id.key, moment, &purpose)?;
     let station = Text::copy_of(alloc, station)?;
     let number = last + 1;
-    Ok(begin_decision(station, request, id, moment, id_tag_info, number))
+    Ok(begin_decision(alloc, station, request, id, moment, id_tag_info, number)?)
 }
 
 /// The transaction of that number begins.
 fn begin_decision(
+    alloc: Global,
     station: Text,
     request: StartTransaction,
     id: StartKey,
     moment: Moment,
     id_tag_info: IdTagInfo,
     number: u32,
-) -> Decision
-    ensures { result ≡ begin_decision station request id moment id_tag_info number }
+) -> Mem<Decision>
+    ensures { IfOk result (λ d. d ≡ begin_decision station request id moment id_tag_info number) }
 {
     let start = start_of(request, id, moment, id_tag_info.status);
     let edit = Edit::TxStarted {
@@ -138,10 +139,10 @@ fn begin_decision(
         id_tag_info,
         transaction_id: number,
     };
-    Decision {
+    Ok(Decision {
         reply: Reply::Conf(reply),
-        edit: Some(edit),
-    }
+        edit: Some(Boxed::new(alloc, edit)?),
+    })
 }
 
 /// The start as it is kept.

@@ -9,7 +9,7 @@ use crate::readings::readings_of;
 use hub_rows::{Edit, Reading, Stop, Store, StoreFault, TxState};
 use id_tags::{Purpose, judge};
 use ocpp_payload::{Conf, MeterValue, StopTransaction};
-use ocpp_types::{IdTagInfo, Listed, Mem, Moment, TagKey, Text};
+use ocpp_types::{Boxed, IdTagInfo, Listed, Mem, Moment, TagKey, Text};
 use registry::{Decision, Reply};
 use std::alloc::Global;
 
@@ -68,7 +68,7 @@ fn edit_of_stop<S: Store>(
     station: &str,
     request: StopTransaction,
     moment: Moment,
-) -> Result<Option<Edit>, StoreFault>
+) -> Result<Option<Boxed<Edit>>, StoreFault>
     ensures reads { OnlyReads S.rows S.failures S.clean store.old store.new (result ≡ Err StoreFault.Failed) }
     ensures edit { S.clean store.new → IfOk result (λ e. e
         ≡ edit_of_stop station.now request moment (lookups_at op.now (S.rows store.old))) }
@@ -108,13 +108,14 @@ fn end_edit(
     number: u32,
     connector: u8,
     last: u32,
-) -> Mem<Edit>
+) -> Mem<Boxed<Edit>>
     ensures { IfOk result (λ e. e ≡ end_edit station request moment number connector last) }
 {
     let transaction = Some(request.transaction_id);
     let (stop, values) = parts_of(request, moment);
     let readings = readings_of(alloc, connector, transaction, values)?;
-    Ok(stop_edit(alloc, station, number, stop, last, readings))
+    let edit = stop_edit(alloc, station, number, stop, last, readings);
+    Boxed::new(alloc, edit)
 }
 
 /// A stop as it is kept, and what was sent with it.

@@ -36,7 +36,7 @@ pub fn decide_admin<S: Store>(
             policy,
             interval,
         } => plan_policy(alloc, store, op, station.as_str(), *policy, *interval),
-        Admin::TagPut { tag } => Ok(plan_put(alloc, tag)?),
+        Admin::TagPut { tag } => Ok(plan_put(alloc, tag.as_ref())?),
         Admin::TagDrop { tag } => plan_drop(alloc, store, op, tag.as_str()),
         Admin::Grant(grant) => plan_grant(alloc, store, op, grant, hosted),
         Admin::Revoke { tag, to } => plan_revoke(alloc, store, op, tag.as_str(), to),

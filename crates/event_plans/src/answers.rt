@@ -15,7 +15,7 @@ use holdings::settle;
 use hub_rows::{Edit, Store, StoreFault};
 use ocpp_frame::Payload;
 use ocpp_payload::FieldFault;
-use ocpp_types::{Mem, Text};
+use ocpp_types::{Boxed, Mem, Text};
 use operator_cmds::{Command, read_answer};
 use pending_calls::Slots;
 use std::alloc::Global;
@@ -25,7 +25,7 @@ use std::alloc::Global;
 pub fn plan_result<S: Store>(
     alloc: Global,
     store: &mut S,
-    slots: &Slots<Command>,
+    slots: &Slots<Boxed<Command>>,
     op: &Text,
     station: &Text,
     id: &Text,
@@ -46,7 +46,7 @@ pub fn plan_result<S: Store>(
 /// The plan for an error in answer to a call: it ends.
 pub fn plan_error(
     alloc: Global,
-    slots: &Slots<Command>,
+    slots: &Slots<Boxed<Command>>,
     op: &Text,
     station: &Text,
     id: &Text,
@@ -61,7 +61,7 @@ pub fn plan_error(
     let effect = Effect::Answer {
         station: station.clone()?,
         id: id.clone()?,
-        outcome: Outcome::Error { code, description },
+        outcome: Boxed::new(alloc, Outcome::Error { code, description })?,
         edit: None,
     };
     Ok(Plan::changing(alloc, effect))
@@ -69,7 +69,7 @@ pub fn plan_error(
 
 /// The command of the call in flight, if an answer with that id ends it.
 fn answered_command<'a>(
-    slots: &'a Slots<Command>,
+    slots: &'a Slots<Boxed<Command>>,
     op: &Text,
     station: &Text,
     id: &Text,
@@ -80,7 +80,7 @@ fn answered_command<'a>(
         return None;
     }
     let (_, command) = slots.in_flight(op.as_str(), station.as_str())?;
-    Some(command)
+    Some(command.as_ref())
 }
 
 /// The call in flight ends with what was read of its answer.
@@ -114,21 +114,21 @@ fn ended_plan<S: Store>(
 
 /// The outcome of a call: the known members of its answer, or their first fault.
 #[tactic(auto, unfolding(crate::specs::Commands::read_outcome))]
-fn read_outcome(alloc: Global, read: &Result<Payload, FieldFault>) -> Mem<Outcome>
+fn read_outcome(alloc: Global, read: &Result<Payload, FieldFault>) -> Mem<Boxed<Outcome>>
     requires { IfOk read.now (λ known. has_float known ≡ false) }
     ensures { IfOk result (λ o. o ≡ read_outcome read.now) }
 {
     match read {
         Ok(known) => {
             let json = known.as_value().to_string(alloc)?;
-            Ok(Outcome::Answer {
-                json: Text::from(json),
-            })
+            let json = Text::from(json);
+            Boxed::new(alloc, Outcome::Answer { json })
         }
-        Err(fault) => Ok(Outcome::BadAnswer {
-            code: fault.code,
-            field: fault.field.clone()?,
-        }),
+        Err(fault) => {
+            let code = fault.code;
+            let field = fault.field.clone()?;
+            Boxed::new(alloc, Outcome::BadAnswer { code, field })
+        }
     }
 }
 
@@ -140,7 +140,7 @@ fn read_edit<S: Store>(
     station: &Text,
     command: &Command,
     read: &Result<Payload, FieldFault>,
-) -> Result<Option<Edit>, StoreFault>
+) -> Result<Option<Boxed<Edit>>, StoreFault>
     ensures reads { OnlyReads S.rows S.failures S.clean store.old store.new (result ≡ Err StoreFault.Failed) }
     ensures edit { S.clean store.new → IfOk result (λ e. e
         ≡ edit_by station.now command.now read.now (lookups_at op.now (S.rows store.old))) }

@@ -14,7 +14,7 @@ use holdings::{plan_cancel, plan_reserve};
 use hub_rows::{Registration, Store, StoreFault, TxState};
 use id_tags::refuse_tag;
 use ocpp_frame::write_call;
-use ocpp_types::{Mem, Moment, Refusal, State, Text};
+use ocpp_types::{Boxed, Mem, Moment, Refusal, State, Text};
 use operator_cmds::{Command, action_name_of, bad_field, copy_command, write_request};
 use pending_calls::Slots;
 use std::alloc::Global;
@@ -26,7 +26,7 @@ const LAST_NUMBER: u32 = 2147483647;
 pub fn plan_command<S: Store>(
     alloc: Global,
     store: &mut S,
-    slots: &Slots<Command>,
+    slots: &Slots<Boxed<Command>>,
     op: &Text,
     station: &Text,
     command: &Command,
@@ -49,7 +49,7 @@ pub fn plan_command<S: Store>(
 fn number_of_call<S: Store>(
     alloc: Global,
     store: &mut S,
-    slots: &Slots<Command>,
+    slots: &Slots<Boxed<Command>>,
     op: &Text,
     station: &Text,
     command: &Command,
@@ -192,7 +192,7 @@ fn submit(alloc: Global, station: &Text, command: &Command, number: u32) -> Mem<
 {
     Ok(Effect::Submit {
         station: station.clone()?,
-        command: copy_command(alloc, command)?,
+        command: Boxed::new(alloc, copy_command(alloc, command)?)?,
         text: call_text(alloc, command, number)?,
     })
 }

@@ -2,7 +2,7 @@
 
 use hub_rows::Tag;
 use id_tags::Grant;
-use ocpp_types::{Moment, Policy, Text};
+use ocpp_types::{Boxed, Moment, Policy, Text};
 use operator_cmds::Command;
 
 /// One event. Each carries its moment; moments need not grow.
@@ -30,7 +30,7 @@ pub enum What {
     /// A station has sent a text.
     Frame { station: Text, text: Text },
     /// The operator sends a command to a station.
-    Do { station: Text, command: Command },
+    Do { station: Text, command: Boxed<Command> },
     /// The operator edits its records.
     Admin(Admin),
     /// The operator asks for a list of its records.
@@ -82,7 +82,7 @@ pub enum Admin {
     },
     /// An id tag, in place of the one with its key.
     TagPut {
-        tag: Tag,
+        tag: Boxed<Tag>,
     },
     /// The id tag of that text's key is dropped.
     TagDrop {

@@ -14,7 +14,7 @@ use crate::plans::{decided_plan, error_plan};
 use hub_rows::{Store, StoreFault};
 use ocpp_frame::{Frame, Payload, read_frame};
 use ocpp_payload::{Action, ActionClass, action_class, read_request};
-use ocpp_types::{ErrorCode, Moment, Text};
+use ocpp_types::{Boxed, ErrorCode, Moment, Text};
 use operator_cmds::Command;
 use pending_calls::Slots;
 use registry::is_allowed;
@@ -26,7 +26,7 @@ use std::alloc::Global;
 pub fn plan_text<S: Store, V: VendorHandler>(
     alloc: Global,
     book: &mut Book<S, V>,
-    slots: &Slots<Command>,
+    slots: &Slots<Boxed<Command>>,
     op: &Text,
     station: &Text,
     text: &Text,

@@ -14,7 +14,7 @@ use crate::plan::{Effect, Plan};
 use crate::row::{Row, Shown};
 use holdings::is_current;
 use hub_rows::{LocalList, LocalTag, ReservationRow, Store, StoreFault};
-use ocpp_types::{Listed, Mem, Moment, Refusal, Text};
+use ocpp_types::{Boxed, Listed, Mem, Moment, Refusal, Text};
 use std::alloc::Global;
 
 /// The plan for a listing: its rows, in the order of their keys, and then that it is taken.
@@ -210,11 +210,12 @@ fn show_list(alloc: Global, station: &Text, list: Option<LocalList>) -> Mem<Plan
         None => (0, Listed::new(alloc)),
     };
     let mut said = Listed::new(alloc);
-    said.push(Said::Row(Row::LocalList {
+    let row = Row::LocalList {
         station: station.clone()?,
         version,
-    }))?;
-    add_entries(&mut said, station, entries)?;
+    };
+    said.push(Said::Row(Boxed::new(alloc, row)?))?;
+    add_entries(alloc, &mut said, station, entries)?;
     said.push(Said::Accepted { number: None })?;
     Ok(Plan {
         said,
@@ -222,12 +223,18 @@ fn show_list(alloc: Global, station: &Text, list: Option<LocalList>) -> Mem<Plan
     })
 }
 
-fn add_entries(said: &mut Listed<Said>, station: &Text, entries: Listed<LocalTag>) -> Mem<()>
+fn add_entries(
+    alloc: Global,
+    said: &mut Listed<Said>,
+    station: &Text,
+    entries: Listed<LocalTag>,
+) -> Mem<()>
     ensures { OnOk result (said.new ≡ said.old ++ map Said.Row (map (row.LocalTag station.now) entries)) }
 {
     for entry in entries.into_vec() {
         let station = station.clone()?;
-        said.push(Said::Row(Row::LocalTag { station, entry }))?;
+        let row = Boxed::new(alloc, Row::LocalTag { station, entry })?;
+        said.push(Said::Row(row))?;
     }
     Ok(())
 }
@@ -243,7 +250,7 @@ fn show<R: Shown>(alloc: Global, rows: Listed<R>) -> Mem<Plan>
     ensures { IfOk result (λ p. p ≡ list_plan (Ok (map R.as_row rows))) }
 {
     let mut said = Listed::new(alloc);
-    add_rows(&mut said, rows)?;
+    add_rows(alloc, &mut said, rows)?;
     said.push(Said::Accepted { number: None })?;
     Ok(Plan {
         said,
@@ -251,11 +258,12 @@ fn show<R: Shown>(alloc: Global, rows: Listed<R>) -> Mem<Plan>
     })
 }
 
-fn add_rows<R: Shown>(said: &mut Listed<Said>, rows: Listed<R>) -> Mem<()>
+fn add_rows<R: Shown>(alloc: Global, said: &mut Listed<Said>, rows: Listed<R>) -> Mem<()>
     ensures { OnOk result (said.new ≡ said.old ++ map Said.Row (map R.as_row rows)) }
 {
     for row in rows.into_vec() {
-        said.push(Said::Row(row.into_row()))?;
+        let row = Boxed::new(alloc, row.into_row())?;
+        said.push(Said::Row(row))?;
     }
     Ok(())
 }

@@ -1,7 +1,7 @@
 //! What the hub answers.
 
 use crate::row::Row;
-use ocpp_types::{ErrorCode, FieldName, Refusal, Text};
+use ocpp_types::{Boxed, ErrorCode, FieldName, Refusal, Text};
 
 /// One output: what is said, and the operator that it is for.
 #[derive(Drop)]
@@ -34,7 +34,7 @@ pub enum Said {
     /// A request of the operator is refused, and has changed nothing.
     Refused(Refusal),
     /// A row of a listing.
-    Row(Row),
+    Row(Boxed<Row>),
     /// A request of the operator is accepted; a command with the number of its call.
     Accepted {
         number: Option<u32>,

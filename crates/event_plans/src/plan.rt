@@ -5,7 +5,7 @@ ghost use Rattle.event_plans.specs.Plans.{nothing, only, changing};
 
 use crate::out::{Outcome, Said};
 use hub_rows::Edit;
-use ocpp_types::{Listed, Mem, Text};
+use ocpp_types::{Boxed, Listed, Mem, Text};
 use operator_cmds::Command;
 use std::alloc::Global;
 
@@ -25,7 +25,7 @@ pub enum Effect {
     /// Nothing changes.
     Nothing,
     /// The records of the operator change.
-    Edit(Edit),
+    Edit(Boxed<Edit>),
     /// A station is connected from now on, and the calls of its last connection end.
     Connect {
         station: Text,
@@ -37,7 +37,7 @@ pub enum Effect {
     /// A command becomes a call of a station, with that text.
     Submit {
         station: Text,
-        command: Command,
+        command: Boxed<Command>,
         text: Text,
     },
     /// A station answers its call in flight, by its id. The records of the operator change as the
@@ -45,15 +45,15 @@ pub enum Effect {
     Answer {
         station: Text,
         id: Text,
-        outcome: Outcome,
-        edit: Option<Edit>,
+        outcome: Boxed<Outcome>,
+        edit: Option<Boxed<Edit>>,
     },
 }
 
-impl From<Option<Edit>> for Effect {
+impl From<Option<Boxed<Edit>>> for Effect {
     ghost from_gives = { λ edit e. e ≡ edit_effect edit };
 
-    fn from(edit: Option<Edit>) -> Effect {
+    fn from(edit: Option<Boxed<Edit>>) -> Effect {
         match edit {
             Some(edit) => Effect::Edit(edit),
             None => Effect::Nothing,
@@ -94,7 +94,5 @@ impl Plan {
 pub fn one(alloc: Global, said: Said) -> Mem<Listed<Said>>
     ensures { IfOk result (λ list. list ≡ said ∷ []) }
 {
-    let mut list = Listed::new(alloc);
-    list.push(said)?;
-    Ok(list)
+    Listed::one(alloc, said)
 }

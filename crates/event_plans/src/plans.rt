@@ -8,7 +8,7 @@ use crate::plan::{Effect, Plan, one};
 use hub_rows::{Edit, Registration};
 use ocpp_frame::{write_error, write_result};
 use ocpp_payload::{Conf, write_conf};
-use ocpp_types::{ErrorCode, Listed, Mem, Named, Refusal, Text};
+use ocpp_types::{Boxed, ErrorCode, Listed, Mem, Named, Refusal, Text};
 use registry::{Decision, Reply};
 use std::alloc::Global;
 
@@ -129,7 +129,7 @@ pub fn edit_plan(alloc: Global, answer: Result<Edit, Refusal>) -> Mem<Plan>
             let said = one(alloc, Said::Accepted { number: None })?;
             Ok(Plan {
                 said,
-                effect: Effect::Edit(edit),
+                effect: Effect::Edit(Boxed::new(alloc, edit)?),
             })
         }
         Err(refusal) => Plan::only(alloc, Said::Refused(refusal)),

@@ -16,7 +16,7 @@ use crate::list::plan_list;
 use crate::plan::Plan;
 use crate::plans::{connect_plan, disconnect_plan, edit_plan, turned_plan};
 use hub_rows::{Store, StoreFault};
-use ocpp_types::{Moment, Text};
+use ocpp_types::{Boxed, Moment, Text};
 use operator_cmds::Command;
 use pending_calls::Slots;
 use station_calls::{Book, VendorHandler};
@@ -27,7 +27,7 @@ use std::alloc::Global;
 pub fn plan_event<S: Store, V: VendorHandler>(
     alloc: Global,
     book: &mut Book<S, V>,
-    slots: &Slots<Command>,
+    slots: &Slots<Boxed<Command>>,
     hosted: &[Text],
     op: &Text,
     what: &What,
@@ -53,7 +53,7 @@ pub fn plan_event<S: Store, V: VendorHandler>(
         }
         What::Do { station, command } => {
             let store = &mut book.store;
-            plan_command(alloc, store, slots, op, station, command, moment)
+            plan_command(alloc, store, slots, op, station, command.as_ref(), moment)
         }
         What::Admin(admin) => {
             let answer = decide_admin(alloc, &mut book.store, op.as_str(), admin, hosted)?;

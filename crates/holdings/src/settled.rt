@@ -9,7 +9,7 @@ ghost use Rattle.holdings.specs.Settled.{accepted_edit, is_held, settled};
 use crate::local_list::list_answer;
 use crate::reservation::{cancelled, reserved};
 use hub_rows::{Edit, LocalList, Store, StoreFault};
-use ocpp_types::Text;
+use ocpp_types::{Boxed, Mem, Text};
 use operator_cmds::{Command, UpdateType, is_accepted};
 use serde_json::Value;
 use std::alloc::Global;
@@ -24,7 +24,7 @@ pub fn settle<S: Store>(
     station: &Text,
     command: &Command,
     answer: &Value,
-) -> Result<Option<Edit>, StoreFault>
+) -> Result<Option<Boxed<Edit>>, StoreFault>
     ensures reads { OnlyReads S.rows S.failures S.clean store.old store.new (result ≡ Err StoreFault.Failed) }
     ensures edit { S.clean store.new → IfOk result (λ e. e
         ≡ settled station.now command.now (view answer.now) (lookups_at op.now (S.rows store.old))) }
@@ -35,7 +35,17 @@ pub fn settle<S: Store>(
     if store.station(op.as_str(), station.as_str())?.is_none() {
         return Ok(None);
     }
-    accepted_edit(alloc, store, op, station, command)
+    let edit = accepted_edit(alloc, store, op, station, command)?;
+    Ok(boxed(alloc, edit)?)
+}
+
+fn boxed(alloc: Global, edit: Option<Edit>) -> Mem<Option<Boxed<Edit>>>
+    ensures { IfOk result (λ e. e ≡ edit) }
+{
+    match edit {
+        Some(edit) => Ok(Some(Boxed::new(alloc, edit)?)),
+        None => Ok(None),
+    }
 }
 
 /// Whether a command is about what a station holds.

@@ -10,7 +10,7 @@ use crate::fault::Fault;
 use crate::tick::expire_all;
 use event_plans::{Event, Out, What, plan_event};
 use hub_rows::{Store, are_operators, is_hosted};
-use ocpp_types::{Moment, Text};
+use ocpp_types::{Boxed, Moment, Text};
 use operator_cmds::Command;
 use pending_calls::Slots;
 use station_calls::{Book, VendorHandler};
@@ -26,7 +26,7 @@ pub struct Hub<S, V> {
     alloc: Global,
     book: Book<S, V>,
     hosted: Vec<Text>,
-    slots: Slots<Command>,
+    slots: Slots<Boxed<Command>>,
 }
 
 /// These operators can't be hosted: there is none, one comes twice, or a name isn't of 1 to 32
@@ -231,14 +231,7 @@ impl<S: Store + Drop, V: VendorHandler> Hub<S, V> {
             what,
             moment,
         )?;
-        commit(
-            self.alloc,
-            &mut self.book.store,
-            &mut self.slots,
-            op,
-            moment,
-            plan,
-            told,
-        )
+        let store = &mut self.book.store;
+        commit(store, &mut self.slots, op, moment, plan, told)
     }
 }

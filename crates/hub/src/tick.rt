@@ -6,14 +6,14 @@ ghost use Rattle.hub.specs.Effects.{tick_outputs};
 
 use crate::told::push_moved;
 use event_plans::{Out, Outcome};
-use ocpp_types::{Mem, Moment, NoMemory};
+use ocpp_types::{Boxed, Mem, Moment, NoMemory};
 use operator_cmds::Command;
 use pending_calls::Slots;
 
 /// At each station the call in flight ends if it was sent too long ago, and the next one goes out.
 /// What is said of them comes at the end of `outs`, in the order of operators and stations. Room
 /// for all of it is made before anything changes.
-pub fn expire_all(slots: &mut Slots<Command>, moment: Moment, outs: &mut Vec<Out>) -> Mem<()>
+pub fn expire_all(slots: &mut Slots<Boxed<Command>>, moment: Moment, outs: &mut Vec<Out>) -> Mem<()>
     ensures slots { OnOk result (all_slots slots.new ≡ tick moment (all_slots slots.old)) }
     ensures outs { OnOk result (outs.new.items ≡ outs.old.items ++ tick_outputs moment (all_slots slots.old)) }
     ensures err_slots { OnErr result (all_slots slots.new ≡ all_slots slots.old) }

@@ -4,11 +4,12 @@ ghost use Rattle.hub.specs.Effects.{done, sent, moved_outputs};
 ghost use Rattle.event_plans.specs.declared.out.Outcome.TheVariants.{Disconnected};
 
 use event_plans::{Out, Outcome, Said};
+use ocpp_types::Boxed;
 use operator_cmds::Command;
 use pending_calls::{Call, Ended, Message, Moved};
 
 /// A call has ended.
-fn done(call: Call<Command>, outcome: Outcome) -> Out
+fn done(call: Call<Boxed<Command>>, outcome: Outcome) -> Out
     ensures { result ≡ done outcome call }
 {
     Out {
@@ -35,7 +36,7 @@ fn push_ready(outs: &mut Vec<Out>, out: Out)
 }
 
 /// Adds the ends of calls whose connection has ended.
-pub fn push_ended(outs: &mut Vec<Out>, mut ended: Ended<Command>)
+pub fn push_ended(outs: &mut Vec<Out>, mut ended: Ended<Boxed<Command>>)
     requires { vec_len outs.old + length ended ≤ vec_capacity outs.old }
     ensures items { outs.new.items ≡ outs.old.items ++ map (done Disconnected) ended }
     ensures len { vec_len outs.new ≡ vec_len outs.old + length ended }
@@ -67,7 +68,7 @@ pub fn push_message(outs: &mut Vec<Out>, message: Option<Message>)
 }
 
 /// Adds the end of a call, and the text that goes out next, if there is one.
-pub fn push_moved(outs: &mut Vec<Out>, moved: Moved<Command>, outcome: Outcome)
+pub fn push_moved(outs: &mut Vec<Out>, moved: Moved<Boxed<Command>>, outcome: Outcome)
     requires { vec_len outs.old + 2 ≤ vec_capacity outs.old }
     ensures items { outs.new.items ≡ outs.old.items ++ moved_outputs outcome (Some moved) }
     ensures len { vec_len outs.new ≤ vec_len outs.old + 2 }

@@ -7,13 +7,13 @@ use crate::reservation_row::{Reservation, ReservationId};
 use crate::station_row::Boot;
 use crate::tag_row::Tag;
 use crate::tx_row::{Start, Stop};
-use ocpp_types::{Listed, Moment, Policy, State, TagKey, Text};
+use ocpp_types::{Boxed, Listed, Moment, Policy, State, TagKey, Text};
 
 /// A change of one operator's records, which a store makes whole or not at all.
 #[derive(Drop)]
 pub struct Change {
     pub op: Text,
-    pub edit: Edit,
+    pub edit: Boxed<Edit>,
 }
 
 /// What changes.

@@ -3,7 +3,7 @@ ghost use Rattle.std.specs.Prelude.{◌≡◌};
 
 use crate::named_row::NamedRow;
 use crate::ordered::Keyed;
-use ocpp_types::{BootNotification, Moment, Policy, State, Text};
+use ocpp_types::{BootNotification, Boxed, Moment, Policy, State, Text};
 use std::alloc::AllocError;
 use std::cmp::Ordering;
 
@@ -27,7 +27,7 @@ pub struct StationRow {
 /// What a station told of itself when it booted.
 #[derive(Drop)]
 pub struct Boot {
-    pub texts: BootNotification,
+    pub texts: Boxed<BootNotification>,
     pub moment: Moment,
 }
 

@@ -60,7 +60,7 @@ pub fn boot_field(alloc: Global, boot: &Option<Boot>) -> Mem<String>
     ensures { IfOk result (λ s. string_bytes s ≡ boot_field boot.now) }
 {
     match boot {
-        Some(boot) => Ok(write_boot(alloc, &boot.texts)?.to_string(alloc)?),
+        Some(boot) => Ok(write_boot(alloc, boot.texts.as_ref())?.to_string(alloc)?),
         None => dash(alloc),
     }
 }

@@ -10,7 +10,7 @@ use crate::words::{expiry_of, first_word, is_expiry, name_of, number_of, only_wo
 use event_plans::{Admin, What};
 use hub_rows::Tag;
 use id_tags::Grant;
-use ocpp_types::{Mem, Named, NoMemory, Policy, Text};
+use ocpp_types::{Boxed, Mem, Named, NoMemory, Policy, Text};
 use operator_cmds::read_command;
 use serde_json::{Category, Value};
 use std::alloc::Global;
@@ -84,6 +84,7 @@ fn call(alloc: Global, rest: &str) -> Mem<Option<What>>
         return Ok(None);
     };
     let station = Text::copy_of(alloc, station)?;
+    let command = Boxed::new(alloc, command)?;
     Ok(Some(What::Do { station, command }))
 }
 
@@ -187,6 +188,7 @@ fn tag_put(alloc: Global, rest: &str) -> Mem<Option<What>>
         blocked,
         expiry: expiry_of(rest),
     };
+    let tag = Boxed::new(alloc, tag)?;
     Ok(Some(What::Admin(Admin::TagPut { tag })))
 }
 

@@ -1,6 +1,7 @@
 //! Lines: events read from them, outputs printed as them.
 #![tactic(auto)]
 
+mod added_line;
 mod fields;
 mod forms;
 mod held;
@@ -11,6 +12,7 @@ mod output_line;
 mod rows;
 mod words;
 
+pub use added_line::add_line;
 pub use input_line::{Line, MAX_LINE, read_line};
 pub use order::read_order;
 pub use output_line::print_out;

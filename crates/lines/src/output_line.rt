@@ -26,7 +26,7 @@ pub fn print_out(alloc: Global, out: &Out) -> Mem<String>
         }
         Said::Turned { station } => format!(in alloc; "{op} {station} turned")?,
         Said::Refused(refusal) => print_refused(alloc, op, refusal)?,
-        Said::Row(row) => print_row(alloc, op, row)?,
+        Said::Row(row) => print_row(alloc, op, row.as_ref())?,
         Said::Accepted {
             number: Some(number),
         } => format!(in alloc; "{op} ok {number}")?,

@@ -1,18 +1,20 @@
 //! What a station asks.
 
 use crate::readings::MeterValue;
-use ocpp_types::{BootNotification, ChargePointErrorCode, ChargePointStatus, Listed, Reason, Text};
+use ocpp_types::{
+    BootNotification, Boxed, ChargePointErrorCode, ChargePointStatus, Listed, Reason, Text,
+};
 
 /// A request of a station (OCPP 1.6, section 6).
 #[derive(Drop)]
 pub enum Request {
     Authorize(Authorize),
-    BootNotification(BootNotification),
+    BootNotification(Boxed<BootNotification>),
     DataTransfer(DataTransfer),
     Heartbeat,
     MeterValues(MeterValues),
     StartTransaction(StartTransaction),
-    StatusNotification(StatusNotification),
+    StatusNotification(Boxed<StatusNotification>),
     StopTransaction(StopTransaction),
 }
 

@@ -13,7 +13,7 @@ use crate::request::{
     Authorize, DataTransfer, MeterValues, Request, StartTransaction, StatusNotification,
     StopTransaction,
 };
-use ocpp_types::{BootNotification, Listed, Mem, NoMemory, Reason};
+use ocpp_types::{BootNotification, Boxed, Listed, Mem, NoMemory, Reason};
 use serde_json::Value;
 use std::alloc::Global;
 
@@ -57,10 +57,10 @@ fn authorize(alloc: Global, payload: &Value) -> Result<Authorize, ReadError>
     Ok(Authorize { id_tag })
 }
 
-fn boot_notification(alloc: Global, payload: &Value) -> Result<BootNotification, ReadError>
+fn boot_notification(alloc: Global, payload: &Value) -> Result<Boxed<BootNotification>, ReadError>
     ensures { Gives result (boot_notification (view payload.now)) }
 {
-    Ok(BootNotification {
+    let boot = BootNotification {
         charge_box_serial_number: optional(alloc, payload, "chargeBoxSerialNumber", TextOf(25))?,
         charge_point_model: required(alloc, payload, "chargePointModel", TextOf(20))?,
         charge_point_serial_number: optional(
@@ -75,7 +75,8 @@ fn boot_notification(alloc: Global, payload: &Value) -> Result<BootNotification,
         imsi: optional(alloc, payload, "imsi", TextOf(20))?,
         meter_serial_number: optional(alloc, payload, "meterSerialNumber", TextOf(25))?,
         meter_type: optional(alloc, payload, "meterType", TextOf(25))?,
-    })
+    };
+    Ok(Boxed::new(alloc, boot)?)
 }
 
 fn data_transfer(alloc: Global, payload: &Value) -> Result<DataTransfer, ReadError>
@@ -110,10 +111,10 @@ fn start_transaction(alloc: Global, payload: &Value) -> Result<StartTransaction,
     })
 }
 
-fn status_notification(alloc: Global, payload: &Value) -> Result<StatusNotification, ReadError>
+fn status_notification(alloc: Global, payload: &Value) -> Result<Boxed<StatusNotification>, ReadError>
     ensures { Gives result (status_notification (view payload.now)) }
 {
-    Ok(StatusNotification {
+    let report = StatusNotification {
         connector_id: required(alloc, payload, "connectorId", ConnectorFrom(0))?,
         error_code: required(alloc, payload, "errorCode", NameOf::new())?,
         info: optional(alloc, payload, "info", TextOf(50))?,
@@ -121,7 +122,8 @@ fn status_notification(alloc: Global, payload: &Value) -> Result<StatusNotificat
         timestamp: optional(alloc, payload, "timestamp", Time)?,
         vendor_id: optional(alloc, payload, "vendorId", TextOf(255))?,
         vendor_error_code: optional(alloc, payload, "vendorErrorCode", TextOf(50))?,
-    })
+    };
+    Ok(Boxed::new(alloc, report)?)
 }
 
 fn stop_transaction(alloc: Global, payload: &Value) -> Result<StopTransaction, ReadError>

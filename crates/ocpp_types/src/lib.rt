@@ -4,6 +4,7 @@
 
 mod authorization_status;
 mod boot_notification;
+mod boxed;
 mod charge_point_error_code;
 mod charge_point_status;
 mod data_transfer_status;
@@ -32,6 +33,7 @@ mod value_format;
 
 pub use authorization_status::AuthorizationStatus;
 pub use boot_notification::BootNotification;
+pub use boxed::Boxed;
 pub use charge_point_error_code::ChargePointErrorCode;
 pub use charge_point_status::ChargePointStatus;
 pub use data_transfer_status::DataTransferStatus;

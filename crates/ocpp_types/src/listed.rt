@@ -1,5 +1,5 @@
 //! Lists that contracts see as their items.
-ghost use Rattle.std.specs.Prelude.{◌≡◌, [], ◌∷◌, ◌++◌, OnOk, OnErr};
+ghost use Rattle.std.specs.Prelude.{◌≡◌, [], ◌∷◌, ◌++◌, IfOk, OnOk, OnErr};
 
 use crate::memory::Mem;
 use std::alloc::Global;
@@ -45,6 +45,15 @@ impl<T> Listed<T> {
 }
 
 impl<T: Drop> Listed<T> {
+    /// The list of one item, with room for no more.
+    pub fn one(alloc: Global, item: T) -> Mem<Listed<T>>
+        ensures { IfOk result (λ list. list ≡ item ∷ []) }
+    {
+        let mut listed = Vec::with_capacity(alloc, 1)?;
+        listed.push(item)?;
+        Ok(Listed { listed })
+    }
+
     /// Adds an item at the end. Without memory for it the list stays as it was.
     pub fn push(&mut self, item: T) -> Mem<()>
         ensures ok { OnOk result (self.new ≡ self.old ++ item ∷ []) }

@@ -6,7 +6,7 @@ ghost use Rattle.hub_rows.specs.Transactions.{AreNext};
 use crate::scripts::{events, hub_of, run};
 use hub_rows::{Change, Edit, Reading, Start, StartKey, Store, StoreFault};
 use ocpp_types::{
-    AuthorizationStatus, Listed, Location, Measurand, Mem, Moment, Policy, ReadingContext, Refusal,
+    AuthorizationStatus, Boxed, Listed, Location, Measurand, Mem, Moment, Policy, ReadingContext, Refusal,
     TagKey, Text, ValueFormat,
 };
 use pending_calls::Slots;
@@ -49,6 +49,7 @@ fn add<S: Store>(alloc: Global, store: &mut S) -> Result<(), StoreFault> {
         policy: Policy::Accepted,
         interval: 300,
     };
+    let edit = Boxed::new(alloc, edit)?;
     store.apply(&Change { op, edit })
 }
 
@@ -93,6 +94,7 @@ fn begin<S: Store>(
         number,
         start,
     };
+    let edit = Boxed::new(alloc, edit)?;
     store.apply(&Change { op, edit })
 }
 
@@ -135,6 +137,7 @@ fn keep<S: Store>(
         first,
         readings,
     };
+    let edit = Boxed::new(alloc, edit)?;
     store.apply(&Change { op, edit })
 }
 

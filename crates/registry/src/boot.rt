@@ -5,7 +5,7 @@ ghost use Rattle.registry.specs.Boot.{boot_rule, heartbeat_rule, state_after};
 use crate::decision::{Decision, Reply};
 use hub_rows::{Boot, Edit, Registration};
 use ocpp_payload::Conf;
-use ocpp_types::{BootNotification, Mem, Moment, Policy, State, Text};
+use ocpp_types::{BootNotification, Boxed, Mem, Moment, Policy, State, Text};
 use std::alloc::Global;
 
 /// A boot of a station is answered with the moment, the station's interval and its policy, which
@@ -14,7 +14,7 @@ pub fn on_boot(
     alloc: Global,
     station: &str,
     registration: Registration,
-    texts: BootNotification,
+    texts: Boxed<BootNotification>,
     moment: Moment,
 ) -> Mem<Decision>
     ensures { IfOk result (λ d. d ≡ boot_rule station.now registration texts moment) }
@@ -31,7 +31,7 @@ pub fn on_boot(
     };
     Ok(Decision {
         reply: Reply::Conf(reply),
-        edit: Some(edit),
+        edit: Some(Boxed::new(alloc, edit)?),
     })
 }
 

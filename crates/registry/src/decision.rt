@@ -4,14 +4,14 @@ ghost use Rattle.registry.specs.InternalError.{internal_error};
 
 use hub_rows::Edit;
 use ocpp_payload::Conf;
-use ocpp_types::ErrorCode;
+use ocpp_types::{Boxed, ErrorCode};
 
 /// What a station's request is answered, and what it changes of the records.
 #[derive(Drop)]
 pub struct Decision {
     pub reply: Reply,
     /// An edit of the records of the station's operator.
-    pub edit: Option<Edit>,
+    pub edit: Option<Boxed<Edit>>,
 }
 
 /// The answer to a request.

@@ -5,7 +5,7 @@ ghost use Rattle.registry.specs.Status.{status_rule, report_of};
 use crate::decision::{Decision, Reply};
 use hub_rows::{ConnectorReport, Edit};
 use ocpp_payload::{Conf, StatusNotification};
-use ocpp_types::{Mem, Moment, Text};
+use ocpp_types::{Boxed, Mem, Moment, Text};
 use std::alloc::Global;
 
 /// A report on a connector takes the place of the one before. It is of the time that was sent
@@ -13,11 +13,12 @@ use std::alloc::Global;
 pub fn on_status(
     alloc: Global,
     station: &str,
-    request: StatusNotification,
+    request: Boxed<StatusNotification>,
     moment: Moment,
 ) -> Mem<Decision>
     ensures { IfOk result (λ d. d ≡ status_rule station.now request moment) }
 {
+    let request = request.into_inner();
     let connector = request.connector_id;
     let edit = Edit::ConnectorSeen {
         station: Text::copy_of(alloc, station)?,
@@ -26,7 +27,7 @@ pub fn on_status(
     };
     Ok(Decision {
         reply: Reply::Conf(Conf::StatusNotification),
-        edit: Some(edit),
+        edit: Some(Boxed::new(alloc, edit)?),
     })
 }
 

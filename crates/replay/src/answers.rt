@@ -6,7 +6,6 @@ ghost use Rattle.hub.specs.Hub.{world, setting, is_taken, is_clean, failures_of}
 ghost use Rattle.hub.specs.World.{world_outputs, world_step};
 ghost use Rattle.lines.specs.declared.input_line.Line.TheVariants as line;
 ghost use Rattle.lines.specs.InputLines.{spelled};
-ghost use Rattle.lines.specs.OutputLines.{line_of};
 ghost use Rattle.replay.specs.Held.{IsLine};
 ghost use Rattle.replay.specs.Run.{Begins, IsOfHosted, IsStep, ended, answer, after, told_lines, bad_line};
 ghost use Rattle.replay.specs.declared.fault.LineFault.TheVariants as line_fault;
@@ -14,7 +13,7 @@ ghost use Rattle.replay.specs.declared.fault.LineFault.TheVariants as line_fault
 use crate::fault::LineFault;
 use hub::{Event, Hub, Out};
 use hub_rows::Store;
-use lines::{Line, print_out, read_line};
+use lines::{Line, add_line, read_line};
 use ocpp_types::{Mem, Text};
 use station_calls::VendorHandler;
 use std::alloc::{AllocError, Global};
@@ -135,18 +134,7 @@ fn push_all(text: &mut Vec<u8>, alloc: Global, outs: &[Out]) -> Mem<()>
     ensures err { OnErr result (Begins text.new.items (text.old.items ++ told_lines outs.now)) }
 {
     for out in outs {
-        push_line(text, alloc, out)?;
+        add_line(text, alloc, out)?;
     }
-    Ok(())
-}
-
-/// Adds an output's line, or nothing.
-fn push_line(text: &mut Vec<u8>, alloc: Global, out: &Out) -> Mem<()>
-    ensures ok { OnOk result (text.new.items ≡ text.old.items ++ ended (line_of out.now)) }
-    ensures err { OnErr result (text.new.items ≡ text.old.items) }
-{
-    let mut line = print_out(alloc, out)?;
-    line.push('\n')?;
-    text.extend_from_slice(line.as_bytes())?;
     Ok(())
 }

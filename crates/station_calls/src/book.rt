@@ -11,7 +11,7 @@ use ocpp_payload::{
     Authorize, Conf, DataTransfer, MeterValues, StartTransaction, StatusNotification,
     StopTransaction,
 };
-use ocpp_types::{BootNotification, Moment, TagKey};
+use ocpp_types::{BootNotification, Boxed, Moment, TagKey};
 use registry::{Decision, Reply, on_boot, on_heartbeat, on_status};
 use std::alloc::Global;
 
@@ -63,7 +63,7 @@ impl<S: Store, V: VendorHandler> CoreHandler for Book<S, V> {
         _op: &str,
         station: &str,
         registration: Registration,
-        request: BootNotification,
+        request: Boxed<BootNotification>,
         moment: Moment,
     ) -> Result<Decision, StoreFault> {
         Ok(on_boot(alloc, station, registration, request, moment)?)
@@ -104,7 +104,7 @@ impl<S: Store, V: VendorHandler> CoreHandler for Book<S, V> {
         alloc: Global,
         _op: &str,
         station: &str,
-        request: StatusNotification,
+        request: Boxed<StatusNotification>,
         moment: Moment,
     ) -> Result<Decision, StoreFault> {
         Ok(on_status(alloc, station, request, moment)?)

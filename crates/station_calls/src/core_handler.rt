@@ -17,7 +17,7 @@ use hub_rows::{Registration, StoreFault};
 use ocpp_payload::{
     Authorize, DataTransfer, MeterValues, StartTransaction, StatusNotification, StopTransaction,
 };
-use ocpp_types::{BootNotification, Moment};
+use ocpp_types::{BootNotification, Boxed, Moment};
 use registry::Decision;
 use std::alloc::Global;
 
@@ -58,7 +58,7 @@ pub trait CoreHandler {
         op: &str,
         station: &str,
         registration: Registration,
-        request: BootNotification,
+        request: Boxed<BootNotification>,
         moment: Moment,
     ) -> Result<Decision, StoreFault>
         ensures reads { OnlyReads rows failures clean self.old self.new (result ≡ Err store_fault.Failed) }
@@ -124,7 +124,7 @@ pub trait CoreHandler {
         alloc: Global,
         op: &str,
         station: &str,
-        request: StatusNotification,
+        request: Boxed<StatusNotification>,
         moment: Moment,
     ) -> Result<Decision, StoreFault>
         ensures reads { OnlyReads rows failures clean self.old self.new (result ≡ Err store_fault.Failed) }

@@ -387,7 +387,7 @@ impl Store for MemStore {
 
     fn apply(&mut self, change: &Change) -> Result<(), StoreFault> {
         let op = &change.op;
-        match &change.edit {
+        match change.edit.as_ref() {
             Edit::StationAdded {
                 station,
                 policy,

@@ -1,4 +1,4 @@
-use Rattle.std.proofs.Common.{subst}
+use Rattle.std.proofs.Common.{subst, sym, ◌∙◌}
 use Rattle.hub_rows.specs.declared.change.Edit.TheVariants.{TxStopped}
 use Rattle.hub_rows.specs.Changes.{EditFits}
 use Rattle.hub_rows.specs.Rows.{Rows}
@@ -12,5 +12,5 @@ add_readings-requires c =
     let rows : Rows = rows_in s.lists in
     let op = c.args.change.now.op in
     let t = c.in-TxStopped in
-    let fits : EditFits op (TxStopped t.station t.number t.stop t.first t.readings) rows = subst (λ e. EditFits op e rows) t.is (c.requires tt) in
+    let fits : EditFits op (TxStopped t.station t.number t.stop t.first t.readings) rows = subst (λ e. EditFits op e rows) (sym c.as_ref.ensures ∙ t.is) (c.requires tt) in
     (is_registered op t.station rows.stations (on_record-tx op t.station t.number rows s.good fits.0), rw c.as_slice.ensures fits.1)

@@ -1,0 +1,6 @@
+use Rattle.std.proofs.Common.{◌≡◌, ◌++◌, map}
+use Rattle.hub.specs.World.{said_to}
+use Rattle.hub.proofs.commit.push_said.Given as goal
+
+abbrev pub invariant-loop-said : goal.invariant-loop-said
+invariant-loop-said l = l.told.items ≡ l.fn.told.items ++ map (said_to l.op) l.yielded

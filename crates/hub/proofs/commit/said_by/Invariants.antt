@@ -1,6 +1,0 @@
-use Rattle.std.proofs.Common.{◌≡◌, map}
-use Rattle.hub.specs.World.{said_to}
-use Rattle.hub.proofs.commit.said_by.Given as goal
-
-abbrev pub invariant-loop-said : goal.invariant-loop-said
-invariant-loop-said l = l.outs.items ≡ map (said_to l.op) l.yielded

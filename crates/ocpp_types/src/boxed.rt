@@ -1,0 +1,56 @@
+//! Values behind a box that contracts see as the values themselves.
+ghost use Rattle.std.specs.Prelude.{◌≡◌, IfOk};
+
+use crate::memory::Mem;
+use std::alloc::{AllocError, Global};
+use std::marker::Model;
+
+/// A value on the heap. A contract sees it as the value. What is wide stands behind a box, so that the enums
+/// that may hold it stay small.
+#[derive(Drop)]
+pub struct Boxed<T> {
+    inner: Box<T>,
+}
+
+impl<T> Model for Boxed<T> {
+    ghost Value = { T };
+
+    ghost view = { λ b. b.inner.value };
+}
+
+impl<T> Boxed<T> {
+    /// The value, lent.
+    pub fn as_ref(&self) -> &T
+        ensures { result.now ≡ self.now }
+    {
+        &self.inner
+    }
+
+    /// The value, taken out.
+    pub fn into_inner(self) -> T
+        ensures { result ≡ self }
+    {
+        Box::into_inner(self.inner)
+    }
+}
+
+impl<T: Drop> Boxed<T> {
+    /// The value, moved to the heap.
+    pub fn new(alloc: Global, value: T) -> Mem<Boxed<T>>
+        ensures { IfOk result (λ b. b ≡ value) }
+    {
+        Ok(Boxed {
+            inner: Box::new(alloc, value)?,
+        })
+    }
+}
+
+impl<T: Clone> Clone for Boxed<T> {
+    ghost is_clone = { λ value copy. T.is_clone value copy };
+
+    fn clone(&self) -> Result<Boxed<T>, AllocError> {
+        Ok(Boxed {
+            inner: self.inner.clone()?,
+        })
+    }
+}
