@@ -24,13 +24,23 @@ pub enum Event {
 #[derive(Drop)]
 pub enum What {
     /// A station has connected.
-    Connect { station: Text },
+    Connect {
+        station: Text,
+    },
     /// A station's connection has ended.
-    Disconnect { station: Text },
+    Disconnect {
+        station: Text,
+    },
     /// A station has sent a text.
-    Frame { station: Text, text: Text },
+    Frame {
+        station: Text,
+        text: Text,
+    },
     /// The operator sends a command to a station.
-    Do { station: Text, command: Boxed<Command> },
+    Do {
+        station: Text,
+        command: Boxed<Command>,
+    },
     /// The operator edits its records.
     Admin(Admin),
     /// The operator asks for a list of its records.

@@ -11,6 +11,7 @@ mod out;
 mod plan;
 mod plans;
 mod row;
+mod sizes;
 mod table;
 
 pub use event::{Admin, Event, Listing, What};

@@ -157,11 +157,7 @@ fn apply<S: Store>(
 }
 
 /// Makes an edit of an operator's records, if there is one.
-fn edit_if_some<S: Store>(
-    store: &mut S,
-    op: &Text,
-    edit: Option<Boxed<Edit>>,
-) -> Result<(), Fault>
+fn edit_if_some<S: Store>(store: &mut S, op: &Text, edit: Option<Boxed<Edit>>) -> Result<(), Fault>
     requires { S.clean store.old → ForSome edit (λ e. EditFits op.now e (S.rows store.old)) }
     ensures counted { IsCounted S.failures S.clean store.old store.new (result ≡ Err Fault.Store) }
     ensures rows { S.clean store.new

@@ -14,7 +14,7 @@ pub fn add_line(text: &mut Vec<u8>, alloc: Global, out: &Out) -> Mem<()>
     ensures err { OnErr result (text.new.items ≡ text.old.items) }
 {
     let begun = text.len();
-    let added = add_pieces(text, alloc, out);
+    let added = add_ended(text, alloc, out);
     if added.is_err() {
         text.truncate(begun);
     }
@@ -22,13 +22,27 @@ pub fn add_line(text: &mut Vec<u8>, alloc: Global, out: &Out) -> Mem<()>
 }
 
 /// Adds the line of an output and a line feed. Without memory a part of it may be there.
-#[tactic(auto, using(hub_rows::proofs::Steps::begins), unfolding(crate::specs::OutputLines::line_of))]
-fn add_pieces(text: &mut Vec<u8>, alloc: Global, out: &Out) -> Mem<()>
+#[tactic(auto, using(hub_rows::proofs::Steps::begins))]
+fn add_ended(text: &mut Vec<u8>, alloc: Global, out: &Out) -> Mem<()>
     ensures ok { OnOk result (text.new.items ≡ text.old.items ++ (line_of out.now ++ (10 ∷ []))) }
     ensures err { OnErr result (take (length text.old.items) text.new.items ≡ text.old.items) }
 {
+    add_out(text, alloc, out)?;
+    text.push(b'\n')?;
+    Ok(())
+}
+
+/// Adds the line of an output, without a line feed.
+#[tactic(auto, using(hub_rows::proofs::Steps::begins), unfolding(crate::specs::OutputLines::line_of))]
+fn add_out(text: &mut Vec<u8>, alloc: Global, out: &Out) -> Mem<()>
+    ensures ok { OnOk result (text.new.items ≡ text.old.items ++ line_of out.now) }
+    ensures err { OnErr result (take (length text.old.items) text.new.items ≡ text.old.items) }
+{
     match &out.said {
-        Said::Send { station, text: sent } => add_send(text, &out.op, station, sent),
+        Said::Send {
+            station,
+            text: sent,
+        } => add_send(text, &out.op, station, sent),
         Said::Done { .. }
         | Said::Turned { .. }
         | Said::Refused(_)
@@ -36,16 +50,15 @@ fn add_pieces(text: &mut Vec<u8>, alloc: Global, out: &Out) -> Mem<()>
         | Said::Accepted { .. } => {
             let line = print_out(alloc, out)?;
             text.extend_from_slice(line.as_bytes())?;
-            text.push(b'\n')?;
             Ok(())
         }
     }
 }
 
-/// Adds `OP ST send TEXT` and a line feed.
+/// Adds `OP ST send TEXT`.
 #[tactic(auto, using(hub_rows::proofs::Steps::begins))]
 fn add_send(text: &mut Vec<u8>, op: &Text, station: &Text, sent: &Text) -> Mem<()>
-    ensures ok { OnOk result (text.new.items ≡ text.old.items ++ (said_line op.now (said.Send station.now sent.now) ++ (10 ∷ []))) }
+    ensures ok { OnOk result (text.new.items ≡ text.old.items ++ said_line op.now (said.Send station.now sent.now)) }
     ensures err { OnErr result (take (length text.old.items) text.new.items ≡ text.old.items) }
 {
     text.extend_from_slice(op.as_str().as_bytes())?;
@@ -53,6 +66,5 @@ fn add_send(text: &mut Vec<u8>, op: &Text, station: &Text, sent: &Text) -> Mem<(
     text.extend_from_slice(station.as_str().as_bytes())?;
     text.extend_from_slice(b" send ")?;
     text.extend_from_slice(sent.as_str().as_bytes())?;
-    text.push(b'\n')?;
     Ok(())
 }

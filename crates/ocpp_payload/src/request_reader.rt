@@ -111,7 +111,10 @@ fn start_transaction(alloc: Global, payload: &Value) -> Result<StartTransaction,
     })
 }
 
-fn status_notification(alloc: Global, payload: &Value) -> Result<Boxed<StatusNotification>, ReadError>
+fn status_notification(
+    alloc: Global,
+    payload: &Value,
+) -> Result<Boxed<StatusNotification>, ReadError>
     ensures { Gives result (status_notification (view payload.now)) }
 {
     let report = StatusNotification {

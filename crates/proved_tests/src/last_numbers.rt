@@ -6,8 +6,8 @@ ghost use Rattle.hub_rows.specs.Transactions.{AreNext};
 use crate::scripts::{events, hub_of, run};
 use hub_rows::{Change, Edit, Reading, Start, StartKey, Store, StoreFault};
 use ocpp_types::{
-    AuthorizationStatus, Boxed, Listed, Location, Measurand, Mem, Moment, Policy, ReadingContext, Refusal,
-    TagKey, Text, ValueFormat,
+    AuthorizationStatus, Boxed, Listed, Location, Measurand, Mem, Moment, Policy, ReadingContext,
+    Refusal, TagKey, Text, ValueFormat,
 };
 use pending_calls::Slots;
 use station_calls::Echo;
