@@ -10,7 +10,7 @@ import subprocess
 import sys
 import time
 
-from peer import Peer
+from peer import HEAD, Peer
 
 PORT = 9281
 TIME = re.compile(r"\d{4}-\d\d-\d\dT\d\d:\d\d:\d\dZ")
@@ -93,8 +93,12 @@ def check_statuses(checks):
 def check_turns(checks):
     began = time.monotonic()
     server = checks.serve("--operators", "ACME", "--turns", "1000000")
-    wait_for(PORT)
-    checks.check("1000000 turns: status", server.wait(60), 0)
+    try:
+        wait_for(PORT)
+        checks.check("1000000 turns: status", server.wait(60), 0)
+    finally:
+        server.kill()
+        server.wait()
     print(f"1000000 turns took {time.monotonic() - began:.1f} s")
 
 
@@ -121,11 +125,48 @@ def check_session(checks):
         server.wait()
 
 
+def check_handshakes(checks):
+    """Heads that come at once are answered without a wait."""
+    server = checks.serve("--operators", "ACME")
+    try:
+        wait_for(PORT)
+        streams = [socket.create_connection(("127.0.0.1", PORT), timeout=10) for _ in range(64)]
+        began = time.monotonic()
+        for stream in streams:
+            stream.sendall(HEAD.format("/operator/ACME").encode())
+        answered = [b" 101 " in stream.recv(4096) for stream in streams]
+        checks.check("64 handshakes", answered, [True] * 64)
+        checks.check("64 handshakes in less than a second", time.monotonic() - began < 1, True)
+    finally:
+        server.kill()
+        server.wait()
+
+
+def check_clock(checks):
+    """An event has the time at which it is taken, also after a wait."""
+    server = checks.serve("--operators", "ACME")
+    try:
+        wait_for(PORT)
+        Peer(PORT, "/operator/ACME").ask("station add CP01 Accepted 300")
+        station = Peer(PORT, "/ocpp/ACME/CP01")
+        station.ask('[2,"1","BootNotification",{"chargePointVendor":"V","chargePointModel":"M"}]')
+        for _ in range(4):
+            time.sleep(0.7)
+            sent = time.strftime("%Y-%m-%dT%H:%M:%SZ", time.gmtime())
+            answer = station.ask('[2,"2","Heartbeat",{}]')
+            checks.check("the time of a heartbeat", TIME.search(answer).group() >= sent, True)
+    finally:
+        server.kill()
+        server.wait()
+
+
 def main():
     checks = Checks(sys.argv[1])
     check_statuses(checks)
     check_turns(checks)
     check_session(checks)
+    check_handshakes(checks)
+    check_clock(checks)
     print(f"{checks.passed} passed, {checks.failed} failed")
     sys.exit(1 if checks.failed else 0)
 

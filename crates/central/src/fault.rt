@@ -18,6 +18,9 @@ pub enum RunFault {
     /// A socket isn't opened, or fails.
     #[error("Stream")]
     Stream,
+    /// The script of a station is out of its bounds.
+    #[error("Script")]
+    Script,
     /// The clock gives no moment.
     #[error("Clock")]
     Clock,

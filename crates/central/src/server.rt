@@ -27,7 +27,8 @@ struct Server<V> {
 }
 
 /// Serves, by records in memory that begin empty and by those handlers of vendors' messages. A fault of a
-/// turn is written to standard error as `fault NAME`, and the next turn follows.
+/// turn is written to standard error as `fault NAME`, and the next turn follows. Errors: operators that can't be
+/// hosted, a port that can't be listened on, a wait that fails, a clock without a moment, no memory at the start.
 pub fn serve<V: VendorHandler>(
     rt: &HostRuntime,
     options: ServeOptions,
@@ -36,8 +37,8 @@ pub fn serve<V: VendorHandler>(
     let turns = options.turns;
     let mut server = Server::new(rt, options, vendors)?;
     for _ in 0..turns.map_or(u64::MAX, u64::from) {
-        let moment = now(rt).ok_or(RunFault::Clock)?;
         server.wait(turns.is_none())?;
+        let moment = now(rt).ok_or(RunFault::Clock)?;
         server.turn(rt, moment);
     }
     Ok(())

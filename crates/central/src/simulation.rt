@@ -27,7 +27,7 @@ pub fn simulate(rt: &HostRuntime, options: &SimOptions) -> Result<(), RunFault> 
     let alloc = rt.alloc();
     let mut socket = connect(rt, options)?;
     let Ok(mut station) = Sim::new(alloc, script(alloc)?) else {
-        return Ok(());
+        return Err(RunFault::Script);
     };
     for _ in 0..MAX_DRIVES {
         if station.done() {

@@ -6,7 +6,8 @@ use std::net::TcpStream;
 
 /// A stream whose next bytes can be looked at, and are left for the next read.
 pub trait Peek {
-    /// Copies the next bytes, and says how many. It doesn't wait for any.
+    /// Copies the next bytes into `buf`, and says how many; 0 is the end of the stream. The stream doesn't
+    /// wait: where no byte is there the error is `WouldBlock`.
     fn peek(&self, buf: &mut [u8]) -> io::Result<usize>
         ensures at_most { ReadsAtMost result buf.new };
 }

@@ -5,6 +5,7 @@ use mio::net::{TcpListener, TcpStream};
 use mio::{Events, Interest, Poll, Token};
 use std::alloc::Global;
 use std::io;
+use std::io::ErrorKind;
 use std::net::Net;
 use std::rc::Rc;
 use std::time::Duration;
@@ -49,17 +50,22 @@ impl Streams {
         })
     }
 
-    /// Accepts one connection, if there is one. After an error, as where no descriptor is left, none is
-    /// accepted until the next wait.
+    /// Accepts one connection. `None` is that there is none. Errors: those of the system's accept, as where no
+    /// descriptor is left, and those of setting the connection up, which then is dropped. After a failed
+    /// accept none is tried until the next wait.
     pub fn accept(&mut self) -> io::Result<Option<ReadyStream>> {
         if !self.may_accept {
             return Ok(None);
         }
         match self.listener.accept() {
             Ok((stream, _address)) => Ok(Some(self.add(stream)?)),
-            Err(_) => {
+            Err(error) => {
                 self.may_accept = false;
-                Ok(None)
+                if error.kind() == ErrorKind::WouldBlock {
+                    Ok(None)
+                } else {
+                    Err(error)
+                }
             }
         }
     }
@@ -69,7 +75,6 @@ impl Streams {
         let place = self.free_place();
         let readiness = Rc::new(self.alloc, Readiness::new())?;
         let shared = Rc::clone(&readiness)?;
-        let interests = Interest::READABLE | Interest::WRITABLE;
         if place < self.readiness.len() {
             self.readiness[place] = shared;
         } else {
@@ -77,7 +82,7 @@ impl Streams {
         }
         self.poll
             .registry()
-            .register(&mut stream, Token(place), interests)?;
+            .register(&mut stream, Token(place), Interest::READABLE)?;
         Ok(ReadyStream::new(stream, readiness))
     }
 
@@ -99,7 +104,8 @@ impl Streams {
                 .any(|readiness| readiness.is_pending() && !is_gone(readiness))
     }
 
-    /// Waits for a report of the system, but no longer than that, and takes all that there are.
+    /// Waits for a report of the system, but no longer than that, and takes up to 1,024 reports; the others come
+    /// with the next wait. Errors: those of the system's wait. A signal is none.
     pub fn wait(&mut self, time: Duration) -> io::Result<()> {
         self.poll.poll(&mut self.events, Some(time))?;
         self.may_accept = true;

@@ -86,18 +86,23 @@ impl<T: Peek + Read + Write + Drop> Lobby<T> {
         hub: &mut Hub<S, V>,
         moment: Moment,
     ) -> Result<(), Fault> {
-        for n in 0..self.waiting.len() {
+        let mut n = 0_usize;
+        for _ in 0..self.waiting.len() {
             if n >= self.waiting.len() {
                 return Ok(());
             }
-            match self.next(alloc, n, moment)? {
-                Next::Wait => {}
-                Next::Drop => {
+            match self.next(alloc, n, moment) {
+                Ok(Next::Wait) => n = n.saturating_add(1),
+                Ok(Next::Drop) => {
                     let _dropped = self.waiting.swap_remove(n);
                 }
-                Next::Welcome(route) => {
+                Ok(Next::Welcome(route)) => {
                     let one = self.waiting.swap_remove(n);
                     gateway.welcome(hub, one.stream, route, moment)?;
+                }
+                Err(fault) => {
+                    let _dropped = self.waiting.swap_remove(n);
+                    return Err(Fault::from(fault));
                 }
             }
         }
