@@ -1,6 +1,6 @@
 """Writes a script of charging sessions: a start, five MeterValues of three readings, and a stop,
 at stations of two operators in turn. With --history, that many transactions of other stations are
-begun and stopped first.
+begun and stopped first, or with --own as well of the same stations.
 
     python3 bench/sessions.py --stations 100 --sessions 5000 > script
     python3 bench/sessions.py --stations 100 --sessions 570 --history 10000 > script
@@ -43,23 +43,30 @@ def old_stations(history):
         yield f"{START} {operator} connect {station}"
         boot = '"chargePointModel":"M","chargePointVendor":"V"'
         yield frame(operator, station, "b", "BootNotification", boot)
-    for i in range(history):
+    yield from ended(named, history)
+
+
+def ended(named, count):
+    """So many transactions of those stations in turn, begun and stopped."""
+    for i in range(count):
         operator, station = named[i % len(named)]
         number = i // len(named) + 1
         yield started(operator, station, f"OLD{i % 50}", i)
         yield stopped(operator, station, f"OLD{i % 50}", number, i + 1)
 
 
-def lines(stations, sessions, history):
+def lines(stations, sessions, history, own=False):
     for operator in OPERATORS:
         for i in range(50):
             yield f"{START} {operator} tag put OLD{i} - 0 -"
             yield f"{START} {operator} tag put TAG{i} - 0 -"
-    yield from old_stations(history)
+    yield from old_stations(0 if own else history)
     yield from stations_booted(stations, 0)
-    for session in range(sessions):
-        station = session % stations
-        operator, name = OPERATORS[station % 2], f"CP{station:05}"
+    named = [(OPERATORS[i % 2], f"CP{i:05}") for i in range(stations)]
+    before = history if own else 0
+    yield from ended(named, before)
+    for session in range(before, before + sessions):
+        operator, name = named[session % stations]
         number = session // stations + 1
         tag = f"TAG{session % 50}"
         yield started(operator, name, tag, session)
@@ -73,8 +80,9 @@ def main():
     parser.add_argument("--stations", type=int, default=100)
     parser.add_argument("--sessions", type=int, default=5000)
     parser.add_argument("--history", type=int, default=0)
+    parser.add_argument("--own", action="store_true")
     wanted = parser.parse_args()
-    for line in lines(wanted.stations, wanted.sessions, wanted.history):
+    for line in lines(wanted.stations, wanted.sessions, wanted.history, wanted.own):
         sys.stdout.write(line + "\n")
 
 

@@ -4,6 +4,7 @@ simulated station that an operator watches. Prints `N passed, M failed`.
     python3 checks/programs.py crates/central/out/central
 """
 
+import contextlib
 import re
 import socket
 import subprocess
@@ -51,8 +52,16 @@ class Checks:
         ran = subprocess.run([self.program, *words], capture_output=True, text=True, timeout=60)
         return ran.returncode, ran.stdout, ran.stderr
 
+    @contextlib.contextmanager
     def serve(self, *words):
-        return subprocess.Popen([self.program, "serve", "--port", str(PORT), *words])
+        """A server that listens, which is ended afterwards."""
+        server = subprocess.Popen([self.program, "serve", "--port", str(PORT), *words])
+        try:
+            wait_for(PORT)
+            yield server
+        finally:
+            server.kill()
+            server.wait()
 
     def ends(self, what, words, status, text):
         code, _, errors = self.run(*words.split(" "))
@@ -92,20 +101,13 @@ def check_statuses(checks):
 
 def check_turns(checks):
     began = time.monotonic()
-    server = checks.serve("--operators", "ACME", "--turns", "1000000")
-    try:
-        wait_for(PORT)
+    with checks.serve("--operators", "ACME", "--turns", "1000000") as server:
         checks.check("1000000 turns: status", server.wait(60), 0)
-    finally:
-        server.kill()
-        server.wait()
     print(f"1000000 turns took {time.monotonic() - began:.1f} s")
 
 
 def check_session(checks):
-    server = checks.serve("--operators", "ACME,BETA")
-    try:
-        wait_for(PORT)
+    with checks.serve("--operators", "ACME,BETA"):
         acme, beta = Peer(PORT, "/operator/ACME"), Peer(PORT, "/operator/BETA")
         checks.check("a station is added", acme.ask("station add CP01 Accepted 300"), "ACME ok")
         checks.check("a tag is put", acme.ask("tag put SIM1 - 0 -"), "ACME ok")
@@ -120,16 +122,11 @@ def check_session(checks):
         checks.check("its transaction", row.startswith('ACME row transaction CP01 1 1 "SIM1" Accepted 0 '), True)
         checks.check("the end of the list", acme.next(), "ACME ok")
         checks.check("another operator's list", beta.ask("list stations"), "BETA ok")
-    finally:
-        server.kill()
-        server.wait()
 
 
 def check_handshakes(checks):
     """Heads that come at once are answered without a wait."""
-    server = checks.serve("--operators", "ACME")
-    try:
-        wait_for(PORT)
+    with checks.serve("--operators", "ACME"):
         streams = [socket.create_connection(("127.0.0.1", PORT), timeout=10) for _ in range(64)]
         began = time.monotonic()
         for stream in streams:
@@ -137,16 +134,11 @@ def check_handshakes(checks):
         answered = [b" 101 " in stream.recv(4096) for stream in streams]
         checks.check("64 handshakes", answered, [True] * 64)
         checks.check("64 handshakes in less than a second", time.monotonic() - began < 1, True)
-    finally:
-        server.kill()
-        server.wait()
 
 
 def check_clock(checks):
     """An event has the time at which it is taken, also after a wait."""
-    server = checks.serve("--operators", "ACME")
-    try:
-        wait_for(PORT)
+    with checks.serve("--operators", "ACME"):
         Peer(PORT, "/operator/ACME").ask("station add CP01 Accepted 300")
         station = Peer(PORT, "/ocpp/ACME/CP01")
         station.ask('[2,"1","BootNotification",{"chargePointVendor":"V","chargePointModel":"M"}]')
@@ -155,9 +147,6 @@ def check_clock(checks):
             sent = time.strftime("%Y-%m-%dT%H:%M:%SZ", time.gmtime())
             answer = station.ask('[2,"2","Heartbeat",{}]')
             checks.check("the time of a heartbeat", TIME.search(answer).group() >= sent, True)
-    finally:
-        server.kill()
-        server.wait()
 
 
 def main():
