@@ -14,7 +14,7 @@ use Rattle.store_mem.specs.Groups.{name_key, all_of, AreGroups}
 use Rattle.store_mem.proofs.GroupLaws.{all_of-append, parts-found, set-without, without-mine}
 use Rattle.store_mem.proofs.RowLaws.{all-append, filter-all}
 
-all-passed : {R : Type 0} (t : R → Bool) (xs : List R) → AllByRecursion (λ r. t r ≡ true) (filter t xs)
+pub all-passed : {R : Type 0} (t : R → Bool) (xs : List R) → AllByRecursion (λ r. t r ≡ true) (filter t xs)
 all-passed t [] = tt
 all-passed t (x ∷ xs) =
     elim (t x) as (λ b. t x ≡ b → AllByRecursion (λ r. t r ≡ true) (cond b (x ∷ filter t xs) (filter t xs))) [

@@ -7,6 +7,8 @@ pub mod DroppedLaws
 pub mod TripleLaws
 pub mod ReceivedLaws
 pub mod GrantedLaws
+pub mod IndexedLaws
 pub mod OpenLaws
+pub mod StartLaws
 pub mod NewRows
 pub mod Named

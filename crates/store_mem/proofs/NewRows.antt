@@ -1,22 +1,18 @@
 -- New rows of one station, behind those that it has.
-use Rattle.std.specs.Prelude.{◌≡◌, ℕ, ◌+◌, ◌<◌, ◌≤◌, List, [], ◌∷◌, length, map, Bool, true, false, cond, Option, Some, None}
+use Rattle.std.specs.Prelude.{◌≡◌, ℕ, ◌+◌, ◌<◌, ◌≤◌, List, [], ◌∷◌, length, map, None}
 use Rattle.std.specs.List.{AllByRecursion}
 use Rattle.std.specs.List.Sorted.{IsStrictlySortedBy}
 use Rattle.std.specs.Str.{bytes_eq}
 use Rattle.std.specs.declared.cmp.Ordering.TheVariants.{Less}
-use Rattle.std.proofs.Common.{refl, sym, ◌∙◌, ap, subst, arith, ⊎_elim}
+use Rattle.std.proofs.Common.{refl, sym, ◌∙◌, subst, arith, ⊎_elim}
 use Rattle.hub_rows.specs.declared.tx_row.TxRow.{TxRow}
 use Rattle.hub_rows.specs.declared.reading_row.Reading.{Reading}
 use Rattle.hub_rows.specs.declared.reading_row.ReadingRow.{ReadingRow}
-use Rattle.hub_rows.specs.Keyed.{by_key, put, put_all, those, greatest}
-use Rattle.hub_rows.specs.Rows.{tx_key}
-use Rattle.hub_rows.specs.Transactions.{counts, reading_rows, readings_in, AreNext}
+use Rattle.hub_rows.specs.Keyed.{by_key, those, greatest}
+use Rattle.hub_rows.specs.Transactions.{reading_rows, readings_in, AreNext}
 use Rattle.hub_rows.proofs.ListLaws.{all-weaker, and-true}
-use Rattle.store_mem.specs.declared.open.OpenRow.{OpenRow}
-use Rattle.store_mem.specs.Open.{open_key, open_of, opens_of}
 use Rattle.store_mem.specs.ByStation.{number_key, AreOf}
 use Rattle.store_mem.proofs.StationRowsLaws.{number-less}
-use Rattle.store_mem.proofs.OpenLaws.{is_new, opens-put}
 
 -- numbers that follow the last are above it
 pub follows-above : (last first count : ℕ) → 1 ≤ count → AreNext last first count → last < first
@@ -36,33 +32,6 @@ one_tx b st o s r rows are its_op its_station same_op same_station =
 pub one_behind : (b st o s : List ℕ) (r : TxRow) (rows txs : List TxRow) → rows ≡ r ∷ [] → o ≡ b → s ≡ st → last_of b st txs < r.number → AllByRecursion (λ x. last_of o s txs < x.number) rows
 one_behind b st o s r rows txs are same_op same_station below =
     subst (AllByRecursion (λ x. last_of o s txs < x.number)) (sym are) (subst (λ p. last_of p s txs < r.number) (sym same_op) (subst (λ q. last_of b q txs < r.number) (sym same_station) below), tt)
-
--- what its tag's use makes of the list of uses
-is_some_of : (t : Bool) (x o : OpenRow) → Some o ≡ cond t (Some x) None → (t ≡ true) × (o ≡ x)
-is_some_of true x o e = (refl, same x o e)
-  where
-    same : (x o : OpenRow) → Some o ≡ Some x → o ≡ x
-    same x o e = cc
-is_some_of false x o e = absurd (cc)
-
-is_none_of : (t : Bool) (x : OpenRow) → None ≡ cond t (Some x) None → t ≡ false
-is_none_of true x e = absurd (cc)
-is_none_of false x e = refl
-
-module _ (b st : List ℕ) (r : TxRow) (txs rows now : List TxRow) (opens : List OpenRow) (its_op : r.op ≡ b) (its_station : r.station ≡ st) (are : rows ≡ r ∷ []) (more : now ≡ put_all (by_key tx_key) rows txs)
-    (sorted : IsStrictlySortedBy (by_key tx_key) txs) (below : last_of b st txs < r.number) (in_use : opens ≡ opens_of txs) where
-  opens_now : opens_of now ≡ cond (counts r) (put (by_key open_key) (open_of r) (opens_of txs)) (opens_of txs)
-  opens_now =
-      ap opens_of (more ∙ ap (λ rs. put_all (by_key tx_key) rs txs) are)
-      ∙ opens-put r txs sorted (is_new r txs (subst (λ p. last_of p r.station txs < r.number) (sym its_op) (subst (λ q. last_of b q txs < r.number) (sym its_station) below)))
-
-  pub used : (o : OpenRow) (found : Option OpenRow) → found ≡ cond (counts r) (Some (open_of r)) None → found ≡ Some o → put (by_key open_key) o opens ≡ opens_of now
-  used o found is some =
-      let both = is_some_of (counts r) (open_of r) o (sym some ∙ is) in
-      (λ i. put (by_key open_key) (both.1 i) (in_use i)) ∙ sym (opens_now ∙ ap (λ t. cond t (put (by_key open_key) (open_of r) (opens_of txs)) (opens_of txs)) both.0)
-
-  pub unused : (found : Option OpenRow) → found ≡ cond (counts r) (Some (open_of r)) None → found ≡ None → opens ≡ opens_of now
-  unused found is none = in_use ∙ sym (opens_now ∙ ap (λ t. cond t (put (by_key open_key) (open_of r) (opens_of txs)) (opens_of txs)) (is_none_of (counts r) (open_of r) (sym none ∙ is)))
 
 -- ---- readings
 

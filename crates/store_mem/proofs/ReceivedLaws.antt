@@ -19,7 +19,7 @@ use Rattle.store_mem.specs.Received.{receiver_key, is_of, AreReceived}
 
 -- ---- lists of which another is made
 
-map-filter : {R S : Type 0} (f : R → S) (t : S → Bool) (xs : List R) → map f (filter (λ r. t (f r)) xs) ≡ filter t (map f xs)
+pub map-filter : {R S : Type 0} (f : R → S) (t : S → Bool) (xs : List R) → map f (filter (λ r. t (f r)) xs) ≡ filter t (map f xs)
 map-filter f t [] = refl
 map-filter f t (x ∷ xs) =
     elim (t (f x)) as (λ b. map f (cond b (x ∷ filter (λ r. t (f r)) xs) (filter (λ r. t (f r)) xs)) ≡ cond b (f x ∷ filter t (map f xs)) (filter t (map f xs))) [
@@ -27,7 +27,7 @@ map-filter f t (x ∷ xs) =
       | false ↦ map-filter f t xs
     ]
 
-map-put : {R S : Type 0} (f : R → S) (cmp : S → S → Ordering) (r : R) (xs : List R) → map f (put (λ x y. cmp (f x) (f y)) r xs) ≡ put cmp (f r) (map f xs)
+pub map-put : {R S : Type 0} (f : R → S) (cmp : S → S → Ordering) (r : R) (xs : List R) → map f (put (λ x y. cmp (f x) (f y)) r xs) ≡ put cmp (f r) (map f xs)
 map-put f cmp r [] = refl
 map-put f cmp r (x ∷ xs) =
     elim (cmp (f r) (f x)) as (λ o. map f (match_ordering o (r ∷ x ∷ xs) (r ∷ xs) (x ∷ put (λ x y. cmp (f x) (f y)) r xs)) ≡ match_ordering o (f r ∷ f x ∷ map f xs) (f r ∷ map f xs) (f x ∷ put cmp (f r) (map f xs))) [

@@ -4,3 +4,5 @@ pub mod Groups
 pub mod Lists
 pub mod Open
 pub mod Received
+pub mod Indexed
+pub mod Starts

@@ -1,31 +1,39 @@
--- The transactions by which tags are in use.
-use Rattle.std.specs.Prelude.{ℕ, List, Bool, false, ◌&&◌, not, ◌==◌, map, filter, Option, Some, None}
+-- The open transactions, by their tags.
+use Rattle.std.specs.Prelude.{◌≡◌, ℕ, List, [], ◌∷◌, Bool, false, ◌&&◌, not, ◌==◌, map, Option, Some, None}
+use Rattle.std.specs.List.{list_any}
 use Rattle.std.specs.Str.{bytes_eq}
 use Rattle.hub_rows.specs.declared.tx_row.TxRow.{TxRow}
 use Rattle.hub_rows.specs.declared.tx_row.TxKey.{TxKey}
-use Rattle.hub_rows.specs.Keyed.{any_of, numbered_key}
-use Rattle.hub_rows.specs.Transactions.{counts}
+use Rattle.hub_rows.specs.Keyed.{those}
+use Rattle.store_mem.specs.declared.indexed.Indexed.{Indexed}
 use Rattle.store_mem.specs.declared.open.OpenRow.{OpenRow}
+use Rattle.store_mem.specs.Indexed.{rows_at, AreInPlace}
 
 abbrev pub open_key : OpenRow → List (List ℕ)
-open_key = numbered_key (λ o. o.op) (λ o. o.station) (λ o. o.number)
+open_key o = o.station ∷ (o.number ∷ []) ∷ []
 
 abbrev pub open_of : TxRow → OpenRow
-open_of r = record { op = r.op; station = r.station; number = r.number; key = r.start.id.key }
+open_of r = record { station = r.station; number = r.number }
 
--- those among all transactions
-abbrev pub opens_of : List TxRow → List OpenRow
-opens_of txs = map open_of (filter counts txs)
+-- the transaction of that number of a station
+abbrev pub is_open_tx : List ℕ → ℕ → OpenRow → Bool
+is_open_tx station number o = bytes_eq o.station station && o.number == number
 
 -- the transaction that is left out
 abbrev pub is_excepted : Option TxKey → OpenRow → Bool
 is_excepted None o = false
-is_excepted (Some k) o = bytes_eq o.station k.station && o.number == k.number
+is_excepted (Some k) o = is_open_tx k.station k.number o
 
--- a use of the tag of a key, by another transaction
-abbrev pub uses_tag : List ℕ → Option TxKey → OpenRow → Bool
-uses_tag key except o = bytes_eq o.key key && not (is_excepted except o)
+-- whether one of some transactions is not left out
+abbrev pub has_other : Option TxKey → List OpenRow → Bool
+has_other except opens = list_any (λ o. not (is_excepted except o)) opens
 
--- whether the tag of a key is in use at a station of operator b
-abbrev pub has_use : List ℕ → List ℕ → Option TxKey → List OpenRow → Bool
-has_use b key except opens = any_of (λ o. o.op) b (uses_tag key except) opens
+module _ (stands : TxRow → Bool) (name : TxRow → List ℕ) where
+  -- the transactions of operator b that stand under the name n
+  abbrev pub opens_of : List ℕ → List ℕ → List TxRow → List OpenRow
+  opens_of b n txs = map open_of (those (λ r. r.op) b (λ r. stands r && bytes_eq (name r) n) txs)
+
+  -- those among all transactions, under each name
+  pub record AreOpens (opens : List (Indexed OpenRow)) (txs : List TxRow) : Type 0 where
+    pub in_place : AreInPlace opens
+    pub each : (b n : List ℕ) → rows_at b n opens ≡ opens_of b n txs

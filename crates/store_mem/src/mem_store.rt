@@ -5,24 +5,27 @@ ghost use Rattle.hub_rows.specs.Keyed.{changed};
 ghost use Rattle.hub_rows.specs.Rows.{no_rows};
 ghost use Rattle.hub_rows.specs.WellFormed.{WellFormedRows};
 ghost use Rattle.hub_rows.specs.Changes.{edit, with_stop, EditFits};
-ghost use Rattle.hub_rows.specs.Transactions.{is_tx};
+ghost use Rattle.hub_rows.specs.Transactions.{counts, is_open, is_tx};
 ghost use Rattle.hub_rows.specs.declared.change.Edit.TheVariants.{StationAdded, BootSeen, PolicySet, ConnectorSeen, TagPut, TagDropped, GrantPut, GrantDropped, TxStarted, ReadingsAdded, ReservationPut, ReservationDropped, ListSet};
 ghost use Rattle.store_mem.specs.Lists.{rows_in, AreByStation, AreByOperator};
-ghost use Rattle.store_mem.specs.Open.{opens_of};
+ghost use Rattle.store_mem.specs.Open.{AreOpens};
+ghost use Rattle.store_mem.specs.Starts.{AreStarts};
 
 use crate::copies::{connectors_of, copies, own_copies};
 use crate::granted::{granted, granted_tag};
 use crate::groups::{put_in_group, rows_of_group};
+use crate::indexed::{Indexed, make_room_at, put_at, rows_at};
 use crate::lists::Lists;
 use crate::local_lists::{copy_of, local_list_of};
-use crate::open::{OpenRow, close, is_used};
+use crate::open::{OpenRow, close, close_tag, has_any, has_other, open_of, put_counted};
 use crate::readings::{add_readings, readings_of};
 use crate::reservations::{drop_named, drop_reservation, reservations_of, reserved_until};
 use crate::started::{start_tx, started};
-use crate::station_rows::{StationRows, last_number, rows_of};
+use crate::starts::{StartRow, number_of, start_of};
+use crate::station_rows::{last_number, rows_of};
 use crate::stations::{StationChange, change_station, registration_of};
 use crate::tags::{drop_tag, own_tag};
-use crate::transactions::{has_open, same_start, stop_tx, tx_state};
+use crate::transactions::{stop_tx, tx_state};
 use hub_rows::{
     Boot, Change, ConnectorReport, ConnectorRow, Edit, GrantRow, GrantedTag, Info, LastNumbers,
     ListRow, LocalList, Reading, ReadingRow, Registration, Reservation, ReservationId,
@@ -37,12 +40,18 @@ use std::alloc::Global;
 pub struct MemStore {
     alloc: Global,
     lists: Lists,
-    /// The transactions by which tags are in use.
-    opens: Vec<OpenRow>,
+    /// The transactions by which tags are in use, by the keys of the tags.
+    opens: Vec<Indexed<OpenRow>>,
+    /// The open transactions, by their stations.
+    open_at: Vec<Indexed<OpenRow>>,
+    /// The starts of each station's transactions, in the order of their times.
+    starts: Vec<Indexed<StartRow>>,
     ghost good: { WellFormedRows (rows_in lists) } by { Prim.hlevel props },
     ghost by_station: { AreByStation lists } by { Prim.hlevel props },
     ghost by_operator: { AreByOperator lists } by { Prim.hlevel props },
-    ghost in_use: { opens.items ≡ opens_of (rows_in lists).transactions } by { Prim.hlevel props },
+    ghost in_use: { AreOpens counts (λ r. r.start.id.key) opens.items (rows_in lists).transactions } by { Prim.hlevel props },
+    ghost opened: { AreOpens is_open (λ r. r.station) open_at.items (rows_in lists).transactions } by { Prim.hlevel props },
+    ghost started: { AreStarts starts.items (rows_in lists).transactions } by { Prim.hlevel props },
 }
 
 impl MemStore {
@@ -54,6 +63,8 @@ impl MemStore {
             alloc,
             lists: Lists::new(alloc),
             opens: Vec::new(alloc),
+            open_at: Vec::new(alloc),
+            starts: Vec::new(alloc),
         }
     }
 }
@@ -219,20 +230,20 @@ impl MemStore {
         ensures err { OnErr result (⟦<MemStore as Store>⟧.rows self.new ≡ ⟦<MemStore as Store>⟧.rows self.old) }
     {
         let row = started(op, station, number, start)?;
-        start_tx(
-            self.alloc,
-            &mut self.lists.transactions,
-            &mut self.opens,
-            op,
-            station,
-            row,
-        )?;
-        drop_named(
-            &mut self.lists.reservations,
-            op.as_str(),
-            station.as_str(),
-            start.reservation,
-        );
+        let start_row = start_of(&row)?;
+        let open_row = open_of(&row)?;
+        let used_row = open_of(&row)?;
+        let counts = row.counts();
+        let key = start.id.key.as_str();
+        make_room_at(self.alloc, &mut self.starts, op.as_str(), station.as_str())?;
+        make_room_at(self.alloc, &mut self.opens, op.as_str(), key)?;
+        make_room_at(self.alloc, &mut self.open_at, op.as_str(), station.as_str())?;
+        start_tx(self.alloc, &mut self.lists.transactions, op, station, row)?;
+        let (op, station) = (op.as_str(), station.as_str());
+        put_at(&mut self.starts, op, station, start_row);
+        put_counted(&mut self.opens, op, key, used_row, counts);
+        put_at(&mut self.open_at, op, station, open_row);
+        drop_named(&mut self.lists.reservations, op, station, start.reservation);
         Ok(())
     }
 
@@ -242,8 +253,15 @@ impl MemStore {
     {
         let op = op.as_str();
         let station = station.as_str();
+        close(&mut self.open_at, op, station, station, number);
+        close_tag(
+            &mut self.opens,
+            &self.lists.transactions,
+            op,
+            station,
+            number,
+        );
         stop_tx(&mut self.lists.transactions, op, station, number, stop);
-        close(&mut self.opens, op, station, number);
     }
 
     /// Adds readings behind those of their station.
@@ -302,7 +320,7 @@ impl Store for MemStore {
         key: &TagKey,
         except: &Option<TxKey>,
     ) -> Result<bool, StoreFault> {
-        Ok(is_used(&self.opens, op, key, except))
+        Ok(has_other(rows_at(&self.opens, op, key.as_str()), except))
     }
 
     fn same_start(
@@ -311,7 +329,7 @@ impl Store for MemStore {
         station: &str,
         start: &StartKey,
     ) -> Result<Option<u32>, StoreFault> {
-        Ok(same_start(&self.lists.transactions, op, station, start))
+        Ok(number_of(rows_at(&self.starts, op, station), start))
     }
 
     fn tx(&mut self, op: &str, station: &str, number: u32) -> Result<Option<TxState>, StoreFault> {
@@ -319,7 +337,7 @@ impl Store for MemStore {
     }
 
     fn has_open(&mut self, op: &str, station: &str) -> Result<bool, StoreFault> {
-        Ok(has_open(&self.lists.transactions, op, station))
+        Ok(has_any(rows_at(&self.open_at, op, station)))
     }
 
     fn last_numbers(&mut self, op: &str, station: &str) -> Result<LastNumbers, StoreFault> {

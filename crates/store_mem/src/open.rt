@@ -1,64 +1,70 @@
-//! The transactions by which tags are in use, in the order of their keys.
-ghost use Rattle.std.specs.Prelude.{◌≡◌, [], ◌∷◌, ◌==◌, ◌&&◌, IfOk};
+//! The open transactions, by their stations and by the keys of the tags in use.
+ghost use Rattle.std.specs.Prelude.{◌≡◌, ℕ, List, [], ◌∷◌, ◌&&◌, if◌then◌else◌, not, filter, option_map, None, IfOk};
 ghost use Rattle.std.specs.List.Sorted.{IsStrictlySortedBy};
 ghost use Rattle.std.specs.Str.{bytes_eq};
-ghost use Rattle.hub_rows.specs.Keyed.{by_key, without};
+ghost use Rattle.hub_rows.specs.Changes.{with_stop};
+ghost use Rattle.hub_rows.specs.Keyed.{by_key, changed, found, put};
 ghost use Rattle.hub_rows.specs.Places.{IsPlace};
-ghost use Rattle.store_mem.specs.Open.{open_key, open_of, has_use, uses_tag, is_excepted};
+ghost use Rattle.hub_rows.specs.Transactions.{counts, is_tx};
+ghost use Rattle.hub_rows.specs.Rows.{tx_key};
+ghost use Rattle.hub_rows.specs.declared.tx_row.Stop.{Stop};
+ghost use Rattle.store_mem.specs.ByStation.{all_rows, AreGrouped};
+ghost use Rattle.store_mem.specs.Indexed.{rows_at, AreInPlace, HasRoomAt};
+ghost use Rattle.store_mem.specs.Open.{open_key, open_of, has_other, is_excepted, is_open_tx, AreOpens};
 
-use hub_rows::{Keyed, TxKey, TxRow};
+use crate::indexed::{Indexed, put_at};
+use crate::station_rows::{StationRows, place_of_number, rows_of};
+use hub_rows::{Keyed, TxKey, TxRow, place_of_name};
 use ocpp_types::{Mem, TagKey, Text};
 use std::cmp::Ordering;
 
-/// An open transaction that began Accepted, and the key of its tag.
+/// An open transaction of an operator.
 #[derive(Drop)]
 pub struct OpenRow {
-    pub op: Text,
     pub station: Text,
     pub number: u32,
-    pub key: TagKey,
 }
 
 impl Keyed for OpenRow {
     ghost key = { open_key };
 
     fn compare(&self, other: &OpenRow) -> Ordering {
-        self.op
-            .cmp(&other.op)
-            .then(self.station.cmp(&other.station))
+        self.station
+            .cmp(&other.station)
             .then(self.number.cmp(&other.number))
     }
 }
 
-/// What is kept of a transaction while its tag is in use.
+/// What is kept of a transaction while it is open.
 pub fn open_of(row: &TxRow) -> Mem<OpenRow>
     ensures { IfOk result (λ o. o ≡ open_of row.now) }
 {
     Ok(OpenRow {
-        op: row.op.clone()?,
         station: row.station.clone()?,
         number: row.number,
-        key: row.start.id.key.clone()?,
     })
 }
 
-/// Whether the tag of a key is in use at a station of an operator.
-#[tactic(auto, using(hub_rows::proofs::Steps::drop_here))]
-pub fn is_used(opens: &[OpenRow], op: &str, key: &TagKey, except: &Option<TxKey>) -> bool
-    ensures { result ≡ has_use op.now key.now except.now opens.now }
+/// Whether one of some transactions is not the one left out. Of two, one is not.
+pub fn has_other(opens: &[OpenRow], except: &Option<TxKey>) -> bool
+    requires { IsStrictlySortedBy (by_key open_key) opens.now }
+    ensures { result ≡ has_other except.now opens.now }
 {
-    for row in opens {
-        if row.op.as_str() == op && is_use(row, key, except) {
-            return true;
-        }
+    match opens {
+        [] => false,
+        [row] => !is_left_out(row, except),
+        [_, _, ..] => true,
     }
-    false
 }
 
-fn is_use(row: &OpenRow, key: &TagKey, except: &Option<TxKey>) -> bool
-    ensures { result ≡ uses_tag key.now except.now row.now }
+/// Whether there is an open transaction.
+pub fn has_any(opens: &[OpenRow]) -> bool
+    ensures { result ≡ has_other None opens.now }
 {
-    row.key.as_str() == key.as_str() && !is_left_out(row, except)
+    match opens {
+        [] => false,
+        [_, ..] => true,
+    }
 }
 
 fn is_left_out(row: &OpenRow, except: &Option<TxKey>) -> bool
@@ -72,25 +78,93 @@ fn is_left_out(row: &OpenRow, except: &Option<TxKey>) -> bool
     }
 }
 
-/// Takes a transaction out, if it is there.
-pub fn close(opens: &mut Vec<OpenRow>, op: &str, station: &str, number: u32)
-    requires { IsStrictlySortedBy (by_key open_key) opens.old.items }
-    ensures { opens.new.items ≡ without (λ o. o.op) op.now (λ o. bytes_eq o.station station.now && o.number == number) opens.old.items }
+/// The key of a transaction's tag.
+fn tag_of<'a>(
+    groups: &'a [StationRows<TxRow>],
+    op: &str,
+    station: &str,
+    number: u32,
+) -> Option<&'a TagKey>
+    requires { AreGrouped (λ r. r.op) (λ r. r.station) (λ r. r.number) groups.now }
+    ensures { option_map (λ k. k.now) result
+        ≡ option_map (λ r. r.start.id.key) (found (λ r. r.op) op.now (is_tx station.now number) (all_rows groups.now)) }
 {
-    if let Ok(place) = place_of(opens, op, station, number) {
-        let _closed = opens.remove(place);
+    let rows = rows_of(groups, op, station);
+    match place_of_number(rows, number) {
+        Ok(place) => Some(&rows[place].start.id.key),
+        Err(_) => None,
     }
 }
 
-fn place_of(opens: &[OpenRow], op: &str, station: &str, number: u32) -> Result<usize, usize>
-    requires { IsStrictlySortedBy (by_key open_key) opens.now }
-    ensures { IsPlace open_key (op.now ∷ station.now ∷ (number ∷ []) ∷ []) opens.now result }
+/// Puts a transaction among those by which the tag of a key is in use, if it counts. There is room
+/// for it, so that it can't fail.
+pub fn put_counted(
+    opens: &mut Vec<Indexed<OpenRow>>,
+    op: &str,
+    key: &str,
+    row: OpenRow,
+    counts: bool,
+)
+    requires in_place { AreInPlace opens.old.items }
+    requires room { HasRoomAt op.now key.now opens.old.items }
+    requires sorted { IsStrictlySortedBy (by_key open_key) (rows_at op.now key.now opens.old.items) }
+    ensures in_place { AreInPlace opens.new.items }
+    ensures rows { (b n : List ℕ) → rows_at b n opens.new.items
+        ≡ (if bytes_eq op.now b && (counts && bytes_eq key.now n) then put (by_key open_key) row (rows_at b n opens.old.items) else rows_at b n opens.old.items) }
 {
-    opens.binary_search_by(|row| {
-        row.op
+    if counts {
+        put_at(opens, op, key, row);
+    }
+}
+
+/// Takes a transaction, which then is stopped, out of those by which its tag is in use.
+pub fn close_tag(
+    opens: &mut Vec<Indexed<OpenRow>>,
+    groups: &[StationRows<TxRow>],
+    op: &str,
+    station: &str,
+    number: u32,
+)
+    requires groups { AreGrouped (λ r. r.op) (λ r. r.station) (λ r. r.number) groups.now }
+    requires sorted { IsStrictlySortedBy (by_key tx_key) (all_rows groups.now) }
+    requires opens { AreOpens counts (λ r. r.start.id.key) opens.old.items (all_rows groups.now) }
+    ensures { (stop : Stop) → AreOpens counts (λ r. r.start.id.key) opens.new.items (changed (λ r. r.op) op.now (is_tx station.now number) (with_stop stop) (all_rows groups.now)) }
+{
+    if let Some(key) = tag_of(groups, op, station, number) {
+        close(opens, op, key.as_str(), station, number);
+    }
+}
+
+/// Takes a transaction out of those under a name, if it is there.
+pub fn close(opens: &mut Vec<Indexed<OpenRow>>, op: &str, name: &str, station: &str, number: u32)
+    requires in_place { AreInPlace opens.old.items }
+    requires sorted { IsStrictlySortedBy (by_key open_key) (rows_at op.now name.now opens.old.items) }
+    ensures in_place { AreInPlace opens.new.items }
+    ensures rows { (b n : List ℕ) → rows_at b n opens.new.items
+        ≡ (if bytes_eq op.now b && bytes_eq name.now n then filter (λ o. not (is_open_tx station.now number o)) (rows_at b n opens.old.items) else rows_at b n opens.old.items) }
+{
+    if let Ok(place) = place_of_name(opens.as_slice(), op, name) {
+        close_in(&mut opens[place].rows, station, number);
+    }
+}
+
+fn close_in(rows: &mut Vec<OpenRow>, station: &str, number: u32)
+    requires { IsStrictlySortedBy (by_key open_key) rows.old.items }
+    ensures { rows.new.items ≡ filter (λ o. not (is_open_tx station.now number o)) rows.old.items }
+{
+    if let Ok(place) = place_of(rows, station, number) {
+        let _closed = rows.remove(place);
+    }
+}
+
+fn place_of(rows: &[OpenRow], station: &str, number: u32) -> Result<usize, usize>
+    requires { IsStrictlySortedBy (by_key open_key) rows.now }
+    ensures { IsPlace open_key (station.now ∷ (number ∷ []) ∷ []) rows.now result }
+{
+    rows.binary_search_by(|row| {
+        row.station
             .as_str()
-            .cmp(op)
-            .then(row.station.as_str().cmp(station))
+            .cmp(station)
             .then(row.number.cmp(&number))
     })
 }

@@ -7,6 +7,6 @@ use Rattle.store_mem.proofs.open.place_of.Goals as goal
 
 pub returns : goal.returns
 returns c =
-    let k = c.args.op.now ∷ c.args.station.now ∷ (c.args.number ∷ []) ∷ [] in
-    placed open_key k c.args.opens.now c.binary_search_by.result c.requires c.binary_search_by.ensures.bound
+    let k = c.args.station.now ∷ (c.args.number ∷ []) ∷ [] in
+    placed open_key k c.args.rows.now c.binary_search_by.result c.requires c.binary_search_by.ensures.bound
     (c.binary_search_by.ensures.position (λ r. key_cmp (open_key r) k) (always_returns_same _ _ _ (λ a r f' called. search rules)))

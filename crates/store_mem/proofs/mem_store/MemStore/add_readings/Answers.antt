@@ -20,4 +20,6 @@ invariant_of-self c =
       by_station = (s.by_station.0, c.add_readings.ensures.groups);
       by_operator = s.by_operator;
       in_use = s.in_use;
+      started = s.started;
+      opened = s.opened;
     }

@@ -12,4 +12,6 @@ invariant_of-self c =
       by_station = s.by_station;
       by_operator = c.drop_tag.ensures.groups;
       in_use = s.in_use;
+      started = s.started;
+      opened = s.opened;
     }

@@ -16,4 +16,6 @@ invariant_of-self c =
       by_station = s.by_station;
       by_operator = s.by_operator;
       in_use = s.in_use;
+      started = s.started;
+      opened = s.opened;
     }

@@ -1,4 +1,4 @@
-use Rattle.std.proofs.Common.{subst, sym, ◌∙◌}
+use Rattle.std.proofs.Common.{sym, subst, ◌∙◌}
 use Rattle.hub_rows.specs.declared.change.Edit.TheVariants.{TxStopped}
 use Rattle.hub_rows.specs.Changes.{EditFits}
 use Rattle.hub_rows.specs.Rows.{Rows}

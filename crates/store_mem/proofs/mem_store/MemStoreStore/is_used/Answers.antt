@@ -1,13 +1,25 @@
-use Rattle.std.proofs.Common.{ap, sym, ◌∙◌}
+use Rattle.std.proofs.Common.{ap, sym, subst, ◌∙◌}
+use Rattle.std.specs.List.Sorted.{IsStrictlySortedBy}
+use Rattle.hub_rows.specs.Keyed.{by_key}
+use Rattle.hub_rows.specs.Transactions.{counts}
+use Rattle.store_mem.specs.Indexed.{rows_at}
 use Rattle.store_mem.specs.Lists.{rows_in}
-use Rattle.store_mem.specs.Open.{has_use}
-use Rattle.store_mem.proofs.OpenLaws.{used-opens}
+use Rattle.store_mem.specs.Open.{open_key, has_other}
+use Rattle.store_mem.proofs.OpenLaws.{sorted-opens, used-other}
 use Rattle.store_mem.proofs.mem_store.MemStoreStore.is_used.Goals as goal
 
-pub returns-clause-found : goal.returns-clause-found
-returns-clause-found c =
+pub has_other-requires : goal.has_other-requires
+has_other-requires c =
     let s = c.args.self.now in
     let b = c.args.op.now in
-    let key = c.args.key.now in
+    let key = c.as_str.result.now in
+    subst (IsStrictlySortedBy (by_key open_key)) (sym (c.rows_at.ensures ∙ ap (rows_at b key) c.deref.ensures.value ∙ s.in_use.each b key))
+    (sorted-opens counts (λ r. r.start.id.key) b key (rows_in s.lists).transactions s.good.transactions.sorted)
+
+pub returns-clause-found : goal.returns-clause-found
+returns-clause-found c = λ clean.
+    let s = c.args.self.now in
+    let b = c.args.op.now in
     let except = c.args.except.now in
-    λ _. c.is_used.ensures ∙ ap (has_use b key except) (c.deref.ensures.value ∙ s.in_use) ∙ sym (used-opens b key except ((rows_in s.lists).transactions))
+    c.has_other.ensures ∙ ap (has_other except) (c.rows_at.ensures ∙ (λ i. rows_at b (c.as_str.ensures i) (c.deref.ensures.value i)) ∙ s.in_use.each b c.args.key.now)
+    ∙ sym (used-other b c.args.key.now except (rows_in s.lists).transactions)
