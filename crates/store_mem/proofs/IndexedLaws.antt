@@ -1,18 +1,20 @@
 -- Rows kept once more by an operator and a name: what an edit of one group makes of all.
-use Rattle.std.specs.Prelude.{◌≡◌, ℕ, ◌+◌, ◌<◌, List, [], ◌∷◌, ◌++◌, take, drop, Bool, true, false, cond, ◌&&◌, find, None, Some, vec_len, vec_capacity}
-use Rattle.std.specs.List.{AllByRecursion}
+use Rattle.std.specs.Prelude.{◌≡◌, ℕ, ◌+◌, ◌<◌, List, [], ◌∷◌, ◌++◌, take, drop, Bool, true, false, cond, ◌&&◌, not, find, None, Some, vec_len, vec_capacity}
+use Rattle.std.specs.List.{AllByRecursion, remove}
 use Rattle.std.specs.List.Sorted.{IsStrictlySortedBy}
 use Rattle.std.specs.Ordering.{is_eq}
 use Rattle.std.specs.Str.{bytes_eq}
 use Rattle.std.specs.declared.cmp.Ordering.{Ordering}
 use Rattle.std.specs.declared.cmp.Ordering.TheVariants.{Less, Greater}
-use Rattle.std.proofs.Common.{refl, sym, ◌∙◌, ap, subst}
+use Rattle.std.proofs.Common.{refl, sym, ◌∙◌, ap, subst, add-one}
 use Rattle.std.proofs.Math.ListN.{set}
 use Rattle.std.proofs.lemmas.Bool.{and_parts}
 use Rattle.std.proofs.lemmas.List.{take-append-drop}
+use Rattle.std.proofs.lemmas.List.Kept.{IsStrictlySortedBy-filter}
 use Rattle.hub_rows.specs.Keyed.{key_cmp, by_key}
 use Rattle.hub_rows.specs.Places.{IsFoundAt, IsGapAt}
 use Rattle.hub_rows.proofs.ListLaws.{by_key_total, all-weaker, sorted-put, set_here, two_parts, head, same_text, text_itself}
+use Rattle.hub_rows.proofs.NameLaws.{filter-found}
 use Rattle.hub_rows.proofs.PlaceLaws.{find-passed, find-none, find-found, find-gap, put-gap}
 use Rattle.store_mem.specs.declared.indexed.Indexed.{Indexed}
 use Rattle.store_mem.specs.Indexed.{index_key, is_at, rows_or_none, rows_at, IsRoomAt, HasRoomAt, AreInPlace}
@@ -63,6 +65,27 @@ module _ {R : Type 0} (b n : List ℕ) where
 
     pub room-found : HasRoomAt b n ss → vec_len at.row.rows < vec_capacity at.row.rows
     room-found room = subst IsRoomAt (find-found index_key (b ∷ n ∷ []) (is_at b n) (λ s. two_parts s.op s.name b n) ss i at) room
+
+    -- it is taken out
+    removed : remove ss i ≡ take i ss ++ drop (i + 1) ss
+    removed = sym (ap (λ m. take i ss ++ drop m ss) (add-one i))
+
+    pub remove-in_place : AreInPlace ss → AreInPlace (remove ss i)
+    remove-in_place good =
+        subst AreInPlace (filter-found index_key (b ∷ n ∷ []) (is_at b n) (λ s. two_parts s.op s.name b n) ss i at) (IsStrictlySortedBy-filter (by_key index_key) (λ s. not (is_at b n s)) ss good)
+
+    pub remove-rows : at.row.rows.items ≡ [] → (c u : List ℕ) → rows_at c u (remove ss i) ≡ rows_at c u ss
+    remove-rows empty c u =
+        let t : Indexed R → Bool = is_at c u in
+        let is_old : t at.row ≡ (bytes_eq b c && bytes_eq n u) = tested at.row row_op row_name c u in
+        elim (bytes_eq b c && bytes_eq n u) as (λ z. (bytes_eq b c && bytes_eq n u) ≡ z → rows_at c u (remove ss i) ≡ rows_at c u ss) [
+          | true ↦ λ e.
+              let none = not_at Less refl c u e (take i ss) at.before in
+              ap rows_or_none (ap (find t) removed ∙ find-passed t (take i ss) (drop (i + 1) ss) none ∙ find-none t (drop (i + 1) ss) (not_at Greater refl c u e (drop (i + 1) ss) at.after))
+              ∙ sym (ap rows_or_none (ap (find t) at.split ∙ find-here t (take i ss) (drop (i + 1) ss) at.row none (is_old ∙ e)) ∙ empty)
+          | false ↦ λ e.
+              ap rows_or_none (ap (find t) removed ∙ sym (ap (find t) at.split ∙ find-skip t (take i ss) (drop (i + 1) ss) at.row (is_old ∙ e)))
+        ] refl
 
     module _ (s : Indexed R) (same_op : s.op ≡ at.row.op) (same_name : s.name ≡ at.row.name) where
       written : set ss i s ≡ take i ss ++ s ∷ drop (i + 1) ss

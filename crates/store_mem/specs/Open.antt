@@ -1,4 +1,4 @@
--- The open transactions, by their tags.
+-- The open transactions, by their stations and by the keys of the tags in use.
 use Rattle.std.specs.Prelude.{◌≡◌, ℕ, List, [], ◌∷◌, Bool, false, ◌&&◌, not, ◌==◌, map, Option, Some, None}
 use Rattle.std.specs.List.{list_any}
 use Rattle.std.specs.Str.{bytes_eq}

@@ -92,3 +92,16 @@ pub fn put_at<R: Keyed>(groups: &mut Vec<Indexed<R>>, op: &str, name: &str, row:
         Err(_) => unreachable!(),
     }
 }
+
+/// Takes the group of a name out, if no row is left in it.
+pub fn drop_if_empty<R: Drop>(groups: &mut Vec<Indexed<R>>, op: &str, name: &str)
+    requires { AreInPlace groups.old.items }
+    ensures in_place { AreInPlace groups.new.items }
+    ensures rows { (b n : List ℕ) → rows_at b n groups.new.items ≡ rows_at b n groups.old.items }
+{
+    if let Ok(place) = place_of_name(groups.as_slice(), op, name) {
+        if groups[place].rows.is_empty() {
+            let _empty = groups.remove(place);
+        }
+    }
+}

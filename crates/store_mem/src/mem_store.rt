@@ -17,7 +17,9 @@ use crate::groups::{put_in_group, rows_of_group};
 use crate::indexed::{Indexed, make_room_at, put_at, rows_at};
 use crate::lists::Lists;
 use crate::local_lists::{copy_of, local_list_of};
-use crate::open::{OpenRow, close, close_tag, has_any, has_other, open_of, put_counted};
+use crate::open::{
+    OpenRow, close, close_tag, has_any, has_other, make_room_if, open_of, put_counted,
+};
 use crate::readings::{add_readings, readings_of};
 use crate::reservations::{drop_named, drop_reservation, reservations_of, reserved_until};
 use crate::started::{start_tx, started};
@@ -236,7 +238,7 @@ impl MemStore {
         let counts = row.counts();
         let key = start.id.key.as_str();
         make_room_at(self.alloc, &mut self.starts, op.as_str(), station.as_str())?;
-        make_room_at(self.alloc, &mut self.opens, op.as_str(), key)?;
+        make_room_if(self.alloc, &mut self.opens, op.as_str(), key, counts)?;
         make_room_at(self.alloc, &mut self.open_at, op.as_str(), station.as_str())?;
         start_tx(self.alloc, &mut self.lists.transactions, op, station, row)?;
         let (op, station) = (op.as_str(), station.as_str());

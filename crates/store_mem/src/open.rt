@@ -1,5 +1,5 @@
 //! The open transactions, by their stations and by the keys of the tags in use.
-ghost use Rattle.std.specs.Prelude.{◌≡◌, ℕ, List, [], ◌∷◌, ◌&&◌, if◌then◌else◌, not, filter, option_map, None, IfOk};
+ghost use Rattle.std.specs.Prelude.{◌≡◌, ℕ, List, [], ◌∷◌, ◌&&◌, if◌then◌else◌, not, filter, option_map, true, None, IfOk, OnOk};
 ghost use Rattle.std.specs.List.Sorted.{IsStrictlySortedBy};
 ghost use Rattle.std.specs.Str.{bytes_eq};
 ghost use Rattle.hub_rows.specs.Changes.{with_stop};
@@ -12,10 +12,11 @@ ghost use Rattle.store_mem.specs.ByStation.{all_rows, AreGrouped};
 ghost use Rattle.store_mem.specs.Indexed.{rows_at, AreInPlace, HasRoomAt};
 ghost use Rattle.store_mem.specs.Open.{open_key, open_of, has_other, is_excepted, is_open_tx, AreOpens};
 
-use crate::indexed::{Indexed, put_at};
+use crate::indexed::{Indexed, drop_if_empty, make_room_at, put_at};
 use crate::station_rows::{StationRows, place_of_number, rows_of};
 use hub_rows::{Keyed, TxKey, TxRow, place_of_name};
 use ocpp_types::{Mem, TagKey, Text};
+use std::alloc::Global;
 use std::cmp::Ordering;
 
 /// An open transaction of an operator.
@@ -96,6 +97,26 @@ fn tag_of<'a>(
     }
 }
 
+/// Makes room for a transaction among those by which the tag of a key is in use, if it counts.
+pub fn make_room_if(
+    alloc: Global,
+    opens: &mut Vec<Indexed<OpenRow>>,
+    op: &str,
+    key: &str,
+    counts: bool,
+) -> Mem<()>
+    requires { AreInPlace opens.old.items }
+    ensures in_place { AreInPlace opens.new.items }
+    ensures rows { (b n : List ℕ) → rows_at b n opens.new.items ≡ rows_at b n opens.old.items }
+    ensures room { OnOk result (counts ≡ true → HasRoomAt op.now key.now opens.new.items) }
+{
+    if counts {
+        make_room_at(alloc, opens, op, key)
+    } else {
+        Ok(())
+    }
+}
+
 /// Puts a transaction among those by which the tag of a key is in use, if it counts. There is room
 /// for it, so that it can't fail.
 pub fn put_counted(
@@ -106,7 +127,7 @@ pub fn put_counted(
     counts: bool,
 )
     requires in_place { AreInPlace opens.old.items }
-    requires room { HasRoomAt op.now key.now opens.old.items }
+    requires room { counts ≡ true → HasRoomAt op.now key.now opens.old.items }
     requires sorted { IsStrictlySortedBy (by_key open_key) (rows_at op.now key.now opens.old.items) }
     ensures in_place { AreInPlace opens.new.items }
     ensures rows { (b n : List ℕ) → rows_at b n opens.new.items
@@ -135,7 +156,8 @@ pub fn close_tag(
     }
 }
 
-/// Takes a transaction out of those under a name, if it is there.
+/// Takes a transaction out of those under a name, if it is there, and their group when it was the
+/// last one.
 pub fn close(opens: &mut Vec<Indexed<OpenRow>>, op: &str, name: &str, station: &str, number: u32)
     requires in_place { AreInPlace opens.old.items }
     requires sorted { IsStrictlySortedBy (by_key open_key) (rows_at op.now name.now opens.old.items) }
@@ -145,6 +167,7 @@ pub fn close(opens: &mut Vec<Indexed<OpenRow>>, op: &str, name: &str, station: &
 {
     if let Ok(place) = place_of_name(opens.as_slice(), op, name) {
         close_in(&mut opens[place].rows, station, number);
+        drop_if_empty(opens, op, name);
     }
 }
 

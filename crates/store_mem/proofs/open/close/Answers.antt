@@ -12,18 +12,19 @@ close_in-requires c =
     let row = c.index_mut.ensures.value ∙ at.here c.index_mut.result.now in
     subst (IsStrictlySortedBy (by_key open_key)) (rows-found c.args.op.now c.args.name.now c.args.opens.now.items c.in-Ok.place at ∙ ap (λ s. s.rows.items) (sym row)) c.requires.sorted
 
-pub returns-in-Ok-clause-in_place : goal.returns-in-Ok-clause-in_place
-returns-in-Ok-clause-in_place c =
+pub drop_if_empty-requires : goal.drop_if_empty-requires
+drop_if_empty-requires c =
     let at = (rw c.as_slice.ensures.value at c.in-Ok.ensures) in
     let row = c.index_mut.ensures.value ∙ at.here c.index_mut.result.now in
     set-in_place c.args.op.now c.args.name.now c.args.opens.now.items c.in-Ok.place at (record { op = c.index_mut.result.now.op; name = c.index_mut.result.now.name; rows = c.close_in.new.rows }) (ap (λ s. s.op) row) (ap (λ s. s.name) row) c.requires.in_place
 
 pub returns-in-Ok-clause-rows : goal.returns-in-Ok-clause-rows
-returns-in-Ok-clause-rows c =
+returns-in-Ok-clause-rows c = λ b n.
     let at = (rw c.as_slice.ensures.value at c.in-Ok.ensures) in
     let row = c.index_mut.ensures.value ∙ at.here c.index_mut.result.now in
     let kept : List OpenRow → List OpenRow = filter (λ o. not (is_open_tx c.args.station.now c.args.number o)) in
-    set-rows c.args.op.now c.args.name.now c.args.opens.now.items c.in-Ok.place at (record { op = c.index_mut.result.now.op; name = c.index_mut.result.now.name; rows = c.close_in.new.rows }) (ap (λ s. s.op) row) (ap (λ s. s.name) row) kept (c.close_in.ensures ∙ ap (λ s. kept s.rows.items) row)
+    c.drop_if_empty.ensures.rows b n
+    ∙ set-rows c.args.op.now c.args.name.now c.args.opens.now.items c.in-Ok.place at (record { op = c.index_mut.result.now.op; name = c.index_mut.result.now.name; rows = c.close_in.new.rows }) (ap (λ s. s.op) row) (ap (λ s. s.name) row) kept (c.close_in.ensures ∙ ap (λ s. kept s.rows.items) row) b n
 
 pub returns-in_default-clause-rows : goal.returns-in_default-clause-rows
 returns-in_default-clause-rows c =

@@ -30,7 +30,7 @@ put_at-requires-2-clause-sorted c =
     let s = c.args.self.now in
     let b = c.as_str-op.result.now in
     let st = c.as_str-station.result.now in
-    subst (IsStrictlySortedBy (by_key open_key)) (sym (c.make_room_at-3.ensures.rows b st ∙ s.opened.each b st))
+    subst (IsStrictlySortedBy (by_key open_key)) (sym (c.make_room_at-2.ensures.rows b st ∙ s.opened.each b st))
     (sorted-opens is_open (λ r. r.station) b st (rows_in s.lists).transactions s.good.transactions.sorted)
 
 pub put_counted-requires-clause-sorted : goal.put_counted-requires-clause-sorted
@@ -38,7 +38,7 @@ put_counted-requires-clause-sorted c =
     let s = c.args.self.now in
     let b = c.as_str-op.result.now in
     let key = c.as_str-key.result.now in
-    subst (IsStrictlySortedBy (by_key open_key)) (sym (c.make_room_at-2.ensures.rows b key ∙ s.in_use.each b key))
+    subst (IsStrictlySortedBy (by_key open_key)) (sym (c.make_room_if.ensures.rows b key ∙ s.in_use.each b key))
     (sorted-opens counts (λ r. r.start.id.key) b key (rows_in s.lists).transactions s.good.transactions.sorted)
 
 pub returns-clause-ok : goal.returns-clause-ok
@@ -57,13 +57,13 @@ invariant_of-self-2 c =
       good = rw (c.in_ok-start_tx.ensures.ok, c.in_ok-row.ensures, c.drop_named.ensures, c.as_str-op.ensures, c.as_str-station.ensures) (well_formed-edit c.args.op.now (TxStarted c.args.station.now c.args.number c.args.start.now) rows s.good c.requires);
       by_station = (c.in_ok-start_tx.ensures.groups, s.by_station.1);
       by_operator = s.by_operator;
-      in_use = opens-started counts (λ r. r.start.id.key) c.as_str-op.result.now c.as_str-key.result.now c.counts-counts.result row c.in_ok-used_row.used_row rows.transactions _ c.make_room_at-2.new.groups.items c.put_counted.new.opens.items s.good.transactions.sorted
+      in_use = opens-started counts (λ r. r.start.id.key) c.as_str-op.result.now c.as_str-key.result.now c.counts-counts.result row c.in_ok-used_row.used_row rows.transactions _ c.make_room_if.new.opens.items c.put_counted.new.opens.items s.good.transactions.sorted
           (is_new row rows.transactions behind) c.in_ok-start_tx.ensures.ok its_op (ap (λ r. r.start.id.key) c.in_ok-row.ensures ∙ sym c.as_str-key.ensures) c.in_ok-used_row.ensures (sym c.counts-counts.ensures)
-          (record { in_place = c.make_room_at-2.ensures.in_place; each = λ b n. c.make_room_at-2.ensures.rows b n ∙ s.in_use.each b n })
+          (record { in_place = c.make_room_if.ensures.in_place; each = λ b n. c.make_room_if.ensures.rows b n ∙ s.in_use.each b n })
           c.put_counted.ensures.in_place c.put_counted.ensures.rows;
-      opened = opens-started is_open (λ r. r.station) c.as_str-op.result.now c.as_str-station.result.now true row c.in_ok-open_row.open_row rows.transactions _ c.make_room_at-3.new.groups.items c.put_at-2.new.groups.items s.good.transactions.sorted
+      opened = opens-started is_open (λ r. r.station) c.as_str-op.result.now c.as_str-station.result.now true row c.in_ok-open_row.open_row rows.transactions _ c.make_room_at-2.new.groups.items c.put_at-2.new.groups.items s.good.transactions.sorted
           (is_new row rows.transactions behind) c.in_ok-start_tx.ensures.ok its_op its_station c.in_ok-open_row.ensures (ap is_open c.in_ok-row.ensures)
-          (record { in_place = c.make_room_at-3.ensures.in_place; each = λ b n. c.make_room_at-3.ensures.rows b n ∙ s.opened.each b n })
+          (record { in_place = c.make_room_at-2.ensures.in_place; each = λ b n. c.make_room_at-2.ensures.rows b n ∙ s.opened.each b n })
           c.put_at-2.ensures.in_place c.put_at-2.ensures.rows;
       started = starts-started c.as_str-op.result.now c.as_str-station.result.now row c.in_ok-start_row.start_row rows.transactions _ c.make_room_at.new.groups.items c.put_at.new.groups.items s.good.transactions.sorted
           behind c.in_ok-start_tx.ensures.ok
