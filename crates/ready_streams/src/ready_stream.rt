@@ -7,11 +7,23 @@ use std::io;
 use std::io::{Error, ErrorKind, Read, Write};
 use std::rc::Rc;
 
+/// What a read may find.
+#[derive(Clone, Copy, Debug, PartialEq, Eq, Drop)]
+enum Expected {
+    /// Bytes, or the end of the stream.
+    Bytes,
+    /// No byte: the last read took all that were there. The reader may hold some of them.
+    Rest,
+    /// No byte: the last read has found none.
+    Nothing,
+}
+
 /// What is known of a stream.
 #[derive(Drop)]
 pub struct Readiness {
-    /// The system has reported bytes, and no read since has found none.
-    has_bytes: Cell<bool>,
+    expected: Cell<Expected>,
+    /// The peer sends no more, so reads go on up to the end of the stream.
+    is_ending: Cell<bool>,
     /// It has been read from.
     is_read: Cell<bool>,
 }
@@ -20,19 +32,51 @@ impl Readiness {
     /// That of a new stream.
     pub fn new() -> Readiness {
         Readiness {
-            has_bytes: Cell::new(true),
+            expected: Cell::new(Expected::Bytes),
+            is_ending: Cell::new(false),
             is_read: Cell::new(false),
         }
     }
 
-    /// The system reports bytes.
-    pub fn report(&self) {
-        self.has_bytes.set(true);
+    /// The system reports bytes, or the end of what the peer sends.
+    pub fn report(&self, is_ending: bool) {
+        self.expected.set(Expected::Bytes);
+        if is_ending {
+            self.is_ending.set(true);
+        }
     }
 
     /// Whether a reader may go on reading. Bytes that were only looked at don't count.
     pub fn is_pending(&self) -> bool {
-        self.is_read.get() && self.has_bytes.get()
+        self.is_read.get() && self.expected.get() != Expected::Nothing
+    }
+
+    /// Whether the next read asks the system. One that doesn't has found nothing.
+    fn asks(&self) -> bool {
+        self.is_read.set(true);
+        if self.expected.get() == Expected::Bytes {
+            return true;
+        }
+        self.expected.set(Expected::Nothing);
+        false
+    }
+
+    /// Keeps what a read into that much room tells. One that leaves room has taken all bytes that were there,
+    /// and the system reports those that come later (epoll(7), "Edge-triggered").
+    fn learn(&self, got: &io::Result<usize>, room: usize) {
+        match got {
+            Ok(0) => {}
+            Ok(len) => {
+                if *len < room && !self.is_ending.get() {
+                    self.expected.set(Expected::Rest);
+                }
+            }
+            Err(error) => {
+                if error.kind() == ErrorKind::WouldBlock {
+                    self.expected.set(Expected::Nothing);
+                }
+            }
+        }
     }
 }
 
@@ -52,16 +96,11 @@ impl ReadyStream {
 
 impl Read for ReadyStream {
     fn read(&mut self, buf: &mut [u8]) -> io::Result<usize> {
-        self.readiness.is_read.set(true);
-        if !self.readiness.has_bytes.get() {
+        if !self.readiness.asks() {
             return Err(Error::from(ErrorKind::WouldBlock));
         }
         let got = self.stream.read(buf);
-        if let Err(error) = &got {
-            self.readiness
-                .has_bytes
-                .set(error.kind() != ErrorKind::WouldBlock);
-        }
+        self.readiness.learn(&got, buf.len());
         got
     }
 }

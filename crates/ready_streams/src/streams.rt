@@ -25,6 +25,8 @@ pub struct Streams {
     listener: TcpListener,
     /// There may be a connection to accept.
     may_accept: bool,
+    /// The last accept failed, so that the system doesn't report again what waits.
+    has_failed: bool,
     /// By place. Nobody else has that of a stream that is gone.
     readiness: Vec<Rc<Readiness>>,
 }
@@ -46,6 +48,7 @@ impl Streams {
             events: Events::with_capacity(alloc, MAX_EVENTS)?,
             listener,
             may_accept: true,
+            has_failed: false,
             readiness: Vec::new(alloc),
         })
     }
@@ -62,10 +65,10 @@ impl Streams {
             Err(error) => {
                 self.may_accept = false;
                 if error.kind() == ErrorKind::WouldBlock {
-                    Ok(None)
-                } else {
-                    Err(error)
+                    return Ok(None);
                 }
+                self.has_failed = true;
+                Err(error)
             }
         }
     }
@@ -108,11 +111,14 @@ impl Streams {
     /// with the next wait. Errors: those of the system's wait. A signal is none.
     pub fn wait(&mut self, time: Duration) -> io::Result<()> {
         self.poll.poll(&mut self.events, Some(time))?;
-        self.may_accept = true;
+        self.may_accept |= self.has_failed;
+        self.has_failed = false;
         for event in &self.events {
-            let Token(place) = event.token();
-            if let Some(readiness) = self.readiness.get(place) {
-                readiness.report();
+            let token = event.token();
+            if token == LISTENER {
+                self.may_accept = true;
+            } else if let Some(readiness) = self.readiness.get(token.0) {
+                readiness.report(event.is_read_closed() || event.is_error());
             }
         }
         Ok(())
