@@ -21,6 +21,12 @@ abbrev pub of_kind : ErrorKind → Heard
 of_kind ErrorKind.WouldBlock = Heard.Nothing
 of_kind _ = Heard.Ends
 
+-- what a failed read means
+abbrev pub of_error : Error → Heard
+of_error (Error.Io e) = of_kind (error_kind e)
+of_error (Error.Capacity e) = Heard.TooLong
+of_error _ = Heard.Ends
+
 -- what a read gave
 abbrev pub heard_of : Result Message Error → Heard
 heard_of (Ok (Message.Text t)) = within_limit t
@@ -28,9 +34,7 @@ heard_of (Ok (Message.Binary b)) = Heard.Nothing
 heard_of (Ok (Message.Ping b)) = Heard.Nothing
 heard_of (Ok (Message.Pong b)) = Heard.Nothing
 heard_of (Ok (Message.Close frame)) = Heard.Ends
-heard_of (Err (Error.Io e)) = of_kind (error_kind e)
-heard_of (Err (Error.Capacity e)) = Heard.TooLong
-heard_of (Err e) = Heard.Ends
+heard_of (Err e) = of_error e
 
 module _ {T : Type 0} where
   -- what is left of a peer after a read that left its socket as `mid`, and the text handed on: a text that is

@@ -1,6 +1,6 @@
 //! What a read of a socket gave.
 ghost use Rattle.std.specs.Prelude.{◌≡◌};
-ghost use Rattle.ws_peers.specs.Reads.{heard_of};
+ghost use Rattle.ws_peers.specs.Reads.{heard_of, of_error};
 
 use std::io::ErrorKind;
 use tungstenite::{Error, Message, Utf8Bytes};
@@ -36,11 +36,20 @@ pub fn what_is_heard(gave: Result<Message, Error>) -> Heard
         }
         Ok(Message::Close(_)) => Heard::Ends,
         Ok(_) => Heard::Nothing,
-        Err(Error::Io(error)) => match error.kind() {
+        Err(error) => of_error(&error),
+    }
+}
+
+/// What a failed read means.
+fn of_error(error: &Error) -> Heard
+    ensures { result ≡ of_error error.now }
+{
+    match error {
+        Error::Io(fault) => match fault.kind() {
             ErrorKind::WouldBlock => Heard::Nothing,
             _ => Heard::Ends,
         },
-        Err(Error::Capacity(_)) => Heard::TooLong,
-        Err(_) => Heard::Ends,
+        Error::Capacity(_) => Heard::TooLong,
+        _ => Heard::Ends,
     }
 }
