@@ -1,7 +1,7 @@
 -- Lines whose bytes come in parts.
 use Rattle.std.proofs.Common.{arith, ◌≡◌, ◌∙◌, sym, ap, ◌+◌, ◌++◌, List, ℕ, [], ◌∷◌, length, drop, Bool, true, false, refl, append_assoc, length-append, append-nil}
 use Rattle.std.specs.Prelude.{Option, Some, None}
-use Rattle.std.specs.Io.KnownBytes.{Consumes, IsAtEnd, Keeps}
+use Rattle.std.specs.Io.KnownBytes.{Consumes, IsAtEnd}
 use Rattle.std.proofs.lemmas.List.Splits.{slice_split_at, slice_split_none}
 use Rattle.std.proofs.lemmas.List.Elements.{All-append}
 use Rattle.std.proofs.lemmas.List.{drop-drop}
@@ -19,11 +19,6 @@ after_feed buffer front rest start e =
 pub consumes_none : (input : Option (List ℕ)) → Consumes input input []
 consumes_none None = tt
 consumes_none (Some xs) = refl
-
-pub consumes_kept : (a b : Option (List ℕ)) → Keeps a b → Consumes a b []
-consumes_kept None b k = tt
-consumes_kept (Some x) None k = absurd k
-consumes_kept (Some x) (Some y) k = sym k
 
 pub consumes_both : (a b c : Option (List ℕ)) (xs ys : List ℕ) → Consumes a b xs → Consumes b c ys → Consumes a c (xs ++ ys)
 consumes_both None b c xs ys p q = tt

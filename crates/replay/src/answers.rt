@@ -7,7 +7,7 @@ ghost use Rattle.hub.specs.World.{world_outputs, world_step};
 ghost use Rattle.lines.specs.declared.input_line.Line.TheVariants as line;
 ghost use Rattle.lines.specs.InputLines.{spelled};
 ghost use Rattle.replay.specs.Held.{IsLine};
-ghost use Rattle.replay.specs.Run.{Begins, IsOfHosted, IsStep, ended, answer, after, told_lines, bad_line};
+ghost use Rattle.replay.specs.Run.{Begins, IsOfHosted, IsStep, answer, after, told_lines, bad_line};
 ghost use Rattle.replay.specs.declared.fault.LineFault.TheVariants as line_fault;
 
 use crate::fault::LineFault;
