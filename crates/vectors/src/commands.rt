@@ -1,43 +1,57 @@
 //! The tables of commands and of the answers to them.
 
 use anyhow::{Result, bail};
+use ocpp_frame::Payload;
 use ocpp_payload::FieldFault;
 use ocpp_types::Named;
 use operator_cmds::{
-    action_name_of, bad_field, is_accepted, read_answer, read_command, write_request,
+    Command, action_name_of, bad_field, is_accepted, read_answer, read_command, write_request,
 };
 use serde_json::Value;
 use std::alloc::Global;
 
 /// What a payload of that action gives: the request, or `bad` and the bad member, or `none`.
 pub fn command_sent(alloc: Global, action: &str, payload: &str) -> Result<String> {
-    let payload = Value::from_str(alloc, payload)?;
-    let Some(command) = read_command(alloc, action, &payload)? else {
-        return Ok("none".to_string(alloc)?);
-    };
-    if let Some(field) = bad_field(&command) {
-        let field = field.as_str();
-        return Ok(format!(in alloc; "bad {field}")?);
+    match command_of(alloc, action, payload)? {
+        Some(command) => request_told(alloc, &command),
+        None => Ok("none".to_string(alloc)?),
     }
-    let action = action_name_of(&command);
-    let request = write_request(alloc, &command)?.to_string(alloc)?;
-    Ok(format!(in alloc; "{action} {request}")?)
 }
 
 /// What is told of an answer to the command of that action and payload.
 pub fn answer_told(alloc: Global, action: &str, payload: &str, answer: &str) -> Result<String> {
+    match command_of(alloc, action, payload)? {
+        Some(command) => known_told(alloc, &command, answer),
+        None => bail!("no such command"),
+    }
+}
+
+fn command_of(alloc: Global, action: &str, payload: &str) -> Result<Option<Command>> {
     let payload = Value::from_str(alloc, payload)?;
-    let Some(command) = read_command(alloc, action, &payload)? else {
-        bail!("no such command");
-    };
+    Ok(read_command(alloc, action, &payload)?)
+}
+
+fn request_told(alloc: Global, command: &Command) -> Result<String> {
+    if let Some(field) = bad_field(command) {
+        let field = field.as_str();
+        return Ok(format!(in alloc; "bad {field}")?);
+    }
+    let action = action_name_of(command);
+    let request = write_request(alloc, command)?.to_string(alloc)?;
+    Ok(format!(in alloc; "{action} {request}")?)
+}
+
+fn known_told(alloc: Global, command: &Command, answer: &str) -> Result<String> {
     let answer = Value::from_str(alloc, answer)?;
-    match read_answer(alloc, &command, &answer)? {
-        Ok(known) => {
-            let known = known.as_value().to_string(alloc)?;
-            Ok(format!(in alloc; "Answer {known}")?)
-        }
+    match read_answer(alloc, command, &answer)? {
+        Ok(known) => payload_told(alloc, &known),
         Err(fault) => fault_told(alloc, &fault),
     }
+}
+
+fn payload_told(alloc: Global, known: &Payload) -> Result<String> {
+    let known = known.as_value().to_string(alloc)?;
+    Ok(format!(in alloc; "Answer {known}")?)
 }
 
 /// Whether the known members of an answer accept the command.
