@@ -65,7 +65,8 @@ pub fn command_accepted(alloc: Global, answer: &str) -> Result<String> {
     Ok(told.to_string(alloc)?)
 }
 
-fn fault_told(alloc: Global, fault: &FieldFault) -> Result<String> {
+/// The code and the member of a fault.
+pub fn fault_told(alloc: Global, fault: &FieldFault) -> Result<String> {
     let code = fault.code.name();
     let field = fault.field.as_str();
     Ok(format!(in alloc; "{code} {field}")?)

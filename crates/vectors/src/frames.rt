@@ -7,7 +7,12 @@ use std::alloc::Global;
 
 /// The frame that a text is: its kind and its parts, `|` between them.
 pub fn frame_read(alloc: Global, text: &str) -> Result<String> {
-    Ok(match read_frame(alloc, text)? {
+    let frame = read_frame(alloc, text)?;
+    frame_shown(alloc, &frame)
+}
+
+fn frame_shown(alloc: Global, frame: &Frame) -> Result<String> {
+    Ok(match frame {
         Frame::Call {
             id,
             action,
@@ -32,18 +37,25 @@ pub fn frame_read(alloc: Global, text: &str) -> Result<String> {
 
 /// The text of a frame of that kind and those parts, as `frame_read` has them.
 pub fn frame_written(alloc: Global, kind: &str, parts: &[String]) -> Result<String> {
-    Ok(match (kind, parts) {
+    match (kind, parts) {
         ("Call", [id, action, payload]) => {
-            let payload = Value::from_str(alloc, payload.as_str())?;
-            write_call(alloc, id.as_str(), action.as_str(), payload)?
+            call_written(alloc, id.as_str(), action.as_str(), payload.as_str())
         }
-        ("CallResult", [id, payload]) => {
-            let payload = Value::from_str(alloc, payload.as_str())?;
-            write_result(alloc, id.as_str(), payload)?
-        }
+        ("CallResult", [id, payload]) => result_written(alloc, id.as_str(), payload.as_str()),
         ("CallError", [id, code, description]) => {
-            write_error(alloc, id.as_str(), code.as_str(), description.as_str())?
+            let description = description.as_str();
+            Ok(write_error(alloc, id.as_str(), code.as_str(), description)?)
         }
         _ => bail!("no such frame"),
-    })
+    }
+}
+
+fn call_written(alloc: Global, id: &str, action: &str, payload: &str) -> Result<String> {
+    let payload = Value::from_str(alloc, payload)?;
+    Ok(write_call(alloc, id, action, payload)?)
+}
+
+fn result_written(alloc: Global, id: &str, payload: &str) -> Result<String> {
+    let payload = Value::from_str(alloc, payload)?;
+    Ok(write_result(alloc, id, payload)?)
 }

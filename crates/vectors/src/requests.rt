@@ -1,5 +1,6 @@
 //! The table of requests.
 
+use crate::commands::fault_told;
 use anyhow::{Result, bail};
 use ocpp_payload::{Action, read_request};
 use ocpp_types::Named;
@@ -14,10 +15,6 @@ pub fn request_read(alloc: Global, action: &str, payload: &str) -> Result<String
     let payload = Value::from_str(alloc, payload)?;
     match read_request(alloc, action, &payload)? {
         Ok(_request) => Ok("read".to_string(alloc)?),
-        Err(fault) => {
-            let code = fault.code.name();
-            let field = fault.field.as_str();
-            Ok(format!(in alloc; "{code} {field}")?)
-        }
+        Err(fault) => fault_told(alloc, &fault),
     }
 }
