@@ -6,7 +6,7 @@ use Rattle.std.specs.List.{AllByRecursion}
 use Rattle.std.specs.List.Sorted.{IsStrictlySortedBy}
 use Rattle.std.specs.Ordering.{is_eq}
 use Rattle.std.specs.declared.cmp.Ordering.TheVariants.{Less}
-use Rattle.std.proofs.lemmas.List.{take-append-drop}
+use Rattle.std.proofs.lemmas.List.{take-append-drop, set-get_or}
 use Rattle.hub_rows.proofs.Steps.{drop_here}
 use Rattle.hub_rows.specs.Keyed.{by_key, key_cmp, put, pair_key}
 use Rattle.hub_rows.specs.Places.{IsFoundAt, IsGapAt}
@@ -114,6 +114,14 @@ changed-first test f slots i at old new is made =
 pub ok_then : {A E : Type 0} (P Q : Type 0) (r : Result A E) → (P → Q) → OnOk r P → OnOk r Q
 ok_then P Q (Ok a) f p = f p
 ok_then P Q (Err e) f p = p
+
+pub err_then : {A E : Type 0} (P Q : Type 0) (r : Result A E) → (P → Q) → OnErr r P → OnErr r Q
+err_then P Q (Ok a) f p = p
+err_then P Q (Err e) f p = f p
+
+-- what was read is written back
+pub written_back : {R : Type 0} (xs : List R) (i : ℕ) (old new : R) → old ≡ get_or xs i old → new ≡ old → set xs i new ≡ xs
+written_back xs i old new is same = ap (set xs i) (same ∙ is) ∙ set-get_or xs i old
 
 pub same_key_either : {A E K S : Type 0} (key : S → K) (r : Result A E) (old new changed : S) → OnOk r (new ≡ changed) → OnErr r (new ≡ old) → key changed ≡ key old → key new ≡ key old
 same_key_either key (Ok a) old new changed ok err same = ap key ok ∙ same

@@ -3,7 +3,7 @@
 use ocpp_types::{Moment, Text};
 
 /// A call to a station, as its end is told.
-#[derive(Debug, Drop)]
+#[derive(Drop)]
 pub struct Call<C> {
     /// The operator of the station.
     pub op: Text,
@@ -17,7 +17,7 @@ pub struct Call<C> {
 }
 
 /// A text that goes to a station.
-#[derive(Debug, Drop)]
+#[derive(Drop)]
 pub struct Message {
     /// The operator of the station.
     pub op: Text,
@@ -28,7 +28,7 @@ pub struct Message {
 }
 
 /// A call that ended, and the text of the call that is sent next at its station, if one waited.
-#[derive(Debug, Drop)]
+#[derive(Drop)]
 pub struct Moved<C> {
     /// The call that ended.
     pub ended: Call<C>,
@@ -37,7 +37,7 @@ pub struct Moved<C> {
 }
 
 /// A call that was sent, and when.
-#[derive(Debug, Drop)]
+#[derive(Drop)]
 pub struct InFlight<C> {
     /// The call.
     pub call: Call<C>,
@@ -46,7 +46,7 @@ pub struct InFlight<C> {
 }
 
 /// A call that waits, and its text.
-#[derive(Debug, Drop)]
+#[derive(Drop)]
 pub struct Waiting<C> {
     /// The call.
     pub call: Call<C>,

@@ -8,7 +8,7 @@ use std::marker::Model;
 
 /// Calls that ended all at once, in their order: first the one in flight, then those that waited.
 /// They are handed out as they were kept, which takes no memory.
-#[derive(Debug, Drop)]
+#[derive(Drop)]
 pub struct Ended<C> {
     in_flight: Option<InFlight<C>>,
     waiting: Vec<Waiting<C>>,

@@ -1,6 +1,6 @@
 //! The calls of one station.
 ghost use Rattle.std.specs.Prelude.{◌≡◌, ◌≤◌, length, option_map, IsOk, IfOk, OnOk, OnErr, OnSome, IfNone};
-ghost use Rattle.pending_calls.specs.Slot.{IsSlot, most_calls, fresh, ready, call_in_flight, submitted, sent_now, moved_on, move, is_answered, answered, answer_move, is_overdue, expired, expiry, cut, ended_calls, with_connection};
+ghost use Rattle.pending_calls.specs.Slot.{IsSlot, most_calls, fresh, ready, call_of, message_of, call_in_flight, submitted, sent_now, moved_on, move, is_answered, answered, answer_move, is_overdue, expired, expiry, cut, ended_calls, with_connection};
 
 use crate::call::{Call, InFlight, Message, Moved, Waiting};
 use crate::ended::Ended;
@@ -21,7 +21,7 @@ const LAST_NUMBER: u32 = 2147483647;
 const ANSWER_SECONDS: u64 = 30;
 
 /// The calls of one station.
-#[derive(Debug, Drop)]
+#[derive(Drop)]
 pub struct Slot<C> {
     op: Text,
     station: Text,
@@ -196,6 +196,39 @@ impl<C: Drop> Slot<C> {
         ended
     }
 
+    /// The next call, with that command.
+    fn next_call(&self, command: C) -> Mem<Call<C>>
+        ensures { IfOk result (λ call. call ≡ call_of self.now self.now.next_number command) }
+    {
+        let op = self.op.clone()?;
+        let station = self.station.clone()?;
+        Ok(Call {
+            op,
+            station,
+            number: self.next_number,
+            command,
+        })
+    }
+
+    /// A message to the station.
+    fn message(&self, text: Text) -> Mem<Message>
+        ensures { IfOk result (λ message. message ≡ message_of self.now text) }
+    {
+        let op = self.op.clone()?;
+        let station = self.station.clone()?;
+        Ok(Message { op, station, text })
+    }
+
+    /// The next call, with the text that it will be sent as.
+    fn next(&self, command: C, text: Text) -> Mem<Waiting<C>>
+        ensures call { IfOk result (λ next. next.call ≡ call_of self.now self.now.next_number command) }
+        ensures message { IfOk result (λ next. next.message ≡ message_of self.now text) }
+    {
+        let message = self.message(text)?;
+        let call = self.next_call(command)?;
+        Ok(Waiting { call, message })
+    }
+
     /// A call that is sent at `moment` where none is in flight, and else waits.
     pub fn submit(&mut self, command: C, text: Text, moment: Moment) -> Mem<Option<Message>>
         requires { IsOk (ready self.old) }
@@ -203,23 +236,14 @@ impl<C: Drop> Slot<C> {
         ensures ok { OnOk result (self.new ≡ submitted command text moment self.old) }
         ensures err { OnErr result (self.new ≡ self.old) }
     {
-        let call = Call {
-            op: self.op.clone()?,
-            station: self.station.clone()?,
-            number: self.next_number,
-            command,
-        };
-        let message = Message {
-            op: self.op.clone()?,
-            station: self.station.clone()?,
-            text,
-        };
+        let next = self.next(command, text)?;
         if self.in_flight.is_none() {
+            let Waiting { call, message } = next;
             self.in_flight = Some(InFlight { call, sent: moment });
             self.next_number += 1;
             return Ok(Some(message));
         }
-        self.waiting.push(Waiting { call, message })?;
+        self.waiting.push(next)?;
         self.next_number += 1;
         Ok(None)
     }

@@ -175,7 +175,6 @@ impl<C: Drop> Slots<C> {
 
     /// At how many stations the call in flight is overdue at `moment`: it was sent 30 seconds
     /// before, or more. It takes no memory.
-    #[tactic(auto, using(hub_rows::proofs::Steps::drop_here))]
     pub fn due(&self, moment: Moment) -> usize
         ensures { result ≡ count_by (is_overdue moment) (all_slots self.now) }
     {

@@ -1,4 +1,4 @@
-use Rattle.std.proofs.Common.{sym, ap, ◌∙◌}
+use Rattle.std.proofs.Common.{refl, sym, ap, ◌∙◌}
 use Rattle.pending_calls.specs.Slot.{answered, answer_move}
 use Rattle.pending_calls.specs.SlotList.{slot_key}
 use Rattle.pending_calls.proofs.Places.{slot-here, changed-here, slot-gap, changed-gap, sorted-written, answered_key}
@@ -32,3 +32,6 @@ pub returns-in-Err-clause-list : goal.returns-in-Err-clause-list
 returns-in-Err-clause-list g c =
     let gap = (rw c.deref.ensures.value at c.in-Err.ensures) in
     sym (changed-gap c.args.op.now c.args.station.now c.args.self.now.list.items c.in-Err.field-0 (answered c.args.id.now c.args.moment) gap)
+
+pub returns-in-Ok-clause-number : goal.returns-in-Ok-clause-number
+returns-in-Ok-clause-number g c = refl

@@ -1,7 +1,7 @@
 use Rattle.std.proofs.Common.{◌≡◌, sym, refl, subst, false, true, IsOk, IfOk}
 use Rattle.pending_calls.specs.Slot.{ready, submitted, sent_now}
 use Rattle.pending_calls.specs.SlotList.{slot_key}
-use Rattle.pending_calls.proofs.Places.{slot-here, changed-here, slot-gap, sorted-written, ok_then, same_key_either}
+use Rattle.pending_calls.proofs.Places.{slot-here, changed-here, slot-gap, sorted-written, ok_then, err_then, written_back, same_key_either}
 use Rattle.pending_calls.proofs.slots.Slots.submit.Goals as goal
 
 pub submit-requires : goal.submit-requires
@@ -36,3 +36,11 @@ returns-clause-ok g c =
     let at = (rw c.deref.ensures.value at c.in-Ok.ensures) in
     let f = submitted c.args.command c.args.text c.args.moment in
     ok_then _ _ c.submit.result (changed-here c.args.op.now c.args.station.now s.list.items c.in-Ok.place f at c.index_mut-slot.result.now c.submit.new.self c.index_mut-slot.ensures.value) c.submit.ensures.ok
+
+pub returns-clause-err : goal.returns-clause-err
+returns-clause-err g c =
+    let old = c.index_mut-slot.result.now in
+    err_then _ _ c.submit.result (written_back c.args.self.now.list.items c.in-Ok.place old c.submit.new.self c.index_mut-slot.ensures.value) c.submit.ensures.err
+
+pub returns-clause-number : goal.returns-clause-number
+returns-clause-number g c = refl
