@@ -39,17 +39,24 @@ pub struct SimOptions {
 /// also the answer to `--help` and to `--version`.
 pub fn read(alloc: Global, words: &[String]) -> Result<Plan, Error> {
     let matches = central(alloc)?.try_get_matches_from(words)?;
+    match plan_of(alloc, &matches)? {
+        Some(plan) => Ok(plan),
+        None => Err(central(alloc)?.error(ErrorKind::MissingSubcommand, "no command")?),
+    }
+}
+
+fn plan_of(alloc: Global, matches: &ArgMatches) -> Result<Option<Plan>, Error> {
     if let Some(found) = matches.subcommand_matches("replay") {
         let operators = parts(alloc, found.get_str("operators"))?;
-        return Ok(Plan::Replay { operators });
+        return Ok(Some(Plan::Replay { operators }));
     }
     if let Some(found) = matches.subcommand_matches("serve") {
-        return Ok(Plan::Serve(serve_options(alloc, found)?));
+        return Ok(Some(Plan::Serve(serve_options(alloc, found)?)));
     }
     if let Some(found) = matches.subcommand_matches("sim") {
-        return Ok(Plan::Sim(sim_options(alloc, found)?));
+        return Ok(Some(Plan::Sim(sim_options(alloc, found)?)));
     }
-    Err(central(alloc)?.error(ErrorKind::MissingSubcommand, "no command")?)
+    Ok(None)
 }
 
 fn serve_options(alloc: Global, found: &ArgMatches) -> Result<ServeOptions, Error> {
@@ -84,13 +91,20 @@ fn invalid(alloc: Global, reason: &str) -> Result<Error, AllocError> {
 }
 
 fn central<'a>(alloc: Global) -> Result<Command<'a>, AllocError> {
-    Command::new(alloc, "central")
+    let central = Command::new(alloc, "central")
         .version("0.1.0")
         .about("A central system for charging stations of several operators (OCPP 1.6 JSON)")
-        .subcommand_required(true)
-        .subcommand(replay_command(alloc)?)?
-        .subcommand(serve_command(alloc)?)?
-        .subcommand(sim_command(alloc)?)
+        .subcommand_required(true);
+    let central = with(central, replay_command(alloc))?;
+    let central = with(central, serve_command(alloc))?;
+    with(central, sim_command(alloc))
+}
+
+fn with<'a>(
+    central: Command<'a>,
+    command: Result<Command<'a>, AllocError>,
+) -> Result<Command<'a>, AllocError> {
+    central.subcommand(command?)
 }
 
 fn replay_command<'a>(alloc: Global) -> Result<Command<'a>, AllocError> {

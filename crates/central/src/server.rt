@@ -36,12 +36,7 @@ pub fn serve<V: VendorHandler>(
 ) -> Result<(), RunFault> {
     let turns = options.turns;
     let mut server = Server::new(rt, options, vendors)?;
-    for _ in 0..turns.map_or(u64::MAX, u64::from) {
-        server.wait(turns.is_none())?;
-        let moment = now(rt).ok_or(RunFault::Clock)?;
-        server.turn(rt, moment);
-    }
-    Ok(())
+    server.run(rt, turns)
 }
 
 impl<V: VendorHandler> Server<V> {
@@ -63,6 +58,16 @@ impl<V: VendorHandler> Server<V> {
             lobby: Lobby::new(alloc)?,
             streams: Streams::new(alloc, rt, listener)?,
         })
+    }
+
+    /// Makes that many turns, without waiting, or goes on until it is ended.
+    fn run(&mut self, rt: &HostRuntime, turns: Option<u32>) -> Result<(), RunFault> {
+        for _ in 0..turns.map_or(u64::MAX, u64::from) {
+            self.wait(turns.is_none())?;
+            let moment = now(rt).ok_or(RunFault::Clock)?;
+            self.turn(rt, moment);
+        }
+        Ok(())
     }
 
     /// Takes the system's reports on streams. It waits for one where nothing can be done without.

@@ -3,10 +3,12 @@
 use crate::clock::now;
 use crate::command::SimOptions;
 use crate::fault::RunFault;
+use http::Request;
 use http::header::{HeaderName, HeaderValue};
 use ocpp_types::{Mem, Text};
 use station_sim::{Drove, Script, Sim, drive};
 use std::alloc::Global;
+use std::io;
 use std::net::TcpStream;
 use std::time::Duration;
 use tungstenite::handshake::client::{client, request_of};
@@ -24,20 +26,30 @@ type Socket<'a> = WebSocket<TcpStream, RandomKeys<&'a HostRuntime>>;
 /// Runs one charging session over a new connection, and prints each message: a call as `> CALL`, a text
 /// of the server as `< TEXT`, and what it is answered as `> REPLY`.
 pub fn simulate(rt: &HostRuntime, options: &SimOptions) -> Result<(), RunFault> {
-    let alloc = rt.alloc();
     let mut socket = connect(rt, options)?;
-    let Ok(mut station) = Sim::new(alloc, script(alloc)?) else {
-        return Err(RunFault::Script);
-    };
+    run(rt, &mut socket)?;
+    let _closed = socket.close(None);
+    Ok(())
+}
+
+fn run(rt: &HostRuntime, socket: &mut Socket<'_>) -> Result<(), RunFault> {
+    let alloc = rt.alloc();
+    match Sim::new(alloc, script(alloc)?) {
+        Ok(mut station) => drive_all(rt, &mut station, socket),
+        Err(_) => Err(RunFault::Script),
+    }
+}
+
+/// Drives a station until its session has ended.
+fn drive_all(rt: &HostRuntime, station: &mut Sim, socket: &mut Socket<'_>) -> Result<(), RunFault> {
     for _ in 0..MAX_DRIVES {
         if station.done() {
             break;
         }
         let moment = now(rt).ok_or(RunFault::Clock)?;
-        let drove = drive(&mut station, &mut socket, moment)?;
+        let drove = drive(station, socket, moment)?;
         print(rt, &drove)?;
     }
-    let _closed = socket.close(None);
     Ok(())
 }
 
@@ -58,10 +70,24 @@ fn script(alloc: Global) -> Mem<Script> {
 
 fn connect<'a>(rt: &'a HostRuntime, options: &SimOptions) -> Result<Socket<'a>, RunFault> {
     let alloc = rt.alloc();
-    let SimOptions { port, path } = options;
-    let stream = TcpStream::connect(rt, ("127.0.0.1", *port))?;
+    let request = request_to(alloc, options)?;
+    let stream = stream_to(rt, options.port)?;
+    match client(alloc, rt, request, stream) {
+        Ok((socket, _response)) => Ok(socket),
+        Err(_) => Err(RunFault::Stream),
+    }
+}
+
+fn stream_to(rt: &HostRuntime, port: u16) -> io::Result<TcpStream> {
+    let stream = TcpStream::connect(rt, ("127.0.0.1", port))?;
     stream.set_read_timeout(Some(Duration::from_secs(PATIENCE)))?;
     stream.set_nodelay(true)?;
+    Ok(stream)
+}
+
+/// The request of the handshake, which offers the subprotocol of OCPP-J 1.6, section 3.1.2.
+fn request_to(alloc: Global, options: &SimOptions) -> Result<Request<()>, RunFault> {
+    let SimOptions { port, path } = options;
     let uri = format!(in alloc; "ws://127.0.0.1:{port}{path}")?;
     let Ok(mut request) = request_of(alloc, uri.as_str()) else {
         return Err(RunFault::Stream);
@@ -71,10 +97,7 @@ fn connect<'a>(rt: &'a HostRuntime, options: &SimOptions) -> Result<Socket<'a>, 
     if request.headers_mut().insert(name, value).is_err() {
         return Err(RunFault::NoMemory);
     }
-    match client(alloc, rt, request, stream) {
-        Ok((socket, _response)) => Ok(socket),
-        Err(_) => Err(RunFault::Stream),
-    }
+    Ok(request)
 }
 
 fn print(rt: &HostRuntime, drove: &Drove) -> Result<(), RunFault> {

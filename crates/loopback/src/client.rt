@@ -110,16 +110,23 @@ impl Client {
     pub fn next(&mut self, alloc: Global) -> Result<String> {
         match mem::replace(&mut self.link, Link::Gone) {
             Link::Asking(stream) => self.next_of_head(alloc, stream),
-            Link::Open(mut socket) => {
-                let read = socket.read();
-                self.link = Link::Open(socket);
-                match read {
-                    Ok(message) => describe(alloc, &message),
-                    Err(error) if is_silence(&error) => Ok("silent".to_string(alloc)?),
-                    Err(_) => Ok("ended".to_string(alloc)?),
-                }
-            }
+            Link::Open(socket) => self.next_of_socket(alloc, socket),
             Link::Gone => Ok("gone".to_string(alloc)?),
+        }
+    }
+
+    fn next_of_socket(
+        &mut self,
+        alloc: Global,
+        socket: WebSocket<TcpStream, SampleKey>,
+    ) -> Result<String> {
+        let mut socket = socket;
+        let read = socket.read();
+        self.link = Link::Open(socket);
+        match read {
+            Ok(message) => describe(alloc, &message),
+            Err(error) if is_silence(&error) => Ok("silent".to_string(alloc)?),
+            Err(_) => Ok("ended".to_string(alloc)?),
         }
     }
 

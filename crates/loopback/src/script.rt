@@ -20,6 +20,16 @@ pub struct Tally {
     pub failed: u64,
 }
 
+impl Tally {
+    fn count(&mut self, passes: bool) {
+        if passes {
+            self.passed = self.passed.saturating_add(1);
+        } else {
+            self.failed = self.failed.saturating_add(1);
+        }
+    }
+}
+
 /// One script as it goes.
 #[derive(Drop)]
 struct Script {
@@ -38,20 +48,10 @@ pub fn check_all(rt: &HostRuntime, text: &str) -> Result<Tally> {
     let mut script = Script::new(rt)?;
     for (place, line) in text.lines().enumerate() {
         let number = place.saturating_add(1);
-        if line.is_empty() || line.starts_with('#') {
-            continue;
-        }
         if line.starts_with("== ") {
             script = Script::new(rt)?;
-            continue;
-        }
-        let wrong = script.run(rt, line).context(format_args!("line {number}"))?;
-        match wrong {
-            None => tally.passed = tally.passed.saturating_add(1),
-            Some(got) => {
-                tally.failed = tally.failed.saturating_add(1);
-                println!(rt; "line {number}\n  wanted {line}\n  got    {got}")?;
-            }
+        } else if !line.is_empty() && !line.starts_with('#') {
+            tally.count(script.passes(rt, number, line)?);
         }
     }
     Ok(tally)
@@ -65,6 +65,16 @@ impl Script {
             clients: Vec::new(rt.alloc()),
             stations: Vec::new(rt.alloc()),
         })
+    }
+
+    /// Whether a line gives what it is to give; if not, prints what it gave.
+    fn passes(&mut self, rt: &HostRuntime, number: usize, line: &str) -> Result<bool> {
+        let wrong = self.run(rt, line).context(format_args!("line {number}"))?;
+        let Some(got) = wrong else {
+            return Ok(true);
+        };
+        println!(rt; "line {number}\n  wanted {line}\n  got    {got}")?;
+        Ok(false)
     }
 
     /// Runs one line. `Some` is what it gave in place of what it is to give.
@@ -240,26 +250,25 @@ impl Script {
         size: &str,
         is_binary: bool,
     ) -> Result<Option<String>> {
-        let alloc = self.alloc;
-        let text = letters(alloc, size)?;
-        let mut message = Some(if is_binary {
-            Message::Binary(bytes_of(alloc, text.as_str())?)
-        } else {
-            Message::text(alloc, text.as_str())?
-        });
+        let message = message_of(self.alloc, size, is_binary)?;
+        let mut is_sent = client_of(&mut self.clients, name)?.send(message);
         for _ in 0..10_000 {
-            let client = client_of(&mut self.clients, name)?;
-            let is_sent = match message.take() {
-                Some(message) => client.send(message),
-                None => client.flush(),
-            };
             if is_sent {
                 return Ok(None);
             }
             self.turn(rt)?;
+            is_sent = client_of(&mut self.clients, name)?.flush();
         }
-        Ok(Some("not sent".to_string(alloc)?))
+        Ok(Some("not sent".to_string(self.alloc)?))
     }
+}
+
+fn message_of(alloc: Global, size: &str, is_binary: bool) -> Result<Message> {
+    let text = letters(alloc, size)?;
+    if is_binary {
+        return Ok(Message::Binary(bytes_of(alloc, text.as_str())?));
+    }
+    Ok(Message::text(alloc, text.as_str())?)
 }
 
 /// The last client of that name.

@@ -1,7 +1,7 @@
 //! The server's end: a hub in memory, and its gateway.
 
 use anyhow::{Result, bail};
-use hub::{Fault, Hub, Out};
+use hub::{Event, Fault, Hub, Out};
 use lines::{Line, print_out, read_line};
 use ocpp_types::{Mem, Moment, Text};
 use station_calls::Echo;
@@ -26,20 +26,18 @@ impl Server {
     /// A server with no records and no connection, on a port that the system chooses.
     pub fn new(rt: &HostRuntime) -> Result<Server> {
         let alloc = rt.alloc();
-        let mut vendors = Vec::new(alloc);
-        vendors.push(Echo { alloc })?;
-        let store = MemStore::new(alloc);
-        let Ok(hub) = Hub::new(alloc, store, operators(alloc)?, vendors) else {
-            bail!("bad operators");
-        };
+        let moment = moment_at(alloc, 0)?;
+        let listener = listen(rt, 0)?;
+        let operators = operators(alloc)?;
+        let lobby = Lobby::new(alloc)?;
         Ok(Server {
             alloc,
-            operators: operators(alloc)?,
-            hub,
+            operators,
+            hub: hub(alloc)?,
             gateway: Gateway::new(alloc),
-            lobby: Lobby::new(alloc)?,
-            listener: listen(rt, 0)?,
-            moment: moment_at(alloc, 0)?,
+            lobby,
+            listener,
+            moment,
         })
     }
 
@@ -82,13 +80,17 @@ impl Server {
     }
 
     fn outputs(&mut self, line: &str) -> Result<Vec<Out>> {
+        let event = self.event(line)?;
+        Ok(self.hub.handle(&event)?)
+    }
+
+    fn event(&self, line: &str) -> Result<Event> {
         let seconds = self.moment.seconds();
         let line = format!(in self.alloc; "{seconds} {line}")?;
-        let Line::Event(event) = read_line(self.alloc, self.operators.as_slice(), line.as_bytes())?
-        else {
-            bail!("bad line {line}");
-        };
-        Ok(self.hub.handle(&event)?)
+        match read_line(self.alloc, self.operators.as_slice(), line.as_bytes())? {
+            Line::Event(event) => Ok(event),
+            Line::Nothing | Line::Bad => bail!("bad line {line}"),
+        }
     }
 
     /// Accepts one connection, if there is one.
@@ -108,6 +110,16 @@ impl Server {
         self.lobby
             .serve(self.alloc, &mut self.gateway, &mut self.hub, self.moment)?;
         self.gateway.turn(&mut self.hub, self.moment)
+    }
+}
+
+fn hub(alloc: Global) -> Result<Hub<MemStore, Echo>> {
+    let operators = operators(alloc)?;
+    let mut vendors = Vec::new(alloc);
+    vendors.push(Echo { alloc })?;
+    match Hub::new(alloc, MemStore::new(alloc), operators, vendors) {
+        Ok(hub) => Ok(hub),
+        Err(_) => bail!("bad operators"),
     }
 }
 
