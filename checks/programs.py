@@ -11,7 +11,7 @@ import subprocess
 import sys
 import time
 
-from peer import HEAD, Peer
+from peer import HEAD, Peer, frame
 
 PORT = 9281
 TIME = re.compile(r"\d{4}-\d\d-\d\dT\d\d:\d\d:\d\dZ")
@@ -149,6 +149,31 @@ def check_clock(checks):
             checks.check("the time of a heartbeat", TIME.search(answer).group() >= sent, True)
 
 
+def check_arrivals(checks):
+    """However bytes arrive, what they hold is served without a wait."""
+    beat = frame('[2,"2","Heartbeat",{}]')
+    echo = '[2,"3","DataTransfer",{"vendorId":"org.example.echo","data":"' + "x" * 10000 + '"}]'
+    with checks.serve("--operators", "ACME"):
+        acme = Peer(PORT, "/operator/ACME")
+        acme.ask("station add CP01 Accepted 300")
+        station = Peer(PORT, "/ocpp/ACME/CP01")
+        station.ask('[2,"1","BootNotification",{"chargePointVendor":"V","chargePointModel":"M"}]')
+        began = time.monotonic()
+        station.stream.sendall(beat * 3)
+        checks.check("calls in one segment", [station.next()[:5] for _ in range(3)], ['[3,"2'] * 3)
+        checks.check("a text longer than a read", station.ask(echo)[:6], '[3,"3"')
+        station.stream.sendall(beat[:9])
+        time.sleep(0.1)
+        station.stream.sendall(beat[9:])
+        checks.check("a call in two segments", station.next()[:5], '[3,"2')
+        checks.check("arrivals in less than half a second", time.monotonic() - began < 0.5, True)
+        station.stream.sendall(beat)
+        station.stream.shutdown(socket.SHUT_WR)
+        time.sleep(0.3)
+        answer = acme.ask("call CP01 ClearCache {}")
+        checks.check("the end of a stream", answer, "ACME refused 7 NotConnected")
+
+
 def main():
     checks = Checks(sys.argv[1])
     check_statuses(checks)
@@ -156,6 +181,7 @@ def main():
     check_session(checks)
     check_handshakes(checks)
     check_clock(checks)
+    check_arrivals(checks)
     print(f"{checks.passed} passed, {checks.failed} failed")
     sys.exit(1 if checks.failed else 0)
 
