@@ -10,6 +10,7 @@ what idle connections cost the server.
 """
 
 import argparse
+import itertools
 import os
 import select
 import shlex
@@ -32,18 +33,19 @@ def heartbeats(station):
 
 
 def sessions(station):
-    while True:
+    for meter in itertools.count(0, 10):
         answer = yield (
-            '[2,"1","StartTransaction",{"connectorId":1,"idTag":"T%d","meterStart":0,"timestamp":"%s"}]'
-            % (station, TIME)
+            '[2,"1","StartTransaction",{"connectorId":1,"idTag":"T%d","meterStart":%d,"timestamp":"%s"}]'
+            % (station, meter, TIME)
         )
         number = int(answer.split('"transactionId":')[1].split("}")[0])
         for reading in range(5):
             yield '[2,"1","MeterValues",{"connectorId":1,"transactionId":%d,"meterValue":[%s]}]' % (
                 number,
-                READING % (TIME, reading),
+                READING % (TIME, meter + reading),
             )
-        yield '[2,"1","StopTransaction",{"meterStop":9,"transactionId":%d,"timestamp":"%s"}]' % (
+        yield '[2,"1","StopTransaction",{"meterStop":%d,"transactionId":%d,"timestamp":"%s"}]' % (
+            meter + 9,
             number,
             TIME,
         )

@@ -54,7 +54,7 @@ def tries(name):
         shutil.copytree(BODIES / name, place)
         return subprocess.run(["rt", "must-fail", name], cwd=ROOT).returncode == 0
     finally:
-        shutil.rmtree(place)
+        shutil.rmtree(place, ignore_errors=True)
         if kept.is_dir():
             kept.rename(place)
 
@@ -62,7 +62,11 @@ def tries(name):
 def main(words):
     if words == ["--check"]:
         return check()
-    names = words or sorted(folder.name for folder in BODIES.iterdir())
+    folders = sorted(folder.name for folder in BODIES.iterdir())
+    names = words or folders
+    for name in names:
+        if name not in folders:
+            sys.exit(f"checks/wrong_bodies has nothing of {name}; it has {', '.join(folders)}")
     failed = [name for name in names if not tries(name)]
     print(f"{len(names) - len(failed)} passed, {len(failed)} failed", *failed)
     return 1 if failed else 0
