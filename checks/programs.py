@@ -5,16 +5,22 @@ simulated station that an operator watches. Prints `N passed, M failed`.
 """
 
 import contextlib
+import os
 import re
+import resource
 import socket
 import subprocess
 import sys
+import tempfile
+import threading
 import time
 
 from peer import HEAD, Peer, frame
 
 PORT = 9281
 TIME = re.compile(r"\d{4}-\d\d-\d\dT\d\d:\d\d:\d\dZ")
+BOOT = '[2,"1","BootNotification",{"chargePointVendor":"V","chargePointModel":"M"}]'
+HEARTBEAT = '[2,"2","Heartbeat",{}]'
 
 # What the simulated station prints, with T for each time.
 SESSION = """\
@@ -53,9 +59,13 @@ class Checks:
         return ran.returncode, ran.stdout, ran.stderr
 
     @contextlib.contextmanager
-    def serve(self, *words):
-        """A server that listens, which is ended afterwards."""
-        server = subprocess.Popen([self.program, "serve", "--port", str(PORT), *words])
+    def serve(self, *words, files=4096, errors=None):
+        """A server that listens, which is ended afterwards. It may have so many files open."""
+        server = subprocess.Popen(
+            [self.program, "serve", "--port", str(PORT), *words],
+            stderr=errors,
+            preexec_fn=lambda: resource.setrlimit(resource.RLIMIT_NOFILE, (files, files)),
+        )
         try:
             wait_for(PORT)
             yield server
@@ -93,6 +103,7 @@ def check_statuses(checks):
     checks.ends("nobody listens", "sim --port 9 --path /ocpp/ACME/CP01", 2, "fault Stream")
     with socket.create_server(("127.0.0.1", PORT)):
         checks.ends("a port in use", f"{serve} ACME", 2, "fault Stream")
+        checks.ends("operators before the port", f"{serve} A,A", 2, "fault BadOperators")
     code, text, _ = checks.run("--version")
     checks.check("--version", (code, text.split(" ")[0]), (0, "central"))
     code, text, _ = checks.run("--help")
@@ -141,23 +152,23 @@ def check_clock(checks):
     with checks.serve("--operators", "ACME"):
         Peer(PORT, "/operator/ACME").ask("station add CP01 Accepted 300")
         station = Peer(PORT, "/ocpp/ACME/CP01")
-        station.ask('[2,"1","BootNotification",{"chargePointVendor":"V","chargePointModel":"M"}]')
+        station.ask(BOOT)
         for _ in range(4):
             time.sleep(0.7)
             sent = time.strftime("%Y-%m-%dT%H:%M:%SZ", time.gmtime())
-            answer = station.ask('[2,"2","Heartbeat",{}]')
+            answer = station.ask(HEARTBEAT)
             checks.check("the time of a heartbeat", TIME.search(answer).group() >= sent, True)
 
 
 def check_arrivals(checks):
     """However bytes arrive, what they hold is served without a wait."""
-    beat = frame('[2,"2","Heartbeat",{}]')
+    beat = frame(HEARTBEAT)
     echo = '[2,"3","DataTransfer",{"vendorId":"org.example.echo","data":"' + "x" * 10000 + '"}]'
     with checks.serve("--operators", "ACME"):
         acme = Peer(PORT, "/operator/ACME")
         acme.ask("station add CP01 Accepted 300")
         station = Peer(PORT, "/ocpp/ACME/CP01")
-        station.ask('[2,"1","BootNotification",{"chargePointVendor":"V","chargePointModel":"M"}]')
+        station.ask(BOOT)
         began = time.monotonic()
         station.stream.sendall(beat * 3)
         checks.check("calls in one segment", [station.next()[:5] for _ in range(3)], ['[3,"2'] * 3)
@@ -174,6 +185,115 @@ def check_arrivals(checks):
         checks.check("the end of a stream", answer, "ACME refused 7 NotConnected")
 
 
+def connected(*stations):
+    """An operator, and stations that have booted."""
+    operator, peers = Peer(PORT, "/operator/ACME"), []
+    for station in stations:
+        operator.ask(f"station add {station} Accepted 300")
+        peers.append(Peer(PORT, f"/ocpp/ACME/{station}"))
+        peers[-1].ask(BOOT)
+    return operator, *peers
+
+
+def slowest_heartbeat(station, seconds):
+    """The most seconds that a heartbeat takes, of those sent one after the other for so long."""
+    slowest, end = 0.0, time.monotonic() + seconds
+    while time.monotonic() < end:
+        station.ask(HEARTBEAT)
+        slowest = max(slowest, time.perf_counter() - station.sent_at)
+    return slowest
+
+
+def flood(stream, first, rest):
+    """Sends without a pause and reads nothing, until the connection ends."""
+    with contextlib.suppress(OSError):
+        stream.sendall(first)
+        while True:
+            stream.sendall(rest)
+
+
+def memory(server):
+    with open(f"/proc/{server.pid}/status") as status:
+        return next(int(line.split()[1]) for line in status if line.startswith("VmRSS:"))
+
+
+def check_floods(checks):
+    """A peer that sends without a pause neither holds the server nor makes it grow."""
+    empty = b"\0\x80\0\0\0\0"
+    ping = b"\x89\xfd\0\0\0\0" + b"x" * 125
+    floods = {
+        "empty fragments": (b"\x01" + empty[1:], empty * 100_000),
+        "pings": (b"", ping * 10_000),
+        "heartbeats": (b"", frame(HEARTBEAT) * 10_000),
+    }
+    for what, (first, rest) in floods.items():
+        with checks.serve("--operators", "ACME") as server:
+            _, hostile, station = connected("CP01", "CP02")
+            before = memory(server)
+            sender = threading.Thread(target=flood, args=(hostile.stream, first, rest), daemon=True)
+            sender.start()
+            slowest = slowest_heartbeat(station, 2)
+            checks.check(f"{what}: others are answered in half a second", slowest < 0.5, True)
+            checks.check(f"{what}: memory", memory(server) - before < 16_384, True)
+        sender.join()
+
+
+def check_silent(checks):
+    """Clients that connect and say nothing keep nobody out."""
+    with checks.serve("--operators", "ACME"):
+        began = time.monotonic()
+        silent = [socket.create_connection(("127.0.0.1", PORT)) for _ in range(1500)]
+        checks.check("an operator beside them", Peer(PORT, "/operator/ACME").ask("list stations"), "ACME ok")
+        checks.check("all in less than 2 seconds", time.monotonic() - began < 2, True)
+        for stream in silent:
+            stream.close()
+
+
+def check_files(checks):
+    """Where no file can be opened connections wait, and the others are served."""
+    with tempfile.TemporaryFile("w+") as errors:
+        with checks.serve("--operators", "ACME", files=40, errors=errors):
+            _, station = connected("CP01")
+            more = [socket.create_connection(("127.0.0.1", PORT)) for _ in range(60)]
+            slowest = slowest_heartbeat(station, 1.5)
+            checks.check("no file left: others are answered", slowest < 0.5, True)
+            for stream in more:
+                stream.close()
+            checks.check("files again", Peer(PORT, "/operator/ACME").ask("list stations")[:8], "ACME row")
+        errors.seek(0)
+        told = errors.read().splitlines()
+        checks.check("no file left is told", set(told), {"fault Stream"})
+        checks.check("once a second", len(told) <= 4, True)
+
+
+def check_idle(checks):
+    """An idle server waits. It listens on loopback alone."""
+    with checks.serve("--operators", "ACME") as server:
+        peers = connected(*(f"CP{n:02}" for n in range(20)))
+        before = spent(server)
+        time.sleep(2)
+        checks.check("an idle server takes under 2 % of a processor", spent(server) - before < 0.04, True)
+        checks.check("where it listens", list(listening(PORT)), ["0100007F"])
+        checks.check("all are there", len(peers), 21)
+
+
+def spent(server):
+    """The seconds of processor time of a server."""
+    with open(f"/proc/{server.pid}/stat") as stat:
+        words = stat.read().rsplit(")", 1)[1].split()
+    return (int(words[11]) + int(words[12])) / os.sysconf("SC_CLK_TCK")
+
+
+def listening(port):
+    """The addresses on which somebody listens at a port."""
+    for table in ("/proc/net/tcp", "/proc/net/tcp6"):
+        with contextlib.suppress(FileNotFoundError), open(table) as rows:
+            for row in list(rows)[1:]:
+                address, at = row.split()[1].split(":")
+                if int(at, 16) == port and row.split()[3] == "0A":
+                    yield address
+
+
 def main():
     checks = Checks(sys.argv[1])
     check_statuses(checks)
@@ -182,6 +302,10 @@ def main():
     check_handshakes(checks)
     check_clock(checks)
     check_arrivals(checks)
+    check_floods(checks)
+    check_silent(checks)
+    check_files(checks)
+    check_idle(checks)
     print(f"{checks.passed} passed, {checks.failed} failed")
     sys.exit(1 if checks.failed else 0)
 

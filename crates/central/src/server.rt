@@ -24,6 +24,8 @@ struct Server<V> {
     gateway: Gateway<ReadyStream>,
     lobby: Lobby<ReadyStream>,
     streams: Streams,
+    /// The second in which accepting a connection failed. It isn't tried again in that second.
+    refused: Option<Moment>,
 }
 
 /// Serves, by records in memory that begin empty and by those handlers of vendors' messages. A fault of a
@@ -57,6 +59,7 @@ impl<V: VendorHandler> Server<V> {
             gateway: Gateway::new(alloc),
             lobby: Lobby::new(alloc)?,
             streams: Streams::new(alloc, rt, listener)?,
+            refused: None,
         })
     }
 
@@ -72,7 +75,7 @@ impl<V: VendorHandler> Server<V> {
 
     /// Takes the system's reports on streams. It waits for one where nothing can be done without.
     fn wait(&mut self, may_wait: bool) -> io::Result<()> {
-        let is_idle = may_wait && !self.streams.is_pending(self.lobby.has_room());
+        let is_idle = may_wait && !self.streams.is_pending(self.refused.is_none());
         self.streams
             .wait(Duration::from_secs(if is_idle { MAX_WAIT } else { 0 }))
     }
@@ -80,6 +83,7 @@ impl<V: VendorHandler> Server<V> {
     /// One turn: accepts at most one connection, looks at those that wait, and serves each peer.
     fn turn(&mut self, rt: &HostRuntime, moment: Moment) {
         if let Err(fault) = self.accept(moment) {
+            self.refused = Some(moment);
             let _ = eprintln!(rt; "fault {fault}");
         }
         let welcomed = self
@@ -90,9 +94,10 @@ impl<V: VendorHandler> Server<V> {
     }
 
     fn accept(&mut self, moment: Moment) -> Result<(), RunFault> {
-        if !self.lobby.has_room() {
+        if self.refused == Some(moment) {
             return Ok(());
         }
+        self.refused = None;
         if let Some(stream) = self.streams.accept()? {
             self.lobby.enter(stream, moment)?;
         }

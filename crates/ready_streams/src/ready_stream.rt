@@ -7,6 +7,10 @@ use std::io;
 use std::io::{Error, ErrorKind, Read, Write};
 use std::rc::Rc;
 
+/// The most reads in a row that leave no room. The next one is told that no byte is there, so that a peer that sends
+/// without a pause doesn't hold its reader. The bytes stay for the read after it.
+const MAX_FULL_READS: u32 = 64;
+
 /// What a read may find.
 #[derive(Clone, Copy, Debug, PartialEq, Eq, Drop)]
 enum Expected {
@@ -26,6 +30,10 @@ pub struct Readiness {
     is_ending: Cell<bool>,
     /// It has been read from.
     is_read: Cell<bool>,
+    /// The reads in a row that left no room.
+    full_reads: Cell<u32>,
+    /// There is something that was not looked at: the stream is new, or the system has reported since.
+    is_unseen: Cell<bool>,
 }
 
 impl Readiness {
@@ -35,12 +43,15 @@ impl Readiness {
             expected: Cell::new(Expected::Bytes),
             is_ending: Cell::new(false),
             is_read: Cell::new(false),
+            full_reads: Cell::new(0),
+            is_unseen: Cell::new(true),
         }
     }
 
     /// The system reports bytes, or the end of what the peer sends.
     pub fn report(&self, is_ending: bool) {
         self.expected.set(Expected::Bytes);
+        self.is_unseen.set(true);
         if is_ending {
             self.is_ending.set(true);
         }
@@ -54,33 +65,38 @@ impl Readiness {
     /// Whether the next read asks the system. One that doesn't has found nothing.
     fn asks(&self) -> bool {
         self.is_read.set(true);
-        if self.expected.get() == Expected::Bytes {
-            return true;
+        if self.expected.get() != Expected::Bytes {
+            self.expected.set(Expected::Nothing);
+            return false;
         }
-        self.expected.set(Expected::Nothing);
-        false
+        if self.full_reads.get() >= MAX_FULL_READS {
+            self.full_reads.set(0);
+            return false;
+        }
+        true
     }
 
     /// Keeps what a read into that much room tells. One that leaves room has taken all bytes that were there,
-    /// and the system reports those that come later (epoll(7), "Edge-triggered").
+    /// and the system reports those that come later (epoll(7), "Edge-triggered"). After the end of the stream or
+    /// a failed read nothing is left.
     fn learn(&self, got: &io::Result<usize>, room: usize) {
         match got {
-            Ok(0) => {}
-            Ok(len) => {
-                if *len < room && !self.is_ending.get() {
+            Ok(0) | Err(_) => self.expected.set(Expected::Nothing),
+            Ok(len) if *len < room => {
+                self.full_reads.set(0);
+                if !self.is_ending.get() {
                     self.expected.set(Expected::Rest);
                 }
             }
-            Err(error) => {
-                if error.kind() == ErrorKind::WouldBlock {
-                    self.expected.set(Expected::Nothing);
-                }
-            }
+            Ok(_) => self
+                .full_reads
+                .set(self.full_reads.get().saturating_add(1)),
         }
     }
 }
 
-/// The stream of a connection. A read asks the system only where it has reported bytes.
+/// The stream of a connection. A read asks the system only where it has reported bytes, and a look only where it
+/// has reported since the last one.
 #[derive(Drop)]
 pub struct ReadyStream {
     stream: TcpStream,
@@ -106,8 +122,15 @@ impl Read for ReadyStream {
 }
 
 impl Write for ReadyStream {
+    /// Where the stream has no room the error is `WriteZero`, and not `WouldBlock`: the connection ends, so that what
+    /// a peer is sent and doesn't read never piles up here, answers to its pings among it.
     fn write(&mut self, buf: &[u8]) -> io::Result<usize> {
-        self.stream.write(buf)
+        match self.stream.write(buf) {
+            Err(error) if error.kind() == ErrorKind::WouldBlock => {
+                Err(Error::from(ErrorKind::WriteZero))
+            }
+            wrote => wrote,
+        }
     }
 
     fn flush(&mut self) -> io::Result<()> {
@@ -117,6 +140,9 @@ impl Write for ReadyStream {
 
 impl Peek for ReadyStream {
     fn peek(&self, buf: &mut [u8]) -> io::Result<usize> {
+        if !self.readiness.is_unseen.replace(false) {
+            return Err(Error::from(ErrorKind::WouldBlock));
+        }
         self.stream.peek(buf)
     }
 }

@@ -25,8 +25,6 @@ pub struct Streams {
     listener: TcpListener,
     /// There may be a connection to accept.
     may_accept: bool,
-    /// The last accept failed, so that the system doesn't report again what waits.
-    has_failed: bool,
     /// By place. Nobody else has that of a stream that is gone.
     readiness: Vec<Rc<Readiness>>,
 }
@@ -48,28 +46,23 @@ impl Streams {
             events: Events::with_capacity(alloc, MAX_EVENTS)?,
             listener,
             may_accept: true,
-            has_failed: false,
             readiness: Vec::new(alloc),
         })
     }
 
     /// Accepts one connection. `None` is that there is none. Errors: those of the system's accept, as where no
-    /// descriptor is left, and those of setting the connection up, which then is dropped. After a failed
-    /// accept none is tried until the next wait.
+    /// descriptor is left, and the connection then waits on; and those of setting it up, and it is dropped.
     pub fn accept(&mut self) -> io::Result<Option<ReadyStream>> {
         if !self.may_accept {
             return Ok(None);
         }
         match self.listener.accept() {
             Ok((stream, _address)) => Ok(Some(self.add(stream)?)),
-            Err(error) => {
+            Err(error) if error.kind() == ErrorKind::WouldBlock => {
                 self.may_accept = false;
-                if error.kind() == ErrorKind::WouldBlock {
-                    return Ok(None);
-                }
-                self.has_failed = true;
-                Err(error)
+                Ok(None)
             }
+            Err(error) => Err(error),
         }
     }
 
@@ -111,8 +104,6 @@ impl Streams {
     /// with the next wait. Errors: those of the system's wait. A signal is none.
     pub fn wait(&mut self, time: Duration) -> io::Result<()> {
         self.poll.poll(&mut self.events, Some(time))?;
-        self.may_accept |= self.has_failed;
-        self.has_failed = false;
         for event in &self.events {
             let token = event.token();
             if token == LISTENER {

@@ -1,29 +1,91 @@
 -- Steps of the hub.
-use Rattle.std.proofs.Common.{Err, List, None, Ok, Option, Result, Some, [], add-one, ap, arith, inl, inr, length, refl, slice_index_or, subst, sym, true, true≢false, ℕ, ◌++◌, ◌+◌, ◌<◌, ◌∷◌, ◌≡◌, ◌≤◌}
+use Rattle.std.proofs.Common.{Bool, Err, List, None, Ok, Option, Result, Some, [], add-one, ap, arith, false, if◌then◌else◌, inl, inr, length, nat_lt, refl, slice_index_or, subst, suc, sym, true, true≢false, zero, ℕ, ◌++◌, ◌+◌, ◌<◌, ◌∙◌, ◌∷◌, ◌≡◌, ◌≤◌, ◌||◌}
+use Rattle.std.specs.Io.BufRead.{strip_last}
+use Rattle.std.specs.Option.{IfSome}
+use Rattle.std.specs.Prelude.{is_some}
 use Rattle.std.specs.Result.{IsErr, IsErrAnd}
 use Rattle.event_plans.specs.declared.event.Event.{Event}
+use Rattle.event_plans.specs.declared.event.Event.TheVariants.{At}
+use Rattle.event_plans.specs.declared.event.What.{What}
 use Rattle.event_plans.specs.declared.out.Out.{Out}
 use Rattle.hub.specs.declared.fault.Fault.{Fault}
+use Rattle.hub.specs.declared.fault.Fault.TheVariants as fault
 use Rattle.hub.specs.declared.hub.Hub.{Hub}
-use Rattle.hub.specs.Hub.{world, setting, is_clean, is_taken, failures_of}
+use Rattle.hub.specs.Hub.{world, setting, is_clean, is_taken, is_of_hosted, failures_of}
 use Rattle.hub.specs.World.{Setting, World, world_outputs, world_step}
 use Rattle.hub_rows.specs.Failures.{Rose}
 use Rattle.hub_rows.specs.Reads.{IsCounted}
 use Rattle.hub_rows.specs.Rows.{Rows}
 use Rattle.station_calls.specs.declared.vendor.VendorAnswer.{VendorAnswer}
+use Rattle.lines.specs.Forms.{what_of}
+use Rattle.lines.specs.Orders.{order_of, order_in, is_order, has_line_feed}
+use Rattle.lines.specs.Words.{◌>>=◌}
+use Rattle.ws_peers.specs.Lists as lists
+use Rattle.ws_peers.specs.Peers.{route_of}
 use Rattle.ws_peers.specs.declared.peer.Peer.{Peer}
-use Rattle.ws_server.specs.Events.{parting}
-use Rattle.ws_server.specs.Turns.{Change, Then, Becomes, FirstPlaces, Each, Parts, PartsAs}
+use Rattle.ws_peers.specs.declared.routes.Route.{Route}
+use Rattle.ws_peers.specs.declared.routes.Route.TheVariants.{Station, Operator, Nothing}
+use Rattle.ws_server.specs.Admits.{WelcomesOne, WelcomesSome}
+use Rattle.ws_server.specs.Events.{event_of, parting, is_route_of_hosted}
+use Rattle.ws_server.specs.Turns.{Change, Then, Becomes, FirstPlaces, Each, Hands, HandsText, Means, Parts, PartsAs}
 use Rattle.ws_server.specs.Steps.{Step, Runs, Takes}
 
--- a peer that found no memory to part stays
-parts_as : {T : Type 0} (contents : T → Option (List ℕ)) (n : ℕ) (event : Option Event) (ps : List (Peer T)) (r : Result (Unit {0}) Fault) → IsErr r → PartsAs contents n event ps ps [] r
-parts_as contents n None ps r err = (refl, refl)
-parts_as contents n (Some event) ps (Ok u) err = absurd (true≢false (sym err))
-parts_as contents n (Some event) ps (Err fault) err = (refl, refl)
+-- ---- what a fault says of an operator
+is-not-hosted : Fault → Bool
+is-not-hosted fault.NoSuchOperator = true
+is-not-hosted _ = false
 
-pub stays : {T : Type 0} (contents : T → Option (List ℕ)) (m n : ℕ) (ps : List (Peer T)) (p : Peer T) (r : Result (Unit {0}) Fault) → IsErr r → ((d : Peer T) → p ≡ slice_index_or ps n d) → Parts contents m n ps ps [] r
-stays contents m n ps p r err at = (parting m p, λ d. ap (parting m) (at d), parts_as contents n (parting m p) ps r err)
+means-memory : (hosted : Bool) → Means hosted fault.NoMemory
+unfolding is-not-hosted
+means-memory hosted e = absurd (true≢false (sym (ap is-not-hosted e)))
+
+-- an order of an operator is an event of it
+order-if : (hosts : List ℕ → Bool) (op : List ℕ) (m : ℕ) (what : What) (b : Bool) → IfSome (if b then Some (At op m what) else None) (λ event. is_of_hosted hosts event ≡ hosts op)
+order-if hosts op m what true = refl
+order-if hosts op m what false = tt
+
+order-in : (hosts : List ℕ → Bool) (op : List ℕ) (m : ℕ) (w : Option What) → IfSome (w >>= λ what. if is_order what then Some (At op m what) else None) (λ event. is_of_hosted hosts event ≡ hosts op)
+order-in hosts op m None = tt
+order-in hosts op m (Some what) = order-if hosts op m what (is_order what)
+
+order-unless : (P : Event → Type 0) (b : Bool) (order : Option Event) → IfSome order P → IfSome (if b then None else order) P
+order-unless P true order is = tt
+order-unless P false order is = is
+
+order-hosted : (hosts : List ℕ → Bool) (op : List ℕ) (m : ℕ) (text : List ℕ) → IfSome (order_of op m text) (λ event. is_of_hosted hosts event ≡ hosts op)
+unfolding order_of
+order-hosted hosts op m text = order-unless (λ event. is_of_hosted hosts event ≡ hosts op) (nat_lt 1_048_576 (length text) || has_line_feed text) (order_in op m (strip_last 13 text)) (order-in hosts op m (what_of (strip_last 13 text)))
+
+-- the event of a text is of the operator of its route
+text-hosted : (hosts : List ℕ → Bool) (route : Route) (m : ℕ) (text : List ℕ) → IfSome (event_of route m text) (λ event. is_of_hosted hosts event ≡ is_route_of_hosted hosts route)
+text-hosted hosts (Station op station) m text = refl
+text-hosted hosts (Operator op) m text = order-hosted hosts op m text
+text-hosted hosts Nothing m text = tt
+
+module _ {T : Type 0} (contents : T → Option (List ℕ)) (hosts : List ℕ → Bool) where
+  -- a text whose event is handed to the hub
+  pub hands-text : (m n : ℕ) (text : List ℕ) (event : Event) (old new : List (Peer T)) (steps : List Step) (r : Result (Unit {0}) Fault) (p : Peer T)
+      → ((d : Peer T) → p ≡ slice_index_or old n d) → Some event ≡ event_of (route_of p) m text → Hands contents hosts event old new steps r → HandsText contents hosts m n text old new steps r
+  hands-text m n text event old new steps (Ok u) p at is change = (Some event, λ d. is ∙ ap (λ q. event_of (route_of q) m text) (at d), change)
+  hands-text m n text event old new steps (Err f) p at is change =
+      let hosted = subst (λ e. IfSome e (λ event. is_of_hosted hosts event ≡ is_route_of_hosted hosts (route_of p))) (sym is) (text-hosted hosts (route_of p) m text) in
+      (change.0, change.1, λ d no. ap (λ q. is_route_of_hosted hosts (route_of q)) (sym (at d)) ∙ sym hosted ∙ change.2 no)
+
+  -- a peer that found no memory to part stays
+  parts_as : (n : ℕ) (event : Option Event) (ps : List (Peer T)) (r : Result (Unit {0}) Fault) → IsErr r → IsErrAnd r (λ f. f ≡ fault.NoMemory) → is_some event ≡ true → PartsAs contents hosts n event ps ps [] r
+  parts_as n None ps r err memory leaves = absurd (true≢false (sym leaves))
+  parts_as n (Some event) ps (Ok u) err memory leaves = absurd (true≢false (sym err))
+  parts_as n (Some event) ps (Err f) err memory leaves = (refl, refl, subst (λ x. Means (is_of_hosted hosts event) x) (sym memory) (means-memory (is_of_hosted hosts event)))
+
+  pub stays : (m n : ℕ) (ps : List (Peer T)) (p : Peer T) (r : Result (Unit {0}) Fault) → IsErr r → IsErrAnd r (λ f. f ≡ fault.NoMemory) → is_some (parting m p) ≡ true → ((d : Peer T) → p ≡ slice_index_or ps n d) → Parts contents hosts m n ps ps [] r
+  stays m n ps p r err memory leaves at = (parting m p, λ d. ap (parting m) (at d), parts_as n (parting m p) ps r err memory leaves)
+
+-- what is so of the peer at a place beside what becomes of it
+pub at_with : {P : Type 0} (R : P → P → Type 0) (Q : P → Type 0) (n : ℕ) (old new : List P) → lists.At R n old new → ((d : P) → Q (slice_index_or old n d)) → lists.At (λ p q. R p q × Q p) n old new
+at_with R Q n [] new at is = absurd at
+at_with R Q n (x ∷ xs) [] at is = absurd at
+at_with R Q zero (x ∷ xs) (y ∷ ys) at is = ((at.0, is x), at.1)
+at_with R Q (suc n) (x ∷ xs) (y ∷ ys) at is = (at.0, at_with R Q n xs ys at.1 is)
 
 -- steps after steps
 runs-append : (st : Setting) (w v u : World) (before after : List Step) → Runs st w before v → Runs st v after u → Runs st w (before ++ after) u
@@ -103,3 +165,14 @@ module _ {P : Type 0} where
   -- after another
   pub follows : (C D : Change P) (old mid new : List P) (before after : List Step) (r : Result (Unit {0}) Fault) → C old mid before (Ok tt) → D mid new after r → Then C D old new (before ++ after) r
   follows C D old mid new before after r first second = inl (mid, before, after, first, second, refl)
+
+module _ {T : Type 0} (contents : T → Option (List ℕ)) (m : ℕ) where
+  -- one more connection is welcomed
+  pub welcomes-more : (old mid new : List (Peer T)) (before after : List Step) → WelcomesSome contents m old mid before (Ok tt) → WelcomesOne contents m mid new after (Ok tt) → WelcomesSome contents m old new (before ++ after) (Ok tt)
+  welcomes-more old mid new before after first more = (first.0 + 1, place_more (λ _. WelcomesOne contents m) first.0 old mid new before after first.1 more)
+
+  -- one that ends in a fault is the last
+  pub welcomes-fails : (old mid new : List (Peer T)) (before after : List Step) (f : Fault) (r : Result (Unit {0}) Fault) → IsErr r → IsErrAnd r (λ e. e ≡ f)
+      → WelcomesSome contents m old mid before (Ok tt) → WelcomesOne contents m mid new after (Err f) → WelcomesSome contents m old new (before ++ after) r
+  welcomes-fails old mid new before after f (Ok u) err same first more = absurd (true≢false (sym err))
+  welcomes-fails old mid new before after f (Err e) err same first more = subst (λ x. WelcomesSome contents m old new (before ++ after) (Err x)) (sym same) (first.0, mid, before, after, first.1, more, refl)

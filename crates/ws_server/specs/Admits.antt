@@ -1,6 +1,8 @@
 -- What admitting a connection does.
-use Rattle.std.specs.Prelude.{ℕ, List, [], ◌∷◌, ◌++◌, Option, Bool, true, false, ◌≡◌, Ok, Err, ◌&&◌, ◌⊎◌, is_some}
-use Rattle.tungstenite.specs.Socket.{Socket}
+use Rattle.std.specs.Prelude.{ℕ, List, [], ◌∷◌, ◌++◌, Option, Some, Bool, true, false, ◌≡◌, Ok, Err, ◌&&◌, ◌⊎◌, is_some}
+use Rattle.tungstenite.specs.Socket.{Socket, IsFresh}
+use Rattle.websocket.specs.declared.protocol.config.WebSocketConfig.{WebSocketConfig as Config}
+use Rattle.websocket.specs.declared.protocol.Role.{Role}
 use Rattle.event_plans.specs.declared.event.Event.{Event}
 use Rattle.event_plans.specs.declared.event.Event.TheVariants as event
 use Rattle.event_plans.specs.declared.event.What.TheVariants as what
@@ -13,13 +15,8 @@ use Rattle.ws_peers.specs.Lists.{GiveWay}
 use Rattle.ws_peers.specs.Peers.{open_peer}
 use Rattle.ws_server.specs.Events.{turns_away}
 use Rattle.ws_server.specs.Tells.{TellsAll}
-use Rattle.ws_server.specs.Turns.{Change}
-
--- the operator of a route is among the hosted ones; a route to nothing has none
-abbrev pub is_of_hosted : (List ℕ → Bool) → Route → Bool
-is_of_hosted is_hosted (Station op station) = is_hosted op
-is_of_hosted is_hosted (Operator op) = is_hosted op
-is_of_hosted is_hosted Nothing = true
+use Rattle.ws_server.specs.Steps.{Step}
+use Rattle.ws_server.specs.Turns.{Change, FirstPlaces}
 
 module _ {T : Type 0} (contents : T → Option (List ℕ)) (socket : Socket T) where
   -- a station that is turned away stays out; another takes the place of older connections of it
@@ -46,6 +43,26 @@ is_known is_hosted rows (Station op station) = is_hosted op && is_some (registra
 is_known is_hosted rows (Operator op) = is_hosted op
 is_known is_hosted rows Nothing = false
 
--- a connection of that route is welcomed: its handshake fails, or it is admitted with some socket
-abbrev pub Welcomes : {T : Type 0} → (T → Option (List ℕ)) → ℕ → Route → Change (Peer T)
-Welcomes {T} contents m route old new steps r = ((new ≡ old) × (steps ≡ [])) ⊎ ((socket : Socket T) × Admits contents socket m route old new steps r)
+-- a message of any kind has so many bytes at most, and is masked (RFC 6455, section 5.1)
+abbrev pub TakesAtMost : ℕ → Config → Type 0
+TakesAtMost n c = (c.max_message_size ≡ Some n) × (c.max_frame_size ≡ Some n) × (c.accept_unmasked_frames ≡ false)
+
+module _ {T : Type 0} where
+  -- the socket of a handshake that is done: nothing has been read since, and nothing is left to be sent; its
+  -- messages have at most 4,194,304 bytes
+  abbrev pub IsShaken : Socket T → Type 0
+  IsShaken socket = ((stream : T) × IsFresh socket stream Role.Server) × TakesAtMost 4_194_304 socket.conn.config
+
+module _ {T : Type 0} (contents : T → Option (List ℕ)) (m : ℕ) where
+  -- a connection of that route is welcomed: it stays out, or its handshake is done and it is admitted
+  abbrev pub Welcomes : Route → Change (Peer T)
+  Welcomes route old new steps r = ((new ≡ old) × (steps ≡ [])) ⊎ ((socket : Socket T) × IsShaken socket × Admits contents socket m route old new steps r)
+
+  abbrev pub WelcomesOne : Change (Peer T)
+  WelcomesOne old new steps r = (route : Route) × Welcomes route old new steps r
+
+  -- some are welcomed, one after the other, up to the first fault
+  abbrev pub WelcomesSome : Change (Peer T)
+  WelcomesSome old new steps (Ok u) = (n : ℕ) × FirstPlaces (λ _. WelcomesOne) n old new steps
+  WelcomesSome old new steps (Err fault) =
+      (n : ℕ) × (mid : List (Peer T)) × (before after : List Step) × FirstPlaces (λ _. WelcomesOne) n old mid before × WelcomesOne mid new after (Err fault) × (steps ≡ before ++ after)

@@ -15,6 +15,12 @@ use Rattle.ws_peers.specs.declared.stage.Stage.{Stage}
 use Rattle.ws_peers.specs.declared.stage.Stage.TheVariants.{Open, Ended, Leaving, Gone}
 use Rattle.ws_peers.specs.Peers.{route_of, stage_of}
 
+-- the operator of a route is among the hosted ones; a route to nothing has none
+abbrev pub is_route_of_hosted : (List ℕ → Bool) → Route → Bool
+is_route_of_hosted is_hosted (Station op station) = is_hosted op
+is_route_of_hosted is_hosted (Operator op) = is_hosted op
+is_route_of_hosted is_hosted Nothing = true
+
 -- a text of a station is a frame, one of an operator an order
 abbrev pub event_of : Route → ℕ → List ℕ → Option Event
 event_of (Station op station) m text = Some (At op m (what.Frame station text))

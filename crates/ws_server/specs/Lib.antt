@@ -3,3 +3,4 @@ pub mod Tells
 pub mod Steps
 pub mod Turns
 pub mod Admits
+pub mod Lobbies

@@ -1,17 +1,19 @@
 -- What serving peers does: to them, and which steps the hub takes.
-use Rattle.std.specs.Prelude.{ℕ, zero, suc, List, [], ◌∷◌, ◌++◌, Option, Some, None, ◌≡◌, ◌<◌, ◌⊎◌, Result, Ok, Err, map, length, slice_index_or, codes}
+use Rattle.std.specs.Prelude.{ℕ, zero, suc, List, [], ◌∷◌, ◌++◌, Option, Some, None, Bool, false, ◌≡◌, ◌<◌, ◌⊎◌, Result, Ok, Err, map, length, slice_index_or, codes}
 use Rattle.std.specs.List.{filter}
 use Rattle.event_plans.specs.declared.event.Event.{Event}
 use Rattle.event_plans.specs.declared.event.Event.TheVariants.{Tick}
 use Rattle.event_plans.specs.declared.out.Out.{Out}
 use Rattle.hub.specs.declared.fault.Fault.{Fault}
+use Rattle.hub.specs.declared.fault.Fault.TheVariants.{NoSuchOperator}
+use Rattle.hub.specs.Hub.{is_of_hosted}
 use Rattle.ws_peers.specs.declared.peer.Peer.{Peer}
 use Rattle.ws_peers.specs.Lists as lists
 use Rattle.ws_peers.specs.Peers.{route_of, stage_of, ends, leaves, finishes}
 use Rattle.ws_peers.specs.Reads.{Took}
 use Rattle.ws_peers.specs.Sends.{Sent}
 use Rattle.ws_peers.specs.Stages.{is_held}
-use Rattle.ws_server.specs.Events.{event_of, parting}
+use Rattle.ws_server.specs.Events.{event_of, parting, is_route_of_hosted}
 use Rattle.ws_server.specs.Steps.{Step}
 use Rattle.ws_server.specs.Tells.{TellsAll}
 
@@ -42,11 +44,15 @@ module _ {P : Type 0} where
   abbrev pub Becomes : (List P → List P) → Change P
   Becomes f old new steps r = (new ≡ f old) × (steps ≡ []) × (r ≡ Ok tt)
 
-module _ {T : Type 0} (contents : T → Option (List ℕ)) where
+-- what a fault says: NoSuchOperator that the operator isn't hosted, and the others nothing of it
+abbrev pub Means : Bool → Fault → Type 0
+Means hosted fault = fault ≡ NoSuchOperator → hosted ≡ false
+
+module _ {T : Type 0} (contents : T → Option (List ℕ)) (is_hosted : List ℕ → Bool) where
   -- an event is handed to the hub: its outputs are told, or nothing has happened
   abbrev pub Hands : Event → Change (Peer T)
   Hands event old new steps (Ok u) = (outs : List Out) × (steps ≡ record { event = event; outs = outs } ∷ []) × TellsAll contents outs old new
-  Hands event old new steps (Err fault) = (new ≡ old) × (steps ≡ [])
+  Hands event old new steps (Err fault) = (new ≡ old) × (steps ≡ []) × Means (is_of_hosted is_hosted event) fault
 
   -- peer n has said what the hub is to be handed, or a text that is no order
   abbrev pub HandsOrRefuses : ℕ → Option Event → Change (Peer T)
@@ -56,19 +62,20 @@ module _ {T : Type 0} (contents : T → Option (List ℕ)) where
   -- a text of peer n at moment m; where it ends in a fault nothing has happened
   abbrev pub HandsText : ℕ → ℕ → List ℕ → Change (Peer T)
   HandsText m n text old new steps (Ok u) = (event : Option Event) × ((d : Peer T) → event ≡ event_of (route_of (slice_index_or old n d)) m text) × HandsOrRefuses n event old new steps (Ok u)
-  HandsText m n text old new steps (Err fault) = (new ≡ old) × (steps ≡ [])
+  HandsText m n text old new steps (Err fault) = (new ≡ old) × (steps ≡ []) × ((d : Peer T) → Means (is_route_of_hosted is_hosted (route_of (slice_index_or old n d))) fault)
 
   -- what was read from peer n; a text that ends in a fault is lost, and the connection ends
   abbrev pub Handles : ℕ → ℕ → Option (List ℕ) → Change (Peer T)
   Handles m n None old new steps r = (new ≡ old) × (steps ≡ []) × (r ≡ Ok tt)
   Handles m n (Some text) old new steps (Ok u) = HandsText m n text old new steps (Ok u)
-  Handles m n (Some text) old new steps (Err fault) = lists.At (λ p q. q ≡ ends p) n old new × (steps ≡ [])
+  Handles m n (Some text) old new steps (Err fault) =
+      lists.At (λ p q. (q ≡ ends p) × Means (is_route_of_hosted is_hosted (route_of p)) fault) n old new × (steps ≡ [])
 
   -- peer n leaves the hub, if it is to leave now; where that ends in a fault it leaves later
   abbrev pub PartsAs : ℕ → Option Event → Change (Peer T)
-  PartsAs n None old new steps r = (new ≡ old) × (steps ≡ [])
+  PartsAs n None old new steps r = (new ≡ old) × (steps ≡ []) × (r ≡ Ok tt)
   PartsAs n (Some event) old new steps (Ok u) = (mid : List (Peer T)) × Hands event old mid steps (Ok u) × lists.At (λ p q. q ≡ finishes p) n mid new
-  PartsAs n (Some event) old new steps (Err fault) = (new ≡ old) × (steps ≡ [])
+  PartsAs n (Some event) old new steps (Err fault) = (new ≡ old) × (steps ≡ []) × Means (is_of_hosted is_hosted event) fault
 
   abbrev pub Parts : ℕ → ℕ → Change (Peer T)
   Parts m n old new steps r = (event : Option Event) × ((d : Peer T) → event ≡ parting m (slice_index_or old n d)) × PartsAs n event old new steps r
@@ -81,14 +88,14 @@ module _ {T : Type 0} (contents : T → Option (List ℕ)) where
   abbrev pub PartsAndTicks : ℕ → Change (Peer T)
   PartsAndTicks m = Then (Becomes (map leaves)) (Then (Each (Parts m)) (SweepsAndTicks m))
 
-module _ {T : Type 0} (remaining contents : T → Option (List ℕ)) where
+module _ {T : Type 0} (remaining contents : T → Option (List ℕ)) (is_hosted : List ℕ → Bool) where
   -- peer n is served at moment m: one read, and what was read is handled
   pub record Serves (m n : ℕ) (old new : List (Peer T)) (steps : List Step) (r : Result (Unit {0}) Fault) : Type 0 where
     pub text : Option (List ℕ)
     pub mid : List (Peer T)
     pub took : lists.At (λ p q. Took remaining contents p q text) n old mid
-    pub handled : Handles contents m n text mid new steps r
+    pub handled : Handles contents is_hosted m n text mid new steps r
 
   -- a turn at moment m: each peer is served; then those that have ended leave
   abbrev pub Turns : ℕ → Change (Peer T)
-  Turns m = Then (Each (Serves m)) (PartsAndTicks contents m)
+  Turns m = Then (Each (Serves m)) (PartsAndTicks contents is_hosted m)

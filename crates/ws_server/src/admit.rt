@@ -18,7 +18,8 @@ use tungstenite::{NoMask, WebSocket};
 use ws_peers::{Peers, Route};
 
 impl<T: Read + Write + Drop> Gateway<T> {
-    ghost use Rattle.ws_server.specs.Admits.{Admits, Connects, is_of_hosted};
+    ghost use Rattle.ws_server.specs.Admits.{Admits, Connects};
+    ghost use Rattle.ws_server.specs.Events.{is_route_of_hosted};
 
     /// Admits a connection whose handshake is done. A station connects to the hub, and its outputs are
     /// told; where it is turned away its socket is closed, and else older connections of it are
@@ -33,8 +34,8 @@ impl<T: Read + Write + Drop> Gateway<T> {
     ) -> Result<(), Fault>
         ensures takes { Takes S.clean S.rows V.name V.gives hub.old hub.new
             (λ steps. Admits T.contents socket moment route (peers_of self.old) (peers_of self.new) steps result) }
-        ensures hosted { OnOk result (is_of_hosted (setting V.name V.gives hub.old).is_hosted route ≡ true) }
-        ensures not_hosted { IfErr result (λ f. f ≡ Fault.NoSuchOperator → is_of_hosted (setting V.name V.gives hub.old).is_hosted route ≡ false) }
+        ensures hosted { OnOk result (is_route_of_hosted (setting V.name V.gives hub.old).is_hosted route ≡ true) }
+        ensures not_hosted { IfErr result (λ f. f ≡ Fault.NoSuchOperator → is_route_of_hosted (setting V.name V.gives hub.old).is_hosted route ≡ false) }
         ensures counted { IsCounted (failures_of S.failures) (is_clean S.clean) hub.old hub.new (result ≡ Err Fault.Store) }
         ensures setting { setting V.name V.gives hub.new ≡ setting V.name V.gives hub.old }
     {

@@ -1,5 +1,5 @@
 //! What a peer hands to the hub.
-ghost use Rattle.std.specs.Prelude.{◌≡◌, IfOk};
+ghost use Rattle.std.specs.Prelude.{◌≡◌, IfOk, OnErr, is_some, true};
 ghost use Rattle.std.specs.List.{list_any};
 ghost use Rattle.event_plans.specs.declared.event.Event.TheVariants as event;
 ghost use Rattle.event_plans.specs.declared.event.What.TheVariants as what;
@@ -32,7 +32,8 @@ pub fn event_of(alloc: Global, route: &Route, moment: Moment, text: &str) -> Mem
 
 /// The disconnect that a peer is still to hand on, if it is to leave now.
 pub fn parting<T: Read + Write + Drop>(peer: &Peer<T>, moment: Moment) -> Mem<Option<Event>>
-    ensures { IfOk result (λ e. e ≡ parting moment peer.now) }
+    ensures event { IfOk result (λ e. e ≡ parting moment peer.now) }
+    ensures leaves { OnErr result (is_some (parting moment peer.now) ≡ true) }
 {
     match peer.stage() {
         Stage::Leaving => disconnect_of(peer.route(), moment),
@@ -41,7 +42,8 @@ pub fn parting<T: Read + Write + Drop>(peer: &Peer<T>, moment: Moment) -> Mem<Op
 }
 
 fn disconnect_of(route: &Route, moment: Moment) -> Mem<Option<Event>>
-    ensures { IfOk result (λ e. e ≡ disconnect_of route.now moment) }
+    ensures event { IfOk result (λ e. e ≡ disconnect_of route.now moment) }
+    ensures leaves { OnErr result (is_some (disconnect_of route.now moment) ≡ true) }
 {
     match route {
         Route::Station(op, station) => {

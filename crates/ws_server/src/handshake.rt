@@ -1,4 +1,6 @@
 //! The handshake of one connection.
+ghost use Rattle.std.specs.Prelude.{◌≡◌, true, false, Some, IfSome};
+ghost use Rattle.ws_server.specs.Admits.{IsShaken};
 
 use http::header::{HeaderName, HeaderValue};
 use http::{Request, Response, StatusCode};
@@ -69,7 +71,11 @@ fn offers_subprotocol(request: &Request<()>) -> bool {
     false
 }
 
-fn limits() -> WebSocketConfig {
+fn limits() -> WebSocketConfig
+    ensures message { result.max_message_size ≡ Some 4_194_304 }
+    ensures frame { result.max_frame_size ≡ Some 4_194_304 }
+    ensures unmasked { result.accept_unmasked_frames ≡ false }
+{
     WebSocketConfig::default()
         .read_buffer_size(READ_SIZE)
         .max_message_size(Some(MAX_MESSAGE))
@@ -84,7 +90,10 @@ pub fn shake<T: Read + Write + Drop>(
     stream: T,
     is_known: bool,
     is_station: bool,
-) -> Option<WebSocket<T, NoMask>> {
+) -> Option<WebSocket<T, NoMask>>
+    ensures shaken { IfSome result IsShaken }
+    ensures known { IfSome result (λ _. is_known ≡ true) }
+{
     let mut has_agreed = false;
     let answer = Answer {
         alloc,
@@ -94,7 +103,8 @@ pub fn shake<T: Read + Write + Drop>(
     let mut socket = start(alloc, stream, answer, Some(limits()))
         .handshake()
         .ok()?;
-    if is_station && !has_agreed {
+    let may_enter = is_known && (has_agreed || !is_station);
+    if !may_enter {
         let _closed = socket.close(None);
         return None;
     }

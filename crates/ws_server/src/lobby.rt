@@ -1,5 +1,10 @@
 //! Connections whose handshake is not done.
-ghost use Rattle.std.specs.Prelude.{◌≡◌, ◌<◌, length};
+ghost use Rattle.std.specs.Prelude.{◌≡◌, ◌+◌, ◌<◌, ◌≤◌, Err, OnOk, IfOk, length};
+ghost use Rattle.hub_rows.specs.Reads.{IsCounted};
+ghost use Rattle.hub.specs.Hub.{setting, is_clean, failures_of};
+ghost use Rattle.ws_server.specs.Lobbies.{waiting_count};
+ghost use Rattle.ws_server.specs.Steps.{Takes};
+ghost use Rattle.ws_server.specs.Tells.{peers_of};
 
 use crate::gateway::Gateway;
 use crate::head::{Asked, read_head};
@@ -18,7 +23,7 @@ const MAX_HEAD: usize = 8192;
 /// The seconds that a head may take to come.
 const PATIENCE: u64 = 2;
 
-/// The most connections that wait at once. More are left to the system's own queue.
+/// The most connections that wait at once.
 const MAX_WAITING: usize = 1024;
 
 /// A connection that was accepted.
@@ -28,8 +33,8 @@ struct Waiting<T> {
     since: Moment,
 }
 
-/// Connections whose head has not come whole. None of them is ever waited for: each is looked at once a
-/// turn, and dropped after 2 seconds.
+/// Connections whose head has not come whole, in the order in which they came. None of them is ever waited
+/// for: each is looked at once a turn, and dropped after 2 seconds.
 #[derive(Drop)]
 pub struct Lobby<T> {
     waiting: Vec<Waiting<T>>,
@@ -47,9 +52,14 @@ enum Next {
     Welcome(Route),
 }
 
+#[tactic(auto, using(crate::proofs::StepLaws::nothing))]
 impl<T: Peek + Read + Write + Drop> Lobby<T> {
+    ghost use Rattle.ws_server.specs.Admits.{WelcomesOne, WelcomesSome};
+
     /// No connection.
-    pub fn new(alloc: Global) -> Mem<Lobby<T>> {
+    pub fn new(alloc: Global) -> Mem<Lobby<T>>
+        ensures { IfOk result (λ l. waiting_count l ≡ 0) }
+    {
         let mut head = Vec::new(alloc);
         head.resize(MAX_HEAD, 0)?;
         Ok(Lobby {
@@ -59,17 +69,21 @@ impl<T: Peek + Read + Write + Drop> Lobby<T> {
     }
 
     /// How many wait.
-    pub fn count(&self) -> usize {
+    pub fn count(&self) -> usize
+        ensures { result ≡ waiting_count self.now }
+    {
         self.waiting.len()
     }
 
-    /// Whether there is room for one more.
-    pub fn has_room(&self) -> bool {
-        self.waiting.len() < MAX_WAITING
-    }
-
-    /// Takes a connection that was accepted at that moment.
-    pub fn enter(&mut self, stream: T, moment: Moment) -> Mem<()> {
+    /// Takes a connection that was accepted at that moment. Where 1,024 wait, it takes the place of the one
+    /// that came first. With no memory for it, it is dropped.
+    pub fn enter(&mut self, stream: T, moment: Moment) -> Mem<()>
+        ensures most { waiting_count self.old ≤ 1024 → waiting_count self.new ≤ 1024 }
+        ensures entered { OnOk result (waiting_count self.old < 1024 → waiting_count self.new ≡ waiting_count self.old + 1) }
+    {
+        if self.waiting.len() >= MAX_WAITING {
+            let _first = self.waiting.remove(0);
+        }
         self.waiting.push(Waiting {
             stream,
             since: moment,
@@ -85,28 +99,56 @@ impl<T: Peek + Read + Write + Drop> Lobby<T> {
         gateway: &mut Gateway<T>,
         hub: &mut Hub<S, V>,
         moment: Moment,
-    ) -> Result<(), Fault> {
+    ) -> Result<(), Fault>
+        ensures takes { Takes S.clean S.rows V.name V.gives hub.old hub.new
+            (λ steps. WelcomesSome T.contents moment (peers_of gateway.old) (peers_of gateway.new) steps result) }
+        ensures counted { IsCounted (failures_of S.failures) (is_clean S.clean) hub.old hub.new (result ≡ Err Fault.Store) }
+        ensures setting { setting V.name V.gives hub.new ≡ setting V.name V.gives hub.old }
+        ensures fewer { waiting_count self.new ≤ waiting_count self.old }
+    {
         let mut n = 0_usize;
         for _ in 0..self.waiting.len() {
-            if n >= self.waiting.len() {
-                return Ok(());
-            }
-            match self.next(alloc, n, moment) {
-                Ok(Next::Wait) => n = n.saturating_add(1),
-                Ok(Next::Drop) => {
-                    let _dropped = self.waiting.swap_remove(n);
-                }
-                Ok(Next::Welcome(route)) => {
-                    let one = self.waiting.swap_remove(n);
-                    gateway.welcome(hub, one.stream, route, moment)?;
-                }
-                Err(fault) => {
-                    let _dropped = self.waiting.swap_remove(n);
-                    return Err(Fault::from(fault));
-                }
-            }
+            self.look(alloc, gateway, hub, &mut n, moment)?;
         }
         Ok(())
+    }
+
+    /// Looks at the one at place n, if there is one, and moves n to the next.
+    fn look<S: Store + Drop, V: VendorHandler>(
+        &mut self,
+        alloc: Global,
+        gateway: &mut Gateway<T>,
+        hub: &mut Hub<S, V>,
+        n: &mut usize,
+        moment: Moment,
+    ) -> Result<(), Fault>
+        ensures takes { Takes S.clean S.rows V.name V.gives hub.old hub.new
+            (λ steps. WelcomesOne T.contents moment (peers_of gateway.old) (peers_of gateway.new) steps result) }
+        ensures counted { IsCounted (failures_of S.failures) (is_clean S.clean) hub.old hub.new (result ≡ Err Fault.Store) }
+        ensures setting { setting V.name V.gives hub.new ≡ setting V.name V.gives hub.old }
+        ensures fewer { waiting_count self.new ≤ waiting_count self.old }
+    {
+        if *n >= self.waiting.len() {
+            return Ok(());
+        }
+        match self.next(alloc, *n, moment) {
+            Ok(Next::Wait) => {
+                *n = n.saturating_add(1);
+                Ok(())
+            }
+            Ok(Next::Drop) => {
+                let _dropped = self.waiting.remove(*n);
+                Ok(())
+            }
+            Ok(Next::Welcome(route)) => {
+                let one = self.waiting.remove(*n);
+                gateway.welcome(hub, one.stream, route, moment)
+            }
+            Err(fault) => {
+                let _dropped = self.waiting.remove(*n);
+                Err(Fault::from(fault))
+            }
+        }
     }
 
     fn next(&mut self, alloc: Global, n: usize, moment: Moment) -> Mem<Next>
@@ -114,8 +156,11 @@ impl<T: Peek + Read + Write + Drop> Lobby<T> {
         ensures { length self.new.waiting.items ≡ length self.old.waiting.items }
     {
         let one = &self.waiting[n];
-        let is_late = moment.seconds() > one.since.seconds() + PATIENCE;
-        let waits = if is_late { Next::Drop } else { Next::Wait };
+        let waits = if one.is_late(moment) {
+            Next::Drop
+        } else {
+            Next::Wait
+        };
         match one.stream.peek(self.head.as_mut_slice()) {
             Ok(0) => Ok(Next::Drop),
             Ok(len) => match read_head(alloc, &self.head[..len])? {
@@ -127,5 +172,12 @@ impl<T: Peek + Read + Write + Drop> Lobby<T> {
             Err(error) if error.kind() == ErrorKind::WouldBlock => Ok(waits),
             Err(_) => Ok(Next::Drop),
         }
+    }
+}
+
+impl<T> Waiting<T> {
+    /// Whether it has waited for too long. A clock that was set back tells nothing, so nobody waits on by it.
+    fn is_late(&self, moment: Moment) -> bool {
+        moment < self.since || moment.seconds() > self.since.seconds() + PATIENCE
     }
 }

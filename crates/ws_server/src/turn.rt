@@ -25,7 +25,7 @@ impl<T: Read + Write + Drop> Gateway<T> {
         event: &Event,
     ) -> Result<(), Fault>
         ensures takes { Takes S.clean S.rows V.name V.gives hub.old hub.new
-            (λ steps. Hands T.contents event.now (peers_of self.old) (peers_of self.new) steps result) }
+            (λ steps. Hands T.contents (setting V.name V.gives hub.old).is_hosted event.now (peers_of self.old) (peers_of self.new) steps result) }
         ensures counted { IsCounted (failures_of S.failures) (is_clean S.clean) hub.old hub.new (result ≡ Err Fault.Store) }
         ensures setting { setting V.name V.gives hub.new ≡ setting V.name V.gives hub.old }
         ensures count { length (peers_of self.new) ≡ length (peers_of self.old) }
@@ -45,7 +45,7 @@ impl<T: Read + Write + Drop> Gateway<T> {
     ) -> Result<(), Fault>
         requires { n < length (peers_of self.old) }
         ensures takes { Takes S.clean S.rows V.name V.gives hub.old hub.new
-            (λ steps. HandsText T.contents moment n text.now (peers_of self.old) (peers_of self.new) steps result) }
+            (λ steps. HandsText T.contents (setting V.name V.gives hub.old).is_hosted moment n text.now (peers_of self.old) (peers_of self.new) steps result) }
         ensures counted { IsCounted (failures_of S.failures) (is_clean S.clean) hub.old hub.new (result ≡ Err Fault.Store) }
         ensures setting { setting V.name V.gives hub.new ≡ setting V.name V.gives hub.old }
         ensures count { length (peers_of self.new) ≡ length (peers_of self.old) }
@@ -70,7 +70,7 @@ impl<T: Read + Write + Drop> Gateway<T> {
     ) -> Result<(), Fault>
         requires { n < length (peers_of self.old) }
         ensures takes { Takes S.clean S.rows V.name V.gives hub.old hub.new
-            (λ steps. Serves T.remaining T.contents moment n (peers_of self.old) (peers_of self.new) steps result) }
+            (λ steps. Serves T.remaining T.contents (setting V.name V.gives hub.old).is_hosted moment n (peers_of self.old) (peers_of self.new) steps result) }
         ensures counted { IsCounted (failures_of S.failures) (is_clean S.clean) hub.old hub.new (result ≡ Err Fault.Store) }
         ensures setting { setting V.name V.gives hub.new ≡ setting V.name V.gives hub.old }
         ensures count { length (peers_of self.new) ≡ length (peers_of self.old) }
@@ -96,7 +96,7 @@ impl<T: Read + Write + Drop> Gateway<T> {
     ) -> Result<(), Fault>
         requires { n < length (peers_of self.old) }
         ensures takes { Takes S.clean S.rows V.name V.gives hub.old hub.new
-            (λ steps. Parts T.contents moment n (peers_of self.old) (peers_of self.new) steps result) }
+            (λ steps. Parts T.contents (setting V.name V.gives hub.old).is_hosted moment n (peers_of self.old) (peers_of self.new) steps result) }
         ensures counted { IsCounted (failures_of S.failures) (is_clean S.clean) hub.old hub.new (result ≡ Err Fault.Store) }
         ensures setting { setting V.name V.gives hub.new ≡ setting V.name V.gives hub.old }
         ensures count { length (peers_of self.new) ≡ length (peers_of self.old) }
@@ -116,7 +116,7 @@ impl<T: Read + Write + Drop> Gateway<T> {
         moment: Moment,
     ) -> Result<(), Fault>
         ensures takes { Takes S.clean S.rows V.name V.gives hub.old hub.new
-            (λ steps. Each (Serves T.remaining T.contents moment) (peers_of self.old) (peers_of self.new) steps result) }
+            (λ steps. Each (Serves T.remaining T.contents (setting V.name V.gives hub.old).is_hosted moment) (peers_of self.old) (peers_of self.new) steps result) }
         ensures counted { IsCounted (failures_of S.failures) (is_clean S.clean) hub.old hub.new (result ≡ Err Fault.Store) }
         ensures setting { setting V.name V.gives hub.new ≡ setting V.name V.gives hub.old }
     {
@@ -133,7 +133,7 @@ impl<T: Read + Write + Drop> Gateway<T> {
         moment: Moment,
     ) -> Result<(), Fault>
         ensures takes { Takes S.clean S.rows V.name V.gives hub.old hub.new
-            (λ steps. Each (Parts T.contents moment) (peers_of self.old) (peers_of self.new) steps result) }
+            (λ steps. Each (Parts T.contents (setting V.name V.gives hub.old).is_hosted moment) (peers_of self.old) (peers_of self.new) steps result) }
         ensures counted { IsCounted (failures_of S.failures) (is_clean S.clean) hub.old hub.new (result ≡ Err Fault.Store) }
         ensures setting { setting V.name V.gives hub.new ≡ setting V.name V.gives hub.old }
     {
@@ -152,7 +152,7 @@ impl<T: Read + Write + Drop> Gateway<T> {
         moment: Moment,
     ) -> Result<(), Fault>
         ensures takes { Takes S.clean S.rows V.name V.gives hub.old hub.new
-            (λ steps. Turns T.remaining T.contents moment (peers_of self.old) (peers_of self.new) steps result) }
+            (λ steps. Turns T.remaining T.contents (setting V.name V.gives hub.old).is_hosted moment (peers_of self.old) (peers_of self.new) steps result) }
         ensures counted { IsCounted (failures_of S.failures) (is_clean S.clean) hub.old hub.new (result ≡ Err Fault.Store) }
         ensures setting { setting V.name V.gives hub.new ≡ setting V.name V.gives hub.old }
     {
@@ -167,7 +167,7 @@ impl<T: Read + Write + Drop> Gateway<T> {
         moment: Moment,
     ) -> Result<(), Fault>
         ensures takes { Takes S.clean S.rows V.name V.gives hub.old hub.new
-            (λ steps. PartsAndTicks T.contents moment (peers_of self.old) (peers_of self.new) steps result) }
+            (λ steps. PartsAndTicks T.contents (setting V.name V.gives hub.old).is_hosted moment (peers_of self.old) (peers_of self.new) steps result) }
         ensures counted { IsCounted (failures_of S.failures) (is_clean S.clean) hub.old hub.new (result ≡ Err Fault.Store) }
         ensures setting { setting V.name V.gives hub.new ≡ setting V.name V.gives hub.old }
     {
@@ -183,7 +183,7 @@ impl<T: Read + Write + Drop> Gateway<T> {
         moment: Moment,
     ) -> Result<(), Fault>
         ensures takes { Takes S.clean S.rows V.name V.gives hub.old hub.new
-            (λ steps. SweepsAndTicks T.contents moment (peers_of self.old) (peers_of self.new) steps result) }
+            (λ steps. SweepsAndTicks T.contents (setting V.name V.gives hub.old).is_hosted moment (peers_of self.old) (peers_of self.new) steps result) }
         ensures counted { IsCounted (failures_of S.failures) (is_clean S.clean) hub.old hub.new (result ≡ Err Fault.Store) }
         ensures setting { setting V.name V.gives hub.new ≡ setting V.name V.gives hub.old }
     {

@@ -1,5 +1,5 @@
 //! A connection, from its head to its admission.
-ghost use Rattle.std.specs.Prelude.{◌≡◌, ◌≢◌, ◌&&◌, IfOk, IfErr, Err};
+ghost use Rattle.std.specs.Prelude.{◌≡◌, ◌≢◌, ◌&&◌, IfOk, IfErr, Err, false};
 ghost use Rattle.hub_rows.specs.Reads.{IsCounted};
 ghost use Rattle.hub.specs.Hub.{world, setting, is_clean, failures_of};
 ghost use Rattle.ws_server.specs.Admits.{is_known};
@@ -17,6 +17,7 @@ use ws_peers::Route;
 
 impl<T: Read + Write + Drop> Gateway<T> {
     ghost use Rattle.ws_server.specs.Admits.{Welcomes};
+    ghost use Rattle.ws_server.specs.Events.{is_route_of_hosted};
 
     /// Makes the handshake of a stream whose whole head is there, and whose path leads there; then admits
     /// it. A path to nothing, to a station that the hub doesn't know, or to an operator that it doesn't
@@ -30,6 +31,9 @@ impl<T: Read + Write + Drop> Gateway<T> {
     ) -> Result<(), Fault>
         ensures takes { Takes S.clean S.rows V.name V.gives hub.old hub.new
             (λ steps. Welcomes T.contents moment route (peers_of self.old) (peers_of self.new) steps result) }
+        ensures known { is_clean S.clean hub.new → is_known (setting V.name V.gives hub.old).is_hosted (world S.rows hub.old).rows route ≡ false
+            → peers_of self.new ≡ peers_of self.old }
+        ensures not_hosted { IfErr result (λ f. f ≡ Fault.NoSuchOperator → is_route_of_hosted (setting V.name V.gives hub.old).is_hosted route ≡ false) }
         ensures counted { IsCounted (failures_of S.failures) (is_clean S.clean) hub.old hub.new (result ≡ Err Fault.Store) }
         ensures setting { setting V.name V.gives hub.new ≡ setting V.name V.gives hub.old }
     {
@@ -49,6 +53,7 @@ fn is_known<S: Store + Drop, V: VendorHandler>(
 ) -> Result<bool, Fault>
     ensures known { is_clean S.clean hub.new → IfOk result (λ k. k ≡ is_known (setting V.name V.gives hub.old).is_hosted (world S.rows hub.old).rows route.now) }
     ensures world { is_clean S.clean hub.new → world S.rows hub.new ≡ world S.rows hub.old }
+    ensures hosted { IfErr result (λ f. f ≢ Fault.NoSuchOperator) }
     ensures counted { IsCounted (failures_of S.failures) (is_clean S.clean) hub.old hub.new (result ≡ Err Fault.Store) }
     ensures setting { setting V.name V.gives hub.new ≡ setting V.name V.gives hub.old }
 {

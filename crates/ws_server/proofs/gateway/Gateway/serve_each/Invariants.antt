@@ -8,7 +8,7 @@ use Rattle.ws_server.proofs.gateway.Gateway.serve_each.Given as goal
 
 abbrev pub invariant-loop-n : goal.invariant-loop-n
 invariant-loop-n g l = record {
-  takes : Takes g.S.Store.clean g.S.Store.rows g.V.VendorHandler.name g.V.VendorHandler.gives l.fn.hub l.hub (λ steps. FirstPlaces (Serves g.T.Read.remaining g.T.Write.contents l.moment) l.n (peers_of l.fn.self) (peers_of l.self) steps);
+  takes : Takes g.S.Store.clean g.S.Store.rows g.V.VendorHandler.name g.V.VendorHandler.gives l.fn.hub l.hub (λ steps. FirstPlaces (Serves g.T.Read.remaining g.T.Write.contents (setting g.V.VendorHandler.name g.V.VendorHandler.gives l.fn.hub).is_hosted l.moment) l.n (peers_of l.fn.self) (peers_of l.self) steps);
   counted : IsCounted (failures_of g.S.Store.failures) (is_clean g.S.Store.clean) l.fn.hub l.hub ⊥;
   setting : setting g.V.VendorHandler.name g.V.VendorHandler.gives l.hub ≡ setting g.V.VendorHandler.name g.V.VendorHandler.gives l.fn.hub;
   count : length (peers_of l.self) ≡ length (peers_of l.fn.self);

@@ -1,0 +1,29 @@
+use Rattle.std.proofs.Common.{subst, Some, Err, ◌≡◌}
+use Rattle.hub.specs.Hub.{setting}
+use Rattle.ws_peers.specs.Lists as lists
+use Rattle.ws_peers.specs.Peers.{ends, route_of}
+use Rattle.ws_server.specs.Events.{is_route_of_hosted}
+use Rattle.ws_server.specs.Tells.{peers_of}
+use Rattle.ws_server.specs.Turns.{Serves, Means}
+use Rattle.ws_server.proofs.StepLaws.{changed, at_with}
+use Rattle.ws_server.proofs.gateway.Gateway.serve.Goals as goal
+
+pub returns-clause-takes : goal.returns-clause-takes
+returns-clause-takes g c =
+    let hosts = (setting g.V.VendorHandler.name g.V.VendorHandler.gives c.args.hub.now).is_hosted in
+    let old = peers_of c.args.self.now in
+    let mid = lists.peers c.take.new.self in
+    let new = lists.peers c.end.new.self in
+    let fault = c.in-Err.fault in
+    changed _ _ _ _ _ _ _ (λ steps. Serves g.T.Read.remaining g.T.Write.contents hosts c.args.moment c.args.n old new steps (Err fault))
+    (λ steps change. record {
+      text = Some c.in-Some.text;
+      mid = mid;
+      took = c.in-Some.ensures.took;
+      handled = (
+        at_with (λ p q. q ≡ ends p) (λ p. Means (is_route_of_hosted hosts (route_of p)) fault) c.args.n mid new
+          (subst (λ ps. lists.At (λ p q. q ≡ ends p) c.args.n ps new) change.0 c.end.ensures.ended) change.2,
+        change.1,
+      );
+    })
+    c.in-Err.ensures.takes

@@ -1,0 +1,32 @@
+use Rattle.std.proofs.Common.{Ok, arith, ◌∙◌}
+use Rattle.ws_server.specs.Admits.{WelcomesSome}
+use Rattle.ws_server.specs.Tells.{peers_of}
+use Rattle.ws_server.proofs.StepLaws.{counted_more, taken_on, welcomes-more, welcomes-fails}
+use Rattle.ws_server.proofs.lobby.Lobby.serve.Goals as goal
+
+pub returns-in_err-look-clause-takes : goal.returns-in_err-look-clause-takes
+returns-in_err-look-clause-takes g c =
+    let inv = c.loop.invariant in
+    let e = c.in_err-look.ensures in
+    let old = peers_of c.args.gateway.now in
+    let mid = peers_of c.loop.gateway in
+    let new = peers_of c.look.new.gateway in
+    let r = c.from_residual.result in
+    taken_on _ _ g.S.Store.failures _ _ _ _ _ _ _ (λ steps. WelcomesSome g.T.Write.contents c.args.moment old new steps r)
+    (λ before after first more. welcomes-fails g.T.Write.contents c.args.moment old mid new before after c.in_err-look.field-0.0 r c.from_residual.ensures.0 c.from_residual.ensures.1 first more)
+    inv.setting e.counted.was_clean inv.takes e.takes
+
+pub loop-preserved : goal.loop-preserved
+loop-preserved g c =
+    let inv = c.loop.invariant in
+    let e = c.in_ok-look.ensures in
+    let old = peers_of c.args.gateway.now in
+    let mid = peers_of c.loop.gateway in
+    let new = peers_of c.look.new.gateway in
+    record {
+      takes = taken_on _ _ g.S.Store.failures _ _ _ _ _ _ _ (λ steps. WelcomesSome g.T.Write.contents c.args.moment old new steps (Ok tt))
+          (λ before after first more. welcomes-more g.T.Write.contents c.args.moment old mid new before after first more) inv.setting e.counted.was_clean inv.takes e.takes;
+      counted = counted_more _ g.S.Store.rows _ g.V.VendorHandler.name g.V.VendorHandler.gives _ _ _ _ _ inv.counted e.counted;
+      setting = e.setting ∙ inv.setting;
+      fewer = omega (arith, e.fewer, inv.fewer);
+    }
