@@ -5,22 +5,29 @@ use hub::{Fault, Hub};
 use ocpp_types::{Moment, Text};
 use station_calls::Echo;
 use std::alloc::Global;
+use std::cell::RefCell;
 use std::io;
 use std::io::{Error, ErrorKind, Read, Write};
+use std::rc::Rc;
 use std::test::Fail;
 use store_mem::{Failing, MemStore};
 use tungstenite::{NoMask, Role, WebSocket};
 use ws_peers::Route;
 use ws_server::Gateway;
 
-/// What one client sends, and nothing more: a read past it would block. What it is sent is not kept.
+/// What one client sends, and nothing more: a read past it would block.
 #[derive(Drop)]
 struct Stream {
     /// How many bytes are read.
     taken: usize,
     /// How many calls come before the one that fails.
     before: u64,
+    /// What it is sent.
+    sent: Sent,
 }
+
+/// The bytes that a client is sent.
+type Sent = Rc<RefCell<Vec<u8>>>;
 
 impl Stream {
     fn count_call(&mut self) -> io::Result<()> {
@@ -49,6 +56,10 @@ impl Read for Stream {
 impl Write for Stream {
     fn write(&mut self, buf: &[u8]) -> io::Result<usize> {
         self.count_call()?;
+        let Ok(mut sent) = self.sent.try_borrow_mut() else {
+            return Err(Error::from(ErrorKind::Other));
+        };
+        sent.extend_from_slice(buf)?;
         Ok(buf.len())
     }
 
@@ -75,15 +86,27 @@ const ONE_ADDED: &str = "1704067200 ACME station add CP01 Accepted 300\n";
 const CALL: &str = "1704067200 ACME call CP01 ClearCache {}\n";
 
 /// Asked after the turns.
-const LISTED: &str = "1704067200 ACME list stations\n";
+const ASKED: &str =
+    "1704067200 ACME list stations\n1704067200 ACME call CP01 ClearCache {}\n1704067200 ACME call CP02 ClearCache {}\n";
 
-/// The last row of that list, of CP02, which has booted.
+/// What follows the row of CP01: CP02 has booted and is connected, and CP01 isn't.
 const SECOND: &str =
-    "ACME row station CP02 Accepted Accepted 300 {\"chargePointModel\":\"M\",\"chargePointVendor\":\"V\"}\nACME ok\n";
+    "ACME row station CP02 Accepted Accepted 300 {\"chargePointModel\":\"M\",\"chargePointVendor\":\"V\"}\nACME ok\nACME refused 7 NotConnected\nACME ok 1\nACME CP02 send [2,\"1\",\"ClearCache\",{}]\n";
 
-fn socket(alloc: Global, before: u64) -> WebSocket<Stream, NoMask> {
-    let stream = Stream { taken: 0, before };
+/// Where both are connected.
+const BOTH: &str = "ACME ok 1\nACME CP01 send [2,\"1\",\"ClearCache\",{}]\nACME ok 1\nACME CP02 send [2,\"1\",\"ClearCache\",{}]\n";
+
+fn socket(alloc: Global, before: u64, sent: Sent) -> WebSocket<Stream, NoMask> {
+    let stream = Stream {
+        taken: 0,
+        before,
+        sent,
+    };
     WebSocket::from_raw_socket(alloc, stream, NoMask, Role::Server, None)
+}
+
+fn nothing_sent(alloc: Global) -> Result<Sent, Fail> {
+    Ok(Rc::new(alloc, RefCell::new(Vec::new(alloc)))?)
 }
 
 fn station(alloc: Global, name: &str) -> Result<Route, Fail> {
@@ -100,36 +123,41 @@ fn no_vendors(alloc: Global) -> Vec<Echo> {
     Vec::new(alloc)
 }
 
-/// The rows of both stations, and how many peers are left, where a call of CP01's stream fails.
-fn served(alloc: Global, before: u64) -> Result<(String, usize), Fail> {
+/// What the operator is then answered, and what CP02 was sent, where a call of CP01's stream fails.
+fn served(alloc: Global, before: u64) -> Result<(String, Sent), Fail> {
     let mut hub = hub_of(alloc, MemStore::new(alloc), no_vendors(alloc))?;
     let added = events(alloc, ADDED)?;
     let _added = run(alloc, &mut hub, added.as_slice())?;
     let at = moment(1704067200)?;
     let mut gateway = Gateway::new(alloc);
-    gateway.admit(&mut hub, socket(alloc, before), station(alloc, "CP01")?, at)?;
-    gateway.admit(
-        &mut hub,
-        socket(alloc, u64::MAX),
-        station(alloc, "CP02")?,
-        at,
-    )?;
+    let first = socket(alloc, before, nothing_sent(alloc)?);
+    gateway.admit(&mut hub, first, station(alloc, "CP01")?, at)?;
+    let sent = nothing_sent(alloc)?;
+    let second = socket(alloc, u64::MAX, Rc::clone(&sent)?);
+    gateway.admit(&mut hub, second, station(alloc, "CP02")?, at)?;
     for _ in 0..4 {
         gateway.turn(&mut hub, at)?;
     }
-    let list = events(alloc, LISTED)?;
-    let text = run(alloc, &mut hub, list.as_slice())?.text;
-    Ok((text, gateway.count()))
+    let asked = events(alloc, ASKED)?;
+    let text = run(alloc, &mut hub, asked.as_slice())?.text;
+    Ok((text, sent))
+}
+
+fn is_same(first: &Sent, second: &Sent) -> bool {
+    match (first.try_borrow(), second.try_borrow()) {
+        (Ok(first), Ok(second)) => first.as_slice() == second.as_slice(),
+        _ => false,
+    }
 }
 
 #[test]
 fn a_stream_that_fails_ends_its_own_connection_alone(rt: HostRuntime) -> Result<(), Fail> {
     let alloc = rt.alloc();
-    let (text, count) = served(alloc, u64::MAX)?;
-    assert!(rt; count == 2 && text.as_str().ends_with(SECOND));
+    let (text, wanted) = served(alloc, u64::MAX)?;
+    assert!(rt; text.as_str().ends_with(BOTH));
     for before in 0..CALLS {
-        let (text, count) = served(alloc, before)?;
-        assert!(rt; count == 1 && text.as_str().ends_with(SECOND), "{before}");
+        let (text, sent) = served(alloc, before)?;
+        assert!(rt; text.as_str().ends_with(SECOND) && is_same(&sent, &wanted), "{before}");
     }
     Ok(())
 }
@@ -142,12 +170,8 @@ fn answered(alloc: Global, before: u64) -> Result<String, Fail> {
     let _added = run(alloc, &mut hub, added.as_slice())?;
     let at = moment(1704067200)?;
     let mut gateway = Gateway::new(alloc);
-    gateway.admit(
-        &mut hub,
-        socket(alloc, u64::MAX),
-        station(alloc, "CP01")?,
-        at,
-    )?;
+    let socket = socket(alloc, u64::MAX, nothing_sent(alloc)?);
+    gateway.admit(&mut hub, socket, station(alloc, "CP01")?, at)?;
     let is_fault = matches!(gateway.turn(&mut hub, at), Err(Fault::Store));
     gateway.turn(&mut hub, at)?;
     if !is_fault || gateway.count() != 0 {
