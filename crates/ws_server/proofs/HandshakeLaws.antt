@@ -7,7 +7,7 @@ use Rattle.tungstenite.specs.Config.{HasLimitsOf}
 use Rattle.tungstenite.specs.Heads.{Serves}
 use Rattle.tungstenite.specs.Socket.{Socket}
 use Rattle.tungstenite.specs.declared.protocol.WebSocketConfig.{WebSocketConfig}
-use Rattle.ws_server.specs.Admits.{IsShaken}
+use Rattle.ws_server.specs.Admits.{IsNewSocket}
 
 -- what is so of a value is so of it as an option
 pub if_ok : {A B : Type 0} (P : A → Type 0) (r : Result A B) → IfOk r P → IfSome (result_ok r) P
@@ -18,8 +18,8 @@ if_ok P (Err b) is = tt
 abbrev pub Gave : {T : Type 0} → Option WebSocketConfig → Socket T → Type 0
 Gave config socket = (role : Bool × Option WebSocketConfig) × (Serves socket × HasLimitsOf socket.conn.config role.1) × (role.1 ≡ config)
 
-pub is_shaken : {T : Type 0} (config : Option WebSocketConfig) (limits : WebSocketConfig) (socket : Socket T) → Gave config socket → config ≡ Some limits
-    → limits.max_message_size ≡ Some 4_194_304 → limits.max_frame_size ≡ Some 4_194_304 → limits.accept_unmasked_frames ≡ false → IsShaken socket
-is_shaken config limits socket gave same message frame unmasked =
+pub is_new_socket : {T : Type 0} (config : Option WebSocketConfig) (limits : WebSocketConfig) (socket : Socket T) → Gave config socket → config ≡ Some limits
+    → limits.max_message_size ≡ Some 4_194_304 → limits.max_frame_size ≡ Some 4_194_304 → limits.accept_unmasked_frames ≡ false → IsNewSocket socket
+is_new_socket config limits socket gave same message frame unmasked =
     let has = subst (HasLimitsOf socket.conn.config) (gave.2 ∙ same) gave.1.1 in
     (gave.1.0.1, (has.0 ∙ message, has.1 ∙ frame, has.2 ∙ unmasked))

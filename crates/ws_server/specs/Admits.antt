@@ -50,13 +50,13 @@ TakesAtMost n c = (c.max_message_size ≡ Some n) × (c.max_frame_size ≡ Some 
 module _ {T : Type 0} where
   -- the socket of a handshake that is done: nothing has been read since, and nothing is left to be sent; its
   -- messages have at most 4,194,304 bytes
-  abbrev pub IsShaken : Socket T → Type 0
-  IsShaken socket = ((stream : T) × IsFresh socket stream Role.Server) × TakesAtMost 4_194_304 socket.conn.config
+  abbrev pub IsNewSocket : Socket T → Type 0
+  IsNewSocket socket = ((stream : T) × IsFresh socket stream Role.Server) × TakesAtMost 4_194_304 socket.conn.config
 
 module _ {T : Type 0} (contents : T → Option (List ℕ)) (m : ℕ) where
   -- a connection of that route is welcomed: it stays out, or its handshake is done and it is admitted
   abbrev pub Welcomes : Route → Change (Peer T)
-  Welcomes route old new steps r = ((new ≡ old) × (steps ≡ [])) ⊎ ((socket : Socket T) × IsShaken socket × Admits contents socket m route old new steps r)
+  Welcomes route old new steps r = ((new ≡ old) × (steps ≡ [])) ⊎ ((socket : Socket T) × IsNewSocket socket × Admits contents socket m route old new steps r)
 
   abbrev pub WelcomesOne : Change (Peer T)
   WelcomesOne old new steps r = (route : Route) × Welcomes route old new steps r

@@ -1,6 +1,6 @@
 //! The handshake of one connection.
 ghost use Rattle.std.specs.Prelude.{◌≡◌, true, false, Some, IfSome};
-ghost use Rattle.ws_server.specs.Admits.{IsShaken};
+ghost use Rattle.ws_server.specs.Admits.{IsNewSocket};
 
 use http::header::{HeaderName, HeaderValue};
 use http::{Request, Response, StatusCode};
@@ -91,7 +91,7 @@ pub fn shake<T: Read + Write + Drop>(
     is_known: bool,
     is_station: bool,
 ) -> Option<WebSocket<T, NoMask>>
-    ensures shaken { IfSome result IsShaken }
+    ensures socket { IfSome result IsNewSocket }
     ensures known { IfSome result (λ _. is_known ≡ true) }
 {
     let mut has_agreed = false;

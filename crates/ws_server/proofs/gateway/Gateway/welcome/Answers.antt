@@ -13,6 +13,6 @@ returns-in-Some-clause-takes g c =
     let None : List Step → Type 0 = λ steps. steps ≡ [] in
     let Welcomed : List Step → Type 0 = λ steps. Welcomes g.T.Write.contents c.args.moment c.args.route old new steps r in
     taken_on _ _ g.S.Store.failures _ _ _ _ _ None _ Welcomed
-    (λ before after none change. subst (λ steps. Welcomed (steps ++ after)) (sym none) (inr (c.in-Some.socket, c.in-Some.ensures.shaken, change)))
+    (λ before after none change. subst (λ steps. Welcomed (steps ++ after)) (sym none) (inr (c.in-Some.socket, c.in-Some.ensures.socket, change)))
     c.in_ok-is_known.ensures.setting c.admit.ensures.counted.was_clean
     (nothing _ _ _ _ _ _ None refl c.in_ok-is_known.ensures.world) c.admit.ensures.takes
