@@ -88,9 +88,7 @@ impl Readiness {
                     self.expected.set(Expected::Rest);
                 }
             }
-            Ok(_) => self
-                .full_reads
-                .set(self.full_reads.get().saturating_add(1)),
+            Ok(_) => self.full_reads.set(self.full_reads.get().saturating_add(1)),
         }
     }
 }

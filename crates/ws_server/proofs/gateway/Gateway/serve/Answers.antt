@@ -22,7 +22,7 @@ returns-clause-takes g c =
       took = c.in-Some.ensures.took;
       handled = (
         at_with (λ p q. q ≡ ends p) (λ p. Means (is_route_of_hosted hosts (route_of p)) fault) c.args.n mid new
-          (subst (λ ps. lists.At (λ p q. q ≡ ends p) c.args.n ps new) change.0 c.end.ensures.ended) change.2,
+            (subst (λ ps. lists.At (λ p q. q ≡ ends p) c.args.n ps new) change.0 c.end.ensures.ended) change.2,
         change.1,
       );
     })
