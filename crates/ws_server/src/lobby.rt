@@ -1,5 +1,5 @@
 //! Connections whose handshake is not done.
-ghost use Rattle.std.specs.Prelude.{◌≡◌, ◌+◌, ◌<◌, ◌≤◌, Err, OnOk, IfOk, length};
+ghost use Rattle.std.specs.Prelude.{◌≡◌, ◌≢◌, ◌+◌, ◌<◌, ◌≤◌, Err, OnOk, IfOk, IfErr, length};
 ghost use Rattle.hub_rows.specs.Reads.{IsCounted};
 ghost use Rattle.hub.specs.Hub.{setting, is_clean, failures_of};
 ghost use Rattle.ws_server.specs.Lobbies.{waiting_count};
@@ -103,6 +103,7 @@ impl<T: Peek + Read + Write + Drop> Lobby<T> {
         ensures takes { Takes S.clean S.rows V.name V.gives hub.old hub.new
             (λ steps. WelcomesSome T.contents moment (peers_of gateway.old) (peers_of gateway.new) steps result) }
         ensures counted { IsCounted (failures_of S.failures) (is_clean S.clean) hub.old hub.new (result ≡ Err Fault.Store) }
+        ensures hosted { is_clean S.clean hub.new → IfErr result (λ f. f ≢ Fault.NoSuchOperator) }
         ensures setting { setting V.name V.gives hub.new ≡ setting V.name V.gives hub.old }
         ensures fewer { waiting_count self.new ≤ waiting_count self.old }
     {
@@ -125,6 +126,7 @@ impl<T: Peek + Read + Write + Drop> Lobby<T> {
         ensures takes { Takes S.clean S.rows V.name V.gives hub.old hub.new
             (λ steps. WelcomesOne T.contents moment (peers_of gateway.old) (peers_of gateway.new) steps result) }
         ensures counted { IsCounted (failures_of S.failures) (is_clean S.clean) hub.old hub.new (result ≡ Err Fault.Store) }
+        ensures hosted { is_clean S.clean hub.new → IfErr result (λ f. f ≢ Fault.NoSuchOperator) }
         ensures setting { setting V.name V.gives hub.new ≡ setting V.name V.gives hub.old }
         ensures fewer { waiting_count self.new ≤ waiting_count self.old }
     {

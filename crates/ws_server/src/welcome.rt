@@ -17,7 +17,6 @@ use ws_peers::Route;
 
 impl<T: Read + Write + Drop> Gateway<T> {
     ghost use Rattle.ws_server.specs.Admits.{Welcomes};
-    ghost use Rattle.ws_server.specs.Events.{is_route_of_hosted};
 
     /// Makes the handshake of a stream whose whole head is there, and whose path leads there; then admits
     /// it. A path to nothing, to a station that the hub doesn't know, or to an operator that it doesn't
@@ -33,7 +32,7 @@ impl<T: Read + Write + Drop> Gateway<T> {
             (λ steps. Welcomes T.contents moment route (peers_of self.old) (peers_of self.new) steps result) }
         ensures known { is_clean S.clean hub.new → is_known (setting V.name V.gives hub.old).is_hosted (world S.rows hub.old).rows route ≡ false
             → peers_of self.new ≡ peers_of self.old }
-        ensures not_hosted { IfErr result (λ f. f ≡ Fault.NoSuchOperator → is_route_of_hosted (setting V.name V.gives hub.old).is_hosted route ≡ false) }
+        ensures hosted { is_clean S.clean hub.new → IfErr result (λ f. f ≢ Fault.NoSuchOperator) }
         ensures counted { IsCounted (failures_of S.failures) (is_clean S.clean) hub.old hub.new (result ≡ Err Fault.Store) }
         ensures setting { setting V.name V.gives hub.new ≡ setting V.name V.gives hub.old }
     {

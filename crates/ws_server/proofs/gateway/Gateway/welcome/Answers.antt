@@ -1,7 +1,10 @@
-use Rattle.std.proofs.Common.{◌≡◌, List, [], ◌++◌, refl, subst, sym, inr}
+use Rattle.std.proofs.Common.{◌≡◌, ◌∙◌, List, [], ◌++◌, refl, subst, sym, true, inr}
+use Rattle.hub.specs.Hub.{world}
 use Rattle.ws_server.specs.Admits.{Welcomes}
 use Rattle.ws_server.specs.Steps.{Step}
 use Rattle.ws_server.specs.Tells.{peers_of}
+use Rattle.ws_server.specs.Events.{is_route_of_hosted}
+use Rattle.ws_server.proofs.HandshakeLaws.{known_hosted, no_cause}
 use Rattle.ws_server.proofs.StepLaws.{taken_on, nothing}
 use Rattle.ws_server.proofs.gateway.Gateway.welcome.Goals as goal
 
@@ -16,3 +19,9 @@ returns-in-Some-clause-takes g c =
     (λ before after none change. subst (λ steps. Welcomed (steps ++ after)) (sym none) (inr (c.in-Some.socket, c.in-Some.ensures.socket, change)))
     c.in_ok-is_known.ensures.setting c.admit.ensures.counted.was_clean
     (nothing _ _ _ _ _ _ None refl c.in_ok-is_known.ensures.world) c.admit.ensures.takes
+
+pub returns-in-Some-clause-hosted : goal.returns-in-Some-clause-hosted
+returns-in-Some-clause-hosted g c = λ clean.
+    let known = sym (c.in_ok-is_known.ensures.known (c.admit.ensures.counted.was_clean clean)) ∙ c.in-Some.ensures.known in
+    let hosted = subst (λ st. is_route_of_hosted st.is_hosted c.args.route ≡ true) (sym c.in_ok-is_known.ensures.setting) (known_hosted _ (world g.S.Store.rows c.args.hub.now).rows c.args.route known) in
+    no_cause _ c.admit.result hosted c.admit.ensures.not_hosted
