@@ -18,7 +18,7 @@ enum Expected {
     Bytes,
     /// No byte: the last read took all that were there. The reader may hold some of them.
     Rest,
-    /// No byte: the last read has found none.
+    /// No byte: the last read has found none, or has failed.
     Nothing,
 }
 

@@ -1,5 +1,5 @@
 -- Steps of the hub.
-use Rattle.std.proofs.Common.{Bool, Err, List, None, Ok, Option, Result, Some, [], add-one, ap, arith, false, if◌then◌else◌, inl, inr, length, nat_lt, refl, slice_index_or, subst, suc, sym, true, true≢false, zero, ℕ, ◌++◌, ◌+◌, ◌<◌, ◌∙◌, ◌∷◌, ◌≡◌, ◌≤◌, ◌||◌}
+use Rattle.std.proofs.Common.{Bool, Err, List, None, Ok, Option, Result, Some, [], add-one, ap, arith, false, if◌then◌else◌, inl, inr, length, nat_lt, refl, slice_index_or, subst, suc, sym, true, true≢false, zero, ℕ, ◌++◌, ◌+◌, ◌∙◌, ◌∷◌, ◌≡◌, ◌||◌}
 use Rattle.std.specs.Io.BufRead.{strip_last}
 use Rattle.std.specs.Option.{IfSome}
 use Rattle.std.specs.Prelude.{is_some}
@@ -13,7 +13,6 @@ use Rattle.hub.specs.declared.fault.Fault.TheVariants as fault
 use Rattle.hub.specs.declared.hub.Hub.{Hub}
 use Rattle.hub.specs.Hub.{world, setting, is_clean, is_taken, is_of_hosted, failures_of}
 use Rattle.hub.specs.World.{Setting, World, world_outputs, world_step}
-use Rattle.hub_rows.specs.Failures.{Rose}
 use Rattle.hub_rows.specs.Reads.{IsCounted}
 use Rattle.hub_rows.specs.Rows.{Rows}
 use Rattle.station_calls.specs.declared.vendor.VendorAnswer.{VendorAnswer}
@@ -27,7 +26,7 @@ use Rattle.ws_peers.specs.declared.routes.Route.{Route}
 use Rattle.ws_peers.specs.declared.routes.Route.TheVariants.{Station, Operator, Nothing}
 use Rattle.ws_server.specs.Admits.{WelcomesOne, WelcomesSome}
 use Rattle.ws_server.specs.Events.{event_of, parting, is_route_of_hosted}
-use Rattle.ws_server.specs.Turns.{Change, Then, Becomes, FirstPlaces, Each, Hands, HandsText, Means, Parts, PartsAs}
+use Rattle.ws_server.specs.Turns.{Change, Then, Becomes, FirstPlaces, Hands, HandsText, Means, Parts, PartsAs}
 use Rattle.ws_server.specs.Steps.{Step, Runs, Takes}
 
 -- ---- what a fault says of an operator
@@ -113,18 +112,7 @@ module _ {S V : Type 0} (clean : S → Type 0) (rows : S → Rows) (name : V →
   pub changed : (C D : List Step → Type 0) → ((steps : List Step) → C steps → D steps) → Takes clean rows name gives old new C → Takes clean rows name gives old new D
   changed C D to takes = record { steps = takes.steps; change = to takes.steps takes.change; runs = takes.runs }
 
-rose_on : (a b c : ℕ) → a ≤ b → Rose b c → Rose a c
-rose_on a b c small (inl less) = inl (omega (arith, small, less))
-rose_on a b c small (inr full) = inr full
-
 module _ {S V : Type 0} (clean : S → Type 0) (rows : S → Rows) (failures : S → ℕ) (name : V → List ℕ) (gives : V → Option (List ℕ) → Option (List ℕ) → VendorAnswer) (old mid new : Hub S V) where
-  pub counted_on : (Early Failed : Type 0) → IsCounted (failures_of failures) (is_clean clean) old mid Early → IsCounted (failures_of failures) (is_clean clean) mid new Failed → IsCounted (failures_of failures) (is_clean clean) old new Failed
-  counted_on Early Failed first second = record {
-    was_clean = λ c. first.was_clean (second.was_clean c);
-    failed = λ f. rose_on (failures_of failures old) (failures_of failures mid) (failures_of failures new) first.count (second.failed f);
-    count = omega (arith, first.count, second.count);
-  }
-
   pub counted_more : (Early Late : Type 0) → IsCounted (failures_of failures) (is_clean clean) old mid Early → IsCounted (failures_of failures) (is_clean clean) mid new Late → IsCounted (failures_of failures) (is_clean clean) old new ⊥
   counted_more Early Late first second = record {
     was_clean = λ c. first.was_clean (second.was_clean c);
@@ -146,11 +134,6 @@ module _ {P : Type 0} (C : ℕ → Change P) where
   -- one place more
   pub place_more : (n : ℕ) (old mid new : List P) (before after : List Step) → FirstPlaces C n old mid before → C n mid new after (Ok tt) → FirstPlaces C (n + 1) old new (before ++ after)
   place_more n old mid new before after first more = rw add-one (mid, before, after, first, more, refl)
-
-  -- a place that ends in a fault
-  pub place_fails : (n : ℕ) (old mid new : List P) (before after : List Step) (r : Result (Unit {0}) Fault) → n < length old → IsErr r → FirstPlaces C n old mid before → C n mid new after r → Each C old new (before ++ after) r
-  place_fails n old mid new before after (Ok u) within err first more = absurd (true≢false (sym err))
-  place_fails n old mid new before after (Err fault) within err first more = (n, mid, before, after, within, first, more, refl)
 
 module _ {P : Type 0} where
   -- a change that fails is the last

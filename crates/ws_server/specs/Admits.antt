@@ -58,6 +58,7 @@ module _ {T : Type 0} (contents : T → Option (List ℕ)) (m : ℕ) where
   abbrev pub Welcomes : Route → Change (Peer T)
   Welcomes route old new steps r = ((new ≡ old) × (steps ≡ [])) ⊎ ((socket : Socket T) × IsNewSocket socket × Admits contents socket m route old new steps r)
 
+  -- one is welcomed, of whatever route
   abbrev pub WelcomesOne : Change (Peer T)
   WelcomesOne old new steps r = (route : Route) × Welcomes route old new steps r
 

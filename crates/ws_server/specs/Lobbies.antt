@@ -1,7 +1,11 @@
 -- Connections whose handshake is not done.
-use Rattle.std.specs.Prelude.{ℕ, length}
+use Rattle.std.specs.Prelude.{ℕ, List, drop, if◌then◌else◌, length, nat_lt}
 use Rattle.ws_server.specs.declared.lobby.Lobby.{Lobby}
 
 -- how many wait
 abbrev pub waiting_count : {T : Type 0} → Lobby T → ℕ
 waiting_count l = length l.waiting.items
+
+-- those that wait as one more comes: of 1,024 or more the one that came first makes room
+abbrev pub with_room : {A : Type 0} → List A → List A
+with_room waiting = if nat_lt (length waiting) 1024 then waiting else drop 1 waiting

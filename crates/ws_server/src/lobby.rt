@@ -1,8 +1,8 @@
 //! Connections whose handshake is not done.
-ghost use Rattle.std.specs.Prelude.{◌≡◌, ◌≢◌, ◌+◌, ◌<◌, ◌≤◌, Err, OnOk, IfOk, IfErr, length};
+ghost use Rattle.std.specs.Prelude.{◌≡◌, ◌≢◌, ◌++◌, ◌∷◌, ◌<◌, ◌≤◌, [], Err, OnOk, OnErr, IfOk, IfErr, length};
 ghost use Rattle.hub_rows.specs.Reads.{IsCounted};
 ghost use Rattle.hub.specs.Hub.{setting, is_clean, failures_of};
-ghost use Rattle.ws_server.specs.Lobbies.{waiting_count};
+ghost use Rattle.ws_server.specs.Lobbies.{waiting_count, with_room};
 ghost use Rattle.ws_server.specs.Steps.{Takes};
 ghost use Rattle.ws_server.specs.Tells.{peers_of};
 
@@ -78,8 +78,8 @@ impl<T: Peek + Read + Write + Drop> Lobby<T> {
     /// Takes a connection that was accepted at that moment. Where 1,024 wait, it takes the place of the one
     /// that came first. With no memory for it, it is dropped.
     pub fn enter(&mut self, stream: T, moment: Moment) -> Mem<()>
-        ensures most { waiting_count self.old ≤ 1024 → waiting_count self.new ≤ 1024 }
-        ensures entered { OnOk result (waiting_count self.old < 1024 → waiting_count self.new ≡ waiting_count self.old + 1) }
+        ensures entered { OnOk result (self.new.waiting.items ≡ with_room self.old.waiting.items ++ record { stream = stream; since = moment } ∷ []) }
+        ensures dropped { OnErr result (self.new.waiting.items ≡ with_room self.old.waiting.items) }
     {
         if self.waiting.len() >= MAX_WAITING {
             let _first = self.waiting.remove(0);
