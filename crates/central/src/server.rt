@@ -25,7 +25,7 @@ struct Server<V> {
     lobby: Lobby<ReadyStream>,
     streams: Streams,
     /// The second in which accepting a connection failed. It isn't tried again in that second.
-    refused: Option<Moment>,
+    failed_accept: Option<Moment>,
 }
 
 /// Serves, by records in memory that begin empty and by those handlers of vendors' messages. A fault of a
@@ -59,7 +59,7 @@ impl<V: VendorHandler> Server<V> {
             gateway: Gateway::new(alloc),
             lobby: Lobby::new(alloc)?,
             streams: Streams::new(alloc, rt, listener)?,
-            refused: None,
+            failed_accept: None,
         })
     }
 
@@ -75,7 +75,7 @@ impl<V: VendorHandler> Server<V> {
 
     /// Takes the system's reports on streams. It waits for one where nothing can be done without.
     fn wait(&mut self, may_wait: bool) -> io::Result<()> {
-        let is_idle = may_wait && !self.streams.is_pending(self.refused.is_none());
+        let is_idle = may_wait && !self.streams.is_pending(self.failed_accept.is_none());
         self.streams
             .wait(Duration::from_secs(if is_idle { MAX_WAIT } else { 0 }))
     }
@@ -83,7 +83,7 @@ impl<V: VendorHandler> Server<V> {
     /// One turn: accepts at most one connection, looks at those that wait, and serves each peer.
     fn turn(&mut self, rt: &HostRuntime, moment: Moment) {
         if let Err(fault) = self.accept(moment) {
-            self.refused = Some(moment);
+            self.failed_accept = Some(moment);
             let _ = eprintln!(rt; "fault {fault}");
         }
         let welcomed = self
@@ -94,10 +94,10 @@ impl<V: VendorHandler> Server<V> {
     }
 
     fn accept(&mut self, moment: Moment) -> Result<(), RunFault> {
-        if self.refused == Some(moment) {
+        if self.failed_accept == Some(moment) {
             return Ok(());
         }
-        self.refused = None;
+        self.failed_accept = None;
         if let Some(stream) = self.streams.accept()? {
             self.lobby.enter(stream, moment)?;
         }

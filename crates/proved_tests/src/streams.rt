@@ -94,7 +94,8 @@ const SECOND: &str =
     "ACME row station CP02 Accepted Accepted 300 {\"chargePointModel\":\"M\",\"chargePointVendor\":\"V\"}\nACME ok\nACME refused 7 NotConnected\nACME ok 1\nACME CP02 send [2,\"1\",\"ClearCache\",{}]\n";
 
 /// Where both are connected.
-const BOTH: &str = "ACME ok 1\nACME CP01 send [2,\"1\",\"ClearCache\",{}]\nACME ok 1\nACME CP02 send [2,\"1\",\"ClearCache\",{}]\n";
+const BOTH: &str =
+    "ACME ok 1\nACME CP01 send [2,\"1\",\"ClearCache\",{}]\nACME ok 1\nACME CP02 send [2,\"1\",\"ClearCache\",{}]\n";
 
 fn socket(alloc: Global, before: u64, sent: Sent) -> WebSocket<Stream, NoMask> {
     let stream = Stream {
@@ -157,7 +158,10 @@ fn a_stream_that_fails_ends_its_own_connection_alone(rt: HostRuntime) -> Result<
     assert!(rt; text.as_str().ends_with(BOTH));
     for before in 0..CALLS {
         let (text, sent) = served(alloc, before)?;
-        assert!(rt; text.as_str().ends_with(SECOND) && is_same(&sent, &wanted), "{before}");
+        assert!(rt;
+            text.as_str().ends_with(SECOND) && is_same(&sent, &wanted),
+            "{before}"
+        );
     }
     Ok(())
 }
