@@ -6,14 +6,14 @@ ghost use Rattle.pending_calls.specs.Slots.{slot_at};
 ghost use Rattle.ocpp_frame.specs.Frame.{frame};
 ghost use Rattle.station_calls.specs.Book.{book_rows, book_failures, book_answers, IsCleanBook};
 ghost use Rattle.event_plans.specs.Effects.{StationSlot, IsReady};
-ghost use Rattle.event_plans.specs.Table.{frame_plan, call_plan, state_plan};
+ghost use Rattle.event_plans.specs.Table.{frame_plan, call_plan, state_plan, payload_plan};
 
 use crate::answers::{plan_error, plan_result};
 use crate::plan::Plan;
 use crate::plans::{decided_plan, error_plan};
-use hub_rows::{Store, StoreFault};
+use hub_rows::{Registration, Store, StoreFault};
 use ocpp_frame::{Frame, Payload, read_frame};
-use ocpp_payload::{Action, ActionClass, action_class, read_request};
+use ocpp_payload::{Action, ActionClass, FieldFault, Request, action_class, read_request};
 use ocpp_types::{Boxed, ErrorCode, Moment, Text};
 use operator_cmds::Command;
 use pending_calls::Slots;
@@ -93,7 +93,6 @@ fn plan_call<S: Store, V: VendorHandler>(
 }
 
 /// The plan for a call of a supported action: first the station's state, then the payload.
-#[tactic(auto, using(crate::proofs::Readiness::decided_ready))]
 fn plan_known<S: Store, V: VendorHandler>(
     alloc: Global,
     book: &mut Book<S, V>,
@@ -117,7 +116,30 @@ fn plan_known<S: Store, V: VendorHandler>(
     if !is_allowed(registration.state, action) {
         return Ok(error_plan(alloc, station, id, ErrorCode::SecurityError, "")?);
     }
-    match read_request(alloc, action, payload.as_value())? {
+    let request = read_request(alloc, action, payload.as_value())?;
+    plan_request(alloc, book, op, station, registration, id, request, moment)
+}
+
+/// The plan for a call that the station's state allows: its request is decided, or its first faulty
+/// member is told.
+#[tactic(auto, using(crate::proofs::Readiness::decided_ready))]
+fn plan_request<S: Store, V: VendorHandler>(
+    alloc: Global,
+    book: &mut Book<S, V>,
+    op: &Text,
+    station: &Text,
+    registration: Registration,
+    id: &Text,
+    request: Result<Request, FieldFault>,
+    moment: Moment,
+) -> Result<Plan, StoreFault>
+    ensures reads { OnlyReads (book_rows S.rows) (book_failures S.failures) (IsCleanBook S.clean) book.old book.new (result ≡ Err StoreFault.Failed) }
+    ensures plan { IsCleanBook S.clean book.new → IfOk result (λ p. p
+        ≡ payload_plan (book_answers V.name V.gives book.old) station.now registration id.now request moment (lookups_at op.now (book_rows S.rows book.old))) }
+    ensures answers { book_answers V.name V.gives book.new ≡ book_answers V.name V.gives book.old }
+    ensures ready { IfOk result (λ p. (slot : List ℕ → StationSlot) → IsReady slot p.effect) }
+{
+    match request {
         Ok(request) => {
             let decision = decide(alloc, book, op, station, registration, request, moment)?;
             Ok(decided_plan(alloc, station, id, decision)?)
