@@ -1,4 +1,4 @@
-//! Commands of an operator (docs/RULES.md, Outgoing calls and Commands).
+//! Commands of an operator (docs/RULES.md, Outgoing calls; docs/TABLES.md, Commands).
 ghost use Rattle.std.specs.Prelude.{◌≡◌, Ok, Err, IsOk, IfOk};
 ghost use Rattle.hub_rows.specs.Reads.{OnlyReads};
 ghost use Rattle.hub_rows.specs.Lookups.{lookups_at};
