@@ -15,7 +15,7 @@ pub enum RunFault {
     /// The operators can't be hosted.
     #[error("BadOperators")]
     BadOperators,
-    /// A socket isn't opened, or fails.
+    /// A socket isn't opened or fails, or the wait for the system's reports fails.
     #[error("Stream")]
     Stream,
     /// The script of a station is out of its bounds.

@@ -80,7 +80,7 @@ impl<V: VendorHandler> Server<V> {
             .wait(Duration::from_secs(if is_idle { MAX_WAIT } else { 0 }))
     }
 
-    /// One turn: accepts at most one connection, looks at those that wait, and serves each peer.
+    /// One turn: accepts at most one connection, polls those that wait, and serves each peer.
     fn turn(&mut self, rt: &HostRuntime, moment: Moment) {
         if let Err(fault) = self.accept(moment) {
             self.failed_accept = Some(moment);
@@ -105,7 +105,7 @@ impl<V: VendorHandler> Server<V> {
     }
 }
 
-/// Writes a fault to standard error. Where that fails too the fault is not told.
+/// Writes a fault to standard error. If that fails too the fault is lost.
 fn report(rt: &HostRuntime, answer: Result<(), Fault>) {
     if let Err(fault) = answer {
         let _ = eprintln!(rt; "fault {fault}");

@@ -5,7 +5,7 @@ ghost use Rattle.charging.specs.Numbers.{has_room};
 /// The last number that a transaction or a reading can have.
 pub const LAST_NUMBER: u32 = 2147483647;
 
-/// Whether so many numbers are left behind the last one that was given.
+/// Whether so many numbers are left after the last one that was given.
 pub fn has_room(last: u32, count: usize) -> bool
     ensures { result ≡ has_room last count }
 {

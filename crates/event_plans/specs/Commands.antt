@@ -115,7 +115,7 @@ edit_by station c (Err fault) l = None
 abbrev pub result_edit : List ℕ → Command → Data → Lookups → Option Edit
 result_edit station c payload l = edit_by station c (known_members c payload) l
 
--- the command of the call in flight, if the answer bears its number
+-- the command of the call in flight, if the answer has its number
 abbrev pub answered_command : List ℕ → StationSlot → Option Command
 answered_command id s = if is_answered id s then option_map (λ call. call.1) (call_in_flight s) else None
 
@@ -124,10 +124,10 @@ abbrev pub end_plan : List ℕ → List ℕ → (Command → Outcome) → (Comma
 end_plan station id gives edits None = nothing
 end_plan station id gives edits (Some c) = changing (effect.Answer station id (gives c) (edits c))
 
--- the call in flight ends if a result bears its number
+-- the call in flight ends if a result has its number
 abbrev pub result_plan : List ℕ → List ℕ → Data → StationSlot → Lookups → Plan
 result_plan station id payload s l = end_plan station id (λ c. result_outcome c payload) (λ c. result_edit station c payload l) (answered_command id s)
 
--- the call in flight ends if an error bears its number; it edits nothing
+-- the call in flight ends if an error has its number; it edits nothing
 abbrev pub failure_plan : List ℕ → List ℕ → List ℕ → List ℕ → StationSlot → Plan
 failure_plan station id code description s = end_plan station id (λ c. outcome.Error code description) (λ c. None) (answered_command id s)

@@ -66,7 +66,7 @@ frame_plan answers station (CallError id error description) m f = failure_plan s
 frame_plan answers station (Broken id) m f = error_plan station id code.FormationViolation []
 frame_plan answers station Ignored m f = nothing
 
--- the text of a station that isn't connected is not looked at
+-- the text of a station that isn't connected is not read
 abbrev pub text_plan : Answers → List ℕ → List ℕ → ℕ → Facts → Plan
 text_plan answers station text m f = if (f.slot station).is_connected then frame_plan answers station (frame text) m f else turned_plan station
 

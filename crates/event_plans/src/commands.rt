@@ -1,4 +1,4 @@
-//! Commands of an operator (docs/RULES.md, Outgoing calls and Commands).
+//! Commands of an operator (docs/RULES.md, Outgoing calls; docs/TABLES.md, Commands).
 ghost use Rattle.std.specs.Prelude.{◌≡◌, Ok, Err, IsOk, IfOk};
 ghost use Rattle.hub_rows.specs.Reads.{OnlyReads};
 ghost use Rattle.hub_rows.specs.Lookups.{lookups_at};
@@ -44,8 +44,8 @@ pub fn plan_command<S: Store>(
     }
 }
 
-/// The number of the call that a command becomes, or its first refusal: the station is looked for,
-/// then whether it is ready for a call, then what refuses the command itself.
+/// The number of the call that a command becomes, or its first refusal: the checks are whether the
+/// station is there, whether it is ready for a call, and then what refuses the command itself.
 fn number_of_call<S: Store>(
     alloc: Global,
     store: &mut S,

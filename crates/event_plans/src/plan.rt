@@ -26,7 +26,7 @@ pub enum Effect {
     Nothing,
     /// The records of the operator change.
     Edit(Boxed<Edit>),
-    /// A station is connected from now on, and the calls of its last connection end.
+    /// A station is connected, and the calls of its last connection end.
     Connect {
         station: Text,
     },

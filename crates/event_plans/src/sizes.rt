@@ -1,5 +1,5 @@
-//! How many bytes the values on an event's way take at most. Each is moved from call to call, and a call
-//! clears its locals as it begins, so what is wide and rare stands behind a box.
+//! How many bytes the values on an event's way take at most. Each is moved from call to call, and a
+//! call clears its locals as it begins, so what is wide and rare is in a box.
 
 use crate::event::{Event, What};
 use crate::out::{Out, Said};

@@ -10,7 +10,7 @@ use Rattle.hub_rows.specs.declared.list_row.LocalTag.{LocalTag}
 use Rattle.holdings.specs.LocalList.{names}
 use Rattle.operator_cmds.specs.declared.local_list.AuthorizationData.{AuthorizationData}
 
--- each entry stands under the key of its tag
+-- each entry is under the key of its tag
 abbrev pub AreKeyed : List (List ℕ × LocalTag) → Type 0
 AreKeyed entries = AllByRecursion (λ e. e.0 ≡ key_of e.1.tag) entries
 

@@ -1,4 +1,4 @@
--- What a station's list is after it has taken over a command (OCPP 1.6, section 5.15).
+-- What a station's list is after the station has accepted a command (OCPP 1.6, section 5.15).
 use Rattle.std.specs.Prelude.{ℕ, nat_le, ℤ, pos, negsuc, List, [], ◌++◌, Bool, not, ◌&&◌, if◌then◌else◌, Option, Some, None, option_map, unwrap_or, filter}
 use Rattle.std.specs.List.{filter_map, list_any}
 use Rattle.std.specs.Str.{bytes_eq}
@@ -27,7 +27,7 @@ names sent key = list_any (λ e. bytes_eq (key_of e.id_tag) key) sent
 abbrev pub not_named : List AuthorizationData → List LocalTag → List LocalTag
 not_named sent kept = filter (λ e. not (names sent (key_of e.tag))) kept
 
--- an entry of a command, if it says something of its tag
+-- an entry of a command, if it has idTagInfo
 abbrev pub local_tag : AuthorizationData → Option LocalTag
 local_tag e = option_map (λ info. record { tag = e.id_tag; info = info }) e.id_tag_info
 

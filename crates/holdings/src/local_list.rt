@@ -12,10 +12,10 @@ use operator_cmds::{AuthorizationData, SendLocalList, UpdateType};
 use std::alloc::Global;
 use std::collections::BTreeSet;
 
-/// The edit of a list that the station has taken over: of a Full update the entries of the command,
-/// of a Differential one the kept entries whose keys it doesn't name and its entries with
+/// The edit of an update that the station has accepted: of a Full update the entries of the
+/// command, of a Differential one the kept entries whose keys it doesn't name and its entries with
 /// idTagInfo; the version is the command's (OCPP 1.6, section 5.15). A command whose version is out
-/// of its range is none that is sent, and edits nothing.
+/// of its range is never sent, and edits nothing.
 pub fn list_answer(
     alloc: Global,
     station: &Text,
@@ -100,7 +100,7 @@ fn named_keys(alloc: Global, sent: &[AuthorizationData]) -> Mem<BTreeSet<TagKey>
     Ok(keys)
 }
 
-/// Puts the entries of a command that say something of their tags.
+/// Puts the entries of a command that have idTagInfo.
 #[tactic(auto, using(hub_rows::proofs::Steps::drop_here))]
 fn put_sent(alloc: Global, entries: &mut Entries, sent: &[AuthorizationData]) -> Mem<()>
     ensures { OnOk result (entries.new ≡ put_all (by_key entry_key) (with_info sent.now) entries.old) }

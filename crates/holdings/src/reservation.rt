@@ -54,7 +54,7 @@ pub fn plan_cancel<S: Store>(
 }
 
 /// The edit of a reservation that the station has accepted. A command whose connector or id is out
-/// of its range is none that is sent, and edits nothing.
+/// of its range is never sent, and edits nothing.
 pub fn reserved(station: &Text, fields: &ReserveNow) -> Mem<Option<Edit>>
     ensures { IfOk result (λ e. e ≡ reserved station.now fields.now) }
 {

@@ -14,9 +14,9 @@ use operator_cmds::{Command, UpdateType, is_accepted};
 use serde_json::Value;
 use std::alloc::Global;
 
-/// The edit that the known members of an answer make: an answer Accepted to ReserveNow keeps the
-/// reservation, to CancelReservation drops it, to SendLocalList sets the list. Any other answer, and
-/// one of a station that isn't on record, edits nothing.
+/// The edit that the known members of an answer make: Accepted to ReserveNow keeps the reservation,
+/// to CancelReservation removes it, to SendLocalList sets the list. Any other answer, and one of a
+/// station that isn't on record, edits nothing.
 pub fn settle<S: Store>(
     alloc: Global,
     store: &mut S,

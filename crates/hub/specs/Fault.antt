@@ -4,7 +4,7 @@ use Rattle.hub_rows.specs.declared.store.StoreFault.TheVariants as store_fault
 use Rattle.hub.specs.declared.fault.Fault.{Fault}
 use Rattle.hub.specs.declared.fault.Fault.TheVariants as fault
 
--- a failing store is a fault of the store, want of memory stays what it is
+-- Failed of a store is the fault Store, and NoMemory the fault NoMemory
 abbrev pub fault_of : StoreFault → Fault
 fault_of store_fault.NoMemory = fault.NoMemory
 fault_of store_fault.Failed = fault.Store

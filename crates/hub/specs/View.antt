@@ -1,4 +1,5 @@
--- What one operator has of a world, and that operator's own machine, which has nothing of the others.
+-- What one operator has of a world, and that operator's own machine, which has no record, slot or
+-- event of another operator. It knows the setting.
 use Rattle.std.specs.Prelude.{ℕ, List, [], ◌∷◌, ◌++◌, Option, Some, None, if◌then◌else◌}
 use Rattle.std.specs.Str.{bytes_eq}
 use Rattle.hub_rows.specs.declared.change.Edit.{Edit}

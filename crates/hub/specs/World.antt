@@ -65,7 +65,7 @@ outputs_of a outs = own (λ o. o.op) a outs
 
 -- ---- one event: the outputs, and the world after it
 
--- the outputs of an event, for whatever operator
+-- the outputs of an event, for any operator
 abbrev pub world_outputs : Setting → World → Event → List Out
 world_outputs setting w (At b m what) = plan_outputs b (plan_at setting w b m what) (facts_at setting.first_number b w)
 world_outputs setting w (Tick m) = tick_outputs m w.slots

@@ -1,4 +1,4 @@
-//! Carrying out the effect of a plan: all that may be refused comes before what can't fail.
+//! Carries out the effect of a plan. What may fail comes before what can't.
 ghost use Rattle.std.specs.Prelude.{◌≡◌, Some, Err, ◌≢◌, ◌+◌, ◌≤◌, ◌++◌, length, map, take, IfOk, IfErr, OnOk, OnErr, vec_len, vec_capacity};
 ghost use Rattle.std.specs.Option.{ForSome};
 ghost use Rattle.hub_rows.specs.Changes.{EditFits};

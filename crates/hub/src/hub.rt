@@ -19,7 +19,7 @@ use thiserror::Error;
 
 /// Records and connections of all hosted operators.
 ///
-/// A contract sees it through two words: `world` (the rows of its store and the slots of its
+/// Contracts speak of it by two definitions: `world` (the rows of its store and the slots of its
 /// stations) and `setting` (which operators are hosted, and the answers to vendors' messages).
 #[derive(Drop)]
 pub struct Hub<S, V> {

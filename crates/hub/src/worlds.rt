@@ -17,11 +17,11 @@ use station_calls::VendorHandler;
 
 /// Runs two systems, each over its own events, and gives the outputs of one operator from each.
 ///
-/// The clauses `same_outputs` and `same_views` are the isolation theorem: where the settings of the two
-/// systems are alike, the operator has the same in both, and the events show it the same (`AreSameTo`),
-/// the two lists are equal, and so is what the operator has afterwards. Each event was of a hosted
-/// operator (`first_taken`, `second_taken`). A fault of either system is answered; each then is after
-/// the first of its events.
+/// The clauses `same_outputs` and `same_views` are the isolation theorem: where the settings of the
+/// two systems are alike, the operator has the same in both, and the events show it the same
+/// (`AreSameTo`), the two lists are equal, and so is what the operator has afterwards. Each event
+/// was of a hosted operator (`first_taken`, `second_taken`). A fault of either system is answered;
+/// each system is then in the world after some number of its events, from the first on.
 #[tactic(auto, using(crate::proofs::TwoSystems::same_outputs, crate::proofs::TwoSystems::same_views))]
 pub fn isolated<S: Store + Drop, V: VendorHandler, T: Store + Drop, W: VendorHandler>(
     first: &mut Hub<S, V>,

@@ -65,7 +65,7 @@ tx_row b station number start = record { op = b; station = station; number = num
 abbrev pub with_stop : Stop → TxRow → TxRow
 with_stop stop r = record r { stop = Some stop }
 
--- readings of a station behind those of its rows
+-- readings of a station after those of its rows
 abbrev pub with_readings : List ℕ → List ℕ → ℕ → List Reading → List ReadingRow → List ReadingRow
 with_readings b station first readings rows = put_all (by_key reading_key) (reading_rows b station first readings) rows
 

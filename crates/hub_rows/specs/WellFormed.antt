@@ -32,7 +32,7 @@ abbrev pub IsGoodConnector : List StationRow → ConnectorRow → Type 0
 IsGoodConnector stations r = IsOnRecord r.op r.station stations
 
 pub record IsGoodTag (r : TagRow) : Type 0 where
-  -- it stands under the key of its text
+  -- its key is that of its text
   pub key : r.key ≡ key_of r.tag.text
 
 -- of a tag that its operator has, to another operator

@@ -13,7 +13,8 @@ pub struct Info {
     pub parent: Option<Text>,
     /// Whether it is blocked, or the tag of that group among its owner's tags is.
     pub blocked: bool,
-    /// It counts before this moment. For a granted tag the end of the grant is regarded too.
+    /// It counts before this moment, which of a granted tag is the earlier of its expiry and the
+    /// end of the grant.
     pub expiry: Option<Moment>,
 }
 

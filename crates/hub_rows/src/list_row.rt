@@ -7,7 +7,7 @@ use ocpp_types::{IdTagInfo, Listed, Text, copied};
 use std::alloc::AllocError;
 use std::cmp::Ordering;
 
-/// The local list that a station has taken over last. Its key is `op` and `station`.
+/// The local list that a station accepted last. Its key is `op` and `station`.
 #[derive(Drop)]
 pub struct ListRow {
     /// The operator that hosts the station.

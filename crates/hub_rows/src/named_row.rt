@@ -1,4 +1,4 @@
-//! Rows whose key is their operator and one name: found, and taken out.
+//! Rows whose key is their operator and one name: found, and removed.
 ghost use Rattle.std.specs.Prelude.{◌≡◌, ℕ, List, [], ◌∷◌, option_map};
 ghost use Rattle.std.specs.List.Sorted.{IsStrictlySortedBy};
 ghost use Rattle.std.specs.Str.{bytes_eq};
@@ -39,7 +39,7 @@ pub fn row_of<'a, R: NamedRow>(rows: &'a [R], op: &str, name: &str) -> Option<&'
     }
 }
 
-/// Takes the row of an operator and a name out, if it is there.
+/// Removes the row of an operator and a name, if it is there.
 pub fn remove_row<R: NamedRow>(rows: &mut Vec<R>, op: &str, name: &str)
     requires { IsStrictlySortedBy (by_key (pair_key R.op R.name)) rows.old.items }
     ensures { rows.new.items ≡ without R.op op.now (λ r. bytes_eq (R.name r) name.now) rows.old.items }

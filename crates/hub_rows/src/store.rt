@@ -31,7 +31,7 @@ use thiserror::Error;
 pub enum StoreFault {
     #[error("out of memory")]
     NoMemory,
-    /// What is below the store failed, as a database.
+    /// What the store depends on failed, as a database.
     #[error("the store failed")]
     Failed,
 }

@@ -10,9 +10,9 @@ use ocpp_types::{AuthorizationStatus, IdTagInfo, Moment, TagKey};
 /// What a tag is judged for.
 #[derive(Drop)]
 pub enum Purpose {
-    /// To be told of, in an Authorize or with a stop.
+    /// For an answer alone: to an Authorize or to a stop.
     Authorize,
-    /// To begin a transaction. The one that is left out is no other use of the tag.
+    /// To begin a transaction. The one that is left out doesn't count as a use of the tag.
     Start { except: Option<TxKey> },
 }
 

@@ -87,7 +87,7 @@ pub fn plan_grant<S: Store>(
     Ok(Ok(Edit::GrantPut { key, to, until }))
 }
 
-/// The edit that takes a grant back, or NoSuchGrant.
+/// The edit that removes a grant, or NoSuchGrant.
 pub fn plan_revoke<S: Store>(
     alloc: Global,
     store: &mut S,

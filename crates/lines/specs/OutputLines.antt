@@ -15,7 +15,7 @@ use Rattle.ocpp_types.specs.Refusal.{refusal_number, refusal_name}
 use Rattle.ocpp_types.specs.declared.refusal.Refusal.{Refusal}
 use Rattle.ocpp_types.specs.declared.refusal.Refusal.TheVariants.{NoSuchStation, StationExists, NoSuchTag, NoSuchOperator, SelfGrant, NoSuchGrant, NotConnected, QueueFull, NotAllowedNow, TagRefused, NoSuchTransaction, BadField, HasOpenTransactions, NoSuchReservation, NumberSpent}
 
--- what stands after the name of a refusal
+-- what follows the name of a refusal
 abbrev pub refusal_detail : Refusal → Option (List ℕ)
 refusal_detail NoSuchStation = None
 refusal_detail StationExists = None

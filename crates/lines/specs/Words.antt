@@ -1,4 +1,4 @@
--- Words that are parted by one space.
+-- Words that are separated by one space.
 use Rattle.std.specs.Prelude.{ℕ, nat_lt, ◌==◌, Bool, ◌&&◌, ◌||◌, is_some, List, length, Option, Some, None, codes, if◌then◌else◌, option_and_then}
 use Rattle.std.specs.List.{position_or_len, before_first, after_first}
 use Rattle.std.specs.Str.{bytes_eq}
@@ -8,7 +8,7 @@ use Rattle.ocpp_types.specs.Moment.{moment_of}
 abbrev pub is_space : ℕ → Bool
 is_space byte = byte == 32
 
--- the first word, and what follows the one space behind it
+-- the first word, and what follows the one space after it
 abbrev pub first_word : List ℕ → Option (List ℕ × List ℕ)
 first_word text = if nat_lt 0 (position_or_len is_space text) && nat_lt (position_or_len is_space text) (length text) then Some (before_first is_space text, after_first is_space text) else None
 

@@ -22,7 +22,7 @@ pub enum Line {
     Bad,
 }
 
-/// The most bytes of a line, its carriage return counted and its line feed not.
+/// The most bytes of a line. Its carriage return counts, and its line feed doesn't.
 pub const MAX_LINE: usize = 1_048_576;
 
 /// What a line says (docs/RULES.md, Lines). `line` is its bytes without the line feed; an operator

@@ -44,7 +44,7 @@ fn without_return(text: &str) -> &str
     }
 }
 
-/// Whether it is an operator's to do.
+/// Whether an operator may ask for it.
 fn is_order(what: &What) -> bool
     ensures { result ≡ is_order what.now }
 {

@@ -8,8 +8,8 @@ use std::alloc::Global;
 /// The most digits of a number in a line.
 const MAX_DIGITS: usize = 12;
 
-/// The first word of a text, and what follows the one space behind it. `None` where the text has
-/// no space or begins with one.
+/// The first word of a text, and what follows the one space after it. `None` where the text has no
+/// space or begins with one.
 pub fn first_word(text: &str) -> Option<(&str, &str)>
     ensures { option_map (λ p. (p.0.now, p.1.now)) result ≡ first_word text.now }
 {

@@ -202,7 +202,7 @@ impl Script {
         Ok(None)
     }
 
-    /// Drives a simulated station once, or again until it reads what is on its way.
+    /// Drives a simulated station once, or again until it reads what was sent to it.
     fn drive(&mut self, rt: &HostRuntime, name: &str, wanted: &str) -> Result<Option<String>> {
         let moment = self.server.moment();
         for _ in 0..MORE_TURNS {

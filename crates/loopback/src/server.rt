@@ -104,7 +104,7 @@ impl Server {
         Ok(())
     }
 
-    /// One turn: accepts one connection, looks at those that wait, and serves each peer.
+    /// One turn: accepts one connection, polls those that wait, and serves each peer.
     pub fn turn(&mut self) -> Result<(), Fault> {
         self.accept()?;
         self.lobby

@@ -7,7 +7,7 @@ use Rattle.ocpp_types.specs.Text.{characters}
 use Rattle.ocpp_frame.specs.declared.frame.Frame.{Frame}
 use Rattle.ocpp_frame.specs.declared.frame.Frame.TheVariants.{Call, CallResult, CallError, Broken, Ignored}
 
--- an object, for which null stands too
+-- an object; null counts as the empty one
 abbrev pub payload_of : Data → Option Data
 payload_of null = Some (object no_members)
 payload_of (boolean b) = None
@@ -16,7 +16,7 @@ payload_of (string s) = None
 payload_of (array ds) = None
 payload_of (object ms) = Some (object ms)
 
--- a text, for which null stands too
+-- a text; null counts as the empty one
 abbrev pub description_of : Data → Option (List ℕ)
 description_of null = Some []
 description_of (boolean b) = None
@@ -31,7 +31,7 @@ call_with id (Some action) (Some payload) = if nat_le (characters id) 36 then Ca
 call_with id (Some action) None = Broken id
 call_with id None payload = Broken id
 
--- a call, by what stands behind its id
+-- a call, by the items after its id
 abbrev pub call : List ℕ → Items → Frame
 call id no_items = Broken id
 call id (item action no_items) = Broken id
@@ -43,7 +43,7 @@ abbrev pub result_with : List ℕ → Option Data → Frame
 result_with id (Some payload) = CallResult id payload
 result_with id None = Ignored
 
--- a result, by what stands behind its id
+-- a result, by the items after its id
 abbrev pub call_result : List ℕ → Items → Frame
 call_result id no_items = Ignored
 call_result id (item payload no_items) = result_with id (payload_of payload)
@@ -55,7 +55,7 @@ error_with id (Some code) (Some description) = CallError id code description
 error_with id (Some code) None = Ignored
 error_with id None description = Ignored
 
--- an error, by what stands behind its id: the details may be left out, and aren't looked at
+-- an error, by the items after its id: the details may be left out, and aren't read
 abbrev pub call_error : List ℕ → Items → Frame
 call_error id no_items = Ignored
 call_error id (item code no_items) = Ignored

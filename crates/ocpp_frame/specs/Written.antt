@@ -18,7 +18,8 @@ result_data id payload = array (item (number (unsigned 3)) (item (string id) (it
 abbrev pub error_data : List ℕ → List ℕ → List ℕ → Data
 error_data id code description = array (item (number (unsigned 4)) (item (string id) (item (string code) (item (string description) (item (object no_members) no_items)))))
 
--- a text of a value with no blanks between its tokens: the items and members stand in the value's order, its integers in decimal, and its floats in digits that the text chooses
+-- a text of a value with no blanks between its tokens: the items and members are in the value's
+-- order, its integers in decimal, and its floats in digits that the text chooses
 pub record IsCompact (text : List ℕ) (d : Data) : Type 0 where
   pub compact : text ≡ print (tokens text)
   pub order : IsInOrder text d

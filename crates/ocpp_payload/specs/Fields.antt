@@ -38,7 +38,7 @@ optional kind name d = optional_in kind name (present name d)
 abbrev pub with_default : {A : Type 0} → A → Kind A → Kind A
 with_default default kind name d = optional kind name d >>= (λ x. Ok (unwrap_or x default))
 
--- a table: the members of an object, in the order in which they are looked at
+-- a table: the members of an object, in the order in which they are read
 pub data Fields : Type 1 where
   end : Fields
   field : {A : Type 0} → List ℕ → Kind A → Fields → Fields

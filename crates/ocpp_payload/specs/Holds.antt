@@ -12,7 +12,8 @@ use Rattle.ocpp_payload.specs.Kind.{Kind}
 use Rattle.ocpp_payload.specs.Lists.{list_of}
 use Rattle.ocpp_payload.specs.Plain.{or_false, integer_plain}
 
--- `bad` gives the name to blame, if a value is out of its bounds; `plain`: the JSON has no float
+-- `bad` gives the name of the member, if its value is out of its bounds; `plain`: the JSON has no
+-- float
 pub record Holds (A : Type 0) : Type 0 where
   pub reads : Kind A
   pub bad : List ℕ → A → Option (List ℕ)

@@ -14,7 +14,7 @@ use Rattle.ocpp_payload.specs.declared.fault.FieldFault.{FieldFault}
 abbrev pub Kind : Type 0 → Type 0
 Kind A = List ℕ → Data → Result A FieldFault
 
--- one reader after another: the first fault counts
+-- one reader after another; the first fault is given
 infixl 10 ◌>>=◌
 abbrev pub ◌>>=◌ : {A B : Type 0} → Result A FieldFault → (A → Result B FieldFault) → Result B FieldFault
 (Ok x) >>= f = f x
@@ -53,7 +53,7 @@ int_32 = integer (negsuc 2147483647) (pos 2147483647)
 abbrev pub int_64 : Kind ℤ
 int_64 = integer (negsuc 9223372036854775807) (pos 9223372036854775807)
 
--- a connector, from the least that is meant on; 0 is the station itself
+-- a connector, from that number on up to 255; 0 is the station itself
 abbrev pub connector_from : ℕ → Kind ℕ
 connector_from low name d = integer (pos low) (pos 255) name d >>= (λ z. Ok (unsigned_abs z))
 

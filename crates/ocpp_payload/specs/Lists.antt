@@ -15,7 +15,7 @@ by_members read name None d = Err (record { code = TypeConstraintViolation; fiel
 abbrev pub object_of : {A : Type 0} → (Data → Result A FieldFault) → Kind A
 object_of read name d = by_members read name (as_object d) d
 
--- the items in order, the first fault counts
+-- the items in order; the first fault is given
 abbrev pub each : {A : Type 0} → (Data → Result A FieldFault) → Items → Result (List A) FieldFault
 each read no_items = Ok []
 each read (item d ds) = read d >>= (λ x. each read ds >>= (λ xs. Ok (x ∷ xs)))

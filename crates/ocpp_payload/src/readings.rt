@@ -13,8 +13,8 @@ use ocpp_types::{
 use serde_json::Value;
 use std::alloc::Global;
 
-/// One reading (OCPP 1.6, type SampledValue). What a station left out has the standard's default,
-/// but the unit, which stays out.
+/// One reading (OCPP 1.6, type SampledValue). A member that the station left out has the standard's
+/// default, except the unit, which is none.
 #[derive(Drop)]
 pub struct SampledValue {
     pub value: Text,

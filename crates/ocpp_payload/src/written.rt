@@ -22,9 +22,9 @@ pub trait Written: Kind {
         ensures { IfOk result (λ v. view v ≡ (holds self.now).json value.now) };
 }
 
-/// A kind of value whose bounds are looked at after it was read.
+/// A kind of value whose bounds are checked after it was read.
 pub trait Bounded: Written {
-    /// The name to blame, if a value of the member of that name is out of its bounds. Takes no memory.
+    /// The name of the member, if its value is out of its bounds. It takes no memory.
     fn bad(&self, field: &'static str, value: &Self::Out) -> Option<FieldName>
         ensures { result ≡ (Self.holds self.now).bad field.now value.now };
 }
@@ -39,7 +39,7 @@ pub trait Tabled: Readable {
         ensures { IfOk result (λ v. view v ≡ written form self.now) };
 }
 
-/// A message whose bounds are looked at after it was read.
+/// A message whose bounds are checked after it was read.
 pub trait Checked: Tabled {
     /// The name of the first bad member, in the order of the table. Takes no memory.
     fn bad(&self) -> Option<FieldName>
@@ -79,7 +79,7 @@ pub fn put_may<K: Written>(
     Ok(())
 }
 
-/// The name to blame for a member that may be missing.
+/// The name of a member that may be missing, if its value is out of its bounds.
 pub fn bad_may<K: Bounded>(
     field: &'static str,
     kind: K,

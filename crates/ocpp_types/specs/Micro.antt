@@ -19,7 +19,7 @@ scale _ = 1
 abbrev pub whole_billionths : List ℕ → Option ℕ
 whole_billionths text = option_map (λ n. n * 10 ^ 9) (number_of_digits 12 text)
 
--- the digits behind a point, in billionths
+-- the digits after a point, in billionths
 abbrev pub fraction_billionths : List ℕ → Option ℕ
 fraction_billionths text = option_map (λ n. n * 10 ^ (9 - length text)) (number_of_digits 9 text)
 
@@ -31,7 +31,7 @@ sum_of_both _ _ = None
 abbrev pub is_point : ℕ → Bool
 is_point byte = byte == 46
 
--- a decimal number without a sign, in billionths; a point stands between its two parts
+-- a decimal number without a sign, in billionths, with a point between its two parts
 abbrev pub billionths : List ℕ → Option ℕ
 billionths text =
     if nat_lt (position_or_len is_point text) (length text)

@@ -13,7 +13,7 @@ pub enum AuthorizationStatus {
     Expired,
     /// The tag is unknown.
     Invalid,
-    /// The tag charges elsewhere already.
+    /// The tag is in use by another transaction.
     ConcurrentTx,
 }
 

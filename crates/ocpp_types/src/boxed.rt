@@ -1,12 +1,12 @@
-//! Values behind a box that contracts see as the values themselves.
+//! Boxed values, which contracts see as the values themselves.
 ghost use Rattle.std.specs.Prelude.{◌≡◌, IfOk};
 
 use crate::memory::Mem;
 use std::alloc::{AllocError, Global};
 use std::marker::Model;
 
-/// A value on the heap. A contract sees it as the value. What is wide stands behind a box, so that the enums
-/// that may hold it stay small.
+/// A value on the heap. A contract sees it as the value. A wide value is in a box, so that the
+/// enums that may hold it stay small.
 #[derive(Drop)]
 pub struct Boxed<T> {
     inner: Box<T>,

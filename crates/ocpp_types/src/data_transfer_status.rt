@@ -11,7 +11,7 @@ pub enum DataTransferStatus {
     Rejected,
     /// The vendor is known, the message is not.
     UnknownMessageId,
-    /// Nobody here answers for the vendor.
+    /// No handler answers for the vendor.
     UnknownVendorId,
 }
 

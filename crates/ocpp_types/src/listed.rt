@@ -54,7 +54,7 @@ impl<T: Drop> Listed<T> {
         Ok(Listed { listed })
     }
 
-    /// Adds an item at the end. Without memory for it the list stays as it was.
+    /// Adds an item at the end. Without memory for it the list is unchanged.
     pub fn push(&mut self, item: T) -> Mem<()>
         ensures ok { OnOk result (self.new ≡ self.old ++ item ∷ []) }
         ensures err { OnErr result (self.new ≡ self.old) }

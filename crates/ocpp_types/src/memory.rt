@@ -1,4 +1,4 @@
-//! The one error of what needs memory and nothing else.
+//! The error of calls that fail only where memory is refused.
 
 use std::alloc::{AllocError, AllocFailed};
 use thiserror::Error;
@@ -8,7 +8,7 @@ use thiserror::Error;
 #[error("out of memory")]
 pub struct NoMemory;
 
-/// The result of a call that fails for want of memory alone.
+/// The result of a call that fails only where memory is refused.
 pub type Mem<T> = Result<T, NoMemory>;
 
 impl From<AllocError> for NoMemory {

@@ -9,14 +9,14 @@ use crate::unit_of_measure::UnitOfMeasure;
 /// The most digits of a reading before its point.
 const WHOLE_DIGITS: usize = 12;
 
-/// The most digits of a reading behind its point.
+/// The most digits of a reading after its point.
 const FRACTION_DIGITS: usize = 9;
 
 /// The number of a reading, in millionths of its base unit. The text is an optional `+` or `-`, 1
-/// to 12 decimal digits, and optionally a point with 1 to 9 decimal digits behind it. kWh, kvarh,
-/// kW, kVA and kvar are 1000 of their base unit, every other unit is its own, and no unit counts
-/// as one. `None` for any other text, and where that isn't a whole number of millionths. The form
-/// of the text and the scales are this project's choice.
+/// to 12 decimal digits, and optionally a point with 1 to 9 decimal digits after it. kWh, kvarh,
+/// kW, kVA and kvar are 1000 of their base unit, every other unit is its own, and no unit counts as
+/// one. `None` for any other text, and where that isn't a whole number of millionths. The form of
+/// the text and the scales are this project's choice.
 pub fn read_micro(text: &str, unit: Option<UnitOfMeasure>) -> Option<i128>
     ensures { result ≡ micro text.now unit }
 {

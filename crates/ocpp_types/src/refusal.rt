@@ -21,7 +21,7 @@ pub enum Refusal {
     NoSuchGrant,
     /// The station isn't connected.
     NotConnected,
-    /// As many calls of the station wait as its queue holds.
+    /// The queue of the station's calls is full.
     QueueFull,
     /// The registration of the station doesn't allow the command.
     NotAllowedNow,
@@ -42,7 +42,7 @@ pub enum Refusal {
 impl Refusal {
     ghost use Rattle.ocpp_types.specs.Refusal.{refusal_number, refusal_name};
 
-    /// The number that stands for it in output lines.
+    /// Its number in output lines.
     pub fn number(&self) -> u8
         ensures { result ≡ refusal_number self.now }
     {

@@ -1,4 +1,4 @@
-//! Where a station stands.
+//! States of a station.
 
 use crate::named::Named;
 

@@ -11,7 +11,7 @@ use Rattle.operator_cmds.specs.Statuses.{acceptance_status_name, acceptance_stat
 use Rattle.operator_cmds.specs.declared.command.Command.{Command}
 use Rattle.operator_cmds.specs.declared.command.Command.TheVariants.{CancelReservation, ChangeAvailability, ChangeConfiguration, ClearCache, DataTransfer, GetConfiguration, GetLocalListVersion, RemoteStartTransaction, RemoteStopTransaction, ReserveNow, Reset, SendLocalList, TriggerMessage, UnlockConnector}
 
--- the form of an answer, of whatever record
+-- the form of an answer, for a record of any type
 pub data Reply : Type 1 where
   by : {A : Type 0} → Form A → Reply
 
@@ -36,7 +36,7 @@ reply (UnlockConnector c) = by (status_of unlock_statuses unlock_status_name)
 abbrev pub as_sent : {A : Type 0} → (Data → Result A FieldFault) → Form A → Data → Result Data FieldFault
 as_sent read form d = read d >>= (λ a. Ok (written form a))
 
--- the same by a form of whatever record
+-- the same by a form for a record of any type
 abbrev pub by_reply : Reply → Data → Result Data FieldFault
 by_reply (by form) d = as_sent (read_by form) form d
 

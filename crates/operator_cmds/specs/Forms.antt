@@ -16,7 +16,7 @@ use Rattle.operator_cmds.specs.declared.station.Reset.{Reset}
 use Rattle.operator_cmds.specs.declared.station.TriggerMessage.{TriggerMessage}
 use Rattle.operator_cmds.specs.declared.station.UnlockConnector.{UnlockConnector}
 
--- a connector, from the least that is meant on; 0 is the station itself
+-- a connector, from that number on up to 255; 0 is the station itself
 abbrev pub holds_connector : ℕ → Holds ℤ
 holds_connector low = holds_integer_within (pos low) (pos 255)
 

@@ -2,7 +2,7 @@
 
 use ocpp_types::Named;
 
-/// What a connector is made (OCPP 1.6, type AvailabilityType).
+/// The availability that a connector is set to (OCPP 1.6, type AvailabilityType).
 #[derive(Clone, Copy, Debug, PartialEq, Eq)]
 pub enum AvailabilityType {
     Inoperative,

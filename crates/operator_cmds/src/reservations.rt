@@ -11,7 +11,7 @@ use ocpp_types::{FieldName, Mem, Moment, Text};
 use serde_json::{Map, Value};
 use std::alloc::Global;
 
-/// Takes back a reservation (OCPP 1.6, CancelReservation.req).
+/// Cancels a reservation (OCPP 1.6, CancelReservation.req).
 #[derive(Drop)]
 pub struct CancelReservation {
     /// A signed number of 32 bits.

@@ -100,7 +100,7 @@ module _ {C : Type 0} where
   in_flight_or None f = Some f
   in_flight_or (Some g) f = Some g
 
-  -- where a call is in flight the new one waits behind the others
+  -- where a call is in flight the new one waits after the others
   abbrev pub behind : Option (Flight C) → Queued C → List (Queued C) → List (Queued C)
   behind None q qs = qs
   behind (Some g) q qs = qs ++ q ∷ []

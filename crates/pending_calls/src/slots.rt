@@ -76,7 +76,7 @@ impl<C: Drop> Slots<C> {
     }
 
     /// Whether an answer of a station ends its call in flight: whether the answer's `id` is the
-    /// number of that call, in decimal with no leading zero. An answer bears the id of its call
+    /// number of that call, in decimal with no leading zero. An answer has the id of its call
     /// (OCPP-J 1.6, sections 4.2.2 and 4.2.3). It takes no memory.
     pub fn is_answered(&self, op: &str, station: &str, id: &str) -> bool
         ensures { result ≡ is_answered id.now (slot_at op.now station.now self.now) }

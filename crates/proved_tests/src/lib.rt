@@ -1,5 +1,5 @@
-//! Proved tests of what no file of cases can show: stores, handlers, readers and writers that fail,
-//! and numbers at their end.
+//! Proved tests of what no file of cases can show: stores, handlers, readers, writers and streams
+//! that fail, numbers at their end, and two systems side by side.
 #![tactic(auto)]
 
 #[cfg(test)]

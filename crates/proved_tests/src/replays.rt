@@ -1,5 +1,5 @@
 //! Replays whose reader, writer, store or handler fails: the fault is named, and what was written
-//! is a front of what the whole input is answered.
+//! is a prefix of what the whole input is answered.
 
 use crate::faulty::{Failure, FaultyReader, FaultyWriter};
 use crate::handlers::{Fixed, MESSAGES, handlers};

@@ -1,5 +1,5 @@
-//! Scripts as events, hubs for them, and outputs as lines. The helpers have no contract: a test that
-//! stands on one is cheap to prove.
+//! Scripts as events, hubs for them, and outputs as lines. The helpers have no contract, so a test
+//! that uses them is cheap to prove.
 
 use hub::{BadOperators, Event, Fault, Hub, Out};
 use hub_rows::Store;

@@ -1,10 +1,10 @@
-//! Streams whose first bytes can be looked at.
+//! Streams whose next bytes can be read without being taken.
 ghost use Rattle.std.specs.Io.{ReadsAtMost};
 
 use std::io;
 use std::net::TcpStream;
 
-/// A stream whose next bytes can be looked at, and are left for the next read.
+/// A stream whose next bytes can be copied, and are left for the next read.
 pub trait Peek {
     /// Copies the next bytes into `buf`, and says how many; 0 is the end of the stream. The stream doesn't
     /// wait: where no byte is there the error is `WouldBlock`.

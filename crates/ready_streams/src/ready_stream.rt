@@ -7,8 +7,8 @@ use std::io;
 use std::io::{Error, ErrorKind, Read, Write};
 use std::rc::Rc;
 
-/// The most reads in a row that leave no room. The next one is told that no byte is there, so that a peer that sends
-/// without a pause doesn't hold its reader. The bytes stay for the read after it.
+/// The most reads in a row that leave no room. The next one finds no byte, so that a peer that
+/// sends without a pause doesn't hold its reader. The bytes stay for the read after it.
 const MAX_FULL_READS: u32 = 64;
 
 /// What a read may find.
@@ -32,7 +32,8 @@ pub struct Readiness {
     is_read: Cell<bool>,
     /// The reads in a row that left no room.
     full_reads: Cell<u32>,
-    /// There is something that was not looked at: the stream is new, or the system has reported since.
+    /// There may be bytes that no peek has read: the stream is new, or the system has reported
+    /// since the last one.
     is_unseen: Cell<bool>,
 }
 
@@ -57,12 +58,12 @@ impl Readiness {
         }
     }
 
-    /// Whether a reader may go on reading. Bytes that were only looked at don't count.
+    /// Whether a reader may go on reading. Bytes that were only peeked at don't count.
     pub fn is_pending(&self) -> bool {
         self.is_read.get() && self.expected.get() != Expected::Nothing
     }
 
-    /// Whether the next read asks the system. One that doesn't has found nothing.
+    /// Whether the next read asks the system. One that doesn't finds nothing.
     fn asks(&self) -> bool {
         self.is_read.set(true);
         if self.expected.get() != Expected::Bytes {
@@ -93,8 +94,8 @@ impl Readiness {
     }
 }
 
-/// The stream of a connection. A read asks the system only where it has reported bytes, and a look only where it
-/// has reported since the last one.
+/// The stream of a connection. A read asks the system only where it has reported bytes, and a peek
+/// only where it has reported since the last one.
 #[derive(Drop)]
 pub struct ReadyStream {
     stream: TcpStream,
@@ -120,8 +121,9 @@ impl Read for ReadyStream {
 }
 
 impl Write for ReadyStream {
-    /// Where the stream has no room the error is `WriteZero`, and not `WouldBlock`: the connection ends, so that what
-    /// a peer is sent and doesn't read never piles up here, answers to its pings among it.
+    /// Where the stream has no room the error is `WriteZero`, and not `WouldBlock`: the connection
+    /// ends, so that texts that its peer doesn't read, and answers to its pings, are never kept
+    /// here.
     fn write(&mut self, buf: &[u8]) -> io::Result<usize> {
         match self.stream.write(buf) {
             Err(error) if error.kind() == ErrorKind::WouldBlock => {

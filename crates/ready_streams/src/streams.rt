@@ -25,7 +25,7 @@ pub struct Streams {
     listener: TcpListener,
     /// There may be a connection to accept.
     may_accept: bool,
-    /// By place. Nobody else has that of a stream that is gone.
+    /// By place. That of a stream that is gone has no other owner.
     readiness: Vec<Rc<Readiness>>,
 }
 
@@ -50,8 +50,9 @@ impl Streams {
         })
     }
 
-    /// Accepts one connection. `None` is that there is none. Errors: those of the system's accept, as where no
-    /// descriptor is left, and the connection then waits on; and those of setting it up, and it is dropped.
+    /// Accepts one connection. `None` is that there is none. Errors: those of the system's accept,
+    /// as where no descriptor is left, after which the connection waits on; and those of setting it
+    /// up, after which it is dropped.
     pub fn accept(&mut self) -> io::Result<Option<ReadyStream>> {
         if !self.may_accept {
             return Ok(None);
@@ -116,7 +117,7 @@ impl Streams {
     }
 }
 
-/// Whether the stream is gone, so that nobody else knows of it.
+/// Whether the stream is gone, so that its readiness has no other owner.
 fn is_gone(readiness: &Rc<Readiness>) -> bool {
     Rc::strong_count(readiness) == 1
 }

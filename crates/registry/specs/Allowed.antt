@@ -1,4 +1,4 @@
--- What a station may say in its state.
+-- What a station may send in its state.
 use Rattle.std.specs.Prelude.{Bool, true, false}
 use Rattle.ocpp_types.specs.declared.state.State.{State}
 use Rattle.ocpp_types.specs.declared.state.State.TheVariants.{Fresh, Accepted, Pending, Rejected}
@@ -16,7 +16,7 @@ is_boot StartTransaction = false
 is_boot StatusNotification = false
 is_boot StopTransaction = false
 
--- one that waits for its registration may do all but begin to charge
+-- one that waits for its registration may send all but Authorize and StartTransaction
 abbrev pub begins_nothing : Action → Bool
 begins_nothing Authorize = false
 begins_nothing BootNotification = true

@@ -1,4 +1,4 @@
--- The answer to a request that the records have no room or no place for, and no change.
+-- The answer to a request whose records can't be numbered any more, and no change.
 use Rattle.std.specs.Prelude.{None}
 use Rattle.ocpp_types.specs.declared.error_code.ErrorCode.TheVariants.{InternalError}
 use Rattle.registry.specs.declared.decision.Decision.{Decision}

@@ -8,8 +8,8 @@ use ocpp_payload::Conf;
 use ocpp_types::{BootNotification, Boxed, Mem, Moment, Policy, State, Text};
 use std::alloc::Global;
 
-/// A boot of a station is answered with the moment, the station's interval and its policy, which
-/// is its state from then on. Its texts take the place of those of the boot before.
+/// A boot of a station is answered with the moment, the station's interval and its policy, which is
+/// its state afterwards. Its texts take the place of those of the boot before.
 pub fn on_boot(
     alloc: Global,
     station: &str,

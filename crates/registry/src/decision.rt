@@ -23,8 +23,8 @@ pub enum Reply {
     Error(ErrorCode),
 }
 
-/// InternalError, and no change: for a request that the records have no room or no place for
-/// (OCPP-J 1.6, section 4.2.3).
+/// InternalError, and no change: for a request whose records can't be numbered any more (OCPP-J
+/// 1.6, section 4.2.3).
 pub fn internal_error() -> Decision
     ensures { result ≡ internal_error }
 {

@@ -1,4 +1,5 @@
-//! The rules on stations: which are registered, what they may say, how a boot is answered.
+//! The rules on stations: which are registered, what they may send, how boots, heartbeats and
+//! reports on connectors are answered.
 #![tactic(auto)]
 
 mod allowed;

@@ -6,7 +6,7 @@ use Rattle.replay.specs.declared.fault.LineFault.TheVariants as line_fault
 use Rattle.replay.specs.declared.fault.ReplayFault.{ReplayFault}
 use Rattle.replay.specs.declared.fault.ReplayFault.TheVariants as replay_fault
 
--- an event that was read from a line is of a hosted operator, so the last doesn't come about
+-- an event that was read from a line is of a hosted operator, so the last never occurs
 abbrev pub line_fault_of : Fault → LineFault
 line_fault_of fault.NoMemory = line_fault.NoMemory
 line_fault_of fault.Store = line_fault.Store

@@ -7,7 +7,7 @@ use Rattle.std.specs.List.{slice_split}
 abbrev pub is_feed : ℕ → Bool
 is_feed b = b == 10
 
--- the lines of an input: what stands before each line feed, and what stands after the last
+-- the lines of an input: the bytes before each line feed, and those after the last
 abbrev pub lines_of : List ℕ → List (List ℕ)
 lines_of input = slice_split is_feed input
 

@@ -11,7 +11,7 @@ use Rattle.lines.specs.InputLines.{spelled}
 use Rattle.lines.specs.OutputLines.{line_of}
 use Rattle.replay.specs.Held.{lines_of}
 
--- the text is the front of the whole
+-- the text is a prefix of the whole
 pub record Begins (text whole : List ℕ) : Type 0 where
   pub more : List ℕ
   pub is : text ++ more ≡ whole
@@ -73,7 +73,7 @@ pub record IsReached (st : Setting) (w : World) (lines : List (List ℕ)) (v : W
   pub taken : ℕ
   pub is : v ≡ world_after st w (take taken lines)
 
--- what was known at the start has grown by a front of whole, and the rest of whole lies ahead
+-- the bytes have grown by a prefix of `whole`, and `ahead` is the rest of it
 pub record Grown (xs ys ahead whole : List ℕ) : Type 0 where
   pub done : List ℕ
   pub now : ys ≡ xs ++ done
@@ -85,12 +85,12 @@ Stands None now ahead whole = Unit {0}
 Stands (Some xs) None ahead whole = ⊥
 Stands (Some xs) (Some ys) ahead whole = Grown xs ys ahead whole
 
--- the same, with something ahead that begins with text
+-- the same, where the rest begins with a text
 pub record Falls (start now : Option (List ℕ)) (text whole : List ℕ) : Type 0 where
   pub ahead : List ℕ
   pub stands : Stands start now (text ++ ahead) whole
 
--- a front of text was appended
+-- a prefix of a text was appended
 pub record AppendsFront (old now : Option (List ℕ)) (text : List ℕ) : Type 0 where
   pub front : List ℕ
   pub begins : Begins front text

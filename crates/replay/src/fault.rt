@@ -9,7 +9,7 @@ use ocpp_types::NoMemory;
 use std::alloc::AllocError;
 use thiserror::Error;
 
-/// Why a replay ended before its input. What was written is a front of what the whole input is
+/// Why a replay ended before its input. What was written is a prefix of what the whole input is
 /// answered.
 #[derive(Clone, Copy, Debug, PartialEq, Eq, Drop, Error)]
 pub enum ReplayFault {

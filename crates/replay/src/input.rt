@@ -64,9 +64,9 @@ fn pass<S: Store + Drop, V: VendorHandler, R: Read, W: Write>(
 /// from 1; a bad one is answered `bad line K` and the replay goes on.
 ///
 /// Where it is Ok, what was written is what the written table machine gives for the input, and the
-/// hub is left as the machine leaves it. After a fault what was written is a front of that, and the
-/// hub is left as after a number of whole lines. A line whose event ended in a fault has changed
-/// nothing. An event whose output found no memory, or was not written, has happened.
+/// hub is left as the machine leaves it. After a fault what was written is a prefix of that, and
+/// the hub is left as after a number of whole lines. A line whose event ended in a fault has
+/// changed nothing. An event whose output found no memory, or was not written, has happened.
 pub fn replay<S: Store + Drop, V: VendorHandler, R: Read, W: Write>(
     alloc: Global,
     hub: &mut Hub<S, V>,

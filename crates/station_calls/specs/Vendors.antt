@@ -5,7 +5,7 @@ use Rattle.std.specs.Str.{bytes_eq}
 use Rattle.ocpp_types.specs.declared.data_transfer_status.DataTransferStatus.TheVariants.{UnknownVendorId}
 use Rattle.station_calls.specs.declared.vendor.VendorAnswer.{VendorAnswer}
 
--- the text behind a reference, if there is one
+-- the text that a reference lends, if there is one
 abbrev pub lent_text : Option (Bor (List ℕ)) → Option (List ℕ)
 lent_text None = None
 lent_text (Some b) = Some b.now
@@ -14,7 +14,7 @@ lent_text (Some b) = Some b.now
 abbrev pub Answers : Type 0
 Answers = List ℕ → Option (List ℕ) → Option (List ℕ) → VendorAnswer
 
--- nobody answers for the vendor
+-- no handler answers for the vendor
 abbrev pub unknown_vendor : VendorAnswer
 unknown_vendor = record { status = UnknownVendorId; content = None }
 

@@ -13,8 +13,8 @@ pub struct VendorAnswer {
     pub content: Option<Text>,
 }
 
-/// Answers the messages of one vendor. An answer is a function of the message alone: nothing is
-/// kept from one to the next, so no operator can learn of another through it.
+/// Answers the messages of one vendor. An answer is a function of the message alone. Nothing is
+/// kept from one message to the next, so no answer depends on another operator's messages.
 pub trait VendorHandler: Drop {
     ghost use Rattle.station_calls.specs.declared.vendor.VendorAnswer.{VendorAnswer};
 

@@ -37,7 +37,7 @@ abbrev pub version_data : ListVersion → Data
 version_data (Unsigned n) = number (unsigned n)
 version_data (Signed z) = number (of_integer z)
 
--- a text before the others, if it is one
+-- the texts with one more in front, if the value is a text
 abbrev pub text_before : Option (List ℕ) → Items → Items
 text_before None ds = ds
 text_before (Some text) ds = item (string text) ds

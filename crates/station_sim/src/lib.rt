@@ -1,5 +1,5 @@
-//! A scripted charging station of OCPP 1.6: it makes the calls of one charging session one after the
-//! other, and answers the calls of the central system meanwhile.
+//! A scripted charging station of OCPP 1.6: it makes the calls of one charging session one after
+//! the other, and answers the calls of the central system.
 #![tactic(auto)]
 
 mod calls;

@@ -45,8 +45,8 @@ impl Sim {
         }
     }
 
-    /// The text of the next call at that moment, and from then on that call is in flight. The ids of
-    /// the calls are `s1`, `s2` and so on. `None` while a call is in flight, since a station makes one
+    /// The text of the next call at that moment. That call is in flight afterwards. The ids of the
+    /// calls are `s1`, `s2` and so on. `None` while a call is in flight, since a station makes one
     /// call at a time, and once the script has ended (OCPP-J 1.6, sections 4.1.1 and 4.2.1). The
     /// central system reads the payload without fault, unless `at` is past the last moment that
     /// `parse_time` reads. Where there is no memory nothing changes.

@@ -9,7 +9,8 @@ pub enum Stage {
     Status,
     Authorize,
     Start,
-    /// A transaction goes on and so many readings were sent: the next reading, or the stop after the last.
+    /// A transaction is open and so many readings were sent: the next reading, or the stop after
+    /// the last.
     Charging { transaction: i32, sent: usize },
     /// A transaction was refused: its stop.
     Refused { transaction: i32 },

@@ -1,4 +1,4 @@
--- Rows that are kept once more by an operator and a name, to be searched.
+-- Rows that are kept a second time, by an operator and a name, to be searched.
 use Rattle.std.specs.Prelude.{ℕ, ◌<◌, List, [], ◌∷◌, ◌&&◌, Bool, Option, None, Some, find, vec_len, vec_capacity}
 use Rattle.std.specs.List.Sorted.{IsStrictlySortedBy}
 use Rattle.std.specs.Str.{bytes_eq}

@@ -29,7 +29,7 @@ abbrev pub has_other : Option TxKey → List OpenRow → Bool
 has_other except opens = list_any (λ o. not (is_excepted except o)) opens
 
 module _ (stands : TxRow → Bool) (name : TxRow → List ℕ) where
-  -- the transactions of operator b that stand under the name n
+  -- the transactions of operator b that are under the name n
   abbrev pub opens_of : List ℕ → List ℕ → List TxRow → List OpenRow
   opens_of b n txs = map open_of (those (λ r. r.op) b (λ r. stands r && bytes_eq (name r) n) txs)
 

@@ -1,4 +1,4 @@
-//! A store that fails once, to test what stands on a store.
+//! A store that fails once, for tests of what uses a store.
 ghost use Rattle.std.specs.Prelude.{◌≡◌, ◌+◌, Some, OnOk, OnErr};
 
 use hub_rows::{
@@ -8,7 +8,7 @@ use hub_rows::{
 };
 use ocpp_types::{Listed, Moment, TagKey};
 
-/// A store that answers one call with Failed, and hands on all others.
+/// A store that answers one call with Failed, and hands all others to another store.
 #[derive(Drop)]
 pub struct Failing<S> {
     store: S,

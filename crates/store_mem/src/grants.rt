@@ -53,7 +53,7 @@ impl Grants {
         Ok(())
     }
 
-    /// Takes the grant of a tag to one operator out, if it is there.
+    /// Removes the grant of a tag to one operator, if it is there.
     pub fn drop_one(&mut self, op: &str, key: &str, to: &str)
         ensures { all_of self.new.given.items ≡ without (λ r. r.op) op.now (is_grant key.now to.now) (all_of self.old.given.items) }
     {
@@ -61,7 +61,7 @@ impl Grants {
         drop_row(&mut self.given, op, key, to);
     }
 
-    /// Takes all grants of a tag out.
+    /// Removes all grants of a tag.
     pub fn drop_of_tag(&mut self, op: &str, key: &str)
         ensures { all_of self.new.given.items ≡ without (λ r. r.op) op.now (λ r. bytes_eq r.key key.now) (all_of self.old.given.items) }
     {

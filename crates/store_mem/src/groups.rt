@@ -1,5 +1,5 @@
-//! Rows that are kept in groups by the first part of their keys, so that those of one name cost
-//! nothing to another.
+//! Rows that are kept in groups by the first part of their keys, so that a change of one group
+//! moves no row of another.
 ghost use Rattle.std.specs.Prelude.{◌≡◌, ℕ, ◌<◌, List, [], ◌∷◌, OnOk, OnErr, vec_len, vec_capacity};
 ghost use Rattle.std.specs.List.{AllByRecursion};
 ghost use Rattle.std.specs.List.Sorted.{IsStrictlySortedBy};

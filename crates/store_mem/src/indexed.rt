@@ -1,4 +1,5 @@
-//! Rows that are kept once more by an operator and a name, in an order of their own, to be searched.
+//! Rows that are kept a second time, by an operator and a name and in an order of their own, to be
+//! searched.
 ghost use Rattle.std.specs.Prelude.{◌≡◌, ℕ, ◌<◌, List, ◌&&◌, if◌then◌else◌, OnOk, vec_len, vec_capacity};
 ghost use Rattle.std.specs.List.Sorted.{IsStrictlySortedBy};
 ghost use Rattle.std.specs.Str.{bytes_eq};
@@ -93,7 +94,7 @@ pub fn put_at<R: Keyed>(groups: &mut Vec<Indexed<R>>, op: &str, name: &str, row:
     }
 }
 
-/// Takes the group of a name out, if no row is left in it.
+/// Removes the group of a name, if no row is left in it.
 pub fn drop_if_empty<R: Drop>(groups: &mut Vec<Indexed<R>>, op: &str, name: &str)
     requires { AreInPlace groups.old.items }
     ensures in_place { AreInPlace groups.new.items }

@@ -37,7 +37,7 @@ use hub_rows::{
 use ocpp_types::{Listed, Mem, Moment, Policy, State, TagKey, Text};
 use std::alloc::Global;
 
-/// Records in memory. It is always clean, and want of memory is its only failure.
+/// Records in memory. It is always clean, and fails only where memory is refused.
 #[derive(Drop)]
 pub struct MemStore {
     alloc: Global,
@@ -145,7 +145,7 @@ impl MemStore {
         put_in_group(self.alloc, &mut self.lists.tags, row)
     }
 
-    /// Takes the tag of a key out, with its grants, which can't fail.
+    /// Removes the tag of a key, with its grants, which can't fail.
     fn drop_tag(&mut self, op: &Text, key: &TagKey)
         ensures { ⟦<MemStore as Store>⟧.rows self.new ≡ edit op.now (TagDropped key.now) (⟦<MemStore as Store>⟧.rows self.old) }
     {
@@ -170,7 +170,7 @@ impl MemStore {
         self.lists.grants.put(self.alloc, row)
     }
 
-    /// Takes a grant of a tag out, which can't fail.
+    /// Removes a grant of a tag, which can't fail.
     fn drop_grant(&mut self, op: &Text, key: &TagKey, to: &Text)
         ensures { ⟦<MemStore as Store>⟧.rows self.new ≡ edit op.now (GrantDropped key.now to.now) (⟦<MemStore as Store>⟧.rows self.old) }
     {
@@ -200,7 +200,7 @@ impl MemStore {
         Ok(())
     }
 
-    /// Takes a reservation out, which can't fail.
+    /// Removes a reservation, which can't fail.
     fn drop_reservation(&mut self, op: &Text, station: &Text, id: ReservationId)
         ensures { ⟦<MemStore as Store>⟧.rows self.new ≡ edit op.now (ReservationDropped station.now id) (⟦<MemStore as Store>⟧.rows self.old) }
     {
@@ -225,7 +225,7 @@ impl MemStore {
 }
 
 impl MemStore {
-    /// Adds a transaction behind those of its station, and takes out the reservation that it names.
+    /// Adds a transaction after those of its station, and removes the reservation that it names.
     fn start_tx(&mut self, op: &Text, station: &Text, number: u32, start: &Start) -> Mem<()>
         requires { EditFits op.now (TxStarted station.now number start.now) (rows_in self.old.lists) }
         ensures ok { OnOk result (⟦<MemStore as Store>⟧.rows self.new ≡ edit op.now (TxStarted station.now number start.now) (⟦<MemStore as Store>⟧.rows self.old)) }
@@ -266,7 +266,7 @@ impl MemStore {
         stop_tx(&mut self.lists.transactions, op, station, number, stop);
     }
 
-    /// Adds readings behind those of their station.
+    /// Adds readings after those of their station.
     fn add_readings(
         &mut self,
         op: &Text,

@@ -138,7 +138,7 @@ pub fn put_counted(
     }
 }
 
-/// Takes a transaction, which then is stopped, out of those by which its tag is in use.
+/// Removes a transaction, which then is stopped, from those by which its tag is in use.
 pub fn close_tag(
     opens: &mut Vec<Indexed<OpenRow>>,
     groups: &[StationRows<TxRow>],
@@ -156,7 +156,7 @@ pub fn close_tag(
     }
 }
 
-/// Takes a transaction out of those under a name, if it is there, and their group when it was the
+/// Removes a transaction from those under a name, if it is there, and their group if it was the
 /// last one.
 pub fn close(opens: &mut Vec<Indexed<OpenRow>>, op: &str, name: &str, station: &str, number: u32)
     requires in_place { AreInPlace opens.old.items }

@@ -36,7 +36,7 @@ fn reading_rows(
     Ok(rows)
 }
 
-/// Adds readings behind those of their station, numbered from the first number on.
+/// Adds readings after those of their station, numbered from the first number on.
 pub fn add_readings(
     alloc: Global,
     groups: &mut Vec<StationRows<ReadingRow>>,

@@ -123,7 +123,7 @@ fn first_place(rows: &[Received], to: &str, key: &str) -> usize
     }
 }
 
-/// Takes all grants of a tag out of the groups of their receivers.
+/// Removes all grants of a tag from the groups of their receivers.
 pub fn drop_from_each(groups: &mut Vec<Group<Received>>, key: &str, op: &str)
     requires { AreGroups receiver_key (λ r. r.grant.to) groups.old.items }
     ensures groups { AreGroups receiver_key (λ r. r.grant.to) groups.new.items }

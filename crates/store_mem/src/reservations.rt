@@ -45,7 +45,7 @@ pub fn reservations_of(
     Ok(list)
 }
 
-/// Takes the reservation of an id out, if it is there.
+/// Removes the reservation of an id, if it is there.
 pub fn drop_reservation(rows: &mut Vec<ReservationRow>, op: &str, station: &str, id: ReservationId)
     requires { IsStrictlySortedBy (by_key reservation_key) rows.old.items }
     ensures { rows.new.items ≡ without (λ r. r.op) op.now (is_reservation station.now id) rows.old.items }
@@ -55,7 +55,7 @@ pub fn drop_reservation(rows: &mut Vec<ReservationRow>, op: &str, station: &str,
     }
 }
 
-/// Takes out the reservation that a start names, by the number that it was sent with.
+/// Removes the reservation that a start names, by the number that it was sent with.
 pub fn drop_named(rows: &mut Vec<ReservationRow>, op: &str, station: &str, id: Option<i32>)
     requires { IsStrictlySortedBy (by_key reservation_key) rows.old.items }
     ensures { rows.new.items ≡ without_named op.now station.now id rows.old.items }

@@ -24,7 +24,7 @@ pub fn started(op: &Text, station: &Text, number: u32, start: &Start) -> Mem<TxR
     })
 }
 
-/// Adds a transaction behind those of its station.
+/// Adds a transaction after those of its station.
 pub fn start_tx(
     alloc: Global,
     groups: &mut Vec<StationRows<TxRow>>,

@@ -83,7 +83,7 @@ fn first_place(rows: &[StartRow], start: &StartKey) -> usize
     }
 }
 
-/// The place of a start before all numbers, where no row stands.
+/// The place that a row with that start and a number below all others would go to. No row is there.
 fn place_of_start(rows: &[StartRow], start: &StartKey) -> Result<usize, usize>
     requires { IsStrictlySortedBy (by_key start_key) rows.now }
     ensures { IsPlace start_key (code start.now ∷ []) rows.now result }

@@ -1,4 +1,5 @@
-//! Rows that are kept station by station, so that one station's cost nothing to another.
+//! Rows that are kept station by station, so that a change of one station's moves no row of
+//! another.
 ghost use Rattle.std.specs.Prelude.{◌≡◌, ◌<◌, ℕ, List, [], ◌∷◌, ◌++◌, map, OnOk, OnErr};
 ghost use Rattle.std.specs.List.{AllByRecursion};
 ghost use Rattle.std.specs.List.Sorted.{IsStrictlySortedBy};
@@ -101,7 +102,7 @@ pub fn last_number<R: NumberedRow>(rows: &[R]) -> u32
     }
 }
 
-/// Adds rows of a station behind those that it has.
+/// Adds rows of a station after those that it has.
 pub fn append_rows<R: NumberedRow>(
     alloc: Global,
     groups: &mut Vec<StationRows<R>>,

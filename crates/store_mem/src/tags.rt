@@ -50,7 +50,7 @@ fn is_blocked(row: Option<&TagRow>) -> bool
     }
 }
 
-/// Takes the tag of a key out, if it is there.
+/// Removes the tag of a key, if it is there.
 pub fn drop_tag(groups: &mut Vec<Group<TagRow>>, op: &str, key: &str)
     requires { AreGroups tag_key (λ r. r.op) groups.old.items }
     ensures groups { AreGroups tag_key (λ r. r.op) groups.new.items }

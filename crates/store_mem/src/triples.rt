@@ -1,5 +1,4 @@
-//! Rows in groups whose keys are the names of their groups and two texts more: found, and taken
-//! out.
+//! Rows in groups whose keys are the names of their groups and two texts more: found, and removed.
 ghost use Rattle.std.specs.Prelude.{◌≡◌, ℕ, List, [], ◌∷◌, ◌&&◌};
 ghost use Rattle.std.specs.List.Sorted.{IsStrictlySortedBy};
 ghost use Rattle.std.specs.Str.{bytes_eq};
@@ -43,7 +42,7 @@ pub fn place_of_row<R: TripleRow>(
     })
 }
 
-/// Takes a row out of its group, if it is there.
+/// Removes a row from its group, if it is there.
 pub fn drop_row<R: TripleRow>(groups: &mut Vec<Group<R>>, name: &str, second: &str, third: &str)
     requires { AreGroups R.key R.group groups.old.items }
     ensures groups { AreGroups R.key R.group groups.new.items }
@@ -55,7 +54,7 @@ pub fn drop_row<R: TripleRow>(groups: &mut Vec<Group<R>>, name: &str, second: &s
     }
 }
 
-/// Takes a row out, if it is there.
+/// Removes a row, if it is there.
 pub fn drop_in_group<R: TripleRow>(rows: &mut Vec<R>, name: &str, second: &str, third: &str)
     requires { IsStrictlySortedBy (by_key R.key) rows.old.items }
     ensures { rows.new.items

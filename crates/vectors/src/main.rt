@@ -1,7 +1,7 @@
 //! Tables of cases: what a function gives for the texts of each line, beside what it is to give.
 //!
 //! `data/TABLE.txt` has a case on each line: the texts that the function of that table is given,
-//! and last what it is to give, parted by tabs. A text that begins with `"` is a JSON string and
+//! and last what it is to give, separated by tabs. A text that begins with `"` is a JSON string and
 //! stands for what that spells. An empty line, and one that begins with `#`, is no case; comments
 //! say where the values come from.
 #![tactic(auto)]

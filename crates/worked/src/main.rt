@@ -1,8 +1,8 @@
 //! Worked scripts: what a replay of each writes, beside what it is to write.
 //!
-//! `data/` has the lines of each script, `NAME.script`, and what is to be written,
-//! `NAME.expected`. The operators are those of `NAME.operators`, or else ACME and BETA. A fault
-//! stands as the last line, `fault NAME`.
+//! `data/` has the lines of each script, `NAME.script`, and what is to be written, `NAME.expected`.
+//! The operators are those of `NAME.operators`, or else ACME and BETA. A fault is the last line,
+//! `fault NAME`.
 #![tactic(auto)]
 
 mod checked;

@@ -8,7 +8,7 @@ use replay::{ReplayFault, replay};
 use station_calls::Echo;
 use std::alloc::Global;
 
-/// What a replay of the lines over the store writes, and behind it the fault, if there is one.
+/// What a replay of the lines over the store writes, and after it the fault, if there is one.
 pub fn written<S: Store + Drop>(
     alloc: Global,
     store: S,

@@ -57,7 +57,7 @@ module _ {T : Type 0} where
   GiveWay contents (Operator op) = λ old new. new ≡ old
   GiveWay contents Nothing = λ old new. new ≡ old
 
--- what is so of a text, or of any text where it found no memory
+-- what holds of a text, or of any text where there was no memory for it
 abbrev pub ForText : Option (List ℕ) → (List ℕ → Type 0) → Type 0
 ForText None P = (text : List ℕ) → P text
 ForText (Some text) P = P text

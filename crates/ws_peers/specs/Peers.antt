@@ -27,7 +27,7 @@ module _ {T : Type 0} where
   abbrev pub leaves : Peer T → Peer T
   leaves p = record p { stage = leaving p.route p.stage }
 
-  -- the peer with nothing left to be done
+  -- the peer that is gone
   abbrev pub finishes : Peer T → Peer T
   finishes p = record p { stage = Gone }
 
@@ -35,7 +35,7 @@ module _ {T : Type 0} where
   abbrev pub is_operator_peer : Peer T → Bool
   is_operator_peer p = is_operator p.route
 
-  -- the peer keeps its route, and doesn't come back
+  -- the peer keeps its route, and one that is gone stays gone
   pub record Kept (old new : Peer T) : Type 0 where
     pub route : new.route ≡ old.route
     pub gone : is_held old.stage ≡ false → is_held new.stage ≡ false

@@ -13,14 +13,14 @@ is_open Ended = false
 is_open Leaving = false
 is_open Gone = false
 
--- something of it is left to be done
+-- it isn't gone
 abbrev pub is_held : Stage → Bool
 is_held Open = true
 is_held Ended = true
 is_held Leaving = true
 is_held Gone = false
 
--- an open connection ends; one that has ended stays as it is
+-- an open connection ends; one that has ended is unchanged
 abbrev pub ended : Stage → Stage
 ended Open = Ended
 ended Ended = Ended
@@ -32,7 +32,7 @@ abbrev pub stage_after : Result (Unit {0}) Error → Stage → Stage
 stage_after (Ok u) stage = stage
 stage_after (Err e) stage = ended stage
 
--- an ended connection leaves: a station's has a hub to leave, an operator's is gone
+-- a connection that has ended leaves: a station is to leave the hub, an operator is gone
 abbrev pub left : Route → Stage
 left (Station op name) = Leaving
 left (Operator op) = Gone

@@ -1,4 +1,4 @@
-//! Over all connected peers.
+//! All connected peers: sends to them, admission and removal.
 ghost use Rattle.std.specs.Prelude.{◌+◌, ◌≤◌, vec_len, vec_capacity, ℕ, List, ◌≡◌, ◌++◌, ◌∷◌, [], map, length, OnOk, OnErr, IfSome, IfNone, true, false, ◌<◌, slice_index_or, option_map};
 ghost use Rattle.std.specs.List.{AllZip, filter, list_any, position};
 ghost use Rattle.ws_peers.specs.Lists.{is_open_at};
@@ -17,8 +17,8 @@ impl<T: Read + Write + Drop> Peers<T> {
     ghost use Rattle.ws_peers.specs.Peers.{stage_of, open_peer, leaves};
     ghost use Rattle.ws_peers.specs.Stages.{is_held};
 
-    /// Sends a text to a station, on an open connection of it, if there is one. The peer at `near` is
-    /// looked at first.
+    /// Sends a text to a station, on an open connection of it, if there is one. The peer at `near`
+    /// is tried first.
     pub fn to_station(&mut self, near: usize, op: &str, station: &str, text: &str)
         ensures sent { ToStation T.contents op.now station.now text.now (peers self.old) (peers self.new) }
         ensures count { length (peers self.new) ≡ length (peers self.old) }
@@ -40,8 +40,8 @@ impl<T: Read + Write + Drop> Peers<T> {
         first_open(&self.items, op, station)
     }
 
-    /// Sends a text to an operator, on each open connection of it. Where the text is none, for want of
-    /// memory, these end.
+    /// Sends a text to an operator, on each open connection of it. Where the text is `None`, since
+    /// there was no memory for it, these connections end.
     pub fn to_operator(&mut self, op: &str, text: Option<&str>)
         ensures sent { ForText (option_map (λ t. t.now) text.entry) (λ t. ToOperator T.contents op.now t (peers self.old) (peers self.new)) }
         ensures count { length (peers self.new) ≡ length (peers self.old) }
@@ -73,7 +73,7 @@ impl<T: Read + Write + Drop> Peers<T> {
         }
     }
 
-    /// Drops those of which nothing is left to be done.
+    /// Drops those that are gone.
     pub fn sweep(&mut self)
         ensures { peers self.new ≡ filter (λ p. is_held (stage_of p)) (peers self.old) }
     {

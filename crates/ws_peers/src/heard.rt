@@ -21,8 +21,8 @@ pub enum Heard {
     Ends,
 }
 
-/// What a read gave. A text may have 1,048,576 bytes. Binary messages, pings and pongs are nothing to
-/// the gateway; the socket answers pings (RFC 6455, section 5.5.2).
+/// What a read gave. A text may have 1,048,576 bytes. Binary messages, pings and pongs are
+/// `Nothing`; the socket answers pings (RFC 6455, section 5.5.2).
 pub fn what_is_heard(gave: Result<Message, Error>) -> Heard
     ensures { result ≡ heard_of gave }
 {

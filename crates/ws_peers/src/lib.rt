@@ -1,4 +1,5 @@
-//! One connected peer: where its path leads, its socket, and how far it has come.
+//! The connected peers, in order of admission: where a path leads, reads and sends over each
+//! socket, and how far each connection has come.
 #![tactic(auto)]
 
 mod all_peers;

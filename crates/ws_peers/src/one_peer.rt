@@ -67,7 +67,7 @@ impl<T: Read + Write + Drop> Peers<T> {
         self.items[n].end();
     }
 
-    /// Nothing of a peer is left to be done.
+    /// A peer is gone.
     pub fn finish(&mut self, n: usize)
         requires { n < length (peers self.old) }
         ensures finished { At (λ old new. new ≡ finishes old) n (peers self.old) (peers self.new) }

@@ -11,7 +11,7 @@ use ocpp_types::{Mem, NoMemory, Text};
 use percent_encoding::percent_decode;
 use std::alloc::Global;
 
-/// One of the two paths that lead somewhere.
+/// One of the two paths that are known.
 #[derive(Clone, Copy, Debug, PartialEq, Eq, Drop)]
 pub enum Pattern {
     /// `/ocpp/{operator}/{station}`
@@ -62,7 +62,8 @@ fn patterns(alloc: Global) -> Mem<Router<Pattern>>
     Ok(router)
 }
 
-/// Adds a pattern. One that the router refused would be NoMemory too; it refuses neither of the two.
+/// Adds a pattern. A refusal of the router is answered NoMemory too; it refuses neither of the two
+/// patterns.
 fn put(router: &mut Router<Pattern>, text: &str, pattern: Pattern) -> Mem<()>
     ensures { OnOk result (InsertsRead (parse_route text.now) pattern router.old router.new (Ok tt)) }
 {

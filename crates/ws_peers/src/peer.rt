@@ -122,7 +122,8 @@ impl<T: Read + Write + Drop> Peer<T> {
         }
     }
 
-    /// An ended connection leaves: a station has its hub to leave, of an operator nothing is left.
+    /// A connection that has ended leaves: a station is to disconnect from the hub, and an operator
+    /// is gone.
     pub fn leave(&mut self)
         ensures { self.new ≡ leaves self.old }
     {
@@ -134,7 +135,7 @@ impl<T: Read + Write + Drop> Peer<T> {
         }
     }
 
-    /// Nothing of it is left to be done.
+    /// It is gone.
     pub fn finish(&mut self)
         ensures { self.new ≡ finishes self.old }
     {
@@ -148,8 +149,8 @@ impl<T: Read + Write + Drop> Peer<T> {
         self.stage.is_open() && self.route.is_station(op, station)
     }
 
-    /// Sends a text to it, if it is an open connection of that operator. Where the text is none, for
-    /// want of memory, the connection ends.
+    /// Sends a text to it, if it is an open connection of that operator. Where the text is `None`,
+    /// since there was no memory for it, the connection ends.
     pub fn hear(&mut self, alloc: Global, op: &str, text: Option<&str>)
         ensures heard { ForText (option_map (λ t. t.now) text.entry) (λ t. Hears T.contents op.now t self.old self.new) }
         ensures kept { Kept self.old self.new }

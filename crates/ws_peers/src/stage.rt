@@ -7,11 +7,11 @@ ghost use Rattle.ws_peers.specs.Stages.{is_open, is_held, ended};
 pub enum Stage {
     /// It is served.
     Open,
-    /// It has ended. Its peer has not left the hub yet.
+    /// It has ended, and `leave` has not been called since.
     Ended,
-    /// Its peer is to leave the hub now.
+    /// It has ended, and the disconnect of its station is to be handed to the hub.
     Leaving,
-    /// Nothing of it is left to be done.
+    /// It is gone, and the next sweep drops it.
     Gone,
 }
 
@@ -23,7 +23,7 @@ impl Stage {
         matches!(self, Stage::Open)
     }
 
-    /// An open connection ends; one that has ended stays as it is.
+    /// An open connection ends; one that has ended is unchanged.
     pub fn ended(self) -> Stage
         ensures { result ≡ ended self }
     {
@@ -33,7 +33,7 @@ impl Stage {
         }
     }
 
-    /// Whether something of it is left to be done.
+    /// Whether it isn't gone.
     pub fn is_held(self) -> bool
         ensures { result ≡ is_held self }
     {

@@ -19,18 +19,19 @@ use Rattle.ws_server.specs.Steps.{Step}
 use Rattle.ws_server.specs.Turns.{Change, FirstPlaces}
 
 module _ {T : Type 0} (contents : T → Option (List ℕ)) (socket : Socket T) where
-  -- a station that is turned away stays out; another takes the place of older connections of it
+  -- a station that is turned away isn't admitted; another replaces older connections of it
   abbrev pub Enters : Bool → Route → List (Peer T) → List (Peer T) → Type 0
   Enters true route old new = new ≡ old
   Enters false route old new = (older : List (Peer T)) × GiveWay contents route old older × (new ≡ older ++ open_peer socket route ∷ [])
 
-  -- a connect is handed to the hub: the station enters and the outputs are told, or nothing has happened
+  -- a connect is handed to the hub: the station enters and the outputs are sent, or nothing has
+  -- changed
   abbrev pub Connects : Event → Route → Change (Peer T)
   Connects connect route old new steps (Ok u) =
       (outs : List Out) × (mid : List (Peer T)) × (steps ≡ record { event = connect; outs = outs } ∷ []) × Enters (turns_away outs) route old mid × TellsAll contents outs mid new
   Connects connect route old new steps (Err fault) = (new ≡ old) × (steps ≡ [])
 
-  -- a connection is admitted at moment m; one to nothing stays out
+  -- a connection is admitted at moment m; one of an unknown path isn't
   abbrev pub Admits : ℕ → Route → Change (Peer T)
   Admits m (Station op station) old new steps r = Connects (event.At op m (what.Connect station)) (Station op station) old new steps r
   Admits m (Operator op) old new steps (Ok u) = (new ≡ old ++ open_peer socket (Operator op) ∷ []) × (steps ≡ [])
@@ -54,11 +55,12 @@ module _ {T : Type 0} where
   IsNewSocket socket = ((stream : T) × IsFresh socket stream Role.Server) × TakesAtMost 4_194_304 socket.conn.config
 
 module _ {T : Type 0} (contents : T → Option (List ℕ)) (m : ℕ) where
-  -- a connection of that route is welcomed: it stays out, or its handshake is done and it is admitted
+  -- a connection of that route is welcomed: its handshake is done and it is admitted, or nothing
+  -- changes
   abbrev pub Welcomes : Route → Change (Peer T)
   Welcomes route old new steps r = ((new ≡ old) × (steps ≡ [])) ⊎ ((socket : Socket T) × IsNewSocket socket × Admits contents socket m route old new steps r)
 
-  -- one is welcomed, of whatever route
+  -- one is welcomed, of any route
   abbrev pub WelcomesOne : Change (Peer T)
   WelcomesOne old new steps r = (route : Route) × Welcomes route old new steps r
 

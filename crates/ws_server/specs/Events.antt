@@ -32,7 +32,7 @@ disconnect_of (Station op station) m = Some (At op m (what.Disconnect station))
 disconnect_of (Operator op) m = None
 disconnect_of Nothing m = None
 
--- a peer that is to leave now hands on its disconnect
+-- the disconnect of a peer that is to leave now
 abbrev pub parting_at : Stage → Route → ℕ → Option Event
 parting_at Leaving route m = disconnect_of route m
 parting_at Open route m = None

@@ -13,7 +13,7 @@ module _ {T : Type 0} where
   abbrev pub peers_of : Gateway T → List (Peer T)
   peers_of g = peers g.peers
 
-  -- a text goes to its station, and all else is told as a line to the operator
+  -- a text is sent to its station, and all else as a line to the operator
   abbrev pub TellsSaid : (T → Option (List ℕ)) → List ℕ → Said → List ℕ → List (Peer T) → List (Peer T) → Type 0
   TellsSaid contents op (said.Send station text) line = ToStation contents op station text
   TellsSaid contents op _ line = ToOperator contents op line

@@ -44,22 +44,23 @@ module _ {P : Type 0} where
   abbrev pub Becomes : (List P → List P) → Change P
   Becomes f old new steps r = (new ≡ f old) × (steps ≡ []) × (r ≡ Ok tt)
 
--- what a fault says: NoSuchOperator that the operator isn't hosted, and the others nothing of it
+-- what a fault says: NoSuchOperator says that the operator isn't hosted, the others say nothing of
+-- that
 abbrev pub Means : Bool → Fault → Type 0
 Means hosted fault = fault ≡ NoSuchOperator → hosted ≡ false
 
 module _ {T : Type 0} (contents : T → Option (List ℕ)) (is_hosted : List ℕ → Bool) where
-  -- an event is handed to the hub: its outputs are told, or nothing has happened
+  -- an event is handed to the hub: its outputs are sent, or nothing has changed
   abbrev pub Hands : Event → Change (Peer T)
   Hands event old new steps (Ok u) = (outs : List Out) × (steps ≡ record { event = event; outs = outs } ∷ []) × TellsAll contents outs old new
   Hands event old new steps (Err fault) = (new ≡ old) × (steps ≡ []) × Means (is_of_hosted is_hosted event) fault
 
-  -- peer n has said what the hub is to be handed, or a text that is no order
+  -- the event of a text of peer n is handed to the hub, or the text is no order
   abbrev pub HandsOrRefuses : ℕ → Option Event → Change (Peer T)
   HandsOrRefuses n (Some event) old new steps r = Hands event old new steps r
   HandsOrRefuses n None old new steps r = lists.At (Sent contents (codes "bad line")) n old new × (steps ≡ []) × (r ≡ Ok tt)
 
-  -- a text of peer n at moment m; where it ends in a fault nothing has happened
+  -- a text of peer n at moment m; after a fault nothing has changed
   abbrev pub HandsText : ℕ → ℕ → List ℕ → Change (Peer T)
   HandsText m n text old new steps (Ok u) = (event : Option Event) × ((d : Peer T) → event ≡ event_of (route_of (slice_index_or old n d)) m text) × HandsOrRefuses n event old new steps (Ok u)
   HandsText m n text old new steps (Err fault) = (new ≡ old) × (steps ≡ []) × ((d : Peer T) → Means (is_route_of_hosted is_hosted (route_of (slice_index_or old n d))) fault)
@@ -80,11 +81,12 @@ module _ {T : Type 0} (contents : T → Option (List ℕ)) (is_hosted : List ℕ
   abbrev pub Parts : ℕ → ℕ → Change (Peer T)
   Parts m n old new steps r = (event : Option Event) × ((d : Peer T) → event ≡ parting m (slice_index_or old n d)) × PartsAs n event old new steps r
 
-  -- those of which nothing is left are dropped, and the hub is handed a tick
+  -- those that are gone are dropped, and the hub is handed a tick
   abbrev pub SweepsAndTicks : ℕ → Change (Peer T)
   SweepsAndTicks m = Then (Becomes (filter (λ p. is_held (stage_of p)))) (Hands (Tick m))
 
-  -- those that have ended leave, and each hands on its disconnect; then the sweep and the tick
+  -- those that have ended leave, and their disconnects are handed to the hub; then the sweep and
+  -- the tick
   abbrev pub PartsAndTicks : ℕ → Change (Peer T)
   PartsAndTicks m = Then (Becomes (map leaves)) (Then (Each (Parts m)) (SweepsAndTicks m))
 

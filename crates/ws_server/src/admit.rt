@@ -21,10 +21,10 @@ impl<T: Read + Write + Drop> Gateway<T> {
     ghost use Rattle.ws_server.specs.Admits.{Admits, Connects};
     ghost use Rattle.ws_server.specs.Events.{is_route_of_hosted};
 
-    /// Admits a connection whose handshake is done. A station connects to the hub, and its outputs are
-    /// told; where it is turned away its socket is closed, and else older connections of it are
-    /// replaced. An operator that isn't hosted is the fault `NoSuchOperator`. A route to nothing closes
-    /// the socket. After a fault nothing was admitted, and the socket is dropped.
+    /// Admits a connection whose handshake is done. A station connects to the hub, and the outputs
+    /// are sent. If it is turned away its socket is closed; else older connections of it are
+    /// replaced. An operator that isn't hosted is the fault `NoSuchOperator`. A route to nothing
+    /// closes the socket. After a fault nothing was admitted, and the socket is dropped.
     pub fn admit<S: Store + Drop, V: VendorHandler>(
         &mut self,
         hub: &mut Hub<S, V>,

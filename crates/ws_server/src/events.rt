@@ -12,8 +12,8 @@ use std::alloc::Global;
 use std::io::{Read, Write};
 use ws_peers::{Peer, Route, Stage};
 
-/// What a text of a peer hands on: a frame of a station, or an order of an operator. `None` is a text
-/// of an operator that is no order.
+/// The event that a text of a peer is: a frame of a station, or an order of an operator. `None` is
+/// a text of an operator that is no order.
 pub fn event_of(alloc: Global, route: &Route, moment: Moment, text: &str) -> Mem<Option<Event>>
     ensures { IfOk result (λ e. e ≡ event_of route.now moment text.now) }
 {
@@ -30,7 +30,7 @@ pub fn event_of(alloc: Global, route: &Route, moment: Moment, text: &str) -> Mem
     }
 }
 
-/// The disconnect that a peer is still to hand on, if it is to leave now.
+/// The disconnect of a peer that is to leave the hub now.
 pub fn parting<T: Read + Write + Drop>(peer: &Peer<T>, moment: Moment) -> Mem<Option<Event>>
     ensures event { IfOk result (λ e. e ≡ parting moment peer.now) }
     ensures leaves { OnErr result (is_some (parting moment peer.now) ≡ true) }

@@ -18,7 +18,7 @@ const READ_SIZE: usize = 4096;
 /// The most bytes of a message of any kind. A text may have 1,048,576 (`ws_peers::MAX_TEXT`).
 const MAX_MESSAGE: usize = 4_194_304;
 
-/// Answers a request whose path is judged.
+/// Answers a request whose path is known or isn't.
 #[derive(Drop)]
 struct Answer<'a> {
     alloc: Global,
@@ -82,9 +82,9 @@ fn limits() -> WebSocketConfig
         .max_frame_size(Some(MAX_MESSAGE))
 }
 
-/// Makes the handshake of a stream whose whole head is there, and gives its socket. A path that isn't
-/// known is answered 404. A station that doesn't offer the subprotocol is accepted without it and closed
-/// at once (OCPP-J 1.6, section 3.1.2). `None` is a connection that has ended.
+/// Makes the handshake of a stream whose whole head has come, and gives its socket. A path that
+/// isn't known is answered 404. A station that doesn't offer the subprotocol is accepted without it
+/// and closed at once (OCPP-J 1.6, section 3.1.2). `None` is a connection that has ended.
 pub fn shake<T: Read + Write + Drop>(
     alloc: Global,
     stream: T,

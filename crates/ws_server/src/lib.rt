@@ -1,4 +1,5 @@
-//! The gateway: connected stations and operators over one hub.
+//! The gateway: connected stations and operators over one hub, and connections whose handshake is
+//! not done.
 #![tactic(auto)]
 
 mod admit;

@@ -33,8 +33,9 @@ struct Waiting<T> {
     since: Moment,
 }
 
-/// Connections whose head has not come whole, in the order in which they came. None of them is ever waited
-/// for: each is looked at once a turn, and dropped after 2 seconds.
+/// Connections whose head is not complete, in the order in which they were accepted. No turn waits
+/// for them: each is polled once per turn. It is dropped in the first turn whose moment is more
+/// than 2 seconds after the one at which it was accepted, or is before that one.
 #[derive(Drop)]
 pub struct Lobby<T> {
     waiting: Vec<Waiting<T>>,
@@ -48,7 +49,7 @@ enum Next {
     Wait,
     /// It is dropped.
     Drop,
-    /// Its head is there, and its path leads there.
+    /// Its head is complete, and its path leads there.
     Welcome(Route),
 }
 
@@ -75,8 +76,8 @@ impl<T: Peek + Read + Write + Drop> Lobby<T> {
         self.waiting.len()
     }
 
-    /// Takes a connection that was accepted at that moment. Where 1,024 wait, it takes the place of the one
-    /// that came first. With no memory for it, it is dropped.
+    /// Takes a connection that was accepted at that moment. Where 1,024 wait, the one that was
+    /// accepted first is dropped. Without memory for the new one, that is dropped too.
     pub fn enter(&mut self, stream: T, moment: Moment) -> Mem<()>
         ensures entered { OnOk result (self.new.waiting.items ≡ with_room self.old.waiting.items ++ record { stream = stream; since = moment } ∷ []) }
         ensures dropped { OnErr result (self.new.waiting.items ≡ with_room self.old.waiting.items) }
@@ -91,8 +92,8 @@ impl<T: Peek + Read + Write + Drop> Lobby<T> {
         Ok(())
     }
 
-    /// Looks once at each that waits. One whose head is there is welcomed by the gateway; after a fault
-    /// it is dropped, and the others wait for the next turn.
+    /// Polls each that waits once. One whose head is complete is welcomed by the gateway; after a
+    /// fault it is dropped, and the others wait for the next turn.
     pub fn serve<S: Store + Drop, V: VendorHandler>(
         &mut self,
         alloc: Global,
@@ -114,7 +115,7 @@ impl<T: Peek + Read + Write + Drop> Lobby<T> {
         Ok(())
     }
 
-    /// Looks at the one at place n, if there is one, and moves n to the next.
+    /// Polls the one at place n, if there is one, and moves n to the next.
     fn look<S: Store + Drop, V: VendorHandler>(
         &mut self,
         alloc: Global,
@@ -178,7 +179,7 @@ impl<T: Peek + Read + Write + Drop> Lobby<T> {
 }
 
 impl<T> Waiting<T> {
-    /// Whether it has waited for too long. A clock that was set back tells nothing, so nobody waits on by it.
+    /// Whether it has waited for too long. Where the clock was set back, it counts as too long.
     fn is_late(&self, moment: Moment) -> bool {
         moment < self.since || moment.seconds() > self.since.seconds() + PATIENCE
     }

@@ -69,7 +69,7 @@ impl<T: Read + Write + Drop> Gateway<T> {
         }
     }
 
-    /// Sends outputs in order. The peer at `near` is looked at first for each text.
+    /// Sends outputs in order. The peer at `near` is tried first for each text.
     pub(crate) fn tell_all(&mut self, near: usize, outs: &[Out])
         ensures told { TellsAll T.contents outs.now (peers_of self.old) (peers_of self.new) }
         ensures count { length (peers_of self.new) ≡ length (peers_of self.old) }

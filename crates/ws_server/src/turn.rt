@@ -17,7 +17,7 @@ use std::io::{Read, Write};
 impl<T: Read + Write + Drop> Gateway<T> {
     ghost use Rattle.ws_server.specs.Turns.{Hands, HandsText, Serves, Parts, Each, SweepsAndTicks, PartsAndTicks, Turns};
 
-    /// Hands an event to the hub, and tells its outputs. Where it ends in a fault nothing has happened.
+    /// Hands an event to the hub, and sends its outputs. After a fault nothing has changed.
     pub(crate) fn hand<S: Store + Drop, V: VendorHandler>(
         &mut self,
         hub: &mut Hub<S, V>,
@@ -35,7 +35,8 @@ impl<T: Read + Write + Drop> Gateway<T> {
         Ok(())
     }
 
-    /// Hands on a text of peer n. A text of an operator that is no order is answered `bad line`.
+    /// Hands a text of peer n to the hub. A text of an operator that is no order is answered
+    /// `bad line`.
     fn hand_text<S: Store + Drop, V: VendorHandler>(
         &mut self,
         hub: &mut Hub<S, V>,
@@ -60,8 +61,8 @@ impl<T: Read + Write + Drop> Gateway<T> {
         }
     }
 
-    /// Serves peer n: reads once, and hands on the text that was read, if there is one. After a fault
-    /// the text is lost and the connection of peer n ends; the hub is as it was.
+    /// Serves peer n: reads once, and hands the text that was read, if there is one, to the hub.
+    /// After a fault the text is lost and the connection of peer n ends; the hub is unchanged.
     pub fn serve<S: Store + Drop, V: VendorHandler>(
         &mut self,
         hub: &mut Hub<S, V>,
@@ -87,7 +88,7 @@ impl<T: Read + Write + Drop> Gateway<T> {
         }
     }
 
-    /// Hands on the disconnect of peer n, if it is to leave now.
+    /// Hands the disconnect of peer n to the hub, if it is to leave now.
     fn part<S: Store + Drop, V: VendorHandler>(
         &mut self,
         hub: &mut Hub<S, V>,
@@ -126,7 +127,7 @@ impl<T: Read + Write + Drop> Gateway<T> {
         Ok(())
     }
 
-    /// Hands on the disconnects of those that are to leave now, up to the first fault.
+    /// Hands the disconnects of those that are to leave now to the hub, up to the first fault.
     fn part_each<S: Store + Drop, V: VendorHandler>(
         &mut self,
         hub: &mut Hub<S, V>,
@@ -143,9 +144,9 @@ impl<T: Read + Write + Drop> Gateway<T> {
         Ok(())
     }
 
-    /// One turn: serves each peer, in order of admission; hands on the disconnects of those that have
-    /// ended, in that order; and hands on a tick. It stops at the first fault. A disconnect that met
-    /// one is handed on again in the next turn.
+    /// One turn: serves each peer, in order of admission; hands the disconnects of those that have
+    /// ended to the hub, in that order; and then a tick. It stops at the first fault. A disconnect
+    /// that met one is handed to the hub again in the next turn.
     pub fn turn<S: Store + Drop, V: VendorHandler>(
         &mut self,
         hub: &mut Hub<S, V>,
@@ -160,7 +161,7 @@ impl<T: Read + Write + Drop> Gateway<T> {
         self.part_and_tick(hub, moment)
     }
 
-    /// Those that have ended leave; their disconnects and a tick are handed on.
+    /// Those that have ended leave; their disconnects and a tick are handed to the hub.
     fn part_and_tick<S: Store + Drop, V: VendorHandler>(
         &mut self,
         hub: &mut Hub<S, V>,
@@ -176,7 +177,7 @@ impl<T: Read + Write + Drop> Gateway<T> {
         self.sweep_and_tick(hub, moment)
     }
 
-    /// Those of which nothing is left are dropped, and a tick is handed on.
+    /// Those that are gone are dropped, and a tick is handed to the hub.
     fn sweep_and_tick<S: Store + Drop, V: VendorHandler>(
         &mut self,
         hub: &mut Hub<S, V>,

@@ -18,9 +18,9 @@ use ws_peers::Route;
 impl<T: Read + Write + Drop> Gateway<T> {
     ghost use Rattle.ws_server.specs.Admits.{Welcomes};
 
-    /// Makes the handshake of a stream whose whole head is there, and whose path leads there; then admits
-    /// it. A path to nothing, to a station that the hub doesn't know, or to an operator that it doesn't
-    /// host is answered 404.
+    /// Makes the handshake of a stream whose whole head has come, and whose path leads to that
+    /// route; then admits it. An unknown path, one of a station that the hub doesn't know, and one
+    /// of an operator that it doesn't host are answered 404.
     pub fn welcome<S: Store + Drop, V: VendorHandler>(
         &mut self,
         hub: &mut Hub<S, V>,
