@@ -1,12 +1,14 @@
 -- What a change does to the rows of each operator.
-use Rattle.std.specs.Prelude.{◌≡◌, ◌≢◌, ℕ, ℤ, ◌+◌, List, [], ◌∷◌, Option, None, Some, true, ◌&&◌, not, is_none, filter}
-use Rattle.std.proofs.Common.{refl, ap, ◌∙◌}
+use Rattle.std.specs.Prelude.{◌≡◌, ◌≢◌, ℕ, max, ℤ, pos, negsuc, ◌+◌, List, [], ◌∷◌, Option, None, Some, true, ◌&&◌, ◌==◌, not, is_none, filter, map}
+use Rattle.std.proofs.Common.{refl, ap, ◌∙◌, arith}
+use Rattle.std.proofs.lemmas.Int.{ints}
+use Rattle.std.proofs.lemmas.Bool.Decides.{nat_tests}
 use Rattle.std.specs.List.{AllByRecursion, list_any}
 use Rattle.std.specs.Option.{option_map}
 use Rattle.std.specs.Str.{bytes_eq}
 use Rattle.hub_rows.specs.declared.change.Edit.{Edit}
 use Rattle.hub_rows.specs.declared.change.Edit.TheVariants.{StationAdded, BootSeen, PolicySet, ConnectorSeen, TagPut, TagDropped, GrantPut, GrantDropped, TxStarted, TxStopped, ReadingsAdded, ReservationPut, ReservationDropped, ListSet}
-use Rattle.hub_rows.specs.Rows.{Rows, station_rest, connector_rest, tag_rest, grant_rest, tx_rest, reading_rest, reservation_rest, list_rest, registration_of}
+use Rattle.hub_rows.specs.Rows.{Rows, station_rest, connector_rest, tag_rest, grant_rest, tx_rest, reading_rest, reservation_rest, list_rest}
 use Rattle.hub_rows.specs.declared.tx_row.TxRow.{TxRow}
 use Rattle.hub_rows.specs.declared.tx_row.TxKey.{TxKey}
 use Rattle.hub_rows.specs.declared.reading_row.Reading.{Reading}
@@ -18,11 +20,11 @@ use Rattle.hub_rows.specs.Keyed.{by_key, put_all, own, those, greatest}
 use Rattle.hub_rows.specs.WellFormed.{WellFormedRows}
 use Rattle.hub_rows.specs.Changes.{edit, new_station, with_boot, with_policy, connector_row, tag_row, grant_row, tx_row, with_stop, with_readings, reservation_row, list_row}
 use Rattle.hub_rows.specs.Grants.{granted_in, is_grant}
-use Rattle.hub_rows.specs.Own.{own_rows, own_edit, own_named}
-use Rattle.hub_rows.specs.Reservations.{is_named, is_reservation, without_named}
-use Rattle.hub_rows.specs.Transactions.{is_accepted, is_left_out, is_use, is_tx, is_sent_with, is_reading, is_used_in, readings_in, numbers_of, reading_rows}
+use Rattle.hub_rows.specs.Own.{own_rows, own_edit, own_named, own_readings, own_shifted}
+use Rattle.hub_rows.specs.Reservations.{is_named, is_reservation, shifted, without_named}
+use Rattle.hub_rows.specs.Transactions.{is_accepted, is_left_out, is_use, is_tx, is_sent_with, is_reading, is_used_in, readings_in, reading_rows}
 use Rattle.hub_rows.specs.Lookups.{lookups_at}
-use Rattle.hub_rows.specs.OwnLookups.{own_is_accepted, own_is_left_out, own_use, own_start, own_tx, own_state, own_is_sent_with, own_reading, own_lookups}
+use Rattle.hub_rows.specs.OwnLookups.{own_is_accepted, own_is_left_out, own_use, own_start, own_tx, own_state, own_is_sent_with, own_last, own_reading, own_registration, own_lookups}
 use Rattle.hub_rows.proofs.GrantLaws.{granted_tag-own}
 use Rattle.hub_rows.proofs.TagLaws.{same_tag}
 use Rattle.hub_rows.proofs.ListLaws.{own-put, own-put_other, own-without, own-without_other, own-changed, own-changed_other, own-put_all, own-put_all_other, found-own, those-own, any_of-own, and-true}
@@ -32,16 +34,27 @@ rows_of : (b station : List ℕ) (first : ℕ) (readings : List Reading) (P : Li
 rows_of b station first [] P here = tt
 rows_of b station first (r ∷ rs) P here = (here, rows_of b station (first + 1) rs P here)
 
-own-readings : (a station : List ℕ) (first : ℕ) (readings : List Reading) (rows : Rows) → WellFormedRows rows → own (λ r. r.op) a (with_readings a station first readings rows.readings) ≡ put_all (by_key reading_rest) (reading_rows a station first readings) (own (λ r. r.op) a rows.readings)
-own-readings a station first readings rows good = own-put_all (λ r. r.op) reading_rest a (reading_rows a station first readings) rows.readings good.readings.sorted (rows_of a station first readings (λ o. o ≡ a) refl)
+-- its own machine numbers them alike
+same_readings : (a station : List ℕ) (first : ℕ) (readings : List Reading) → reading_rows a station first readings ≡ own_readings a station first readings
+same_readings a station first [] = refl
+same_readings a station first (r ∷ rs) = ap (λ rows. record { op = a; station = station; number = first; reading = r } ∷ rows) (same_readings a station (first + 1) rs)
+
+own-readings : (a station : List ℕ) (first : ℕ) (readings : List Reading) (rows : Rows) → WellFormedRows rows → own (λ r. r.op) a (with_readings a station first readings rows.readings) ≡ put_all (by_key reading_rest) (own_readings a station first readings) (own (λ r. r.op) a rows.readings)
+own-readings a station first readings rows good =
+    own-put_all (λ r. r.op) reading_rest a (reading_rows a station first readings) rows.readings good.readings.sorted (rows_of a station first readings (λ o. o ≡ a) refl)
+    ∙ ap (λ more. put_all (by_key reading_rest) more (own (λ r. r.op) a rows.readings)) (same_readings a station first readings)
 
 own-readings_other : (a b station : List ℕ) (first : ℕ) (readings : List Reading) (rows : Rows) → b ≢ a → own (λ r. r.op) a (with_readings b station first readings rows.readings) ≡ own (λ r. r.op) a rows.readings
 own-readings_other a b station first readings rows other = own-put_all_other (λ r. r.op) reading_rest a (reading_rows b station first readings) rows.readings (rows_of b station first readings (λ o. o ≢ a) other)
 
 -- the reservation that a start names is looked for alike
+same_shifted : (id : ℤ) → shifted id ≡ own_shifted id
+same_shifted (pos n) = omega (arith, ints)
+same_shifted (negsuc n) = omega (arith, ints)
+
 same_named : (station : List ℕ) (id : Option ℤ) (r : ReservationRow) → is_named station id r ≡ own_named station id r
 same_named station None r = refl
-same_named station (Some id) r = refl
+same_named station (Some id) r = ap (λ n. bytes_eq r.station station && r.id == n) (same_shifted id)
 
 own-named : (a station : List ℕ) (id : Option ℤ) (rows : List ReservationRow) → own (λ r. r.op) a (without_named a station id rows) ≡ filter (λ r. not (own_named station id r)) (own (λ r. r.op) a rows)
 own-named a station id rows = own-without (λ r. r.op) a (is_named station id) rows ∙ (λ i. filter (λ r. not (same_named station id r i)) (own (λ r. r.op) a rows))
@@ -137,6 +150,11 @@ same_sent_with (Some n) (Some transaction) = refl
 same_reading : (station : List ℕ) (n : Option ℕ) (r : ReadingRow) → is_reading station n r ≡ own_reading station n r
 same_reading station n r = ap (λ t. bytes_eq r.station station && t) (same_sent_with n r.reading.transaction)
 
+-- the last number is found alike
+same_last : (ns : List ℕ) → greatest ns ≡ own_last ns
+same_last [] = refl
+same_last (n ∷ ns) = ap (λ last. max n last) (same_last ns) ∙ grind (arith, nat_tests)
+
 -- what an operator looks up is what it finds among its own rows and what is granted to it
 pub same_lookups : (a : List ℕ) (rows : Rows) → WellFormedRows rows → lookups_at a rows ≡ own_lookups a (own_rows a rows) (granted_in a rows.tags rows.grants)
 same_lookups a rows good =
@@ -150,7 +168,7 @@ same_lookups a rows good =
     = (λ station. those-own (λ r. r.op) a (is_reading station None) rows.readings ∙ (λ i. filter (λ r. and-true (bytes_eq r.station station) i) readings)) in
     λ i. record {
       op = a;
-      registration = λ station. option_map registration_of (found-own (λ r. r.op) a (λ r. bytes_eq r.station station) rows.stations i);
+      registration = λ station. option_map own_registration (found-own (λ r. r.op) a (λ r. bytes_eq r.station station) rows.stations i);
       own_tag = λ key. same_tag a key rows.tags i;
       granted_tag = λ key. granted_tag-own a key rows good i;
       has_grant = λ key to. any_of-own (λ r. r.op) a (is_grant key to) rows.grants i;
@@ -159,8 +177,8 @@ same_lookups a rows good =
       tx = λ station number. option_map own_state (found-own (λ r. r.op) a (own_tx station number) rows.transactions i);
       has_open = λ station. any_of-own (λ r. r.op) a (λ r. bytes_eq r.station station && is_none r.stop) rows.transactions i;
       last_numbers = λ station. record {
-        transaction = greatest (numbers_of (λ r. r.number) (those-own (λ r. r.op) a (λ r. bytes_eq r.station station) rows.transactions i));
-        reading = greatest (numbers_of (λ r. r.number) (all_readings station i));
+        transaction = (ap (λ rs. greatest (map (λ r. r.number) rs)) (those-own (λ r. r.op) a (λ r. bytes_eq r.station station) rows.transactions) ∙ same_last (map (λ r. r.number) (filter (λ r. bytes_eq r.station station) txs))) i;
+        reading = (ap (λ rs. greatest (map (λ r. r.number) rs)) (all_readings station) ∙ same_last (map (λ r. r.number) (filter (λ r. bytes_eq r.station station) readings))) i;
       };
       reserved_until = λ station id. option_map (λ r. r.reservation.expiry) (found-own (λ r. r.op) a (is_reservation station id) rows.reservations i);
       local_list = λ station. option_map (λ r. r.list) (found-own (λ r. r.op) a (λ r. bytes_eq r.station station) rows.local_lists i);

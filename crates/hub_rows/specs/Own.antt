@@ -1,36 +1,49 @@
--- The rows of one operator by themselves.
-use Rattle.std.specs.Prelude.{ℕ, ℤ, List, Bool, false, Option, Some, None, if◌then◌else◌, ◌&&◌, ◌==◌, map, filter, not}
+-- The rows of one operator by themselves. What an edit makes of them is written without the words of the
+-- edits of all rows.
+use Rattle.std.specs.Prelude.{ℕ, ◌+◌, ◌-◌, ℤ, pos, negsuc, List, [], ◌∷◌, Bool, false, Option, Some, None, if◌then◌else◌, ◌&&◌, ◌==◌, map, filter, not}
 use Rattle.std.specs.Str.{bytes_eq}
+use Rattle.ocpp_types.specs.declared.state.State.TheVariants.{Fresh}
 use Rattle.hub_rows.specs.declared.change.Edit.{Edit}
 use Rattle.hub_rows.specs.declared.change.Edit.TheVariants.{StationAdded, BootSeen, PolicySet, ConnectorSeen, TagPut, TagDropped, GrantPut, GrantDropped, TxStarted, TxStopped, ReadingsAdded, ReservationPut, ReservationDropped, ListSet}
+use Rattle.hub_rows.specs.declared.reading_row.Reading.{Reading}
+use Rattle.hub_rows.specs.declared.reading_row.ReadingRow.{ReadingRow}
 use Rattle.hub_rows.specs.declared.reservation_row.ReservationRow.{ReservationRow}
+use Rattle.hub_rows.specs.declared.station_row.StationRow.{StationRow}
+use Rattle.hub_rows.specs.declared.tx_row.TxRow.{TxRow}
 use Rattle.hub_rows.specs.Keyed.{put, put_all, by_key, own}
-use Rattle.hub_rows.specs.Reservations.{shifted}
 use Rattle.hub_rows.specs.Rows.{Rows, station_rest, connector_rest, tag_rest, grant_rest, tx_rest, reading_rest, reservation_rest, list_rest}
-use Rattle.hub_rows.specs.Changes.{new_station, with_boot, with_policy, connector_row, tag_row, grant_row, tx_row, with_stop, reservation_row, list_row}
-use Rattle.hub_rows.specs.Transactions.{reading_rows}
+
+-- how far a signed number is from the least one of 32 bits
+abbrev pub own_shifted : ℤ → ℕ
+own_shifted (pos n) = n + 2147483648
+own_shifted (negsuc n) = (2147483647 - n) + (n - 2147483647)
 
 -- the reservation of a station that a start names, by the number that it was sent with
 abbrev pub own_named : List ℕ → Option ℤ → ReservationRow → Bool
 own_named station None r = false
-own_named station (Some id) r = bytes_eq r.station station && r.id == shifted id
+own_named station (Some id) r = bytes_eq r.station station && r.id == own_shifted id
+
+-- readings of a station, numbered from the first number on
+abbrev pub own_readings : List ℕ → List ℕ → ℕ → List Reading → List ReadingRow
+own_readings a station first [] = []
+own_readings a station first (r ∷ rs) = record { op = a; station = station; number = first; reading = r } ∷ own_readings a station (first + 1) rs
 
 abbrev pub own_rows : List ℕ → Rows → Rows
 own_rows a rows = record { stations = own (λ r. r.op) a rows.stations; connectors = own (λ r. r.op) a rows.connectors; tags = own (λ r. r.op) a rows.tags; grants = own (λ r. r.op) a rows.grants; transactions = own (λ r. r.op) a rows.transactions; readings = own (λ r. r.op) a rows.readings; reservations = own (λ r. r.op) a rows.reservations; local_lists = own (λ r. r.op) a rows.local_lists }
 
 -- an edit of the rows of one operator, by what tells them apart
 abbrev pub own_edit : List ℕ → Edit → Rows → Rows
-own_edit a (StationAdded station policy interval) rows = record rows { stations = put (by_key station_rest) (new_station a station policy interval) rows.stations }
-own_edit a (BootSeen station boot state) rows = record rows { stations = map (λ r. if bytes_eq r.station station then with_boot boot state r else r) rows.stations }
-own_edit a (PolicySet station policy interval) rows = record rows { stations = map (λ r. if bytes_eq r.station station then with_policy policy interval r else r) rows.stations }
-own_edit a (ConnectorSeen station connector report) rows = record rows { connectors = put (by_key connector_rest) (connector_row a station connector report) rows.connectors }
-own_edit a (TagPut key tag) rows = record rows { tags = put (by_key tag_rest) (tag_row a key tag) rows.tags }
+own_edit a (StationAdded station policy interval) rows = record rows { stations = put (by_key station_rest) (record { op = a; station = station; policy = policy; interval = interval; state = Fresh; boot = None }) rows.stations }
+own_edit a (BootSeen station boot state) rows = record rows { stations = map (λ (r : StationRow). if bytes_eq r.station station then record r { boot = Some boot; state = state } else r) rows.stations }
+own_edit a (PolicySet station policy interval) rows = record rows { stations = map (λ (r : StationRow). if bytes_eq r.station station then record r { policy = policy; interval = interval } else r) rows.stations }
+own_edit a (ConnectorSeen station connector report) rows = record rows { connectors = put (by_key connector_rest) (record { op = a; station = station; connector = connector; report = report }) rows.connectors }
+own_edit a (TagPut key tag) rows = record rows { tags = put (by_key tag_rest) (record { op = a; key = key; tag = tag }) rows.tags }
 own_edit a (TagDropped key) rows = record rows { tags = filter (λ r. not (bytes_eq r.key key)) rows.tags; grants = filter (λ r. not (bytes_eq r.key key)) rows.grants }
-own_edit a (GrantPut key to until) rows = record rows { grants = put (by_key grant_rest) (grant_row a key to until) rows.grants }
+own_edit a (GrantPut key to until) rows = record rows { grants = put (by_key grant_rest) (record { op = a; key = key; to = to; until = until }) rows.grants }
 own_edit a (GrantDropped key to) rows = record rows { grants = filter (λ r. not (bytes_eq r.key key && bytes_eq r.to to)) rows.grants }
-own_edit a (TxStarted station number start) rows = record rows { transactions = put (by_key tx_rest) (tx_row a station number start) rows.transactions; reservations = filter (λ r. not (own_named station start.reservation r)) rows.reservations }
-own_edit a (TxStopped station number stop first readings) rows = record rows { transactions = map (λ r. if bytes_eq r.station station && r.number == number then with_stop stop r else r) rows.transactions; readings = put_all (by_key reading_rest) (reading_rows a station first readings) rows.readings }
-own_edit a (ReadingsAdded station first readings) rows = record rows { readings = put_all (by_key reading_rest) (reading_rows a station first readings) rows.readings }
-own_edit a (ReservationPut station id reservation) rows = record rows { reservations = put (by_key reservation_rest) (reservation_row a station id reservation) rows.reservations }
+own_edit a (TxStarted station number start) rows = record rows { transactions = put (by_key tx_rest) (record { op = a; station = station; number = number; start = start; stop = None }) rows.transactions; reservations = filter (λ r. not (own_named station start.reservation r)) rows.reservations }
+own_edit a (TxStopped station number stop first readings) rows = record rows { transactions = map (λ (r : TxRow). if bytes_eq r.station station && r.number == number then record r { stop = Some stop } else r) rows.transactions; readings = put_all (by_key reading_rest) (own_readings a station first readings) rows.readings }
+own_edit a (ReadingsAdded station first readings) rows = record rows { readings = put_all (by_key reading_rest) (own_readings a station first readings) rows.readings }
+own_edit a (ReservationPut station id reservation) rows = record rows { reservations = put (by_key reservation_rest) (record { op = a; station = station; id = id; reservation = reservation }) rows.reservations }
 own_edit a (ReservationDropped station id) rows = record rows { reservations = filter (λ r. not (bytes_eq r.station station && r.id == id)) rows.reservations }
-own_edit a (ListSet station list) rows = record rows { local_lists = put (by_key list_rest) (list_row a station list) rows.local_lists }
+own_edit a (ListSet station list) rows = record rows { local_lists = put (by_key list_rest) (record { op = a; station = station; list = list }) rows.local_lists }

@@ -1,6 +1,6 @@
 -- What rules may ask of one operator's records, over the rows of that operator alone and the tags that
--- are granted to it. No test of a row is shared with the look-ups among the rows of all operators.
-use Rattle.std.specs.Prelude.{ℕ, ℤ, pos, List, Bool, true, false, not, ◌&&◌, ◌||◌, ◌==◌, is_none, Option, Some, None, filter, find}
+-- are granted to it. Nothing is shared with the look-ups among the rows of all operators.
+use Rattle.std.specs.Prelude.{ℕ, nat_le, ℤ, pos, List, [], ◌∷◌, Bool, true, false, if◌then◌else◌, not, ◌&&◌, ◌||◌, ◌==◌, is_none, Option, Some, None, map, filter, find}
 use Rattle.std.specs.List.{list_any}
 use Rattle.std.specs.Option.{option_map}
 use Rattle.std.specs.Ordering.{int_eq}
@@ -10,16 +10,27 @@ use Rattle.ocpp_types.specs.declared.authorization_status.AuthorizationStatus.{A
 use Rattle.ocpp_types.specs.declared.authorization_status.AuthorizationStatus.TheVariants.{Accepted, Blocked, Expired, Invalid, ConcurrentTx}
 use Rattle.hub_rows.specs.declared.info.GrantedTag.{GrantedTag}
 use Rattle.hub_rows.specs.declared.info.Info.{Info}
+use Rattle.hub_rows.specs.declared.station_row.Registration.{Registration}
+use Rattle.hub_rows.specs.declared.station_row.StationRow.{StationRow}
 use Rattle.hub_rows.specs.declared.tag_row.TagRow.{TagRow}
 use Rattle.hub_rows.specs.declared.tx_row.TxRow.{TxRow}
 use Rattle.hub_rows.specs.declared.tx_row.TxKey.{TxKey}
 use Rattle.hub_rows.specs.declared.tx_row.TxState.{TxState}
 use Rattle.hub_rows.specs.declared.tx_row.StartKey.{StartKey}
 use Rattle.hub_rows.specs.declared.reading_row.ReadingRow.{ReadingRow}
-use Rattle.hub_rows.specs.Keyed.{greatest}
-use Rattle.hub_rows.specs.Rows.{Rows, registration_of}
-use Rattle.hub_rows.specs.Transactions.{numbers_of}
+use Rattle.hub_rows.specs.Rows.{Rows}
 use Rattle.hub_rows.specs.Lookups.{Lookups}
+
+-- ---- stations and numbers
+
+-- how a station is registered
+abbrev pub own_registration : StationRow → Registration
+own_registration r = record { policy = r.policy; interval = r.interval; state = r.state }
+
+-- the last of some numbers, 0 where there are none
+abbrev pub own_last : List ℕ → ℕ
+own_last [] = 0
+own_last (n ∷ ns) = if nat_le (own_last ns) n then n else own_last ns
 
 -- ---- tags
 
@@ -85,7 +96,7 @@ own_reading station n r = bytes_eq r.station station && own_is_sent_with n r.rea
 abbrev pub own_lookups : List ℕ → Rows → List GrantedTag → Lookups
 own_lookups a rows granted = record {
   op = a;
-  registration = λ station. option_map registration_of (find (λ r. bytes_eq r.station station) rows.stations);
+  registration = λ station. option_map own_registration (find (λ r. bytes_eq r.station station) rows.stations);
   own_tag = λ key. own_tag key rows.tags;
   granted_tag = λ key. own_granted_tag key granted;
   has_grant = λ key to. list_any (λ r. bytes_eq r.key key && bytes_eq r.to to) rows.grants;
@@ -94,8 +105,8 @@ own_lookups a rows granted = record {
   tx = λ station number. option_map own_state (find (own_tx station number) rows.transactions);
   has_open = λ station. list_any (λ r. bytes_eq r.station station && is_none r.stop) rows.transactions;
   last_numbers = λ station. record {
-    transaction = greatest (numbers_of (λ r. r.number) (filter (λ r. bytes_eq r.station station) rows.transactions));
-    reading = greatest (numbers_of (λ r. r.number) (filter (λ r. bytes_eq r.station station) rows.readings));
+    transaction = own_last (map (λ r. r.number) (filter (λ r. bytes_eq r.station station) rows.transactions));
+    reading = own_last (map (λ r. r.number) (filter (λ r. bytes_eq r.station station) rows.readings));
   };
   reserved_until = λ station id. option_map (λ r. r.reservation.expiry) (find (λ r. bytes_eq r.station station && r.id == id) rows.reservations);
   local_list = λ station. option_map (λ r. r.list) (find (λ r. bytes_eq r.station station) rows.local_lists);

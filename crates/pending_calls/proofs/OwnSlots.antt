@@ -1,5 +1,5 @@
 -- What one operator sees of the slots when one or all of them move, and the order of the slots.
-use Rattle.std.specs.Prelude.{◌≡◌, ◌≢◌, ℕ, List, [], ◌∷◌, Some, true, false, cond, ◌&&◌}
+use Rattle.std.specs.Prelude.{◌≡◌, ◌≢◌, ℕ, List, [], ◌∷◌, Option, None, Some, true, false, cond, ◌&&◌, find}
 use Rattle.std.proofs.Common.{refl, sym, ◌∙◌, ap}
 use Rattle.std.specs.List.Sorted.{IsStrictlySortedBy}
 use Rattle.std.specs.Str.{bytes_eq}
@@ -9,7 +9,7 @@ use Rattle.pending_calls.specs.declared.slots.Slots.{Slots}
 use Rattle.pending_calls.specs.Slot.{SlotState, is_answered, answered, moved_on, expired, with_connection}
 use Rattle.pending_calls.specs.SlotList.{slot_key, slot_rest, slot_or, slot_of, changed_at}
 use Rattle.pending_calls.specs.Slots.{all_slots}
-use Rattle.pending_calls.specs.OwnSlots.{own_slots, slot_in, changed_in}
+use Rattle.pending_calls.specs.OwnSlots.{own_slots, own_slot_or, slot_in, changed_in}
 use Rattle.pending_calls.specs.Tick.{tick}
 use Rattle.pending_calls.proofs.ListLaws.{own-map}
 use Rattle.pending_calls.proofs.Ticks.{expired_op}
@@ -58,9 +58,16 @@ module _ {C : Type 0} where
 -- ---- what one operator sees
 
 module _ {C : Type 0} (a : List ℕ) where
+  -- where there is none, it is as new
+  same_slot : (number : ℕ) (station : List ℕ) (o : Option (SlotState C)) → slot_or number a station o ≡ own_slot_or number a station o
+  same_slot number station None = refl
+  same_slot number station (Some s) = refl
+
   -- its slot is found among its own
   pub slot_of-own : (number : ℕ) (station : List ℕ) (slots : List (SlotState C)) → slot_of number a station slots ≡ slot_in number a station (own_slots a slots)
-  slot_of-own number station slots = ap (slot_or number a station) (found-own (λ s. s.op) a (λ s. bytes_eq s.station station) slots)
+  slot_of-own number station slots =
+      ap (slot_or number a station) (found-own (λ s. s.op) a (λ s. bytes_eq s.station station) slots)
+      ∙ same_slot number station (find (λ s. bytes_eq s.station station) (own_slots a slots))
 
   -- a change of one of its slots is a change among its own
   pub changed_at-own : (station : List ℕ) (f : SlotState C → SlotState C) (slots : List (SlotState C)) → ((s : SlotState C) → (f s).op ≡ s.op) → own_slots a (changed_at a station f slots) ≡ changed_in station f (own_slots a slots)
