@@ -9,11 +9,10 @@ use Rattle.hub_rows.specs.declared.list_row.LocalList.{LocalList}
 use Rattle.hub_rows.specs.declared.list_row.LocalTag.{LocalTag}
 use Rattle.hub_rows.specs.Keyed.{by_key, put_all}
 use Rattle.hub_rows.specs.LocalLists.{entry_key}
-use Rattle.operator_cmds.specs.LocalList.{entries, list_version, update_type}
+use Rattle.operator_cmds.specs.LocalList.{ListUpdate}
 use Rattle.operator_cmds.specs.declared.choices.UpdateType.{UpdateType}
 use Rattle.operator_cmds.specs.declared.choices.UpdateType.TheVariants.{Differential, Full}
 use Rattle.operator_cmds.specs.declared.local_list.AuthorizationData.{AuthorizationData}
-use Rattle.operator_cmds.specs.declared.local_list.SendLocalList.{SendLocalList}
 
 -- entries in the order of their keys
 abbrev pub in_key_order : List LocalTag → List LocalTag
@@ -51,5 +50,5 @@ version_of (pos n) = if nat_le 1 n && nat_le n 2147483647 then Some n else None
 version_of (negsuc n) = None
 
 -- the list of a station that has accepted a command; a command with a version out of its range edits nothing
-abbrev pub list_set : List ℕ → Option LocalList → SendLocalList → Option Edit
-list_set station kept c = option_map (λ version. ListSet station (record { version = version; entries = entries_after (kept_for (update_type c) kept) (unwrap_or (entries c) []) })) (version_of (list_version c))
+abbrev pub list_set : List ℕ → Option LocalList → ListUpdate → Option Edit
+list_set station kept c = option_map (λ version. ListSet station (record { version = version; entries = entries_after (kept_for c.update_type kept) (unwrap_or c.entries []) })) (version_of c.list_version)

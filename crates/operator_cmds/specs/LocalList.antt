@@ -13,7 +13,6 @@ use Rattle.operator_cmds.specs.Forms.{holds_id_tag}
 use Rattle.operator_cmds.specs.declared.choices.UpdateType.{UpdateType}
 use Rattle.operator_cmds.specs.declared.choices.UpdateType.TheVariants.{Differential, Full}
 use Rattle.operator_cmds.specs.declared.local_list.AuthorizationData.{AuthorizationData}
-use Rattle.operator_cmds.specs.declared.local_list.SendLocalList.{SendLocalList}
 
 -- ---- an entry
 
@@ -54,28 +53,24 @@ holds_entries =
     let entries = holds_list (holds_object authorization_data) in
     record { reads = entries.reads; bad = never; json = entries.json; plain = entries.plain }
 
+-- ---- the command
+
+-- the version that the list has then, its entries if it isn't left out, and whether it is set anew or changed
+pub record ListUpdate : Type 0 where
+  pub list_version : ℤ
+  pub entries : Option (List AuthorizationData)
+  pub update_type : UpdateType
+
 -- the first bad member of the entries
-abbrev pub bad_of_entries : SendLocalList → Option (List ℕ)
+abbrev pub bad_of_entries : ListUpdate → Option (List ℕ)
 bad_of_entries c = option_and_then (first_bad (bad_entry c.update_type)) c.entries
 
 -- the list, where a key is repeated
-abbrev pub bad_of_keys : SendLocalList → Option (List ℕ)
-bad_of_keys c = if c.repeats_key then Some (codes "localAuthorizationList") else None
-
--- ---- the command
-
--- what others see of it: the version that the list has then, its entries if it isn't left out, and what it does
-abbrev pub list_version : SendLocalList → ℤ
-list_version c = c.list_version
-
-abbrev pub entries : SendLocalList → Option (List AuthorizationData)
-entries c = c.entries
-
-abbrev pub update_type : SendLocalList → UpdateType
-update_type c = c.update_type
+abbrev pub bad_of_keys : ListUpdate → Option (List ℕ)
+bad_of_keys c = if repeats_key (unwrap_or c.entries []) then Some (codes "localAuthorizationList") else None
 
 -- SendLocalList.req
-abbrev pub send_local_list : Form SendLocalList
+abbrev pub send_local_list : Form ListUpdate
 send_local_list = record {
   table =
       must (codes "listVersion") (holds_integer_within (pos 1) (pos 2147483647)) (λ c. c.list_version)
@@ -84,10 +79,5 @@ send_local_list = record {
       (also bad_of_entries
       (also bad_of_keys
       end))));
-  make = λ version entries update. record {
-    list_version = version;
-    entries = entries;
-    update_type = update;
-    repeats_key = repeats_key (unwrap_or entries []);
-  };
+  make = λ version entries update. record { list_version = version; entries = entries; update_type = update };
 }

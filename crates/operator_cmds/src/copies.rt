@@ -98,7 +98,7 @@ fn send_local_list(alloc: Global, fields: &SendLocalList) -> Mem<SendLocalList>
         list_version: fields.list_version,
         entries: copied_entries(alloc, &fields.entries)?,
         update_type: fields.update_type,
-        repeats_key: fields.repeats_key,
+        repeats: fields.repeats,
     })
 }
 

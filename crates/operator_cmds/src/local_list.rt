@@ -2,7 +2,7 @@
 ghost use Rattle.std.specs.Prelude.{◌≡◌, [], IfOk, unwrap_or, option_map};
 ghost use Rattle.ocpp_payload.specs.Holds.{first_bad};
 ghost use Rattle.ocpp_payload.specs.Table.{read_by};
-ghost use Rattle.operator_cmds.specs.LocalList.{authorization_data, bad_entry, bad_of_entries, bad_of_keys, entries, list_version, missing_info, repeats_key, send_local_list, update_type};
+ghost use Rattle.operator_cmds.specs.LocalList.{authorization_data, bad_entry, bad_of_entries, bad_of_keys, missing_info, repeats_key, send_local_list};
 
 use crate::choices::UpdateType;
 use crate::kinds::{ID_TAG, LIST_VERSION};
@@ -14,6 +14,7 @@ use ocpp_types::{FieldName, IdTagInfo, Listed, Mem, TagKey, Text};
 use serde_json::{Map, Value};
 use std::alloc::Global;
 use std::collections::BTreeSet;
+use std::marker::Model;
 
 /// An entry of a list of tags (OCPP 1.6, type AuthorizationData).
 #[derive(Drop)]
@@ -59,28 +60,38 @@ impl Checked for AuthorizationData {
     }
 }
 
-/// Sets or changes the list of tags of a station (OCPP 1.6, SendLocalList.req). One is made by reading
-/// alone, and its fields are private, so that what it knows of its entries stays true.
+/// Sets or changes the list of tags of a station (OCPP 1.6, SendLocalList.req).
 #[derive(Drop)]
 pub struct SendLocalList {
     pub(crate) list_version: i64,
     pub(crate) entries: Option<Listed<AuthorizationData>>,
     pub(crate) update_type: UpdateType,
     /// Whether two entries have tags of one key.
-    pub(crate) repeats_key: bool,
+    pub(crate) repeats: bool,
+}
+
+impl Model for SendLocalList {
+    ghost use Rattle.std.specs.Prelude.{◌≡◌, [], unwrap_or};
+    ghost use Rattle.operator_cmds.specs.LocalList.{ListUpdate, repeats_key};
+
+    ghost Value = { ListUpdate };
+
+    ghost view = { λ s. record { list_version = s.list_version; entries = s.entries; update_type = s.update_type } };
+
+    ghost invariant = { λ s. s.repeats ≡ repeats_key (unwrap_or s.entries []) };
 }
 
 impl SendLocalList {
     /// The version that the list has then: 1 to 2147483647.
     pub fn list_version(&self) -> i64
-        ensures { result ≡ list_version self.now }
+        ensures { result ≡ self.now.list_version }
     {
         self.list_version
     }
 
     /// The entries in their order, if the list isn't left out.
     pub fn entries(&self) -> Option<&[AuthorizationData]>
-        ensures { option_map (λ entries. entries.now) result ≡ entries self.now }
+        ensures { option_map (λ entries. entries.now) result ≡ self.now.entries }
     {
         match &self.entries {
             Some(entries) => Some(entries.as_slice()),
@@ -90,7 +101,7 @@ impl SendLocalList {
 
     /// Whether the list is set anew or changed.
     pub fn update_type(&self) -> UpdateType
-        ensures { result ≡ update_type self.now }
+        ensures { result ≡ self.now.update_type }
     {
         self.update_type
     }
@@ -107,7 +118,7 @@ impl SendLocalList {
     fn bad_of_keys(&self) -> Option<FieldName>
         ensures { result ≡ bad_of_keys self.now }
     {
-        if self.repeats_key {
+        if self.repeats {
             Some(FieldName::new("localAuthorizationList"))
         } else {
             None
@@ -123,12 +134,12 @@ impl Readable for SendLocalList {
         let kind = ListOf(ObjectOf::new());
         let entries = optional(alloc, object, "localAuthorizationList", kind)?;
         let update_type = required(alloc, object, "updateType", NameOf::new())?;
-        let repeats_key = repeats(alloc, &entries)?;
+        let repeats = repeats(alloc, &entries)?;
         Ok(SendLocalList {
             list_version,
             entries,
             update_type,
-            repeats_key,
+            repeats,
         })
     }
 }
