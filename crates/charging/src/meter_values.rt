@@ -21,9 +21,9 @@ pub fn on_meter_values<S: Store>(
     station: &str,
     request: MeterValues,
 ) -> Result<Decision, StoreFault>
-    ensures reads { OnlyReads S.rows S.failures S.clean store.old store.new (result ≡ Err StoreFault.Failed) }
-    ensures decision { S.clean store.new → IfOk result (λ d. d
-        ≡ meter_values_rule station.now request (lookups_at op.now (S.rows store.old))) }
+    ensures reads { OnlyReads S.view store.old store.new result }
+    ensures decision { (S.view store.new).clean → IfOk result (λ d. d
+        ≡ meter_values_rule station.now request (lookups_at op.now (S.view store.old).rows)) }
 {
     let last = store.last_numbers(op, station)?.reading;
     let station = Text::copy_of(alloc, station)?;

@@ -24,9 +24,9 @@ pub fn on_start<S: Store>(
     request: StartTransaction,
     moment: Moment,
 ) -> Result<Decision, StoreFault>
-    ensures reads { OnlyReads S.rows S.failures S.clean store.old store.new (result ≡ Err StoreFault.Failed) }
-    ensures decision { S.clean store.new → IfOk result (λ d. d
-        ≡ start_rule station.now request moment (lookups_at op.now (S.rows store.old))) }
+    ensures reads { OnlyReads S.view store.old store.new result }
+    ensures decision { (S.view store.new).clean → IfOk result (λ d. d
+        ≡ start_rule station.now request moment (lookups_at op.now (S.view store.old).rows)) }
 {
     let id = start_key(alloc, &request)?;
     start_by_key(alloc, store, op, station, request, id, moment)
@@ -54,9 +54,9 @@ fn start_by_key<S: Store>(
     id: StartKey,
     moment: Moment,
 ) -> Result<Decision, StoreFault>
-    ensures reads { OnlyReads S.rows S.failures S.clean store.old store.new (result ≡ Err StoreFault.Failed) }
-    ensures decision { S.clean store.new → IfOk result (λ d. d
-        ≡ start_by_key station.now request id moment (lookups_at op.now (S.rows store.old))) }
+    ensures reads { OnlyReads S.view store.old store.new result }
+    ensures decision { (S.view store.new).clean → IfOk result (λ d. d
+        ≡ start_by_key station.now request id moment (lookups_at op.now (S.view store.old).rows)) }
 {
     match store.same_start(op, station, &id)? {
         None => new_start(alloc, store, op, station, request, id, moment),
@@ -74,9 +74,9 @@ fn repeat_decision<S: Store>(
     moment: Moment,
     number: u32,
 ) -> Result<Decision, StoreFault>
-    ensures reads { OnlyReads S.rows S.failures S.clean store.old store.new (result ≡ Err StoreFault.Failed) }
-    ensures decision { S.clean store.new → IfOk result (λ d. d
-        ≡ repeat_decision station.now id.now moment (lookups_at op.now (S.rows store.old)) number) }
+    ensures reads { OnlyReads S.view store.old store.new result }
+    ensures decision { (S.view store.new).clean → IfOk result (λ d. d
+        ≡ repeat_decision station.now id.now moment (lookups_at op.now (S.view store.old).rows) number) }
 {
     let station = Text::copy_of(alloc, station)?;
     let own = TxKey { station, number };
@@ -102,9 +102,9 @@ fn new_start<S: Store>(
     id: StartKey,
     moment: Moment,
 ) -> Result<Decision, StoreFault>
-    ensures reads { OnlyReads S.rows S.failures S.clean store.old store.new (result ≡ Err StoreFault.Failed) }
-    ensures decision { S.clean store.new → IfOk result (λ d. d
-        ≡ new_start station.now request id moment (lookups_at op.now (S.rows store.old))) }
+    ensures reads { OnlyReads S.view store.old store.new result }
+    ensures decision { (S.view store.new).clean → IfOk result (λ d. d
+        ≡ new_start station.now request id moment (lookups_at op.now (S.view store.old).rows)) }
 {
     let last = store.last_numbers(op, station)?.transaction;
     if last >= LAST_NUMBER {

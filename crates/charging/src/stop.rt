@@ -25,9 +25,9 @@ pub fn on_stop<S: Store>(
     request: StopTransaction,
     moment: Moment,
 ) -> Result<Decision, StoreFault>
-    ensures reads { OnlyReads S.rows S.failures S.clean store.old store.new (result ≡ Err StoreFault.Failed) }
-    ensures decision { S.clean store.new → IfOk result (λ d. d
-        ≡ stop_rule station.now request moment (lookups_at op.now (S.rows store.old))) }
+    ensures reads { OnlyReads S.view store.old store.new result }
+    ensures decision { (S.view store.new).clean → IfOk result (λ d. d
+        ≡ stop_rule station.now request moment (lookups_at op.now (S.view store.old).rows)) }
 {
     let id_tag_info = info_of(alloc, store, op, &request.id_tag, moment)?;
     let edit = edit_of_stop(alloc, store, op, station, request, moment)?;
@@ -46,9 +46,9 @@ fn info_of<S: Store>(
     tag: &Option<Text>,
     moment: Moment,
 ) -> Result<Option<IdTagInfo>, StoreFault>
-    ensures reads { OnlyReads S.rows S.failures S.clean store.old store.new (result ≡ Err StoreFault.Failed) }
-    ensures judged { S.clean store.new → IfOk result (λ i. i
-        ≡ info_of tag.now moment (lookups_at op.now (S.rows store.old))) }
+    ensures reads { OnlyReads S.view store.old store.new result }
+    ensures judged { (S.view store.new).clean → IfOk result (λ i. i
+        ≡ info_of tag.now moment (lookups_at op.now (S.view store.old).rows)) }
 {
     match tag {
         None => Ok(None),
@@ -69,9 +69,9 @@ fn edit_of_stop<S: Store>(
     request: StopTransaction,
     moment: Moment,
 ) -> Result<Option<Boxed<Edit>>, StoreFault>
-    ensures reads { OnlyReads S.rows S.failures S.clean store.old store.new (result ≡ Err StoreFault.Failed) }
-    ensures edit { S.clean store.new → IfOk result (λ e. e
-        ≡ edit_of_stop station.now request moment (lookups_at op.now (S.rows store.old))) }
+    ensures reads { OnlyReads S.view store.old store.new result }
+    ensures edit { (S.view store.new).clean → IfOk result (λ e. e
+        ≡ edit_of_stop station.now request moment (lookups_at op.now (S.view store.old).rows)) }
 {
     let Some(number) = number_of_id(request.transaction_id) else {
         return Ok(None);

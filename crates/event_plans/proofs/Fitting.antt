@@ -57,11 +57,10 @@ use Rattle.event_plans.specs.declared.event.Admin.{Admin}
 use Rattle.event_plans.specs.declared.event.Admin.TheVariants as admin
 use Rattle.station_calls.specs.Vendors.{Answers}
 use Rattle.operator_cmds.specs.Answer.{is_accepted, known_members}
-use Rattle.operator_cmds.specs.LocalList.{entries, list_version, update_type}
+use Rattle.operator_cmds.specs.LocalList.{ListUpdate}
 use Rattle.operator_cmds.specs.declared.command.Command.{Command}
 use Rattle.operator_cmds.specs.declared.command.Command.TheVariants as command
 use Rattle.operator_cmds.specs.declared.local_list.AuthorizationData.{AuthorizationData}
-use Rattle.operator_cmds.specs.declared.local_list.SendLocalList.{SendLocalList}
 use Rattle.operator_cmds.specs.declared.reservations.CancelReservation.{CancelReservation}
 use Rattle.operator_cmds.specs.declared.reservations.ReserveNow.{ReserveNow}
 use Rattle.holdings.specs.LocalList.{entries_after, kept_for, list_set, not_named, version_of, with_info}
@@ -102,7 +101,7 @@ FitsLookups l (ListSet station list) = IsSome (l.registration station) × AreEnt
 abbrev pub EffectFits : Facts → Effect → Type 0
 EffectFits f effect.Nothing = Unit {0}
 EffectFits f (effect.Edit e) = FitsLookups f.lookups e
-EffectFits f (effect.Connect station) = Unit {0}
+EffectFits f (effect.Connect station) = IsSome (f.lookups.registration station)
 EffectFits f (effect.Disconnect station) = Unit {0}
 EffectFits f (effect.Submit station command text) = Unit {0}
 EffectFits f (effect.Answer station id outcome edit) = IfSome edit (FitsLookups f.lookups)
@@ -186,11 +185,11 @@ call_fits answers station id NotSupported payload m f = tt
 call_fits answers station id NotImplemented payload m f = tt
 
 -- what an answer to an accepted command edits
-list_fits : (station : List ℕ) (c : SendLocalList) (l : Lookups) → IsSome (l.registration station) → IfSome (list_set station (l.local_list station) c) (FitsLookups l)
+list_fits : (station : List ℕ) (c : ListUpdate) (l : Lookups) → IsSome (l.registration station) → IfSome (list_set station (l.local_list station) c) (FitsLookups l)
 list_fits station c l here =
-    let kept : List LocalTag = kept_for (update_type c) (l.local_list station) in
-    let sent : List AuthorizationData = unwrap_or (entries c) [] in
-    elim (version_of (list_version c)) as (λ o. IfSome (option_map (λ version. ListSet station (record { version = version; entries = entries_after kept sent })) o) (FitsLookups l)) [
+    let kept : List LocalTag = kept_for c.update_type (l.local_list station) in
+    let sent : List AuthorizationData = unwrap_or c.entries [] in
+    elim (version_of c.list_version) as (λ o. IfSome (option_map (λ version. ListSet station (record { version = version; entries = entries_after kept sent })) o) (FitsLookups l)) [
       | None ↦ tt
       | Some version ↦ (here, sorted-entries (not_named sent kept ++ with_info sent))
     ]
@@ -313,7 +312,7 @@ admin_fits is_hosted (admin.Grant grant) f = grant_fits is_hosted grant f
 admin_fits is_hosted (admin.Revoke tag to) f = revoke_fits tag to f
 
 pub plan_fits : (is_hosted : List ℕ → Bool) (answers : Answers) (what : What) (m : ℕ) (f : Facts) → PlanFits f (plan is_hosted answers what m f)
-plan_fits is_hosted answers (what.Connect station) m f = elim (f.lookups.registration station) as (λ o. PlanFits f (connect_plan station o)) [ None ↦ tt | Some r ↦ tt ]
+plan_fits is_hosted answers (what.Connect station) m f = elim (f.lookups.registration station) as (λ o. f.lookups.registration station ≡ o → PlanFits f (connect_plan station o)) [ None ↦ λ e. tt | Some r ↦ λ e. ap is_some e ] refl
 plan_fits is_hosted answers (what.Disconnect station) m f = tt
 plan_fits is_hosted answers (what.Frame station text) m f = elim (f.slot station).is_connected as (λ c. PlanFits f (cond c (frame_plan answers station (frame text) m f) (turned_plan station))) [ true ↦ frame_fits answers station (frame text) m f | false ↦ tt ]
 plan_fits is_hosted answers (what.Do station command) m f = command_fits station command (command_rule station command (f.lookups.registration station) (f.slot station) m f.lookups) f

@@ -21,9 +21,9 @@ pub fn decide_admin<S: Store>(
     admin: &Admin,
     hosted: &[Text],
 ) -> Result<Result<Edit, Refusal>, StoreFault>
-    ensures reads { OnlyReads S.rows S.failures S.clean store.old store.new (result ≡ Err StoreFault.Failed) }
-    ensures decision { S.clean store.new → IfOk result (λ p. p
-        ≡ admin_rule (is_hosted hosted.now) admin.now (lookups_at op.now (S.rows store.old))) }
+    ensures reads { OnlyReads S.view store.old store.new result }
+    ensures decision { (S.view store.new).clean → IfOk result (λ p. p
+        ≡ admin_rule (is_hosted hosted.now) admin.now (lookups_at op.now (S.view store.old).rows)) }
 {
     match admin {
         Admin::StationAdd {

@@ -31,9 +31,9 @@ pub fn plan_result<S: Store>(
     id: &Text,
     payload: &Payload,
 ) -> Result<Plan, StoreFault>
-    ensures reads { OnlyReads S.rows S.failures S.clean store.old store.new (result ≡ Err StoreFault.Failed) }
-    ensures plan { S.clean store.new → IfOk result (λ p. p ≡ result_plan station.now id.now payload.now
-        (slot_at op.now station.now slots.now) (lookups_at op.now (S.rows store.old))) }
+    ensures reads { OnlyReads S.view store.old store.new result }
+    ensures plan { (S.view store.new).clean → IfOk result (λ p. p ≡ result_plan station.now id.now payload.now
+        (slot_at op.now station.now slots.now) (lookups_at op.now (S.view store.old).rows)) }
     ensures ready { IfOk result (λ p. (slot : List ℕ → StationSlot) → IsReady slot p.effect) }
 {
     let Some(command) = answered_command(slots, op, station, id) else {
@@ -94,9 +94,9 @@ fn ended_plan<S: Store>(
     read: &Result<Payload, FieldFault>,
 ) -> Result<Plan, StoreFault>
     requires { IfOk read.now (λ known. has_float known ≡ false) }
-    ensures reads { OnlyReads S.rows S.failures S.clean store.old store.new (result ≡ Err StoreFault.Failed) }
-    ensures plan { S.clean store.new → IfOk result (λ p. p ≡ changing (effect.Answer station.now id.now
-        (read_outcome read.now) (edit_by station.now command.now read.now (lookups_at op.now (S.rows store.old))))) }
+    ensures reads { OnlyReads S.view store.old store.new result }
+    ensures plan { (S.view store.new).clean → IfOk result (λ p. p ≡ changing (effect.Answer station.now id.now
+        (read_outcome read.now) (edit_by station.now command.now read.now (lookups_at op.now (S.view store.old).rows)))) }
     ensures ready { IfOk result (λ p. (slot : List ℕ → StationSlot) → IsReady slot p.effect) }
 {
     let answered = station.clone()?;
@@ -141,9 +141,9 @@ fn read_edit<S: Store>(
     command: &Command,
     read: &Result<Payload, FieldFault>,
 ) -> Result<Option<Boxed<Edit>>, StoreFault>
-    ensures reads { OnlyReads S.rows S.failures S.clean store.old store.new (result ≡ Err StoreFault.Failed) }
-    ensures edit { S.clean store.new → IfOk result (λ e. e
-        ≡ edit_by station.now command.now read.now (lookups_at op.now (S.rows store.old))) }
+    ensures reads { OnlyReads S.view store.old store.new result }
+    ensures edit { (S.view store.new).clean → IfOk result (λ e. e
+        ≡ edit_by station.now command.now read.now (lookups_at op.now (S.view store.old).rows)) }
 {
     match read {
         Ok(known) => settle(alloc, store, op, station, command, known.as_value()),

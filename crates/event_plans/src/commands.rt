@@ -32,10 +32,10 @@ pub fn plan_command<S: Store>(
     command: &Command,
     moment: Moment,
 ) -> Result<Plan, StoreFault>
-    ensures reads { OnlyReads S.rows S.failures S.clean store.old store.new (result ≡ Err StoreFault.Failed) }
-    ensures plan { S.clean store.new → IfOk result (λ p. p ≡ command_plan station.now command.now
-        (command_rule station.now command.now ((lookups_at op.now (S.rows store.old)).registration station.now)
-        (slot_at op.now station.now slots.now) moment (lookups_at op.now (S.rows store.old)))) }
+    ensures reads { OnlyReads S.view store.old store.new result }
+    ensures plan { (S.view store.new).clean → IfOk result (λ p. p ≡ command_plan station.now command.now
+        (command_rule station.now command.now ((lookups_at op.now (S.view store.old).rows).registration station.now)
+        (slot_at op.now station.now slots.now) moment (lookups_at op.now (S.view store.old).rows))) }
     ensures ready { IfOk result (λ p. IsReady (λ st. slot_at op.now st slots.now) p.effect) }
 {
     match number_of_call(alloc, store, slots, op, station, command, moment)? {
@@ -55,10 +55,10 @@ fn number_of_call<S: Store>(
     command: &Command,
     moment: Moment,
 ) -> Result<Result<u32, Refusal>, StoreFault>
-    ensures reads { OnlyReads S.rows S.failures S.clean store.old store.new (result ≡ Err StoreFault.Failed) }
-    ensures number { S.clean store.new → IfOk result (λ n. n
-        ≡ command_rule station.now command.now ((lookups_at op.now (S.rows store.old)).registration station.now)
-        (slot_at op.now station.now slots.now) moment (lookups_at op.now (S.rows store.old))) }
+    ensures reads { OnlyReads S.view store.old store.new result }
+    ensures number { (S.view store.new).clean → IfOk result (λ n. n
+        ≡ command_rule station.now command.now ((lookups_at op.now (S.view store.old).rows).registration station.now)
+        (slot_at op.now station.now slots.now) moment (lookups_at op.now (S.view store.old).rows)) }
     ensures ready { IfOk result (λ n. IfOk n (λ _. IsOk (ready (slot_at op.now station.now slots.now)))) }
 {
     let Some(registration) = store.station(op.as_str(), station.as_str())? else {
@@ -85,9 +85,9 @@ fn refusal_of<S: Store>(
     registration: Registration,
     moment: Moment,
 ) -> Result<Option<Refusal>, StoreFault>
-    ensures reads { OnlyReads S.rows S.failures S.clean store.old store.new (result ≡ Err StoreFault.Failed) }
-    ensures refusal { S.clean store.new → IfOk result (λ r. r
-        ≡ command_refusal station.now command.now registration moment (lookups_at op.now (S.rows store.old))) }
+    ensures reads { OnlyReads S.view store.old store.new result }
+    ensures refusal { (S.view store.new).clean → IfOk result (λ r. r
+        ≡ command_refusal station.now command.now registration moment (lookups_at op.now (S.view store.old).rows)) }
 {
     if !is_command_allowed(registration.state, command) {
         return Ok(Some(Refusal::NotAllowedNow));
@@ -131,9 +131,9 @@ fn record_refusal<S: Store>(
     command: &Command,
     moment: Moment,
 ) -> Result<Option<Refusal>, StoreFault>
-    ensures reads { OnlyReads S.rows S.failures S.clean store.old store.new (result ≡ Err StoreFault.Failed) }
-    ensures refusal { S.clean store.new → IfOk result (λ r. r
-        ≡ record_refusal station.now command.now moment (lookups_at op.now (S.rows store.old))) }
+    ensures reads { OnlyReads S.view store.old store.new result }
+    ensures refusal { (S.view store.new).clean → IfOk result (λ r. r
+        ≡ record_refusal station.now command.now moment (lookups_at op.now (S.view store.old).rows)) }
 {
     match command {
         Command::CancelReservation(fields) => {

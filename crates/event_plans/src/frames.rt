@@ -4,7 +4,7 @@ ghost use Rattle.hub_rows.specs.Reads.{OnlyReads};
 ghost use Rattle.hub_rows.specs.Lookups.{lookups_at};
 ghost use Rattle.pending_calls.specs.Slots.{slot_at};
 ghost use Rattle.ocpp_frame.specs.Frame.{frame};
-ghost use Rattle.station_calls.specs.Book.{book_rows, book_failures, book_answers, IsCleanBook};
+ghost use Rattle.station_calls.specs.Book.{book_view, book_rows, book_answers, IsCleanBook};
 ghost use Rattle.event_plans.specs.Effects.{StationSlot, IsReady};
 ghost use Rattle.event_plans.specs.Table.{frame_plan, call_plan, state_plan, payload_plan};
 
@@ -32,11 +32,11 @@ pub fn plan_text<S: Store, V: VendorHandler>(
     text: &Text,
     moment: Moment,
 ) -> Result<Plan, StoreFault>
-    ensures reads { OnlyReads (book_rows S.rows) (book_failures S.failures) (IsCleanBook S.clean) book.old book.new (result ≡ Err StoreFault.Failed) }
-    ensures plan { IsCleanBook S.clean book.new → IfOk result (λ p. p
-        ≡ frame_plan (book_answers V.name V.gives book.old) station.now (frame text.now) moment
-        (record { lookups = lookups_at op.now (book_rows S.rows book.old); slot = λ st. slot_at op.now st slots.now })) }
-    ensures answers { book_answers V.name V.gives book.new ≡ book_answers V.name V.gives book.old }
+    ensures reads { OnlyReads (book_view S.view) book.old book.new result }
+    ensures plan { IsCleanBook S.view book.new → IfOk result (λ p. p
+        ≡ frame_plan (book_answers V.view book.old) station.now (frame text.now) moment
+        (record { lookups = lookups_at op.now (book_rows S.view book.old); slot = λ st. slot_at op.now st slots.now })) }
+    ensures answers { book_answers V.view book.new ≡ book_answers V.view book.old }
     ensures ready { IfOk result (λ p. IsReady (λ st. slot_at op.now st slots.now) p.effect) }
 {
     match read_frame(alloc, text.as_str())? {
@@ -76,10 +76,10 @@ fn plan_call<S: Store, V: VendorHandler>(
     payload: &Payload,
     moment: Moment,
 ) -> Result<Plan, StoreFault>
-    ensures reads { OnlyReads (book_rows S.rows) (book_failures S.failures) (IsCleanBook S.clean) book.old book.new (result ≡ Err StoreFault.Failed) }
-    ensures plan { IsCleanBook S.clean book.new → IfOk result (λ p. p
-        ≡ call_plan (book_answers V.name V.gives book.old) station.now id.now class payload.now moment (lookups_at op.now (book_rows S.rows book.old))) }
-    ensures answers { book_answers V.name V.gives book.new ≡ book_answers V.name V.gives book.old }
+    ensures reads { OnlyReads (book_view S.view) book.old book.new result }
+    ensures plan { IsCleanBook S.view book.new → IfOk result (λ p. p
+        ≡ call_plan (book_answers V.view book.old) station.now id.now class payload.now moment (lookups_at op.now (book_rows S.view book.old))) }
+    ensures answers { book_answers V.view book.new ≡ book_answers V.view book.old }
     ensures ready { IfOk result (λ p. (slot : List ℕ → StationSlot) → IsReady slot p.effect) }
 {
     let code = match class {
@@ -103,11 +103,11 @@ fn plan_known<S: Store, V: VendorHandler>(
     payload: &Payload,
     moment: Moment,
 ) -> Result<Plan, StoreFault>
-    ensures reads { OnlyReads (book_rows S.rows) (book_failures S.failures) (IsCleanBook S.clean) book.old book.new (result ≡ Err StoreFault.Failed) }
-    ensures plan { IsCleanBook S.clean book.new → IfOk result (λ p. p
-        ≡ state_plan (book_answers V.name V.gives book.old) station.now ((lookups_at op.now (book_rows S.rows book.old)).registration station.now)
-        id.now action payload.now moment (lookups_at op.now (book_rows S.rows book.old))) }
-    ensures answers { book_answers V.name V.gives book.new ≡ book_answers V.name V.gives book.old }
+    ensures reads { OnlyReads (book_view S.view) book.old book.new result }
+    ensures plan { IsCleanBook S.view book.new → IfOk result (λ p. p
+        ≡ state_plan (book_answers V.view book.old) station.now ((lookups_at op.now (book_rows S.view book.old)).registration station.now)
+        id.now action payload.now moment (lookups_at op.now (book_rows S.view book.old))) }
+    ensures answers { book_answers V.view book.new ≡ book_answers V.view book.old }
     ensures ready { IfOk result (λ p. (slot : List ℕ → StationSlot) → IsReady slot p.effect) }
 {
     let Some(registration) = book.store.station(op.as_str(), station.as_str())? else {
@@ -133,10 +133,10 @@ fn plan_request<S: Store, V: VendorHandler>(
     request: Result<Request, FieldFault>,
     moment: Moment,
 ) -> Result<Plan, StoreFault>
-    ensures reads { OnlyReads (book_rows S.rows) (book_failures S.failures) (IsCleanBook S.clean) book.old book.new (result ≡ Err StoreFault.Failed) }
-    ensures plan { IsCleanBook S.clean book.new → IfOk result (λ p. p
-        ≡ payload_plan (book_answers V.name V.gives book.old) station.now registration id.now request moment (lookups_at op.now (book_rows S.rows book.old))) }
-    ensures answers { book_answers V.name V.gives book.new ≡ book_answers V.name V.gives book.old }
+    ensures reads { OnlyReads (book_view S.view) book.old book.new result }
+    ensures plan { IsCleanBook S.view book.new → IfOk result (λ p. p
+        ≡ payload_plan (book_answers V.view book.old) station.now registration id.now request moment (lookups_at op.now (book_rows S.view book.old))) }
+    ensures answers { book_answers V.view book.new ≡ book_answers V.view book.old }
     ensures ready { IfOk result (λ p. (slot : List ℕ → StationSlot) → IsReady slot p.effect) }
 {
     match request {

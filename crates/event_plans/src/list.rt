@@ -25,9 +25,9 @@ pub fn plan_list<S: Store>(
     listing: &Listing,
     moment: Moment,
 ) -> Result<Plan, StoreFault>
-    ensures reads { OnlyReads S.rows S.failures S.clean store.old store.new (result ≡ Err StoreFault.Failed) }
-    ensures plan { S.clean store.new → IfOk result (λ p. p
-        ≡ list_plan (rows_rule listing.now moment (lookups_at op.now (S.rows store.old)))) }
+    ensures reads { OnlyReads S.view store.old store.new result }
+    ensures plan { (S.view store.new).clean → IfOk result (λ p. p
+        ≡ list_plan (rows_rule listing.now moment (lookups_at op.now (S.view store.old).rows))) }
     ensures ready { IfOk result (λ p. (slot : List ℕ → StationSlot) → IsReady slot p.effect) }
 {
     match listing {
@@ -47,9 +47,9 @@ pub fn plan_list<S: Store>(
 }
 
 fn stations<S: Store>(alloc: Global, store: &mut S, op: &Text) -> Result<Plan, StoreFault>
-    ensures reads { OnlyReads S.rows S.failures S.clean store.old store.new (result ≡ Err StoreFault.Failed) }
-    ensures plan { S.clean store.new → IfOk result (λ p. p
-        ≡ list_plan (Ok (map row.Station (lookups_at op.now (S.rows store.old)).stations))) }
+    ensures reads { OnlyReads S.view store.old store.new result }
+    ensures plan { (S.view store.new).clean → IfOk result (λ p. p
+        ≡ list_plan (Ok (map row.Station (lookups_at op.now (S.view store.old).rows).stations))) }
     ensures ready { IfOk result (λ p. (slot : List ℕ → StationSlot) → IsReady slot p.effect) }
 {
     let rows = store.stations(op.as_str())?;
@@ -57,9 +57,9 @@ fn stations<S: Store>(alloc: Global, store: &mut S, op: &Text) -> Result<Plan, S
 }
 
 fn tags<S: Store>(alloc: Global, store: &mut S, op: &Text) -> Result<Plan, StoreFault>
-    ensures reads { OnlyReads S.rows S.failures S.clean store.old store.new (result ≡ Err StoreFault.Failed) }
-    ensures plan { S.clean store.new → IfOk result (λ p. p
-        ≡ list_plan (Ok (map row.Tag (lookups_at op.now (S.rows store.old)).tags))) }
+    ensures reads { OnlyReads S.view store.old store.new result }
+    ensures plan { (S.view store.new).clean → IfOk result (λ p. p
+        ≡ list_plan (Ok (map row.Tag (lookups_at op.now (S.view store.old).rows).tags))) }
     ensures ready { IfOk result (λ p. (slot : List ℕ → StationSlot) → IsReady slot p.effect) }
 {
     let rows = store.tags(op.as_str())?;
@@ -67,9 +67,9 @@ fn tags<S: Store>(alloc: Global, store: &mut S, op: &Text) -> Result<Plan, Store
 }
 
 fn grants<S: Store>(alloc: Global, store: &mut S, op: &Text) -> Result<Plan, StoreFault>
-    ensures reads { OnlyReads S.rows S.failures S.clean store.old store.new (result ≡ Err StoreFault.Failed) }
-    ensures plan { S.clean store.new → IfOk result (λ p. p
-        ≡ list_plan (Ok (map row.Grant (lookups_at op.now (S.rows store.old)).grants))) }
+    ensures reads { OnlyReads S.view store.old store.new result }
+    ensures plan { (S.view store.new).clean → IfOk result (λ p. p
+        ≡ list_plan (Ok (map row.Grant (lookups_at op.now (S.view store.old).rows).grants))) }
     ensures ready { IfOk result (λ p. (slot : List ℕ → StationSlot) → IsReady slot p.effect) }
 {
     let rows = store.grants_out(op.as_str())?;
@@ -77,9 +77,9 @@ fn grants<S: Store>(alloc: Global, store: &mut S, op: &Text) -> Result<Plan, Sto
 }
 
 fn granted<S: Store>(alloc: Global, store: &mut S, op: &Text) -> Result<Plan, StoreFault>
-    ensures reads { OnlyReads S.rows S.failures S.clean store.old store.new (result ≡ Err StoreFault.Failed) }
-    ensures plan { S.clean store.new → IfOk result (λ p. p
-        ≡ list_plan (Ok (map row.Granted (lookups_at op.now (S.rows store.old)).granted))) }
+    ensures reads { OnlyReads S.view store.old store.new result }
+    ensures plan { (S.view store.new).clean → IfOk result (λ p. p
+        ≡ list_plan (Ok (map row.Granted (lookups_at op.now (S.view store.old).rows).granted))) }
     ensures ready { IfOk result (λ p. (slot : List ℕ → StationSlot) → IsReady slot p.effect) }
 {
     let rows = store.granted(op.as_str())?;
@@ -92,9 +92,9 @@ fn connectors<S: Store>(
     op: &Text,
     station: &Text,
 ) -> Result<Plan, StoreFault>
-    ensures reads { OnlyReads S.rows S.failures S.clean store.old store.new (result ≡ Err StoreFault.Failed) }
-    ensures plan { S.clean store.new → IfOk result (λ p. p
-        ≡ list_plan (of_station ((lookups_at op.now (S.rows store.old)).registration station.now) (map row.Connector ((lookups_at op.now (S.rows store.old)).connectors station.now)))) }
+    ensures reads { OnlyReads S.view store.old store.new result }
+    ensures plan { (S.view store.new).clean → IfOk result (λ p. p
+        ≡ list_plan (of_station ((lookups_at op.now (S.view store.old).rows).registration station.now) (map row.Connector ((lookups_at op.now (S.view store.old).rows).connectors station.now)))) }
     ensures ready { IfOk result (λ p. (slot : List ℕ → StationSlot) → IsReady slot p.effect) }
 {
     if store.station(op.as_str(), station.as_str())?.is_none() {
@@ -110,9 +110,9 @@ fn transactions<S: Store>(
     op: &Text,
     station: &Text,
 ) -> Result<Plan, StoreFault>
-    ensures reads { OnlyReads S.rows S.failures S.clean store.old store.new (result ≡ Err StoreFault.Failed) }
-    ensures plan { S.clean store.new → IfOk result (λ p. p
-        ≡ list_plan (of_station ((lookups_at op.now (S.rows store.old)).registration station.now) (map row.Transaction ((lookups_at op.now (S.rows store.old)).txs station.now)))) }
+    ensures reads { OnlyReads S.view store.old store.new result }
+    ensures plan { (S.view store.new).clean → IfOk result (λ p. p
+        ≡ list_plan (of_station ((lookups_at op.now (S.view store.old).rows).registration station.now) (map row.Transaction ((lookups_at op.now (S.view store.old).rows).txs station.now)))) }
     ensures ready { IfOk result (λ p. (slot : List ℕ → StationSlot) → IsReady slot p.effect) }
 {
     if store.station(op.as_str(), station.as_str())?.is_none() {
@@ -129,9 +129,9 @@ fn readings<S: Store>(
     station: &Text,
     transaction: Option<u64>,
 ) -> Result<Plan, StoreFault>
-    ensures reads { OnlyReads S.rows S.failures S.clean store.old store.new (result ≡ Err StoreFault.Failed) }
-    ensures plan { S.clean store.new → IfOk result (λ p. p
-        ≡ list_plan (of_station ((lookups_at op.now (S.rows store.old)).registration station.now) (map row.Reading ((lookups_at op.now (S.rows store.old)).readings station.now transaction)))) }
+    ensures reads { OnlyReads S.view store.old store.new result }
+    ensures plan { (S.view store.new).clean → IfOk result (λ p. p
+        ≡ list_plan (of_station ((lookups_at op.now (S.view store.old).rows).registration station.now) (map row.Reading ((lookups_at op.now (S.view store.old).rows).readings station.now transaction)))) }
     ensures ready { IfOk result (λ p. (slot : List ℕ → StationSlot) → IsReady slot p.effect) }
 {
     if store.station(op.as_str(), station.as_str())?.is_none() {
@@ -148,9 +148,9 @@ fn reservations<S: Store>(
     station: &Text,
     moment: Moment,
 ) -> Result<Plan, StoreFault>
-    ensures reads { OnlyReads S.rows S.failures S.clean store.old store.new (result ≡ Err StoreFault.Failed) }
-    ensures plan { S.clean store.new → IfOk result (λ p. p
-        ≡ list_plan (of_station ((lookups_at op.now (S.rows store.old)).registration station.now) (map row.Reservation (current moment ((lookups_at op.now (S.rows store.old)).reservations station.now))))) }
+    ensures reads { OnlyReads S.view store.old store.new result }
+    ensures plan { (S.view store.new).clean → IfOk result (λ p. p
+        ≡ list_plan (of_station ((lookups_at op.now (S.view store.old).rows).registration station.now) (map row.Reservation (current moment ((lookups_at op.now (S.view store.old).rows).reservations station.now))))) }
     ensures ready { IfOk result (λ p. (slot : List ℕ → StationSlot) → IsReady slot p.effect) }
 {
     if store.station(op.as_str(), station.as_str())?.is_none() {
@@ -189,9 +189,9 @@ fn local_list<S: Store>(
     op: &Text,
     station: &Text,
 ) -> Result<Plan, StoreFault>
-    ensures reads { OnlyReads S.rows S.failures S.clean store.old store.new (result ≡ Err StoreFault.Failed) }
-    ensures plan { S.clean store.new → IfOk result (λ p. p
-        ≡ list_plan (of_station ((lookups_at op.now (S.rows store.old)).registration station.now) (list_rows station.now ((lookups_at op.now (S.rows store.old)).local_list station.now)))) }
+    ensures reads { OnlyReads S.view store.old store.new result }
+    ensures plan { (S.view store.new).clean → IfOk result (λ p. p
+        ≡ list_plan (of_station ((lookups_at op.now (S.view store.old).rows).registration station.now) (list_rows station.now ((lookups_at op.now (S.view store.old).rows).local_list station.now)))) }
     ensures ready { IfOk result (λ p. (slot : List ℕ → StationSlot) → IsReady slot p.effect) }
 {
     if store.station(op.as_str(), station.as_str())?.is_none() {

@@ -4,7 +4,7 @@ ghost use Rattle.hub_rows.specs.Reads.{OnlyReads};
 ghost use Rattle.hub_rows.specs.Lookups.{lookups_at};
 ghost use Rattle.hub_rows.specs.Operators.{is_hosted};
 ghost use Rattle.pending_calls.specs.Slots.{slot_at};
-ghost use Rattle.station_calls.specs.Book.{book_rows, book_failures, book_answers, IsCleanBook};
+ghost use Rattle.station_calls.specs.Book.{book_view, book_rows, book_answers, IsCleanBook};
 ghost use Rattle.event_plans.specs.Effects.{IsReady};
 ghost use Rattle.event_plans.specs.Table.{plan};
 
@@ -33,10 +33,10 @@ pub fn plan_event<S: Store, V: VendorHandler>(
     what: &What,
     moment: Moment,
 ) -> Result<Plan, StoreFault>
-    ensures reads { OnlyReads (book_rows S.rows) (book_failures S.failures) (IsCleanBook S.clean) book.old book.new (result ≡ Err StoreFault.Failed) }
-    ensures plan { IsCleanBook S.clean book.new → IfOk result (λ p. p ≡ plan (is_hosted hosted.now) (book_answers V.name V.gives book.old) what.now moment
-        (record { lookups = lookups_at op.now (book_rows S.rows book.old); slot = λ st. slot_at op.now st slots.now })) }
-    ensures answers { book_answers V.name V.gives book.new ≡ book_answers V.name V.gives book.old }
+    ensures reads { OnlyReads (book_view S.view) book.old book.new result }
+    ensures plan { IsCleanBook S.view book.new → IfOk result (λ p. p ≡ plan (is_hosted hosted.now) (book_answers V.view book.old) what.now moment
+        (record { lookups = lookups_at op.now (book_rows S.view book.old); slot = λ st. slot_at op.now st slots.now })) }
+    ensures answers { book_answers V.view book.new ≡ book_answers V.view book.old }
     ensures ready { IfOk result (λ p. IsReady (λ st. slot_at op.now st slots.now) p.effect) }
 {
     match what {

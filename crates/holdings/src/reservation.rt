@@ -19,9 +19,9 @@ pub fn plan_reserve<S: Store>(
     fields: &ReserveNow,
     moment: Moment,
 ) -> Result<Option<Refusal>, StoreFault>
-    ensures reads { OnlyReads S.rows S.failures S.clean store.old store.new (result ≡ Err StoreFault.Failed) }
-    ensures refusal { S.clean store.new → IfOk result (λ r. r
-        ≡ reserve_rule fields.now moment (lookups_at op.now (S.rows store.old))) }
+    ensures reads { OnlyReads S.view store.old store.new result }
+    ensures refusal { (S.view store.new).clean → IfOk result (λ r. r
+        ≡ reserve_rule fields.now moment (lookups_at op.now (S.view store.old).rows)) }
 {
     if fields.expiry_date <= moment {
         return Ok(Some(Refusal::BadField(FieldName::new("expiryDate"))));
@@ -38,9 +38,9 @@ pub fn plan_cancel<S: Store>(
     fields: &CancelReservation,
     moment: Moment,
 ) -> Result<Option<Refusal>, StoreFault>
-    ensures reads { OnlyReads S.rows S.failures S.clean store.old store.new (result ≡ Err StoreFault.Failed) }
-    ensures refusal { S.clean store.new → IfOk result (λ r. r
-        ≡ cancel_rule station.now fields.now moment (lookups_at op.now (S.rows store.old))) }
+    ensures reads { OnlyReads S.view store.old store.new result }
+    ensures refusal { (S.view store.new).clean → IfOk result (λ r. r
+        ≡ cancel_rule station.now fields.now moment (lookups_at op.now (S.view store.old).rows)) }
 {
     let Some(id) = reservation_id(fields.reservation_id) else {
         return Ok(Some(Refusal::NoSuchReservation));

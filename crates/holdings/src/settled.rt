@@ -25,9 +25,9 @@ pub fn settle<S: Store>(
     command: &Command,
     answer: &Value,
 ) -> Result<Option<Boxed<Edit>>, StoreFault>
-    ensures reads { OnlyReads S.rows S.failures S.clean store.old store.new (result ≡ Err StoreFault.Failed) }
-    ensures edit { S.clean store.new → IfOk result (λ e. e
-        ≡ settled station.now command.now (view answer.now) (lookups_at op.now (S.rows store.old))) }
+    ensures reads { OnlyReads S.view store.old store.new result }
+    ensures edit { (S.view store.new).clean → IfOk result (λ e. e
+        ≡ settled station.now command.now (view answer.now) (lookups_at op.now (S.view store.old).rows)) }
 {
     if !is_held(command) || !is_accepted(answer) {
         return Ok(None);
@@ -66,9 +66,9 @@ fn accepted_edit<S: Store>(
     station: &Text,
     command: &Command,
 ) -> Result<Option<Edit>, StoreFault>
-    ensures reads { OnlyReads S.rows S.failures S.clean store.old store.new (result ≡ Err StoreFault.Failed) }
-    ensures edit { S.clean store.new → IfOk result (λ e. e
-        ≡ accepted_edit station.now command.now (lookups_at op.now (S.rows store.old))) }
+    ensures reads { OnlyReads S.view store.old store.new result }
+    ensures edit { (S.view store.new).clean → IfOk result (λ e. e
+        ≡ accepted_edit station.now command.now (lookups_at op.now (S.view store.old).rows)) }
 {
     match command {
         Command::ReserveNow(fields) => Ok(reserved(station, fields)?),
@@ -88,9 +88,9 @@ fn kept_list<S: Store>(
     station: &Text,
     update: UpdateType,
 ) -> Result<Option<LocalList>, StoreFault>
-    ensures reads { OnlyReads S.rows S.failures S.clean store.old store.new (result ≡ Err StoreFault.Failed) }
-    ensures kept { S.clean store.new → IfOk result (λ k. kept_for update k
-        ≡ kept_for update ((lookups_at op.now (S.rows store.old)).local_list station.now)) }
+    ensures reads { OnlyReads S.view store.old store.new result }
+    ensures kept { (S.view store.new).clean → IfOk result (λ k. kept_for update k
+        ≡ kept_for update ((lookups_at op.now (S.view store.old).rows).local_list station.now)) }
 {
     match update {
         UpdateType::Differential => store.local_list(op.as_str(), station.as_str()),

@@ -41,3 +41,6 @@ Decides-tag e f =
 
 pub same_granted : (es fs : List GrantedTag) → are_same es fs ≡ true → es ≡ fs
 same_granted es fs e = (slice_eq-Decides Decides-tag es fs (are_same es fs) refl).0 e
+
+pub granted_same : (es fs : List GrantedTag) → es ≡ fs → are_same es fs ≡ true
+granted_same es fs e = (slice_eq-Decides Decides-tag es fs (are_same es fs) refl).1 e

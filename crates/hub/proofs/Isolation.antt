@@ -44,7 +44,7 @@ own_rows-after : (a : List ℕ) (e : Option Edit) (rows : Rows) → WellFormedRo
 own_rows-after a None rows good = refl
 own_rows-after a (Some e) rows good = own_rows-edit a e rows good
 
-own_rows-after_other : (a b : List ℕ) (e : Option Edit) (rows : Rows) → b ≢ a → own_rows a (rows_after b e rows) ≡ own_rows a rows
+pub own_rows-after_other : (a b : List ℕ) (e : Option Edit) (rows : Rows) → b ≢ a → own_rows a (rows_after b e rows) ≡ own_rows a rows
 own_rows-after_other a b None rows other = refl
 own_rows-after_other a b (Some e) rows other = own_rows-edit_other a b e rows other
 
@@ -71,7 +71,7 @@ said-for b [] = tt
 said-for b (s ∷ said) = (refl, said-for b said)
 
 -- the outputs of a plan are for its operator
-plan-for : (b : List ℕ) (p : Plan) (f : Facts) → ((station : List ℕ) → (f.slot station).op ≡ b) → AreFor b (plan_outputs b p f)
+pub plan-for : (b : List ℕ) (p : Plan) (f : Facts) → ((station : List ℕ) → (f.slot station).op ≡ b) → AreFor b (plan_outputs b p f)
 plan-for b p f named = append-for b (map (said_to b) p.said) (effect_outputs p.effect f.slot) (said-for b p.said) (effect-for b p.effect f.slot named)
 
 outputs_of-append : (a : List ℕ) (outs more : List Out) → outputs_of a (outs ++ more) ≡ outputs_of a outs ++ outputs_of a more

@@ -5,3 +5,5 @@ pub mod GrantedTags
 pub mod Isolation
 pub mod Runs
 pub mod TwoSystems
+pub mod Others
+pub mod Stations

@@ -1,34 +1,37 @@
 -- A hub, as contracts see it.
-use Rattle.std.specs.Prelude.{ℕ, List, Option, Bool, true}
-use Rattle.hub_rows.specs.Rows.{Rows}
+use Rattle.std.specs.Prelude.{ℕ, List, Bool, true}
+use Rattle.hub_rows.specs.StoreView.{StoreView}
 use Rattle.hub_rows.specs.Operators.{is_hosted}
-use Rattle.station_calls.specs.Book.{book_rows, book_failures, book_answers, IsCleanBook}
-use Rattle.station_calls.specs.declared.vendor.VendorAnswer.{VendorAnswer}
-use Rattle.station_calls.specs.Vendors.{answer_of}
+use Rattle.station_calls.specs.Book.{book_view, book_answers}
+use Rattle.station_calls.specs.Vendors.{HandlerView, answer_of}
 use Rattle.event_plans.specs.declared.event.Event.{Event}
 use Rattle.event_plans.specs.declared.event.Event.TheVariants.{At, Tick}
 use Rattle.hub.specs.declared.hub.Hub.{Hub}
 use Rattle.pending_calls.specs.Slots.{all_slots, first_number}
 use Rattle.hub.specs.World.{Setting, World}
 
--- whether its store is clean, and how often its store has failed, by what the store says of itself
-abbrev pub is_clean : {S V : Type 0} → (S → Type 0) → Hub S V → Type 0
-is_clean clean h = IsCleanBook clean h.book
+-- its store
+abbrev pub hub_view : {S V : Type 0} → (S → StoreView) → Hub S V → StoreView
+hub_view view h = book_view view h.book
 
-abbrev pub failures_of : {S V : Type 0} → (S → ℕ) → Hub S V → ℕ
-failures_of failures h = book_failures failures h.book
+-- whether its store is clean, and how often its store has failed
+abbrev pub is_clean : {S V : Type 0} → (S → StoreView) → Hub S V → Type 0
+is_clean view h = (hub_view view h).clean
 
--- the records of its store and the slots of its stations, by what the store says of its rows
-abbrev pub world : {S V : Type 0} → (S → Rows) → Hub S V → World
-world rows h = record { rows = book_rows rows h.book; slots = all_slots h.slots }
+abbrev pub failures_of : {S V : Type 0} → (S → StoreView) → Hub S V → ℕ
+failures_of view h = (hub_view view h).failures
 
--- a setting of operators and handlers, by what the handlers say of themselves; calls are counted from 1
-unfoldable pub setting_of : {V : Type 0} → (V → List ℕ) → (V → Option (List ℕ) → Option (List ℕ) → VendorAnswer) → List (List ℕ) → List V → Setting
-setting_of name gives hosted vendors = record { is_hosted = is_hosted hosted; answers = answer_of name gives vendors; first_number = 1 }
+-- the records of its store and the slots of its stations
+abbrev pub world : {S V : Type 0} → (S → StoreView) → Hub S V → World
+world view h = record { rows = (hub_view view h).rows; slots = all_slots h.slots }
+
+-- a setting of operators and handlers; calls are counted from 1
+unfoldable pub setting_of : {V : Type 0} → (V → HandlerView) → List (List ℕ) → List V → Setting
+setting_of view hosted vendors = record { is_hosted = is_hosted hosted; answers = answer_of view vendors; first_number = 1 }
 
 -- which operators it hosts, its answers to vendors' messages, and the number of the first call of a station
-unfoldable pub setting : {S V : Type 0} → (V → List ℕ) → (V → Option (List ℕ) → Option (List ℕ) → VendorAnswer) → Hub S V → Setting
-setting name gives h = record { is_hosted = is_hosted h.hosted.items; answers = book_answers name gives h.book; first_number = first_number h.slots }
+unfoldable pub setting : {S V : Type 0} → (V → HandlerView) → Hub S V → Setting
+setting view h = record { is_hosted = is_hosted h.hosted.items; answers = book_answers view h.book; first_number = first_number h.slots }
 
 -- whether the operator of an event is among the hosted ones; a tick is of all operators
 abbrev pub is_of_hosted : (List ℕ → Bool) → Event → Bool

@@ -6,3 +6,4 @@ pub mod View
 pub mod WellFormed
 pub mod Hub
 pub mod TwoSystems
+pub mod Others

@@ -1,9 +1,10 @@
 -- Two systems, in which one operator has the same and is shown the same.
 use Rattle.std.specs.Prelude.{◌≡◌, ℕ, ◌≤◌, ◌<◌, List, length, take, slice_index_or, false, Option}
 use Rattle.event_plans.specs.declared.event.Event.{Event}
+use Rattle.event_plans.specs.declared.event.Event.TheVariants.{At, Tick}
 use Rattle.hub.specs.Hub.{is_taken}
-use Rattle.hub.specs.View.{view, seen}
-use Rattle.hub.specs.World.{Setting, World, world_run}
+use Rattle.hub.specs.View.{granted_to, view, seen}
+use Rattle.hub.specs.World.{Setting, World, world_run, world_step}
 
 -- two settings in which the same operators are hosted, vendors' messages are answered alike, and calls are
 -- counted from the same number
@@ -17,6 +18,15 @@ pub record AreSameTo (a : List ℕ) (s : Setting) (w : World) (es : List Event) 
   pub settings : AreAlike s t
   pub views : view a w ≡ view a v
   pub seen : seen s a w es ≡ seen t a v fs
+
+-- an event of operator a, or a tick, which is of all operators
+abbrev pub IsItsOwn : List ℕ → Event → Type 0
+IsItsOwn a (At b m what) = b ≡ a
+IsItsOwn a (Tick m) = Unit {0}
+
+-- one more event leaves the tags that are granted to operator a after the others
+abbrev pub LeavesGranted : List ℕ → Setting → World → List Event → Event → Type 0
+LeavesGranted a s w es e = granted_to a (world_step s (world_run s w es) e) ≡ granted_to a (world_run s w es)
 
 -- a world after the first of some events, all that came before a fault
 pub record IsAfterSome (s : Setting) (w : World) (es : List Event) (v : World) : Type 0 where

@@ -1,7 +1,8 @@
 -- A world whose rows are well formed and whose slots are in the order of their keys.
+use Rattle.std.specs.List.{AllByRecursion}
 use Rattle.std.specs.List.Sorted.{IsStrictlySortedBy}
 use Rattle.hub_rows.specs.Keyed.{by_key}
-use Rattle.hub_rows.specs.WellFormed.{WellFormedRows}
+use Rattle.hub_rows.specs.WellFormed.{IsOnRecord, WellFormedRows}
 use Rattle.pending_calls.specs.SlotList.{slot_key}
 use Rattle.hub.specs.World.{World}
 
@@ -9,3 +10,7 @@ use Rattle.hub.specs.World.{World}
 pub record WellFormed (w : World) : Type 0 where
   pub rows : WellFormedRows w.rows
   pub slots : IsStrictlySortedBy (by_key slot_key) w.slots
+
+-- each slot is of a station that is on record
+abbrev pub SlotsHaveStations : World → Type 0
+SlotsHaveStations w = AllByRecursion (λ s. IsOnRecord s.op s.station w.rows.stations) w.slots

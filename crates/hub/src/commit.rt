@@ -38,16 +38,16 @@ pub fn commit<S: Store>(
     plan: Plan,
     told: &mut Vec<Out>,
 ) -> Result<(), Fault>
-    requires fits { S.clean store.old → ForSome (edit_of plan.effect) (λ e. EditFits op.now e (S.rows store.old)) }
+    requires fits { (S.view store.old).clean → ForSome (edit_of plan.effect) (λ e. EditFits op.now e (S.view store.old).rows) }
     requires ready { IsReady (λ station. slot_at op.now station slots.old) plan.effect }
-    ensures counted { IsCounted S.failures S.clean store.old store.new (result ≡ Err Fault.Store) }
-    ensures rows { S.clean store.new
-        → OnOk result (S.rows store.new ≡ rows_after op.now (edit_of plan.effect) (S.rows store.old)) }
+    ensures counted { IsCounted S.view store.old store.new (result ≡ Err Fault.Store) }
+    ensures rows { (S.view store.new).clean
+        → OnOk result ((S.view store.new).rows ≡ rows_after op.now (edit_of plan.effect) (S.view store.old).rows) }
     ensures slots { OnOk result (all_slots slots.new
         ≡ slots_after (first_number slots.old) op.now moment plan.effect (all_slots slots.old)) }
     ensures told { OnOk result (told.new.items ≡ told.old.items ++ (map (said_to op.now) plan.said
         ++ effect_outputs plan.effect (λ station. slot_at op.now station slots.old))) }
-    ensures err_rows { S.clean store.new → OnErr result (S.rows store.new ≡ S.rows store.old) }
+    ensures err_rows { (S.view store.new).clean → OnErr result ((S.view store.new).rows ≡ (S.view store.old).rows) }
     ensures err_slots { OnErr result (all_slots slots.new ≡ all_slots slots.old) }
     ensures err_told { OnErr result (told.new.items ≡ told.old.items) }
     ensures first { first_number slots.new ≡ first_number slots.old }
@@ -72,16 +72,16 @@ fn carry_out<S: Store>(
     plan: Plan,
     told: &mut Vec<Out>,
 ) -> Result<(), Fault>
-    requires fits { S.clean store.old → ForSome (edit_of plan.effect) (λ e. EditFits op.now e (S.rows store.old)) }
+    requires fits { (S.view store.old).clean → ForSome (edit_of plan.effect) (λ e. EditFits op.now e (S.view store.old).rows) }
     requires ready { IsReady (λ station. slot_at op.now station slots.old) plan.effect }
-    ensures counted { IsCounted S.failures S.clean store.old store.new (result ≡ Err Fault.Store) }
-    ensures rows { S.clean store.new
-        → OnOk result (S.rows store.new ≡ rows_after op.now (edit_of plan.effect) (S.rows store.old)) }
+    ensures counted { IsCounted S.view store.old store.new (result ≡ Err Fault.Store) }
+    ensures rows { (S.view store.new).clean
+        → OnOk result ((S.view store.new).rows ≡ rows_after op.now (edit_of plan.effect) (S.view store.old).rows) }
     ensures slots { OnOk result (all_slots slots.new
         ≡ slots_after (first_number slots.old) op.now moment plan.effect (all_slots slots.old)) }
     ensures told { OnOk result (told.new.items ≡ told.old.items ++ (map (said_to op.now) plan.said
         ++ effect_outputs plan.effect (λ station. slot_at op.now station slots.old))) }
-    ensures err_rows { S.clean store.new → OnErr result (S.rows store.new ≡ S.rows store.old) }
+    ensures err_rows { (S.view store.new).clean → OnErr result ((S.view store.new).rows ≡ (S.view store.old).rows) }
     ensures err_slots { OnErr result (all_slots slots.new ≡ all_slots slots.old) }
     ensures err_told { OnErr result (take (length told.old.items) told.new.items ≡ told.old.items) }
     ensures first { first_number slots.new ≡ first_number slots.old }
@@ -103,19 +103,19 @@ fn apply<S: Store>(
     effect: Effect,
     outs: &mut Vec<Out>,
 ) -> Result<(), Fault>
-    requires fits { S.clean store.old → ForSome (edit_of effect) (λ e. EditFits op.now e (S.rows store.old)) }
+    requires fits { (S.view store.old).clean → ForSome (edit_of effect) (λ e. EditFits op.now e (S.view store.old).rows) }
     requires ready { IsReady (λ station. slot_at op.now station slots.old) effect }
     requires room { vec_len outs.old + room_of effect ≤ vec_capacity outs.old }
-    ensures counted { IsCounted S.failures S.clean store.old store.new (result ≡ Err Fault.Store) }
-    ensures rows { S.clean store.new
-        → OnOk result (S.rows store.new ≡ rows_after op.now (edit_of effect) (S.rows store.old)) }
+    ensures counted { IsCounted S.view store.old store.new (result ≡ Err Fault.Store) }
+    ensures rows { (S.view store.new).clean
+        → OnOk result ((S.view store.new).rows ≡ rows_after op.now (edit_of effect) (S.view store.old).rows) }
     ensures slots { OnOk result (all_slots slots.new
         ≡ slots_after (first_number slots.old) op.now moment effect (all_slots slots.old)) }
     ensures outs { OnOk result (outs.new.items ≡ outs.old.items
         ++ effect_outputs effect (λ station. slot_at op.now station slots.old)) }
     ensures len { OnOk result (vec_len outs.new ≤ vec_len outs.old + room_of effect) }
     ensures err_outs { OnErr result (outs.new.items ≡ outs.old.items) }
-    ensures err_rows { S.clean store.new → OnErr result (S.rows store.new ≡ S.rows store.old) }
+    ensures err_rows { (S.view store.new).clean → OnErr result ((S.view store.new).rows ≡ (S.view store.old).rows) }
     ensures err_slots { OnErr result (all_slots slots.new ≡ all_slots slots.old) }
     ensures first { first_number slots.new ≡ first_number slots.old }
     ensures hosted { IfErr result (λ f. f ≢ Fault.NoSuchOperator) }
@@ -158,11 +158,11 @@ fn apply<S: Store>(
 
 /// Makes an edit of an operator's records, if there is one.
 fn edit_if_some<S: Store>(store: &mut S, op: &Text, edit: Option<Boxed<Edit>>) -> Result<(), Fault>
-    requires { S.clean store.old → ForSome edit (λ e. EditFits op.now e (S.rows store.old)) }
-    ensures counted { IsCounted S.failures S.clean store.old store.new (result ≡ Err Fault.Store) }
-    ensures rows { S.clean store.new
-        → OnOk result (S.rows store.new ≡ rows_after op.now edit (S.rows store.old)) }
-    ensures err_rows { S.clean store.new → OnErr result (S.rows store.new ≡ S.rows store.old) }
+    requires { (S.view store.old).clean → ForSome edit (λ e. EditFits op.now e (S.view store.old).rows) }
+    ensures counted { IsCounted S.view store.old store.new (result ≡ Err Fault.Store) }
+    ensures rows { (S.view store.new).clean
+        → OnOk result ((S.view store.new).rows ≡ rows_after op.now edit (S.view store.old).rows) }
+    ensures err_rows { (S.view store.new).clean → OnErr result ((S.view store.new).rows ≡ (S.view store.old).rows) }
     ensures hosted { IfErr result (λ f. f ≢ Fault.NoSuchOperator) }
 {
     match edit {
@@ -173,11 +173,11 @@ fn edit_if_some<S: Store>(store: &mut S, op: &Text, edit: Option<Boxed<Edit>>) -
 
 /// Makes an edit of an operator's records.
 fn edit_records<S: Store>(store: &mut S, op: &Text, edit: Boxed<Edit>) -> Result<(), Fault>
-    requires { S.clean store.old → EditFits op.now edit (S.rows store.old) }
-    ensures counted { IsCounted S.failures S.clean store.old store.new (result ≡ Err Fault.Store) }
-    ensures rows { S.clean store.new
-        → OnOk result (S.rows store.new ≡ rows_after op.now (Some edit) (S.rows store.old)) }
-    ensures err_rows { S.clean store.new → OnErr result (S.rows store.new ≡ S.rows store.old) }
+    requires { (S.view store.old).clean → EditFits op.now edit (S.view store.old).rows }
+    ensures counted { IsCounted S.view store.old store.new (result ≡ Err Fault.Store) }
+    ensures rows { (S.view store.new).clean
+        → OnOk result ((S.view store.new).rows ≡ rows_after op.now (Some edit) (S.view store.old).rows) }
+    ensures err_rows { (S.view store.new).clean → OnErr result ((S.view store.new).rows ≡ (S.view store.old).rows) }
     ensures hosted { IfErr result (λ f. f ≢ Fault.NoSuchOperator) }
 {
     let change = change_of(op, edit)?;

@@ -37,10 +37,12 @@ pub struct BadOperators;
 
 impl<S: Store + Drop, V: VendorHandler> Hub<S, V> {
     ghost use Rattle.hub_rows.specs.Rows.{Rows};
-    ghost use Rattle.hub.specs.Hub.{world, setting, setting_of, is_taken, is_clean, failures_of};
+    ghost use Rattle.hub.specs.Hub.{hub_view, world, setting, setting_of, is_taken, is_clean, failures_of};
     ghost use Rattle.hub_rows.specs.Operators.{is_hosted};
     ghost use Rattle.hub.specs.World.{outputs_of, world_outputs, world_step, run_outputs, world_run};
+    ghost use Rattle.hub.specs.Others.{IsOfAnother, LeavesAlone};
     ghost use Rattle.hub.specs.View.{view, seen, operator_run_outputs, operator_run};
+    ghost use Rattle.hub.specs.WellFormed.{SlotsHaveStations};
     ghost use Rattle.event_plans.specs.declared.event.Event.{Event};
     ghost use Rattle.event_plans.specs.declared.event.Event.TheVariants as event;
 
@@ -54,10 +56,11 @@ impl<S: Store + Drop, V: VendorHandler> Hub<S, V> {
         vendors: Vec<V>,
     ) -> Result<Hub<S, V>, BadOperators>
         ensures succeeds { IsOk result ↔ (are_operators operators.items ≡ true) }
-        ensures world { IfOk result (λ h. world S.rows h ≡ record { rows = S.rows store; slots = [] }) }
-        ensures setting { IfOk result (λ h. setting V.name V.gives h ≡ setting_of V.name V.gives operators.items vendors.items) }
-        ensures clean { IfOk result (λ h. is_clean S.clean h ↔ S.clean store) }
-        ensures failures { IfOk result (λ h. failures_of S.failures h ≡ S.failures store) }
+        ensures world { IfOk result (λ h. world S.view h ≡ record { rows = (S.view store).rows; slots = [] }) }
+        ensures setting { IfOk result (λ h. setting V.view h ≡ setting_of V.view operators.items vendors.items) }
+        ensures clean { IfOk result (λ h. is_clean S.view h ↔ (S.view store).clean) }
+        ensures failures { IfOk result (λ h. failures_of S.view h ≡ (S.view store).failures) }
+        ensures stations { IfOk result (λ h. SlotsHaveStations (world S.view h)) }
     {
         if !are_operators(&operators) {
             return Err(BadOperators);
@@ -73,7 +76,7 @@ impl<S: Store + Drop, V: VendorHandler> Hub<S, V> {
     /// The hosted operators.
     #[tactic(auto, unfolding(crate::specs::Hub::setting, crate::specs::Hub::setting_of))]
     pub fn hosted(&self) -> &[Text]
-        ensures { is_hosted result.now ≡ (setting V.name V.gives self.now).is_hosted }
+        ensures { is_hosted result.now ≡ (setting V.view self.now).is_hosted }
     {
         &self.hosted
     }
@@ -81,7 +84,7 @@ impl<S: Store + Drop, V: VendorHandler> Hub<S, V> {
     /// Whether an operator is hosted.
     #[tactic(auto, unfolding(crate::specs::Hub::setting))]
     pub fn hosts(&self, op: &str) -> bool
-        ensures { result ≡ (setting V.name V.gives self.now).is_hosted op.now }
+        ensures { result ≡ (setting V.view self.now).is_hosted op.now }
     {
         is_hosted(self.hosted.as_slice(), op)
     }
@@ -89,11 +92,11 @@ impl<S: Store + Drop, V: VendorHandler> Hub<S, V> {
     /// Whether an operator is hosted and has a station of that name.
     #[tactic(auto, unfolding(crate::specs::Hub::setting))]
     pub fn knows(&mut self, op: &str, station: &str) -> Result<bool, Fault>
-        ensures counted { IsCounted (failures_of S.failures) (is_clean S.clean) self.old self.new (result ≡ Err Fault.Store) }
-        ensures known { is_clean S.clean self.new → IfOk result (λ k. k ≡ (setting V.name V.gives self.old).is_hosted op.now
-            && is_some (registration_at op.now station.now (world S.rows self.old).rows)) }
-        ensures world { is_clean S.clean self.new → world S.rows self.new ≡ world S.rows self.old }
-        ensures setting { setting V.name V.gives self.new ≡ setting V.name V.gives self.old }
+        ensures counted { IsCounted (hub_view S.view) self.old self.new (result ≡ Err Fault.Store) }
+        ensures known { is_clean S.view self.new → IfOk result (λ k. k ≡ (setting V.view self.old).is_hosted op.now
+            && is_some (registration_at op.now station.now (world S.view self.old).rows)) }
+        ensures world { is_clean S.view self.new → world S.view self.new ≡ world S.view self.old }
+        ensures setting { setting V.view self.new ≡ setting V.view self.old }
         ensures fault { IfErr result (λ f. f ≢ Fault.NoSuchOperator) }
     {
         if !self.hosts(op) {
@@ -108,25 +111,32 @@ impl<S: Store + Drop, V: VendorHandler> Hub<S, V> {
     /// The clauses `outputs` and `world` say that the step is that of the written table over the
     /// records and connections of all operators. The clauses `isolated_outputs` and
     /// `isolated_view` are the isolation theorem for one event: to each operator, the outputs and
-    /// what it has afterwards are what its own machine gives for what it was shown.
+    /// what it has afterwards are what its own machine gives for what it was shown. The clause
+    /// `others` says the same of an event of another operator in plain words: it tells the operator
+    /// nothing, and can change nothing of it but the list of the tags that are granted to it.
     pub fn handle(&mut self, event: &Event) -> Result<Vec<Out>, Fault>
-        ensures counted { IsCounted (failures_of S.failures) (is_clean S.clean) self.old self.new (result ≡ Err Fault.Store) }
-        ensures outputs { is_clean S.clean self.new → IfOk result (λ outs. outs.items
-            ≡ world_outputs (setting V.name V.gives self.old) (world S.rows self.old) event.now) }
-        ensures world { is_clean S.clean self.new → OnOk result (world S.rows self.new
-            ≡ world_step (setting V.name V.gives self.old) (world S.rows self.old) event.now) }
-        ensures isolated_outputs { is_clean S.clean self.new → IfOk result (λ outs. (a : List ℕ)
-            → outputs_of a outs.items ≡ operator_run_outputs (setting V.name V.gives self.old) a
-            (view a (world S.rows self.old)) (seen (setting V.name V.gives self.old) a (world S.rows self.old) (event.now ∷ []))) }
-        ensures isolated_view { is_clean S.clean self.new → OnOk result ((a : List ℕ)
-            → view a (world S.rows self.new) ≡ operator_run (setting V.name V.gives self.old) a
-            (view a (world S.rows self.old)) (seen (setting V.name V.gives self.old) a (world S.rows self.old) (event.now ∷ []))) }
-        ensures fault { is_clean S.clean self.new
-            → OnErr result (world S.rows self.new ≡ world S.rows self.old) }
-        ensures setting { setting V.name V.gives self.new ≡ setting V.name V.gives self.old }
-        ensures taken { OnOk result (is_taken (setting V.name V.gives self.old) event.now ≡ true) }
+        ensures counted { IsCounted (hub_view S.view) self.old self.new (result ≡ Err Fault.Store) }
+        ensures outputs { is_clean S.view self.new → IfOk result (λ outs. outs.items
+            ≡ world_outputs (setting V.view self.old) (world S.view self.old) event.now) }
+        ensures world { is_clean S.view self.new → OnOk result (world S.view self.new
+            ≡ world_step (setting V.view self.old) (world S.view self.old) event.now) }
+        ensures isolated_outputs { is_clean S.view self.new → IfOk result (λ outs. (a : List ℕ)
+            → outputs_of a outs.items ≡ operator_run_outputs (setting V.view self.old) a
+            (view a (world S.view self.old)) (seen (setting V.view self.old) a (world S.view self.old) (event.now ∷ []))) }
+        ensures isolated_view { is_clean S.view self.new → OnOk result ((a : List ℕ)
+            → view a (world S.view self.new) ≡ operator_run (setting V.view self.old) a
+            (view a (world S.view self.old)) (seen (setting V.view self.old) a (world S.view self.old) (event.now ∷ []))) }
+        ensures others { is_clean S.view self.new → IfOk result (λ outs. (a : List ℕ) → IsOfAnother a event.now
+            → LeavesAlone a (setting V.view self.old) (world S.view self.old) event.now outs.items (world S.view self.new)) }
+        ensures fault { is_clean S.view self.new
+            → OnErr result (world S.view self.new ≡ world S.view self.old) }
+        ensures fault_slots { OnErr result ((world S.view self.new).slots ≡ (world S.view self.old).slots) }
+        ensures stations { is_clean S.view self.new
+            → SlotsHaveStations (world S.view self.old) → SlotsHaveStations (world S.view self.new) }
+        ensures setting { setting V.view self.new ≡ setting V.view self.old }
+        ensures taken { OnOk result (is_taken (setting V.view self.old) event.now ≡ true) }
         ensures not_hosted { IfErr result (λ f. f ≡ Fault.NoSuchOperator
-            → is_taken (setting V.name V.gives self.old) event.now ≡ false) }
+            → is_taken (setting V.view self.old) event.now ≡ false) }
     {
         let mut outs = Vec::new(self.alloc);
         self.take(event, &mut outs)?;
@@ -140,23 +150,25 @@ impl<S: Store + Drop, V: VendorHandler> Hub<S, V> {
     /// operator, the outputs and what it has afterwards are what its own machine gives for what
     /// it was shown of the events taken.
     pub fn run(&mut self, events: &[Event]) -> (Vec<Out>, usize, Option<Fault>)
-        ensures counted { IsCounted (failures_of S.failures) (is_clean S.clean) self.old self.new (result.2 ≡ Some Fault.Store) }
-        ensures outputs { is_clean S.clean self.new → result.0.items
-            ≡ run_outputs (setting V.name V.gives self.old) (world S.rows self.old) (take result.1 events.now) }
-        ensures world { is_clean S.clean self.new → world S.rows self.new
-            ≡ world_run (setting V.name V.gives self.old) (world S.rows self.old) (take result.1 events.now) }
-        ensures isolated_outputs { is_clean S.clean self.new → (a : List ℕ)
-            → outputs_of a result.0.items ≡ operator_run_outputs (setting V.name V.gives self.old) a
-            (view a (world S.rows self.old)) (seen (setting V.name V.gives self.old) a (world S.rows self.old) (take result.1 events.now)) }
-        ensures isolated_view { is_clean S.clean self.new → (a : List ℕ)
-            → view a (world S.rows self.new) ≡ operator_run (setting V.name V.gives self.old) a
-            (view a (world S.rows self.old)) (seen (setting V.name V.gives self.old) a (world S.rows self.old) (take result.1 events.now)) }
-        ensures setting { setting V.name V.gives self.new ≡ setting V.name V.gives self.old }
-        ensures taken { AllWithin (λ e. is_taken (setting V.name V.gives self.old) e ≡ true) events.now 0 result.1 }
+        ensures counted { IsCounted (hub_view S.view) self.old self.new (result.2 ≡ Some Fault.Store) }
+        ensures outputs { is_clean S.view self.new → result.0.items
+            ≡ run_outputs (setting V.view self.old) (world S.view self.old) (take result.1 events.now) }
+        ensures world { is_clean S.view self.new → world S.view self.new
+            ≡ world_run (setting V.view self.old) (world S.view self.old) (take result.1 events.now) }
+        ensures isolated_outputs { is_clean S.view self.new → (a : List ℕ)
+            → outputs_of a result.0.items ≡ operator_run_outputs (setting V.view self.old) a
+            (view a (world S.view self.old)) (seen (setting V.view self.old) a (world S.view self.old) (take result.1 events.now)) }
+        ensures isolated_view { is_clean S.view self.new → (a : List ℕ)
+            → view a (world S.view self.new) ≡ operator_run (setting V.view self.old) a
+            (view a (world S.view self.old)) (seen (setting V.view self.old) a (world S.view self.old) (take result.1 events.now)) }
+        ensures stations { is_clean S.view self.new
+            → SlotsHaveStations (world S.view self.old) → SlotsHaveStations (world S.view self.new) }
+        ensures setting { setting V.view self.new ≡ setting V.view self.old }
+        ensures taken { AllWithin (λ e. is_taken (setting V.view self.old) e ≡ true) events.now 0 result.1 }
         ensures all { IfNone result.2 (result.1 ≡ length events.now) }
         ensures fault { IfSome result.2 (λ _. result.1 < length events.now) }
         ensures not_hosted { IfSome result.2 (λ f. f ≡ Fault.NoSuchOperator
-            → (e : Event) → is_taken (setting V.name V.gives self.old) (slice_index_or events.now result.1 e) ≡ false) }
+            → (e : Event) → is_taken (setting V.view self.old) (slice_index_or events.now result.1 e) ≡ false) }
     {
         let mut outs = Vec::new(self.alloc);
         let mut taken = 0;
@@ -173,18 +185,19 @@ impl<S: Store + Drop, V: VendorHandler> Hub<S, V> {
 
     /// Takes one event, and adds its outputs to those told.
     fn take(&mut self, event: &Event, told: &mut Vec<Out>) -> Result<(), Fault>
-        ensures counted { IsCounted (failures_of S.failures) (is_clean S.clean) self.old self.new (result ≡ Err Fault.Store) }
-        ensures told { is_clean S.clean self.new → OnOk result (told.new.items ≡ told.old.items
-            ++ world_outputs (setting V.name V.gives self.old) (world S.rows self.old) event.now) }
-        ensures world { is_clean S.clean self.new → OnOk result (world S.rows self.new
-            ≡ world_step (setting V.name V.gives self.old) (world S.rows self.old) event.now) }
+        ensures counted { IsCounted (hub_view S.view) self.old self.new (result ≡ Err Fault.Store) }
+        ensures told { is_clean S.view self.new → OnOk result (told.new.items ≡ told.old.items
+            ++ world_outputs (setting V.view self.old) (world S.view self.old) event.now) }
+        ensures world { is_clean S.view self.new → OnOk result (world S.view self.new
+            ≡ world_step (setting V.view self.old) (world S.view self.old) event.now) }
         ensures err_told { OnErr result (told.new.items ≡ told.old.items) }
-        ensures err_world { is_clean S.clean self.new
-            → OnErr result (world S.rows self.new ≡ world S.rows self.old) }
-        ensures setting { setting V.name V.gives self.new ≡ setting V.name V.gives self.old }
-        ensures taken { OnOk result (is_taken (setting V.name V.gives self.old) event.now ≡ true) }
+        ensures err_world { is_clean S.view self.new
+            → OnErr result (world S.view self.new ≡ world S.view self.old) }
+        ensures err_slots { OnErr result ((world S.view self.new).slots ≡ (world S.view self.old).slots) }
+        ensures setting { setting V.view self.new ≡ setting V.view self.old }
+        ensures taken { OnOk result (is_taken (setting V.view self.old) event.now ≡ true) }
         ensures not_taken { IfErr result (λ f. f ≡ Fault.NoSuchOperator
-            → is_taken (setting V.name V.gives self.old) event.now ≡ false) }
+            → is_taken (setting V.view self.old) event.now ≡ false) }
     {
         match event {
             Event::At { op, moment, what } => self.take_at(op, *moment, what, told),
@@ -205,18 +218,19 @@ impl<S: Store + Drop, V: VendorHandler> Hub<S, V> {
         what: &What,
         told: &mut Vec<Out>,
     ) -> Result<(), Fault>
-        ensures counted { IsCounted (failures_of S.failures) (is_clean S.clean) self.old self.new (result ≡ Err Fault.Store) }
-        ensures told { is_clean S.clean self.new → OnOk result (told.new.items ≡ told.old.items
-            ++ world_outputs (setting V.name V.gives self.old) (world S.rows self.old) (event.At op.now moment what.now)) }
-        ensures world { is_clean S.clean self.new → OnOk result (world S.rows self.new
-            ≡ world_step (setting V.name V.gives self.old) (world S.rows self.old) (event.At op.now moment what.now)) }
+        ensures counted { IsCounted (hub_view S.view) self.old self.new (result ≡ Err Fault.Store) }
+        ensures told { is_clean S.view self.new → OnOk result (told.new.items ≡ told.old.items
+            ++ world_outputs (setting V.view self.old) (world S.view self.old) (event.At op.now moment what.now)) }
+        ensures world { is_clean S.view self.new → OnOk result (world S.view self.new
+            ≡ world_step (setting V.view self.old) (world S.view self.old) (event.At op.now moment what.now)) }
         ensures err_told { OnErr result (told.new.items ≡ told.old.items) }
-        ensures err_world { is_clean S.clean self.new
-            → OnErr result (world S.rows self.new ≡ world S.rows self.old) }
-        ensures setting { setting V.name V.gives self.new ≡ setting V.name V.gives self.old }
-        ensures taken { OnOk result ((setting V.name V.gives self.old).is_hosted op.now ≡ true) }
+        ensures err_world { is_clean S.view self.new
+            → OnErr result (world S.view self.new ≡ world S.view self.old) }
+        ensures err_slots { OnErr result ((world S.view self.new).slots ≡ (world S.view self.old).slots) }
+        ensures setting { setting V.view self.new ≡ setting V.view self.old }
+        ensures taken { OnOk result ((setting V.view self.old).is_hosted op.now ≡ true) }
         ensures not_taken { IfErr result (λ f. f ≡ Fault.NoSuchOperator
-            → (setting V.name V.gives self.old).is_hosted op.now ≡ false) }
+            → (setting V.view self.old).is_hosted op.now ≡ false) }
     {
         let hosted = self.hosted.as_slice();
         if !is_hosted(hosted, op.as_str()) {

@@ -1,13 +1,15 @@
 //! Two systems side by side, and what one operator is told by each: the isolation theorem as a call.
-ghost use Rattle.std.specs.Prelude.{◌≡◌, ◌≤◌, ◌⊎◌, length, true, Err, IfOk, IfErr, OnOk, OnErr};
+ghost use Rattle.std.specs.Prelude.{◌≡◌, ◌≤◌, ◌⊎◌, ℕ, List, [], ◌∷◌, ◌++◌, length, true, Err, IfOk, IfErr, OnOk, OnErr};
 ghost use Rattle.std.specs.List.{AllWithin};
 ghost use Rattle.hub_rows.specs.Failures.{Rose};
 ghost use Rattle.hub_rows.specs.Reads.{IsCounted};
-ghost use Rattle.hub.specs.Hub.{world, setting, is_taken, is_clean, failures_of};
+ghost use Rattle.hub.specs.Hub.{hub_view, world, setting, is_taken, is_clean, failures_of};
 ghost use Rattle.hub.specs.View.{view};
 ghost use Rattle.hub.specs.WellFormed.{WellFormed};
-ghost use Rattle.hub.specs.World.{outputs_of, run_outputs, world_run};
-ghost use Rattle.hub.specs.TwoSystems.{AreSameTo, HasNotTaken, IsAfterSome};
+ghost use Rattle.hub.specs.World.{Setting, World, outputs_of, run_outputs, world_run};
+ghost use Rattle.hub.specs.TwoSystems.{AreAlike, AreSameTo, HasNotTaken, IsAfterSome, IsItsOwn, LeavesGranted};
+ghost use Rattle.hub.specs.Others.{IsOfAnother};
+ghost use Rattle.event_plans.specs.declared.event.Event.{Event};
 
 use crate::fault::Fault;
 use crate::hub::Hub;
@@ -30,45 +32,60 @@ pub fn isolated<S: Store + Drop, V: VendorHandler, T: Store + Drop, W: VendorHan
     second_events: &[Event],
     op: &str,
 ) -> Result<(Vec<Out>, Vec<Out>), Fault>
-    ensures first_outputs { is_clean S.clean first.new → IfOk result (λ r. r.0.items
-        ≡ outputs_of op.now (run_outputs (setting V.name V.gives first.old) (world S.rows first.old) first_events.now)) }
-    ensures second_outputs { is_clean T.clean second.new → IfOk result (λ r. r.1.items
-        ≡ outputs_of op.now (run_outputs (setting W.name W.gives second.old) (world T.rows second.old) second_events.now)) }
-    ensures first_world { is_clean S.clean first.new → OnOk result (world S.rows first.new
-        ≡ world_run (setting V.name V.gives first.old) (world S.rows first.old) first_events.now) }
-    ensures second_world { is_clean T.clean second.new → OnOk result (world T.rows second.new
-        ≡ world_run (setting W.name W.gives second.old) (world T.rows second.old) second_events.now) }
-    ensures same_outputs { is_clean S.clean first.new → is_clean T.clean second.new
-        → AreSameTo op.now (setting V.name V.gives first.old) (world S.rows first.old) first_events.now
-        (setting W.name W.gives second.old) (world T.rows second.old) second_events.now
+    ensures first_outputs { is_clean S.view first.new → IfOk result (λ r. r.0.items
+        ≡ outputs_of op.now (run_outputs (setting V.view first.old) (world S.view first.old) first_events.now)) }
+    ensures second_outputs { is_clean T.view second.new → IfOk result (λ r. r.1.items
+        ≡ outputs_of op.now (run_outputs (setting W.view second.old) (world T.view second.old) second_events.now)) }
+    ensures first_world { is_clean S.view first.new → OnOk result (world S.view first.new
+        ≡ world_run (setting V.view first.old) (world S.view first.old) first_events.now) }
+    ensures second_world { is_clean T.view second.new → OnOk result (world T.view second.new
+        ≡ world_run (setting W.view second.old) (world T.view second.old) second_events.now) }
+    ensures same_outputs { is_clean S.view first.new → is_clean T.view second.new
+        → AreSameTo op.now (setting V.view first.old) (world S.view first.old) first_events.now
+        (setting W.view second.old) (world T.view second.old) second_events.now
         → IfOk result (λ r. r.0.items ≡ r.1.items) }
-    ensures same_views { is_clean S.clean first.new → is_clean T.clean second.new
-        → AreSameTo op.now (setting V.name V.gives first.old) (world S.rows first.old) first_events.now
-        (setting W.name W.gives second.old) (world T.rows second.old) second_events.now
-        → OnOk result (view op.now (world S.rows first.new) ≡ view op.now (world T.rows second.new)) }
-    ensures first_taken { OnOk result (AllWithin (λ e. is_taken (setting V.name V.gives first.old) e ≡ true) first_events.now 0 (length first_events.now)) }
-    ensures second_taken { OnOk result (AllWithin (λ e. is_taken (setting W.name W.gives second.old) e ≡ true) second_events.now 0 (length second_events.now)) }
-    ensures first_fault { is_clean S.clean first.new → OnErr result (IsAfterSome (setting V.name V.gives first.old)
-        (world S.rows first.old) first_events.now (world S.rows first.new)) }
-    ensures second_fault { is_clean T.clean second.new → OnErr result (IsAfterSome (setting W.name W.gives second.old)
-        (world T.rows second.old) second_events.now (world T.rows second.new)) }
+    ensures same_views { is_clean S.view first.new → is_clean T.view second.new
+        → AreSameTo op.now (setting V.view first.old) (world S.view first.old) first_events.now
+        (setting W.view second.old) (world T.view second.old) second_events.now
+        → OnOk result (view op.now (world S.view first.new) ≡ view op.now (world T.view second.new)) }
+    ensures first_taken { OnOk result (AllWithin (λ e. is_taken (setting V.view first.old) e ≡ true) first_events.now 0 (length first_events.now)) }
+    ensures second_taken { OnOk result (AllWithin (λ e. is_taken (setting W.view second.old) e ≡ true) second_events.now 0 (length second_events.now)) }
+    ensures first_fault { is_clean S.view first.new → OnErr result (IsAfterSome (setting V.view first.old)
+        (world S.view first.old) first_events.now (world S.view first.new)) }
+    ensures second_fault { is_clean T.view second.new → OnErr result (IsAfterSome (setting W.view second.old)
+        (world T.view second.old) second_events.now (world T.view second.new)) }
     ensures failed { IfErr result (λ f. f ≡ Fault.Store
-        → Rose (failures_of S.failures first.old) (failures_of S.failures first.new)
-        ⊎ Rose (failures_of T.failures second.old) (failures_of T.failures second.new)) }
+        → Rose (failures_of S.view first.old) (failures_of S.view first.new)
+        ⊎ Rose (failures_of T.view second.old) (failures_of T.view second.new)) }
     ensures not_hosted { IfErr result (λ f. f ≡ Fault.NoSuchOperator
-        → HasNotTaken (setting V.name V.gives first.old) first_events.now
-        ⊎ HasNotTaken (setting W.name W.gives second.old) second_events.now) }
-    ensures first_clean { is_clean S.clean first.new → is_clean S.clean first.old }
-    ensures second_clean { is_clean T.clean second.new → is_clean T.clean second.old }
-    ensures first_count { failures_of S.failures first.old ≤ failures_of S.failures first.new }
-    ensures second_count { failures_of T.failures second.old ≤ failures_of T.failures second.new }
-    ensures first_setting { setting V.name V.gives first.new ≡ setting V.name V.gives first.old }
-    ensures second_setting { setting W.name W.gives second.new ≡ setting W.name W.gives second.old }
+        → HasNotTaken (setting V.view first.old) first_events.now
+        ⊎ HasNotTaken (setting W.view second.old) second_events.now) }
+    ensures first_clean { is_clean S.view first.new → is_clean S.view first.old }
+    ensures second_clean { is_clean T.view second.new → is_clean T.view second.old }
+    ensures first_count { failures_of S.view first.old ≤ failures_of S.view first.new }
+    ensures second_count { failures_of T.view second.old ≤ failures_of T.view second.new }
+    ensures first_setting { setting V.view first.new ≡ setting V.view first.old }
+    ensures second_setting { setting W.view second.new ≡ setting W.view second.old }
 {
     let of_first = outputs_for(first, first_events, op)?;
     let of_second = outputs_for(second, second_events, op)?;
     Ok((of_first, of_second))
 }
+
+/// How two lists of events come to show an operator the same, event by event: with no events they do. An
+/// event of the operator, or a tick, may be added to both. An event of another operator may be added to
+/// either of them, where the tags that are granted to the operator are the same after it. The call does
+/// nothing: its clauses are laws of `AreSameTo`, the premise of `isolated`.
+pub fn same_lists()
+    ensures none { (a : List ℕ) (s t : Setting) (w v : World) → AreAlike s t → view a w ≡ view a v
+        → AreSameTo a s w [] t v [] }
+    ensures own { (a : List ℕ) (s t : Setting) (w v : World) (es fs : List Event) (e : Event)
+        → AreSameTo a s w es t v fs → IsItsOwn a e → AreSameTo a s w (es ++ e ∷ []) t v (fs ++ e ∷ []) }
+    ensures first { (a : List ℕ) (s t : Setting) (w v : World) (es fs : List Event) (e : Event)
+        → AreSameTo a s w es t v fs → IsOfAnother a e → LeavesGranted a s w es e → AreSameTo a s w (es ++ e ∷ []) t v fs }
+    ensures second { (a : List ℕ) (s t : Setting) (w v : World) (es fs : List Event) (e : Event)
+        → AreSameTo a s w es t v fs → IsOfAnother a e → LeavesGranted a t v fs e → AreSameTo a s w es t v (fs ++ e ∷ []) }
+{}
 
 /// Runs one system, and gives the outputs of one operator.
 fn outputs_for<S: Store + Drop, V: VendorHandler>(
@@ -76,18 +93,18 @@ fn outputs_for<S: Store + Drop, V: VendorHandler>(
     events: &[Event],
     op: &str,
 ) -> Result<Vec<Out>, Fault>
-    ensures counted { IsCounted (failures_of S.failures) (is_clean S.clean) hub.old hub.new (result ≡ Err Fault.Store) }
-    ensures outputs { is_clean S.clean hub.new → IfOk result (λ outs. outs.items
-        ≡ outputs_of op.now (run_outputs (setting V.name V.gives hub.old) (world S.rows hub.old) events.now)) }
-    ensures world { is_clean S.clean hub.new → OnOk result (world S.rows hub.new
-        ≡ world_run (setting V.name V.gives hub.old) (world S.rows hub.old) events.now) }
-    ensures good { is_clean S.clean hub.new → WellFormed (world S.rows hub.old) }
-    ensures fault { is_clean S.clean hub.new → OnErr result (IsAfterSome (setting V.name V.gives hub.old)
-        (world S.rows hub.old) events.now (world S.rows hub.new)) }
-    ensures taken { OnOk result (AllWithin (λ e. is_taken (setting V.name V.gives hub.old) e ≡ true) events.now 0 (length events.now)) }
+    ensures counted { IsCounted (hub_view S.view) hub.old hub.new (result ≡ Err Fault.Store) }
+    ensures outputs { is_clean S.view hub.new → IfOk result (λ outs. outs.items
+        ≡ outputs_of op.now (run_outputs (setting V.view hub.old) (world S.view hub.old) events.now)) }
+    ensures world { is_clean S.view hub.new → OnOk result (world S.view hub.new
+        ≡ world_run (setting V.view hub.old) (world S.view hub.old) events.now) }
+    ensures good { is_clean S.view hub.new → WellFormed (world S.view hub.old) }
+    ensures fault { is_clean S.view hub.new → OnErr result (IsAfterSome (setting V.view hub.old)
+        (world S.view hub.old) events.now (world S.view hub.new)) }
+    ensures taken { OnOk result (AllWithin (λ e. is_taken (setting V.view hub.old) e ≡ true) events.now 0 (length events.now)) }
     ensures not_hosted { IfErr result (λ f. f ≡ Fault.NoSuchOperator
-        → HasNotTaken (setting V.name V.gives hub.old) events.now) }
-    ensures setting { setting V.name V.gives hub.new ≡ setting V.name V.gives hub.old }
+        → HasNotTaken (setting V.view hub.old) events.now) }
+    ensures setting { setting V.view hub.new ≡ setting V.view hub.old }
 {
     let (mut outs, _taken, fault) = hub.run(events);
     match fault {

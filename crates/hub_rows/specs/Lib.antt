@@ -14,3 +14,4 @@ pub mod Changes
 pub mod Own
 pub mod Lookups
 pub mod OwnLookups
+pub mod StoreView

@@ -1,6 +1,6 @@
 //! What a store of records promises.
-ghost use Rattle.std.specs.Prelude.{◌≡◌, Err, ℕ, IfOk, OnOk, OnErr};
-ghost use Rattle.hub_rows.specs.Rows.{Rows, registration_at};
+ghost use Rattle.std.specs.Prelude.{◌≡◌, Err, IfOk, OnOk, OnErr};
+ghost use Rattle.hub_rows.specs.Rows.{registration_at};
 ghost use Rattle.hub_rows.specs.WellFormed.{WellFormedRows};
 ghost use Rattle.hub_rows.specs.Tags.{own_tag_in};
 ghost use Rattle.hub_rows.specs.Lookups.{stations_in, tags_in, connectors_in};
@@ -66,39 +66,35 @@ impl<T: Drop> From<AllocFailed<T>> for StoreFault {
 /// before. A read leaves the rows. A fault changes nothing, and Failed comes only where the count
 /// of failures rose.
 pub trait Store {
-    /// The rows that it holds, each list in the order of its keys.
-    ghost rows: { Self → Rows };
+    ghost use Rattle.hub_rows.specs.StoreView.{StoreView};
 
-    /// How often it has failed, a count that stays at 2^64 - 1 once it is there.
-    ghost failures: { Self → ℕ };
-
-    /// Whether its rows were written by this project alone, and are read as they were written.
-    ghost clean: { Self → Type 0 };
+    /// The store as contracts see it: its rows, how often it has failed, and whether it is clean.
+    ghost view: { Self → StoreView };
 
     /// How a station of an operator is registered, `None` where it has no such station.
     fn station(&mut self, op: &str, station: &str) -> Result<Option<Registration>, StoreFault>
-        ensures reads { OnlyReads rows failures clean self.old self.new (result ≡ Err store_fault.Failed) }
-        ensures found { clean self.new
-            → IfOk result (λ r. r ≡ registration_at op.now station.now (rows self.old)) };
+        ensures reads { OnlyReads view self.old self.new result }
+        ensures found { (view self.new).clean
+            → IfOk result (λ r. r ≡ registration_at op.now station.now (view self.old).rows) };
 
     /// The id tag of a key of an operator, as it counts: blocked by itself or by its parent.
     fn own_tag(&mut self, op: &str, key: &TagKey) -> Result<Option<Info>, StoreFault>
-        ensures reads { OnlyReads rows failures clean self.old self.new (result ≡ Err store_fault.Failed) }
-        ensures found { clean self.new
-            → IfOk result (λ t. t ≡ own_tag_in op.now key.now (rows self.old).tags) };
+        ensures reads { OnlyReads view self.old self.new result }
+        ensures found { (view self.new).clean
+            → IfOk result (λ t. t ≡ own_tag_in op.now key.now (view self.old).rows.tags) };
 
     /// The id tag of a key that is granted to an operator: that of the first owner in the order of
     /// their names.
     fn granted_tag(&mut self, op: &str, key: &TagKey) -> Result<Option<Info>, StoreFault>
-        ensures reads { OnlyReads rows failures clean self.old self.new (result ≡ Err store_fault.Failed) }
-        ensures found { clean self.new
-            → IfOk result (λ t. t ≡ granted_tag_in op.now key.now (rows self.old).tags (rows self.old).grants) };
+        ensures reads { OnlyReads view self.old self.new result }
+        ensures found { (view self.new).clean
+            → IfOk result (λ t. t ≡ granted_tag_in op.now key.now (view self.old).rows.tags (view self.old).rows.grants) };
 
     /// Whether an operator granted its id tag of a key to another.
     fn has_grant(&mut self, op: &str, key: &TagKey, to: &str) -> Result<bool, StoreFault>
-        ensures reads { OnlyReads rows failures clean self.old self.new (result ≡ Err store_fault.Failed) }
-        ensures found { clean self.new
-            → IfOk result (λ r. r ≡ has_grant_in op.now key.now to.now (rows self.old).grants) };
+        ensures reads { OnlyReads view self.old self.new result }
+        ensures found { (view self.new).clean
+            → IfOk result (λ r. r ≡ has_grant_in op.now key.now to.now (view self.old).rows.grants) };
 
     /// Whether the tag of a key is in use: whether a transaction of the operator that began
     /// Accepted with it is open, other than the one left out.
@@ -108,9 +104,9 @@ pub trait Store {
         key: &TagKey,
         except: &Option<TxKey>,
     ) -> Result<bool, StoreFault>
-        ensures reads { OnlyReads rows failures clean self.old self.new (result ≡ Err store_fault.Failed) }
-        ensures found { clean self.new
-            → IfOk result (λ r. r ≡ is_used_in op.now key.now except.now (rows self.old).transactions) };
+        ensures reads { OnlyReads view self.old self.new result }
+        ensures found { (view self.new).clean
+            → IfOk result (λ r. r ≡ is_used_in op.now key.now except.now (view self.old).rows.transactions) };
 
     /// The number of the first transaction of a station with that start.
     fn same_start(
@@ -119,27 +115,27 @@ pub trait Store {
         station: &str,
         start: &StartKey,
     ) -> Result<Option<u32>, StoreFault>
-        ensures reads { OnlyReads rows failures clean self.old self.new (result ≡ Err store_fault.Failed) }
-        ensures found { clean self.new
-            → IfOk result (λ r. r ≡ same_start_in op.now station.now start.now (rows self.old).transactions) };
+        ensures reads { OnlyReads view self.old self.new result }
+        ensures found { (view self.new).clean
+            → IfOk result (λ r. r ≡ same_start_in op.now station.now start.now (view self.old).rows.transactions) };
 
     /// A transaction of a station, by its number.
     fn tx(&mut self, op: &str, station: &str, number: u32) -> Result<Option<TxState>, StoreFault>
-        ensures reads { OnlyReads rows failures clean self.old self.new (result ≡ Err store_fault.Failed) }
-        ensures found { clean self.new
-            → IfOk result (λ r. r ≡ tx_in op.now station.now number (rows self.old).transactions) };
+        ensures reads { OnlyReads view self.old self.new result }
+        ensures found { (view self.new).clean
+            → IfOk result (λ r. r ≡ tx_in op.now station.now number (view self.old).rows.transactions) };
 
     /// Whether a transaction of a station is open.
     fn has_open(&mut self, op: &str, station: &str) -> Result<bool, StoreFault>
-        ensures reads { OnlyReads rows failures clean self.old self.new (result ≡ Err store_fault.Failed) }
-        ensures found { clean self.new
-            → IfOk result (λ r. r ≡ has_open_in op.now station.now (rows self.old).transactions) };
+        ensures reads { OnlyReads view self.old self.new result }
+        ensures found { (view self.new).clean
+            → IfOk result (λ r. r ≡ has_open_in op.now station.now (view self.old).rows.transactions) };
 
     /// The last numbers of a station's transactions and readings, 0 where it has none.
     fn last_numbers(&mut self, op: &str, station: &str) -> Result<LastNumbers, StoreFault>
-        ensures reads { OnlyReads rows failures clean self.old self.new (result ≡ Err store_fault.Failed) }
-        ensures found { clean self.new
-            → IfOk result (λ r. r ≡ last_numbers_in op.now station.now (rows self.old).transactions (rows self.old).readings) };
+        ensures reads { OnlyReads view self.old self.new result }
+        ensures found { (view self.new).clean
+            → IfOk result (λ r. r ≡ last_numbers_in op.now station.now (view self.old).rows.transactions (view self.old).rows.readings) };
 
     /// When the reservation of an id at a station expires.
     fn reserved_until(
@@ -148,51 +144,51 @@ pub trait Store {
         station: &str,
         id: ReservationId,
     ) -> Result<Option<Moment>, StoreFault>
-        ensures reads { OnlyReads rows failures clean self.old self.new (result ≡ Err store_fault.Failed) }
-        ensures found { clean self.new
-            → IfOk result (λ r. r ≡ reserved_until_in op.now station.now id (rows self.old).reservations) };
+        ensures reads { OnlyReads view self.old self.new result }
+        ensures found { (view self.new).clean
+            → IfOk result (λ r. r ≡ reserved_until_in op.now station.now id (view self.old).rows.reservations) };
 
     /// The local list of a station.
     fn local_list(&mut self, op: &str, station: &str) -> Result<Option<LocalList>, StoreFault>
-        ensures reads { OnlyReads rows failures clean self.old self.new (result ≡ Err store_fault.Failed) }
-        ensures found { clean self.new
-            → IfOk result (λ r. r ≡ local_list_in op.now station.now (rows self.old).local_lists) };
+        ensures reads { OnlyReads view self.old self.new result }
+        ensures found { (view self.new).clean
+            → IfOk result (λ r. r ≡ local_list_in op.now station.now (view self.old).rows.local_lists) };
 
     /// The stations of an operator, in the order of their names.
     fn stations(&mut self, op: &str) -> Result<Listed<StationRow>, StoreFault>
-        ensures reads { OnlyReads rows failures clean self.old self.new (result ≡ Err store_fault.Failed) }
-        ensures found { clean self.new
-            → IfOk result (λ r. r ≡ stations_in op.now (rows self.old).stations) };
+        ensures reads { OnlyReads view self.old self.new result }
+        ensures found { (view self.new).clean
+            → IfOk result (λ r. r ≡ stations_in op.now (view self.old).rows.stations) };
 
     /// The id tags of an operator, in the order of their keys.
     fn tags(&mut self, op: &str) -> Result<Listed<TagRow>, StoreFault>
-        ensures reads { OnlyReads rows failures clean self.old self.new (result ≡ Err store_fault.Failed) }
-        ensures found { clean self.new
-            → IfOk result (λ r. r ≡ tags_in op.now (rows self.old).tags) };
+        ensures reads { OnlyReads view self.old self.new result }
+        ensures found { (view self.new).clean
+            → IfOk result (λ r. r ≡ tags_in op.now (view self.old).rows.tags) };
 
     /// What an operator granted, in the order of the tags' keys, then of the receivers.
     fn grants_out(&mut self, op: &str) -> Result<Listed<GrantRow>, StoreFault>
-        ensures reads { OnlyReads rows failures clean self.old self.new (result ≡ Err store_fault.Failed) }
-        ensures found { clean self.new
-            → IfOk result (λ r. r ≡ grants_in op.now (rows self.old).grants) };
+        ensures reads { OnlyReads view self.old self.new result }
+        ensures found { (view self.new).clean
+            → IfOk result (λ r. r ≡ grants_in op.now (view self.old).rows.grants) };
 
     /// The id tags that are granted to an operator, in the order of their keys, then of their owners.
     fn granted(&mut self, op: &str) -> Result<Listed<GrantedTag>, StoreFault>
-        ensures reads { OnlyReads rows failures clean self.old self.new (result ≡ Err store_fault.Failed) }
-        ensures found { clean self.new
-            → IfOk result (λ r. r ≡ granted_in op.now (rows self.old).tags (rows self.old).grants) };
+        ensures reads { OnlyReads view self.old self.new result }
+        ensures found { (view self.new).clean
+            → IfOk result (λ r. r ≡ granted_in op.now (view self.old).rows.tags (view self.old).rows.grants) };
 
     /// The connectors of a station, in the order of their ids.
     fn connectors(&mut self, op: &str, station: &str) -> Result<Listed<ConnectorRow>, StoreFault>
-        ensures reads { OnlyReads rows failures clean self.old self.new (result ≡ Err store_fault.Failed) }
-        ensures found { clean self.new
-            → IfOk result (λ r. r ≡ connectors_in op.now station.now (rows self.old).connectors) };
+        ensures reads { OnlyReads view self.old self.new result }
+        ensures found { (view self.new).clean
+            → IfOk result (λ r. r ≡ connectors_in op.now station.now (view self.old).rows.connectors) };
 
     /// The transactions of a station, in the order of their numbers.
     fn txs(&mut self, op: &str, station: &str) -> Result<Listed<TxRow>, StoreFault>
-        ensures reads { OnlyReads rows failures clean self.old self.new (result ≡ Err store_fault.Failed) }
-        ensures found { clean self.new
-            → IfOk result (λ r. r ≡ txs_in op.now station.now (rows self.old).transactions) };
+        ensures reads { OnlyReads view self.old self.new result }
+        ensures found { (view self.new).clean
+            → IfOk result (λ r. r ≡ txs_in op.now station.now (view self.old).rows.transactions) };
 
     /// The readings of a station in the order of their numbers: all, or those that were sent with
     /// the number of a transaction.
@@ -202,9 +198,9 @@ pub trait Store {
         station: &str,
         transaction: Option<u64>,
     ) -> Result<Listed<ReadingRow>, StoreFault>
-        ensures reads { OnlyReads rows failures clean self.old self.new (result ≡ Err store_fault.Failed) }
-        ensures found { clean self.new
-            → IfOk result (λ r. r ≡ readings_in op.now station.now transaction (rows self.old).readings) };
+        ensures reads { OnlyReads view self.old self.new result }
+        ensures found { (view self.new).clean
+            → IfOk result (λ r. r ≡ readings_in op.now station.now transaction (view self.old).rows.readings) };
 
     /// The reservations at a station, in the order of their ids.
     fn reservations(
@@ -212,17 +208,17 @@ pub trait Store {
         op: &str,
         station: &str,
     ) -> Result<Listed<ReservationRow>, StoreFault>
-        ensures reads { OnlyReads rows failures clean self.old self.new (result ≡ Err store_fault.Failed) }
-        ensures found { clean self.new
-            → IfOk result (λ r. r ≡ reservations_in op.now station.now (rows self.old).reservations) };
+        ensures reads { OnlyReads view self.old self.new result }
+        ensures found { (view self.new).clean
+            → IfOk result (λ r. r ≡ reservations_in op.now station.now (view self.old).rows.reservations) };
 
     /// Makes a change that fits.
     fn apply(&mut self, change: &Change) -> Result<(), StoreFault>
-        requires { clean self.old → Fits change.now (rows self.old) }
-        ensures counted { IsCounted failures clean self.old self.new (result ≡ Err store_fault.Failed) }
-        ensures ok { clean self.new → OnOk result (rows self.new ≡ after_change change.now (rows self.old)) }
-        ensures err { clean self.new → OnErr result (rows self.new ≡ rows self.old) };
+        requires { (view self.old).clean → Fits change.now (view self.old).rows }
+        ensures counted { IsCounted view self.old self.new (result ≡ Err store_fault.Failed) }
+        ensures ok { (view self.new).clean → OnOk result ((view self.new).rows ≡ after_change change.now (view self.old).rows) }
+        ensures err { (view self.new).clean → OnErr result ((view self.new).rows ≡ (view self.old).rows) };
 
     /// The rows of a clean store are well formed.
-    ghost well_formed: { (s : Self) → clean s → WellFormedRows (rows s) };
+    ghost well_formed: { (s : Self) → (view s).clean → WellFormedRows (view s).rows };
 }

@@ -19,9 +19,9 @@ pub enum Purpose {
 /// The tag of a key that counts for an operator: its own, or else the first of those that are granted
 /// to it, by the names of their owners. `None` where there is none.
 pub fn find_tag<S: Store>(store: &mut S, op: &str, key: &TagKey) -> Result<Option<Info>, StoreFault>
-    ensures reads { OnlyReads S.rows S.failures S.clean store.old store.new (result ≡ Err StoreFault.Failed) }
-    ensures found { S.clean store.new → IfOk result (λ t. t
-        ≡ found_tag key.now (lookups_at op.now (S.rows store.old))) }
+    ensures reads { OnlyReads S.view store.old store.new result }
+    ensures found { (S.view store.new).clean → IfOk result (λ t. t
+        ≡ found_tag key.now (lookups_at op.now (S.view store.old).rows)) }
 {
     match store.own_tag(op, key)? {
         Some(own) => Ok(Some(own)),
@@ -40,9 +40,9 @@ pub fn judge<S: Store>(
     moment: Moment,
     purpose: &Purpose,
 ) -> Result<IdTagInfo, StoreFault>
-    ensures reads { OnlyReads S.rows S.failures S.clean store.old store.new (result ≡ Err StoreFault.Failed) }
-    ensures judged { S.clean store.new → IfOk result (λ i. i
-        ≡ judge_rule moment key.now purpose.now (lookups_at op.now (S.rows store.old))) }
+    ensures reads { OnlyReads S.view store.old store.new result }
+    ensures judged { (S.view store.new).clean → IfOk result (λ i. i
+        ≡ judge_rule moment key.now purpose.now (lookups_at op.now (S.view store.old).rows)) }
 {
     let Some(tag) = find_tag(store, op, key)? else {
         return Ok(IdTagInfo {
@@ -62,9 +62,9 @@ fn is_in_use<S: Store>(
     key: &TagKey,
     purpose: &Purpose,
 ) -> Result<bool, StoreFault>
-    ensures reads { OnlyReads S.rows S.failures S.clean store.old store.new (result ≡ Err StoreFault.Failed) }
-    ensures found { S.clean store.new → IfOk result (λ u. u
-        ≡ is_in_use purpose.now key.now (lookups_at op.now (S.rows store.old))) }
+    ensures reads { OnlyReads S.view store.old store.new result }
+    ensures found { (S.view store.new).clean → IfOk result (λ u. u
+        ≡ is_in_use purpose.now key.now (lookups_at op.now (S.view store.old).rows)) }
 {
     match purpose {
         Purpose::Authorize => Ok(false),

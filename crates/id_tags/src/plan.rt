@@ -36,9 +36,9 @@ pub fn plan_drop<S: Store>(
     op: &str,
     tag: &str,
 ) -> Result<Result<Edit, Refusal>, StoreFault>
-    ensures reads { OnlyReads S.rows S.failures S.clean store.old store.new (result ≡ Err StoreFault.Failed) }
-    ensures plan { S.clean store.new → IfOk result (λ p. p
-        ≡ drop_rule tag.now (lookups_at op.now (S.rows store.old))) }
+    ensures reads { OnlyReads S.view store.old store.new result }
+    ensures plan { (S.view store.new).clean → IfOk result (λ p. p
+        ≡ drop_rule tag.now (lookups_at op.now (S.view store.old).rows)) }
 {
     let key = TagKey::of(alloc, tag)?;
     match store.own_tag(op, &key)? {
@@ -68,9 +68,9 @@ pub fn plan_grant<S: Store>(
     grant: &Grant,
     hosted: &[Text],
 ) -> Result<Result<Edit, Refusal>, StoreFault>
-    ensures reads { OnlyReads S.rows S.failures S.clean store.old store.new (result ≡ Err StoreFault.Failed) }
-    ensures plan { S.clean store.new → IfOk result (λ p. p
-        ≡ grant_rule (is_hosted hosted.now) grant.now (lookups_at op.now (S.rows store.old))) }
+    ensures reads { OnlyReads S.view store.old store.new result }
+    ensures plan { (S.view store.new).clean → IfOk result (λ p. p
+        ≡ grant_rule (is_hosted hosted.now) grant.now (lookups_at op.now (S.view store.old).rows)) }
 {
     let key = TagKey::of(alloc, grant.tag.as_str())?;
     if store.own_tag(op, &key)?.is_none() {
@@ -95,9 +95,9 @@ pub fn plan_revoke<S: Store>(
     tag: &str,
     to: &Text,
 ) -> Result<Result<Edit, Refusal>, StoreFault>
-    ensures reads { OnlyReads S.rows S.failures S.clean store.old store.new (result ≡ Err StoreFault.Failed) }
-    ensures plan { S.clean store.new → IfOk result (λ p. p
-        ≡ revoke_rule tag.now to.now (lookups_at op.now (S.rows store.old))) }
+    ensures reads { OnlyReads S.view store.old store.new result }
+    ensures plan { (S.view store.new).clean → IfOk result (λ p. p
+        ≡ revoke_rule tag.now to.now (lookups_at op.now (S.view store.old).rows)) }
 {
     let key = TagKey::of(alloc, tag)?;
     if !store.has_grant(op, &key, to.as_str())? {

@@ -18,9 +18,9 @@ pub fn refuse_tag<S: Store>(
     tag: &str,
     moment: Moment,
 ) -> Result<Option<Refusal>, StoreFault>
-    ensures reads { OnlyReads S.rows S.failures S.clean store.old store.new (result ≡ Err StoreFault.Failed) }
-    ensures refusal { S.clean store.new → IfOk result (λ r. r
-        ≡ refuse_rule moment tag.now (lookups_at op.now (S.rows store.old))) }
+    ensures reads { OnlyReads S.view store.old store.new result }
+    ensures refusal { (S.view store.new).clean → IfOk result (λ r. r
+        ≡ refuse_rule moment tag.now (lookups_at op.now (S.view store.old).rows)) }
 {
     let key = TagKey::of(alloc, tag)?;
     let judged = judge(store, op, &key, moment, &Purpose::Authorize)?;

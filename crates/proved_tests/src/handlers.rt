@@ -23,9 +23,7 @@ impl VendorHandler for Fixed {
     ghost use Rattle.std.specs.Prelude.{Some};
     ghost use Rattle.ocpp_types.specs.declared.data_transfer_status.DataTransferStatus.TheVariants.{Accepted};
 
-    ghost name = { λ h. h.vendor.now };
-
-    ghost gives = { λ h _ _. record { status = Accepted; content = Some h.content.now } };
+    ghost view = { λ h. record { name = h.vendor.now; gives = λ _ _. record { status = Accepted; content = Some h.content.now } } };
 
     fn vendor(&self) -> &str {
         self.vendor

@@ -20,9 +20,9 @@ pub fn plan_policy<S: Store>(
     policy: Policy,
     interval: u64,
 ) -> Result<Result<Edit, Refusal>, StoreFault>
-    ensures reads { OnlyReads S.rows S.failures S.clean store.old store.new (result ≡ Err StoreFault.Failed) }
-    ensures plan { S.clean store.new → IfOk result (λ p. p
-        ≡ policy_rule station.now policy interval (lookups_at op.now (S.rows store.old))) }
+    ensures reads { OnlyReads S.view store.old store.new result }
+    ensures plan { (S.view store.new).clean → IfOk result (λ p. p
+        ≡ policy_rule station.now policy interval (lookups_at op.now (S.view store.old).rows)) }
 {
     if store.station(op, station)?.is_none() {
         return Ok(Err(Refusal::NoSuchStation));
@@ -47,9 +47,9 @@ fn is_kept_from<S: Store>(
     station: &str,
     policy: Policy,
 ) -> Result<bool, StoreFault>
-    ensures reads { OnlyReads S.rows S.failures S.clean store.old store.new (result ≡ Err StoreFault.Failed) }
-    ensures found { S.clean store.new → IfOk result (λ k. k
-        ≡ is_kept_from station.now policy (lookups_at op.now (S.rows store.old))) }
+    ensures reads { OnlyReads S.view store.old store.new result }
+    ensures found { (S.view store.new).clean → IfOk result (λ k. k
+        ≡ is_kept_from station.now policy (lookups_at op.now (S.view store.old).rows)) }
 {
     if is_rejected(policy) {
         return store.has_open(op, station);

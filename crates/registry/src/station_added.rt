@@ -26,9 +26,9 @@ pub fn plan_add<S: Store>(
     policy: Policy,
     interval: u64,
 ) -> Result<Result<Edit, Refusal>, StoreFault>
-    ensures reads { OnlyReads S.rows S.failures S.clean store.old store.new (result ≡ Err StoreFault.Failed) }
-    ensures plan { S.clean store.new → IfOk result (λ p. p
-        ≡ add_rule station.now policy interval (lookups_at op.now (S.rows store.old))) }
+    ensures reads { OnlyReads S.view store.old store.new result }
+    ensures plan { (S.view store.new).clean → IfOk result (λ p. p
+        ≡ add_rule station.now policy interval (lookups_at op.now (S.view store.old).rows)) }
 {
     if !is_station_name(station) {
         return Ok(Err(Refusal::BadField(FieldName::new("station"))));

@@ -2,7 +2,7 @@
 ghost use Rattle.std.specs.Prelude.{◌≡◌, ◌+◌, ◌++◌, ◌<◌, ◌≤◌, ◌-◌, ◌^◌, List, [], ◌∷◌, ℕ, true, Err, OnOk, OnErr, IfOk, IfErr};
 ghost use Rattle.hub_rows.specs.Operators.{is_hosted};
 ghost use Rattle.hub_rows.specs.Reads.{IsCounted};
-ghost use Rattle.hub.specs.Hub.{world, setting, is_taken, is_clean, failures_of};
+ghost use Rattle.hub.specs.Hub.{hub_view, world, setting, is_taken, is_clean};
 ghost use Rattle.hub.specs.World.{world_outputs, world_step};
 ghost use Rattle.lines.specs.declared.input_line.Line.TheVariants as line;
 ghost use Rattle.lines.specs.InputLines.{spelled};
@@ -36,16 +36,16 @@ impl Answers {
     ) -> Result<(), LineFault>
         requires { self.old.number < 2 ^ 64 - 1 }
         ensures number { OnOk result (self.new.number ≡ self.old.number + 1) }
-        ensures setting { setting V.name V.gives hub.new ≡ setting V.name V.gives hub.old }
-        ensures world { is_clean S.clean hub.new → OnOk result ((line : List ℕ) → IsLine held.entry line
-            → world S.rows hub.new ≡ after (setting V.name V.gives hub.old) (world S.rows hub.old) (spelled (setting V.name V.gives hub.old).is_hosted line)) }
-        ensures text { is_clean S.clean hub.new → OnOk result ((line : List ℕ) → IsLine held.entry line
-            → self.new.text.items ≡ self.old.text.items ++ answer (setting V.name V.gives hub.old) (world S.rows hub.old) self.old.number (spelled (setting V.name V.gives hub.old).is_hosted line)) }
-        ensures fault_world { is_clean S.clean hub.new → OnErr result ((line : List ℕ) → IsLine held.entry line
-            → IsStep (setting V.name V.gives hub.old) (world S.rows hub.old) (spelled (setting V.name V.gives hub.old).is_hosted line) (world S.rows hub.new)) }
-        ensures fault_text { is_clean S.clean hub.new → OnErr result ((line : List ℕ) → IsLine held.entry line
-            → Begins self.new.text.items (self.old.text.items ++ answer (setting V.name V.gives hub.old) (world S.rows hub.old) self.old.number (spelled (setting V.name V.gives hub.old).is_hosted line))) }
-        ensures counted { IsCounted (failures_of S.failures) (is_clean S.clean) hub.old hub.new (result ≡ Err line_fault.Store) }
+        ensures setting { setting V.view hub.new ≡ setting V.view hub.old }
+        ensures world { is_clean S.view hub.new → OnOk result ((line : List ℕ) → IsLine held.entry line
+            → world S.view hub.new ≡ after (setting V.view hub.old) (world S.view hub.old) (spelled (setting V.view hub.old).is_hosted line)) }
+        ensures text { is_clean S.view hub.new → OnOk result ((line : List ℕ) → IsLine held.entry line
+            → self.new.text.items ≡ self.old.text.items ++ answer (setting V.view hub.old) (world S.view hub.old) self.old.number (spelled (setting V.view hub.old).is_hosted line)) }
+        ensures fault_world { is_clean S.view hub.new → OnErr result ((line : List ℕ) → IsLine held.entry line
+            → IsStep (setting V.view hub.old) (world S.view hub.old) (spelled (setting V.view hub.old).is_hosted line) (world S.view hub.new)) }
+        ensures fault_text { is_clean S.view hub.new → OnErr result ((line : List ℕ) → IsLine held.entry line
+            → Begins self.new.text.items (self.old.text.items ++ answer (setting V.view hub.old) (world S.view hub.old) self.old.number (spelled (setting V.view hub.old).is_hosted line))) }
+        ensures counted { IsCounted (hub_view S.view) hub.old hub.new (result ≡ Err line_fault.Store) }
     {
         let said = read_held(alloc, hub.hosted(), held)?;
         self.said(alloc, hub, &said)?;
@@ -61,16 +61,16 @@ impl Answers {
         said: &Line,
     ) -> Result<(), LineFault>
         ensures number { self.new.number ≡ self.old.number }
-        ensures setting { setting V.name V.gives hub.new ≡ setting V.name V.gives hub.old }
-        ensures world { is_clean S.clean hub.new → OnOk result (world S.rows hub.new
-            ≡ after (setting V.name V.gives hub.old) (world S.rows hub.old) said.now) }
-        ensures text { is_clean S.clean hub.new → OnOk result (self.new.text.items
-            ≡ self.old.text.items ++ answer (setting V.name V.gives hub.old) (world S.rows hub.old) self.old.number said.now) }
-        ensures fault_world { is_clean S.clean hub.new → OnErr result (IsStep (setting V.name V.gives hub.old) (world S.rows hub.old)
-            said.now (world S.rows hub.new)) }
-        ensures fault_text { is_clean S.clean hub.new → OnErr result (Begins self.new.text.items
-            (self.old.text.items ++ answer (setting V.name V.gives hub.old) (world S.rows hub.old) self.old.number said.now)) }
-        ensures counted { IsCounted (failures_of S.failures) (is_clean S.clean) hub.old hub.new (IsOfHosted (setting V.name V.gives hub.old).is_hosted said.now × (result ≡ Err line_fault.Store)) }
+        ensures setting { setting V.view hub.new ≡ setting V.view hub.old }
+        ensures world { is_clean S.view hub.new → OnOk result (world S.view hub.new
+            ≡ after (setting V.view hub.old) (world S.view hub.old) said.now) }
+        ensures text { is_clean S.view hub.new → OnOk result (self.new.text.items
+            ≡ self.old.text.items ++ answer (setting V.view hub.old) (world S.view hub.old) self.old.number said.now) }
+        ensures fault_world { is_clean S.view hub.new → OnErr result (IsStep (setting V.view hub.old) (world S.view hub.old)
+            said.now (world S.view hub.new)) }
+        ensures fault_text { is_clean S.view hub.new → OnErr result (Begins self.new.text.items
+            (self.old.text.items ++ answer (setting V.view hub.old) (world S.view hub.old) self.old.number said.now)) }
+        ensures counted { IsCounted (hub_view S.view) hub.old hub.new (IsOfHosted (setting V.view hub.old).is_hosted said.now × (result ≡ Err line_fault.Store)) }
     {
         match said {
             Line::Nothing => {}
@@ -88,16 +88,16 @@ impl Answers {
         event: &Event,
     ) -> Result<(), LineFault>
         ensures number { self.new.number ≡ self.old.number }
-        ensures setting { setting V.name V.gives hub.new ≡ setting V.name V.gives hub.old }
-        ensures world { is_clean S.clean hub.new → OnOk result (world S.rows hub.new
-            ≡ world_step (setting V.name V.gives hub.old) (world S.rows hub.old) event.now) }
-        ensures text { is_clean S.clean hub.new → OnOk result (self.new.text.items ≡ self.old.text.items
-            ++ told_lines (world_outputs (setting V.name V.gives hub.old) (world S.rows hub.old) event.now)) }
-        ensures fault_world { is_clean S.clean hub.new → OnErr result (IsStep (setting V.name V.gives hub.old) (world S.rows hub.old)
-            (line.Event event.now) (world S.rows hub.new)) }
-        ensures fault_text { is_clean S.clean hub.new → OnErr result (Begins self.new.text.items (self.old.text.items
-            ++ told_lines (world_outputs (setting V.name V.gives hub.old) (world S.rows hub.old) event.now))) }
-        ensures counted { IsCounted (failures_of S.failures) (is_clean S.clean) hub.old hub.new ((is_taken (setting V.name V.gives hub.old) event.now ≡ true) × (result ≡ Err line_fault.Store)) }
+        ensures setting { setting V.view hub.new ≡ setting V.view hub.old }
+        ensures world { is_clean S.view hub.new → OnOk result (world S.view hub.new
+            ≡ world_step (setting V.view hub.old) (world S.view hub.old) event.now) }
+        ensures text { is_clean S.view hub.new → OnOk result (self.new.text.items ≡ self.old.text.items
+            ++ told_lines (world_outputs (setting V.view hub.old) (world S.view hub.old) event.now)) }
+        ensures fault_world { is_clean S.view hub.new → OnErr result (IsStep (setting V.view hub.old) (world S.view hub.old)
+            (line.Event event.now) (world S.view hub.new)) }
+        ensures fault_text { is_clean S.view hub.new → OnErr result (Begins self.new.text.items (self.old.text.items
+            ++ told_lines (world_outputs (setting V.view hub.old) (world S.view hub.old) event.now))) }
+        ensures counted { IsCounted (hub_view S.view) hub.old hub.new ((is_taken (setting V.view hub.old) event.now ≡ true) × (result ≡ Err line_fault.Store)) }
     {
         let outs = hub.handle(event)?;
         push_all(&mut self.text, alloc, outs.as_slice())?;

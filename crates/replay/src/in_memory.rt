@@ -29,10 +29,10 @@ pub fn replay_in_memory<V: VendorHandler, R: Read, W: Write>(
 ) -> Result<(), ReplayFault>
     ensures ok { OnOk result (IfSome (R.remaining reader.old) (λ input.
         Appends (W.contents writer.old) (W.contents writer.new)
-        (output_of (setting_of V.name V.gives operators.items vendors.items) (record { rows = no_rows; slots = [] }) input))) }
+        (output_of (setting_of V.view operators.items vendors.items) (record { rows = no_rows; slots = [] }) input))) }
     ensures fault { OnErr result (IfSome (R.remaining reader.old) (λ input.
         AppendsFront (W.contents writer.old) (W.contents writer.new)
-        (output_of (setting_of V.name V.gives operators.items vendors.items) (record { rows = no_rows; slots = [] }) input))) }
+        (output_of (setting_of V.view operators.items vendors.items) (record { rows = no_rows; slots = [] }) input))) }
     ensures short { OnOk result (IfSome (R.remaining reader.old) (λ input. length input < 1073741824)) }
     ensures long { IfErr result (λ e. e ≡ TooLong → IfSome (R.remaining reader.old) (λ input. 1073741824 ≤ length input)) }
     ensures bad_operators { are_operators operators.items ≡ false → (result ≡ Err BadOperators) × (writer.new ≡ writer.old) }

@@ -2,7 +2,7 @@
 ghost use Rattle.std.specs.Prelude.{◌≡◌, ◌≢◌, ◌+◌, ◌*◌, ◌++◌, ◌<◌, ◌≤◌, ◌-◌, ◌^◌, List, [], ◌∷◌, ℕ, length, false, Option, Err, OnOk, OnErr, IfOk, IfErr, IfSome, vec_len};
 ghost use Rattle.std.specs.Io.KnownBytes.{Appends, IsAtEnd};
 ghost use Rattle.hub_rows.specs.Reads.{IsCounted};
-ghost use Rattle.hub.specs.Hub.{world, setting, is_clean, failures_of};
+ghost use Rattle.hub.specs.Hub.{hub_view, world, setting, is_clean};
 ghost use Rattle.replay.specs.Held.{lines_of};
 ghost use Rattle.replay.specs.Lines.{to_come, most_turns};
 ghost use Rattle.replay.specs.Run.{Stands, Falls, AppendsFront, IsReached, answers_to, world_after, output_of, world_of};
@@ -33,21 +33,21 @@ fn pass<S: Store + Drop, V: VendorHandler, R: Read, W: Write>(
     requires within { lines.old.start ≤ vec_len lines.old.buffer }
     requires unended { lines.old.ended ≡ false }
     requires room { answers.old.number + most_turns lines.old < 2 ^ 63 }
-    ensures setting { setting V.name V.gives hub.new ≡ setting V.name V.gives hub.old }
-    ensures world { is_clean S.clean hub.new → OnOk result (IfSome (to_come lines.old (R.remaining reader.old)) (λ all.
-        world S.rows hub.new ≡ world_after (setting V.name V.gives hub.old) (world S.rows hub.old) all)) }
-    ensures text { is_clean S.clean hub.new → OnOk result (IfSome (to_come lines.old (R.remaining reader.old)) (λ all. (start : Option (List ℕ)) (whole : List ℕ) →
-        Stands start (W.contents writer.old) (answers.old.text.items ++ answers_to (setting V.name V.gives hub.old) (world S.rows hub.old) answers.old.number all) whole →
+    ensures setting { setting V.view hub.new ≡ setting V.view hub.old }
+    ensures world { is_clean S.view hub.new → OnOk result (IfSome (to_come lines.old (R.remaining reader.old)) (λ all.
+        world S.view hub.new ≡ world_after (setting V.view hub.old) (world S.view hub.old) all)) }
+    ensures text { is_clean S.view hub.new → OnOk result (IfSome (to_come lines.old (R.remaining reader.old)) (λ all. (start : Option (List ℕ)) (whole : List ℕ) →
+        Stands start (W.contents writer.old) (answers.old.text.items ++ answers_to (setting V.view hub.old) (world S.view hub.old) answers.old.number all) whole →
         Stands start (W.contents writer.new) [] whole)) }
-    ensures fault_world { is_clean S.clean hub.new → OnErr result (IfSome (to_come lines.old (R.remaining reader.old)) (λ all.
-        IsReached (setting V.name V.gives hub.old) (world S.rows hub.old) all (world S.rows hub.new))) }
-    ensures fault_text { is_clean S.clean hub.new → OnErr result (IfSome (to_come lines.old (R.remaining reader.old)) (λ all. (start : Option (List ℕ)) (whole : List ℕ) →
-        Stands start (W.contents writer.old) (answers.old.text.items ++ answers_to (setting V.name V.gives hub.old) (world S.rows hub.old) answers.old.number all) whole →
+    ensures fault_world { is_clean S.view hub.new → OnErr result (IfSome (to_come lines.old (R.remaining reader.old)) (λ all.
+        IsReached (setting V.view hub.old) (world S.view hub.old) all (world S.view hub.new))) }
+    ensures fault_text { is_clean S.view hub.new → OnErr result (IfSome (to_come lines.old (R.remaining reader.old)) (λ all. (start : Option (List ℕ)) (whole : List ℕ) →
+        Stands start (W.contents writer.old) (answers.old.text.items ++ answers_to (setting V.view hub.old) (world S.view hub.old) answers.old.number all) whole →
         Falls start (W.contents writer.new) answers.new.text.items whole)) }
     ensures short { OnOk result (IfSome (R.remaining reader.old) (λ input. length input < lines.old.left)) }
     ensures long { IfErr result (λ e. e ≡ replay_fault.TooLong → IfSome (R.remaining reader.old) (λ input. lines.old.left ≤ length input)) }
     ensures operators { IfErr result (λ e. e ≢ replay_fault.BadOperators) }
-    ensures counted { IsCounted (failures_of S.failures) (is_clean S.clean) hub.old hub.new (result ≡ Err replay_fault.Store) }
+    ensures counted { IsCounted (hub_view S.view) hub.old hub.new (result ≡ Err replay_fault.Store) }
 {
     while lines.next(reader)? {
         answers.line(alloc, hub, lines.held())?;
@@ -73,19 +73,19 @@ pub fn replay<S: Store + Drop, V: VendorHandler, R: Read, W: Write>(
     reader: &mut R,
     writer: &mut W,
 ) -> Result<(), ReplayFault>
-    ensures setting { setting V.name V.gives hub.new ≡ setting V.name V.gives hub.old }
-    ensures ok { is_clean S.clean hub.new → OnOk result (IfSome (R.remaining reader.old) (λ input.
-        Appends (W.contents writer.old) (W.contents writer.new) (output_of (setting V.name V.gives hub.old) (world S.rows hub.old) input))) }
-    ensures world { is_clean S.clean hub.new → OnOk result (IfSome (R.remaining reader.old) (λ input.
-        world S.rows hub.new ≡ world_of (setting V.name V.gives hub.old) (world S.rows hub.old) input)) }
-    ensures fault { is_clean S.clean hub.new → OnErr result (IfSome (R.remaining reader.old) (λ input.
-        AppendsFront (W.contents writer.old) (W.contents writer.new) (output_of (setting V.name V.gives hub.old) (world S.rows hub.old) input))) }
-    ensures fault_world { is_clean S.clean hub.new → OnErr result (IfSome (R.remaining reader.old) (λ input.
-        IsReached (setting V.name V.gives hub.old) (world S.rows hub.old) (lines_of input) (world S.rows hub.new))) }
+    ensures setting { setting V.view hub.new ≡ setting V.view hub.old }
+    ensures ok { is_clean S.view hub.new → OnOk result (IfSome (R.remaining reader.old) (λ input.
+        Appends (W.contents writer.old) (W.contents writer.new) (output_of (setting V.view hub.old) (world S.view hub.old) input))) }
+    ensures world { is_clean S.view hub.new → OnOk result (IfSome (R.remaining reader.old) (λ input.
+        world S.view hub.new ≡ world_of (setting V.view hub.old) (world S.view hub.old) input)) }
+    ensures fault { is_clean S.view hub.new → OnErr result (IfSome (R.remaining reader.old) (λ input.
+        AppendsFront (W.contents writer.old) (W.contents writer.new) (output_of (setting V.view hub.old) (world S.view hub.old) input))) }
+    ensures fault_world { is_clean S.view hub.new → OnErr result (IfSome (R.remaining reader.old) (λ input.
+        IsReached (setting V.view hub.old) (world S.view hub.old) (lines_of input) (world S.view hub.new))) }
     ensures short { OnOk result (IfSome (R.remaining reader.old) (λ input. length input < 1073741824)) }
     ensures long { IfErr result (λ e. e ≡ replay_fault.TooLong → IfSome (R.remaining reader.old) (λ input. 1073741824 ≤ length input)) }
     ensures operators { IfErr result (λ e. e ≢ replay_fault.BadOperators) }
-    ensures counted { IsCounted (failures_of S.failures) (is_clean S.clean) hub.old hub.new (result ≡ Err replay_fault.Store) }
+    ensures counted { IsCounted (hub_view S.view) hub.old hub.new (result ≡ Err replay_fault.Store) }
 {
     let mut lines = Lines::new(alloc, MAX_INPUT);
     let mut answers = Answers {

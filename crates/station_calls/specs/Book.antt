@@ -1,19 +1,19 @@
 -- A book, by what its store and its handlers say of themselves.
-use Rattle.std.specs.Prelude.{ℕ, List, Option}
 use Rattle.hub_rows.specs.Rows.{Rows}
-use Rattle.station_calls.specs.Vendors.{Answers, answer_of}
+use Rattle.hub_rows.specs.StoreView.{StoreView}
+use Rattle.station_calls.specs.Vendors.{Answers, HandlerView, answer_of}
 use Rattle.station_calls.specs.declared.book.Book.{Book}
-use Rattle.station_calls.specs.declared.vendor.VendorAnswer.{VendorAnswer}
 
-abbrev pub book_rows : {S V : Type 0} → (S → Rows) → Book S V → Rows
-book_rows rows b = rows b.store
+-- its store
+abbrev pub book_view : {S V : Type 0} → (S → StoreView) → Book S V → StoreView
+book_view view b = view b.store
 
-abbrev pub book_failures : {S V : Type 0} → (S → ℕ) → Book S V → ℕ
-book_failures failures b = failures b.store
+abbrev pub book_rows : {S V : Type 0} → (S → StoreView) → Book S V → Rows
+book_rows view b = (view b.store).rows
 
-abbrev pub IsCleanBook : {S V : Type 0} → (S → Type 0) → Book S V → Type 0
-IsCleanBook clean b = clean b.store
+abbrev pub IsCleanBook : {S V : Type 0} → (S → StoreView) → Book S V → Type 0
+IsCleanBook view b = (view b.store).clean
 
 -- what vendors' messages are answered
-abbrev pub book_answers : {S V : Type 0} → (V → List ℕ) → (V → Option (List ℕ) → Option (List ℕ) → VendorAnswer) → Book S V → Answers
-book_answers name gives b = answer_of name gives b.vendors.items
+abbrev pub book_answers : {S V : Type 0} → (V → HandlerView) → Book S V → Answers
+book_answers view b = answer_of view b.vendors.items

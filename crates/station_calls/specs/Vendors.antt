@@ -14,12 +14,17 @@ lent_text (Some b) = Some b.now
 abbrev pub Answers : Type 0
 Answers = List ℕ → Option (List ℕ) → Option (List ℕ) → VendorAnswer
 
+-- a handler, as contracts see it: its vendor, and its answer to a message of that name and content
+pub record HandlerView : Type 0 where
+  pub name : List ℕ
+  pub gives : Option (List ℕ) → Option (List ℕ) → VendorAnswer
+
 -- no handler answers for the vendor
 abbrev pub unknown_vendor : VendorAnswer
 unknown_vendor = record { status = UnknownVendorId; content = None }
 
 -- the first handler of the vendor answers
-abbrev pub answer_of : {H : Type 0} → (H → List ℕ) → (H → Option (List ℕ) → Option (List ℕ) → VendorAnswer) → List H → Answers
-answer_of name gives [] vendor message content = unknown_vendor
-answer_of name gives (h ∷ hs) vendor message content =
-    if bytes_eq (name h) vendor then gives h message content else answer_of name gives hs vendor message content
+abbrev pub answer_of : {H : Type 0} → (H → HandlerView) → List H → Answers
+answer_of view [] vendor message content = unknown_vendor
+answer_of view (h ∷ hs) vendor message content =
+    if bytes_eq (view h).name vendor then (view h).gives message content else answer_of view hs vendor message content

@@ -1,6 +1,6 @@
 //! The rules of every action, over a store and the handlers of vendors.
 ghost use Rattle.std.specs.Prelude.{◌≡◌};
-ghost use Rattle.station_calls.specs.Book.{book_rows, book_failures, book_answers, IsCleanBook};
+ghost use Rattle.station_calls.specs.Book.{book_view, book_answers};
 
 use crate::core_handler::CoreHandler;
 use crate::vendor::{VendorHandler, ask, lent};
@@ -33,13 +33,9 @@ impl<S, V> Book<S, V> {
 }
 
 impl<S: Store, V: VendorHandler> CoreHandler for Book<S, V> {
-    ghost rows = { book_rows S.rows };
+    ghost view = { book_view S.view };
 
-    ghost failures = { book_failures S.failures };
-
-    ghost clean = { IsCleanBook S.clean };
-
-    ghost answers = { book_answers V.name V.gives };
+    ghost answers = { book_answers V.view };
 
     fn on_authorize(
         &mut self,

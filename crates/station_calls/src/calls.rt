@@ -2,7 +2,7 @@
 ghost use Rattle.std.specs.Prelude.{◌≡◌, Err, IfOk};
 ghost use Rattle.hub_rows.specs.Reads.{OnlyReads};
 ghost use Rattle.hub_rows.specs.Lookups.{lookups_at};
-ghost use Rattle.station_calls.specs.Book.{book_rows, book_failures, book_answers, IsCleanBook};
+ghost use Rattle.station_calls.specs.Book.{book_view, book_rows, book_answers, IsCleanBook};
 ghost use Rattle.station_calls.specs.Decided.{decision};
 
 use crate::book::Book;
@@ -24,10 +24,10 @@ pub fn decide<S: Store, V: VendorHandler>(
     request: Request,
     moment: Moment,
 ) -> Result<Decision, StoreFault>
-    ensures reads { OnlyReads (book_rows S.rows) (book_failures S.failures) (IsCleanBook S.clean) book.old book.new (result ≡ Err StoreFault.Failed) }
-    ensures decision { IsCleanBook S.clean book.new → IfOk result (λ d. d
-        ≡ decision (book_answers V.name V.gives book.old) station.now registration request moment (lookups_at op.now (book_rows S.rows book.old))) }
-    ensures answers { book_answers V.name V.gives book.new ≡ book_answers V.name V.gives book.old }
+    ensures reads { OnlyReads (book_view S.view) book.old book.new result }
+    ensures decision { IsCleanBook S.view book.new → IfOk result (λ d. d
+        ≡ decision (book_answers V.view book.old) station.now registration request moment (lookups_at op.now (book_rows S.view book.old))) }
+    ensures answers { book_answers V.view book.new ≡ book_answers V.view book.old }
 {
     let op = op.as_str();
     let station = station.as_str();

@@ -1,9 +1,8 @@
 //! What the decisions on stations' calls promise.
-ghost use Rattle.std.specs.Prelude.{◌≡◌, Err, ℕ, IfOk};
+ghost use Rattle.std.specs.Prelude.{◌≡◌, IfOk};
 ghost use Rattle.hub_rows.specs.Reads.{OnlyReads};
 ghost use Rattle.hub_rows.specs.Lookups.{lookups_at};
-ghost use Rattle.hub_rows.specs.Rows.{Rows};
-ghost use Rattle.hub_rows.specs.declared.store.StoreFault.TheVariants as store_fault;
+ghost use Rattle.hub_rows.specs.StoreView.{StoreView};
 ghost use Rattle.registry.specs.Boot.{boot_rule, heartbeat_rule};
 ghost use Rattle.registry.specs.Status.{status_rule};
 ghost use Rattle.charging.specs.MeterValues.{meter_values_rule};
@@ -25,14 +24,8 @@ use std::alloc::Global;
 /// records of the station's operator, which is for the caller to make. A decision leaves the
 /// records.
 pub trait CoreHandler {
-    /// The rows that it decides by.
-    ghost rows: { Self → Rows };
-
-    /// How often reading them has failed.
-    ghost failures: { Self → ℕ };
-
-    /// Whether they are read as they were written.
-    ghost clean: { Self → Type 0 };
+    /// The records that it decides by, as contracts see their store.
+    ghost view: { Self → StoreView };
 
     /// What vendors' messages are answered.
     ghost answers: { Self → Answers };
@@ -46,9 +39,9 @@ pub trait CoreHandler {
         request: Authorize,
         moment: Moment,
     ) -> Result<Decision, StoreFault>
-        ensures reads { OnlyReads rows failures clean self.old self.new (result ≡ Err store_fault.Failed) }
-        ensures decision { clean self.new → IfOk result (λ d. d
-            ≡ authorize_rule request moment (lookups_at op.now (rows self.old))) }
+        ensures reads { OnlyReads view self.old self.new result }
+        ensures decision { (view self.new).clean → IfOk result (λ d. d
+            ≡ authorize_rule request moment (lookups_at op.now (view self.old).rows)) }
         ensures answers { answers self.new ≡ answers self.old };
 
     /// A boot, of a station that is registered so (OCPP 1.6, section 4.2).
@@ -61,7 +54,7 @@ pub trait CoreHandler {
         request: Boxed<BootNotification>,
         moment: Moment,
     ) -> Result<Decision, StoreFault>
-        ensures reads { OnlyReads rows failures clean self.old self.new (result ≡ Err store_fault.Failed) }
+        ensures reads { OnlyReads view self.old self.new result }
         ensures decision { IfOk result (λ d. d ≡ boot_rule station.now registration request moment) }
         ensures answers { answers self.new ≡ answers self.old };
 
@@ -74,7 +67,7 @@ pub trait CoreHandler {
         request: DataTransfer,
         moment: Moment,
     ) -> Result<Decision, StoreFault>
-        ensures reads { OnlyReads rows failures clean self.old self.new (result ≡ Err store_fault.Failed) }
+        ensures reads { OnlyReads view self.old self.new result }
         ensures decision { IfOk result (λ d. d ≡ transfer_rule (answers self.old) request) }
         ensures answers { answers self.new ≡ answers self.old };
 
@@ -86,7 +79,7 @@ pub trait CoreHandler {
         station: &str,
         moment: Moment,
     ) -> Result<Decision, StoreFault>
-        ensures reads { OnlyReads rows failures clean self.old self.new (result ≡ Err store_fault.Failed) }
+        ensures reads { OnlyReads view self.old self.new result }
         ensures decision { IfOk result (λ d. d ≡ heartbeat_rule moment) }
         ensures answers { answers self.new ≡ answers self.old };
 
@@ -99,9 +92,9 @@ pub trait CoreHandler {
         request: MeterValues,
         moment: Moment,
     ) -> Result<Decision, StoreFault>
-        ensures reads { OnlyReads rows failures clean self.old self.new (result ≡ Err store_fault.Failed) }
-        ensures decision { clean self.new → IfOk result (λ d. d
-            ≡ meter_values_rule station.now request (lookups_at op.now (rows self.old))) }
+        ensures reads { OnlyReads view self.old self.new result }
+        ensures decision { (view self.new).clean → IfOk result (λ d. d
+            ≡ meter_values_rule station.now request (lookups_at op.now (view self.old).rows)) }
         ensures answers { answers self.new ≡ answers self.old };
 
     /// A transaction has begun (OCPP 1.6, section 4.8).
@@ -113,9 +106,9 @@ pub trait CoreHandler {
         request: StartTransaction,
         moment: Moment,
     ) -> Result<Decision, StoreFault>
-        ensures reads { OnlyReads rows failures clean self.old self.new (result ≡ Err store_fault.Failed) }
-        ensures decision { clean self.new → IfOk result (λ d. d
-            ≡ start_rule station.now request moment (lookups_at op.now (rows self.old))) }
+        ensures reads { OnlyReads view self.old self.new result }
+        ensures decision { (view self.new).clean → IfOk result (λ d. d
+            ≡ start_rule station.now request moment (lookups_at op.now (view self.old).rows)) }
         ensures answers { answers self.new ≡ answers self.old };
 
     /// A report on a connector (OCPP 1.6, section 4.9).
@@ -127,7 +120,7 @@ pub trait CoreHandler {
         request: Boxed<StatusNotification>,
         moment: Moment,
     ) -> Result<Decision, StoreFault>
-        ensures reads { OnlyReads rows failures clean self.old self.new (result ≡ Err store_fault.Failed) }
+        ensures reads { OnlyReads view self.old self.new result }
         ensures decision { IfOk result (λ d. d ≡ status_rule station.now request moment) }
         ensures answers { answers self.new ≡ answers self.old };
 
@@ -140,8 +133,8 @@ pub trait CoreHandler {
         request: StopTransaction,
         moment: Moment,
     ) -> Result<Decision, StoreFault>
-        ensures reads { OnlyReads rows failures clean self.old self.new (result ≡ Err store_fault.Failed) }
-        ensures decision { clean self.new → IfOk result (λ d. d
-            ≡ stop_rule station.now request moment (lookups_at op.now (rows self.old))) }
+        ensures reads { OnlyReads view self.old self.new result }
+        ensures decision { (view self.new).clean → IfOk result (λ d. d
+            ≡ stop_rule station.now request moment (lookups_at op.now (view self.old).rows)) }
         ensures answers { answers self.new ≡ answers self.old };
 }

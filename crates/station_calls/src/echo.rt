@@ -17,9 +17,7 @@ impl VendorHandler for Echo {
     ghost use Rattle.std.specs.Prelude.{codes};
     ghost use Rattle.station_calls.specs.Echo.{echo};
 
-    ghost name = { λ _. codes "org.example.echo" };
-
-    ghost gives = { λ _ message content. echo message content };
+    ghost view = { λ _. record { name = codes "org.example.echo"; gives = echo } };
 
     fn vendor(&self) -> &str {
         "org.example.echo"

@@ -1,5 +1,5 @@
 //! Messages of vendors (OCPP 1.6, section 4.3; docs/RULES.md, Vendor messages).
-ghost use Rattle.std.specs.Prelude.{◌≡◌, ℕ, List, Option, IfOk};
+ghost use Rattle.std.specs.Prelude.{◌≡◌, IfOk};
 ghost use Rattle.std.specs.Str.{bytes_eq};
 ghost use Rattle.station_calls.specs.Vendors.{lent_text, answer_of};
 
@@ -16,27 +16,22 @@ pub struct VendorAnswer {
 /// Answers the messages of one vendor. An answer is a function of the message alone. Nothing is
 /// kept from one message to the next, so no answer depends on another operator's messages.
 pub trait VendorHandler: Drop {
-    ghost use Rattle.station_calls.specs.declared.vendor.VendorAnswer.{VendorAnswer};
+    ghost use Rattle.station_calls.specs.Vendors.{HandlerView};
 
-    /// The vendor.
-    ghost name: { Self → List ℕ };
-
-    /// The answer to a message of that name and content.
-    ghost gives: { Self → Option (List ℕ) → Option (List ℕ) → VendorAnswer };
+    /// The handler as contracts see it: its vendor, and its answer to a message by its name and content.
+    ghost view: { Self → HandlerView };
 
     /// The vendor whose messages it answers, a `vendorId`.
     fn vendor(&self) -> &str
-        ensures { result.now ≡ name self.now };
+        ensures { result.now ≡ (view self.now).name };
 
     /// Answers a message by its `messageId` and its `data`, which may be missing.
     fn answer(&self, message: Option<&str>, content: Option<&str>) -> Mem<VendorAnswer>
-        ensures { IfOk result (λ a. a ≡ gives self.now (lent_text message.entry) (lent_text content.entry)) };
+        ensures { IfOk result (λ a. a ≡ (view self.now).gives (lent_text message.entry) (lent_text content.entry)) };
 }
 
 impl VendorHandler for Box<dyn VendorHandler> {
-    ghost name = { λ b. (VendorHandler-box b).name b.value };
-
-    ghost gives = { λ b. (VendorHandler-box b).gives b.value };
+    ghost view = { λ b. (VendorHandler-box b).view b.value };
 
     fn vendor(&self) -> &str {
         (**self).vendor()
@@ -48,7 +43,7 @@ impl VendorHandler for Box<dyn VendorHandler> {
 }
 
 fn is_of<V: VendorHandler>(handler: &V, vendor: &str) -> bool
-    ensures { result ≡ bytes_eq (V.name handler.now) vendor.now }
+    ensures { result ≡ bytes_eq (V.view handler.now).name vendor.now }
 {
     handler.vendor() == vendor
 }
@@ -61,7 +56,7 @@ pub fn ask<V: VendorHandler>(
     message: Option<&str>,
     content: Option<&str>,
 ) -> Mem<VendorAnswer>
-    ensures { IfOk result (λ a. a ≡ answer_of V.name V.gives vendors.now vendor.now (lent_text message.entry) (lent_text content.entry)) }
+    ensures { IfOk result (λ a. a ≡ answer_of V.view vendors.now vendor.now (lent_text message.entry) (lent_text content.entry)) }
 {
     for handler in vendors {
         if is_of(handler, vendor) {

@@ -51,11 +51,7 @@ impl<S> Failing<S> {
 }
 
 impl<S: Store> Store for Failing<S> {
-    ghost rows = { λ s. S.rows s.store };
-
-    ghost failures = { λ s. s.failures + S.failures s.store };
-
-    ghost clean = { λ s. S.clean s.store };
+    ghost view = { λ s. record (S.view s.store) { failures = s.failures + (S.view s.store).failures } };
 
     ghost well_formed = { λ s clean. S.well_formed s.store clean };
 

@@ -59,7 +59,7 @@ pub struct MemStore {
 impl MemStore {
     /// A store with no records, which takes no memory yet.
     pub fn new(alloc: Global) -> MemStore
-        ensures { ⟦<MemStore as Store>⟧.rows result ≡ no_rows }
+        ensures { (⟦<MemStore as Store>⟧.view result).rows ≡ no_rows }
     {
         MemStore {
             alloc,
@@ -75,8 +75,8 @@ impl MemStore {
     /// Adds a station, which is Fresh.
     fn add_station(&mut self, op: &Text, station: &Text, policy: Policy, interval: u32) -> Mem<()>
         requires { EditFits op.now (StationAdded station.now policy interval) (rows_in self.old.lists) }
-        ensures ok { OnOk result (⟦<MemStore as Store>⟧.rows self.new ≡ edit op.now (StationAdded station.now policy interval) (⟦<MemStore as Store>⟧.rows self.old)) }
-        ensures err { OnErr result (⟦<MemStore as Store>⟧.rows self.new ≡ ⟦<MemStore as Store>⟧.rows self.old) }
+        ensures ok { OnOk result ((⟦<MemStore as Store>⟧.view self.new).rows ≡ edit op.now (StationAdded station.now policy interval) (⟦<MemStore as Store>⟧.view self.old).rows) }
+        ensures err { OnErr result ((⟦<MemStore as Store>⟧.view self.new).rows ≡ (⟦<MemStore as Store>⟧.view self.old).rows) }
     {
         let row = StationRow {
             op: op.clone()?,
@@ -92,8 +92,8 @@ impl MemStore {
 
     /// Keeps a boot of a station in place of the one before, and the state that it leads to.
     fn see_boot(&mut self, op: &Text, station: &Text, boot: &Boot, state: State) -> Mem<()>
-        ensures ok { OnOk result (⟦<MemStore as Store>⟧.rows self.new ≡ edit op.now (BootSeen station.now boot.now state) (⟦<MemStore as Store>⟧.rows self.old)) }
-        ensures err { OnErr result (⟦<MemStore as Store>⟧.rows self.new ≡ ⟦<MemStore as Store>⟧.rows self.old) }
+        ensures ok { OnOk result ((⟦<MemStore as Store>⟧.view self.new).rows ≡ edit op.now (BootSeen station.now boot.now state) (⟦<MemStore as Store>⟧.view self.old).rows) }
+        ensures err { OnErr result ((⟦<MemStore as Store>⟧.view self.new).rows ≡ (⟦<MemStore as Store>⟧.view self.old).rows) }
     {
         let boot = boot.clone()?;
         let booted = StationChange::Booted { boot, state };
@@ -103,7 +103,7 @@ impl MemStore {
 
     /// Sets what a station's next boot is answered, which can't fail.
     fn set_policy(&mut self, op: &Text, station: &Text, policy: Policy, interval: u32)
-        ensures { ⟦<MemStore as Store>⟧.rows self.new ≡ edit op.now (PolicySet station.now policy interval) (⟦<MemStore as Store>⟧.rows self.old) }
+        ensures { (⟦<MemStore as Store>⟧.view self.new).rows ≡ edit op.now (PolicySet station.now policy interval) (⟦<MemStore as Store>⟧.view self.old).rows }
     {
         let set = StationChange::PolicySet { policy, interval };
         change_station(&mut self.lists.stations, op, station, set);
@@ -118,8 +118,8 @@ impl MemStore {
         report: &ConnectorReport,
     ) -> Mem<()>
         requires { EditFits op.now (ConnectorSeen station.now connector report.now) (rows_in self.old.lists) }
-        ensures ok { OnOk result (⟦<MemStore as Store>⟧.rows self.new ≡ edit op.now (ConnectorSeen station.now connector report.now) (⟦<MemStore as Store>⟧.rows self.old)) }
-        ensures err { OnErr result (⟦<MemStore as Store>⟧.rows self.new ≡ ⟦<MemStore as Store>⟧.rows self.old) }
+        ensures ok { OnOk result ((⟦<MemStore as Store>⟧.view self.new).rows ≡ edit op.now (ConnectorSeen station.now connector report.now) (⟦<MemStore as Store>⟧.view self.old).rows) }
+        ensures err { OnErr result ((⟦<MemStore as Store>⟧.view self.new).rows ≡ (⟦<MemStore as Store>⟧.view self.old).rows) }
     {
         let row = ConnectorRow {
             op: op.clone()?,
@@ -134,8 +134,8 @@ impl MemStore {
     /// Keeps a tag, in place of the one with its key.
     fn put_tag(&mut self, op: &Text, key: &TagKey, tag: &Tag) -> Mem<()>
         requires { EditFits op.now (TagPut key.now tag.now) (rows_in self.old.lists) }
-        ensures ok { OnOk result (⟦<MemStore as Store>⟧.rows self.new ≡ edit op.now (TagPut key.now tag.now) (⟦<MemStore as Store>⟧.rows self.old)) }
-        ensures err { OnErr result (⟦<MemStore as Store>⟧.rows self.new ≡ ⟦<MemStore as Store>⟧.rows self.old) }
+        ensures ok { OnOk result ((⟦<MemStore as Store>⟧.view self.new).rows ≡ edit op.now (TagPut key.now tag.now) (⟦<MemStore as Store>⟧.view self.old).rows) }
+        ensures err { OnErr result ((⟦<MemStore as Store>⟧.view self.new).rows ≡ (⟦<MemStore as Store>⟧.view self.old).rows) }
     {
         let row = TagRow {
             op: op.clone()?,
@@ -147,7 +147,7 @@ impl MemStore {
 
     /// Removes the tag of a key, with its grants, which can't fail.
     fn drop_tag(&mut self, op: &Text, key: &TagKey)
-        ensures { ⟦<MemStore as Store>⟧.rows self.new ≡ edit op.now (TagDropped key.now) (⟦<MemStore as Store>⟧.rows self.old) }
+        ensures { (⟦<MemStore as Store>⟧.view self.new).rows ≡ edit op.now (TagDropped key.now) (⟦<MemStore as Store>⟧.view self.old).rows }
     {
         let op = op.as_str();
         let key = key.as_str();
@@ -158,8 +158,8 @@ impl MemStore {
     /// Keeps a grant of a tag, in place of the one to that operator.
     fn put_grant(&mut self, op: &Text, key: &TagKey, to: &Text, until: Option<Moment>) -> Mem<()>
         requires { EditFits op.now (GrantPut key.now to.now until) (rows_in self.old.lists) }
-        ensures ok { OnOk result (⟦<MemStore as Store>⟧.rows self.new ≡ edit op.now (GrantPut key.now to.now until) (⟦<MemStore as Store>⟧.rows self.old)) }
-        ensures err { OnErr result (⟦<MemStore as Store>⟧.rows self.new ≡ ⟦<MemStore as Store>⟧.rows self.old) }
+        ensures ok { OnOk result ((⟦<MemStore as Store>⟧.view self.new).rows ≡ edit op.now (GrantPut key.now to.now until) (⟦<MemStore as Store>⟧.view self.old).rows) }
+        ensures err { OnErr result ((⟦<MemStore as Store>⟧.view self.new).rows ≡ (⟦<MemStore as Store>⟧.view self.old).rows) }
     {
         let row = GrantRow {
             op: op.clone()?,
@@ -172,7 +172,7 @@ impl MemStore {
 
     /// Removes a grant of a tag, which can't fail.
     fn drop_grant(&mut self, op: &Text, key: &TagKey, to: &Text)
-        ensures { ⟦<MemStore as Store>⟧.rows self.new ≡ edit op.now (GrantDropped key.now to.now) (⟦<MemStore as Store>⟧.rows self.old) }
+        ensures { (⟦<MemStore as Store>⟧.view self.new).rows ≡ edit op.now (GrantDropped key.now to.now) (⟦<MemStore as Store>⟧.view self.old).rows }
     {
         let grants = &mut self.lists.grants;
         grants.drop_one(op.as_str(), key.as_str(), to.as_str());
@@ -187,8 +187,8 @@ impl MemStore {
         reservation: &Reservation,
     ) -> Mem<()>
         requires { EditFits op.now (ReservationPut station.now id reservation.now) (rows_in self.old.lists) }
-        ensures ok { OnOk result (⟦<MemStore as Store>⟧.rows self.new ≡ edit op.now (ReservationPut station.now id reservation.now) (⟦<MemStore as Store>⟧.rows self.old)) }
-        ensures err { OnErr result (⟦<MemStore as Store>⟧.rows self.new ≡ ⟦<MemStore as Store>⟧.rows self.old) }
+        ensures ok { OnOk result ((⟦<MemStore as Store>⟧.view self.new).rows ≡ edit op.now (ReservationPut station.now id reservation.now) (⟦<MemStore as Store>⟧.view self.old).rows) }
+        ensures err { OnErr result ((⟦<MemStore as Store>⟧.view self.new).rows ≡ (⟦<MemStore as Store>⟧.view self.old).rows) }
     {
         let row = ReservationRow {
             op: op.clone()?,
@@ -202,7 +202,7 @@ impl MemStore {
 
     /// Removes a reservation, which can't fail.
     fn drop_reservation(&mut self, op: &Text, station: &Text, id: ReservationId)
-        ensures { ⟦<MemStore as Store>⟧.rows self.new ≡ edit op.now (ReservationDropped station.now id) (⟦<MemStore as Store>⟧.rows self.old) }
+        ensures { (⟦<MemStore as Store>⟧.view self.new).rows ≡ edit op.now (ReservationDropped station.now id) (⟦<MemStore as Store>⟧.view self.old).rows }
     {
         let rows = &mut self.lists.reservations;
         drop_reservation(rows, op.as_str(), station.as_str(), id);
@@ -211,8 +211,8 @@ impl MemStore {
     /// Keeps the local list of a station, in place of the one before.
     fn set_list(&mut self, op: &Text, station: &Text, list: &LocalList) -> Mem<()>
         requires { EditFits op.now (ListSet station.now list.now) (rows_in self.old.lists) }
-        ensures ok { OnOk result (⟦<MemStore as Store>⟧.rows self.new ≡ edit op.now (ListSet station.now list.now) (⟦<MemStore as Store>⟧.rows self.old)) }
-        ensures err { OnErr result (⟦<MemStore as Store>⟧.rows self.new ≡ ⟦<MemStore as Store>⟧.rows self.old) }
+        ensures ok { OnOk result ((⟦<MemStore as Store>⟧.view self.new).rows ≡ edit op.now (ListSet station.now list.now) (⟦<MemStore as Store>⟧.view self.old).rows) }
+        ensures err { OnErr result ((⟦<MemStore as Store>⟧.view self.new).rows ≡ (⟦<MemStore as Store>⟧.view self.old).rows) }
     {
         let row = ListRow {
             op: op.clone()?,
@@ -228,8 +228,8 @@ impl MemStore {
     /// Adds a transaction after those of its station, and removes the reservation that it names.
     fn start_tx(&mut self, op: &Text, station: &Text, number: u32, start: &Start) -> Mem<()>
         requires { EditFits op.now (TxStarted station.now number start.now) (rows_in self.old.lists) }
-        ensures ok { OnOk result (⟦<MemStore as Store>⟧.rows self.new ≡ edit op.now (TxStarted station.now number start.now) (⟦<MemStore as Store>⟧.rows self.old)) }
-        ensures err { OnErr result (⟦<MemStore as Store>⟧.rows self.new ≡ ⟦<MemStore as Store>⟧.rows self.old) }
+        ensures ok { OnOk result ((⟦<MemStore as Store>⟧.view self.new).rows ≡ edit op.now (TxStarted station.now number start.now) (⟦<MemStore as Store>⟧.view self.old).rows) }
+        ensures err { OnErr result ((⟦<MemStore as Store>⟧.view self.new).rows ≡ (⟦<MemStore as Store>⟧.view self.old).rows) }
     {
         let row = started(op, station, number, start)?;
         let start_row = start_of(&row)?;
@@ -251,7 +251,7 @@ impl MemStore {
 
     /// Stops a transaction, which can't fail.
     fn stop_tx(&mut self, op: &Text, station: &Text, number: u32, stop: Stop)
-        ensures { ⟦<MemStore as Store>⟧.rows self.new ≡ record (⟦<MemStore as Store>⟧.rows self.old) { transactions = changed (λ r. r.op) op.now (is_tx station.now number) (with_stop stop) (rows_in self.old.lists).transactions } }
+        ensures { (⟦<MemStore as Store>⟧.view self.new).rows ≡ record (⟦<MemStore as Store>⟧.view self.old).rows { transactions = changed (λ r. r.op) op.now (is_tx station.now number) (with_stop stop) (rows_in self.old.lists).transactions } }
     {
         let op = op.as_str();
         let station = station.as_str();
@@ -275,8 +275,8 @@ impl MemStore {
         readings: &[Reading],
     ) -> Mem<()>
         requires { EditFits op.now (ReadingsAdded station.now first readings.now) (rows_in self.old.lists) }
-        ensures ok { OnOk result (⟦<MemStore as Store>⟧.rows self.new ≡ edit op.now (ReadingsAdded station.now first readings.now) (⟦<MemStore as Store>⟧.rows self.old)) }
-        ensures err { OnErr result (⟦<MemStore as Store>⟧.rows self.new ≡ ⟦<MemStore as Store>⟧.rows self.old) }
+        ensures ok { OnOk result ((⟦<MemStore as Store>⟧.view self.new).rows ≡ edit op.now (ReadingsAdded station.now first readings.now) (⟦<MemStore as Store>⟧.view self.old).rows) }
+        ensures err { OnErr result ((⟦<MemStore as Store>⟧.view self.new).rows ≡ (⟦<MemStore as Store>⟧.view self.old).rows) }
     {
         add_readings(
             self.alloc,
@@ -290,11 +290,7 @@ impl MemStore {
 }
 
 impl Store for MemStore {
-    ghost rows = { λ s. rows_in s.lists };
-
-    ghost failures = { λ _. 0 };
-
-    ghost clean = { λ _. Unit {0} };
+    ghost view = { λ s. record { rows = rows_in s.lists; failures = 0; clean = Unit {0} } };
 
     ghost well_formed = { λ s _. s.good };
 

@@ -11,11 +11,11 @@ use Rattle.event_plans.specs.declared.out.Out.{Out}
 use Rattle.hub.specs.declared.fault.Fault.{Fault}
 use Rattle.hub.specs.declared.fault.Fault.TheVariants as fault
 use Rattle.hub.specs.declared.hub.Hub.{Hub}
-use Rattle.hub.specs.Hub.{world, setting, is_clean, is_taken, is_of_hosted, failures_of}
+use Rattle.hub.specs.Hub.{hub_view, world, setting, is_clean, is_taken, is_of_hosted}
 use Rattle.hub.specs.World.{Setting, World, world_outputs, world_step}
 use Rattle.hub_rows.specs.Reads.{IsCounted}
-use Rattle.hub_rows.specs.Rows.{Rows}
-use Rattle.station_calls.specs.declared.vendor.VendorAnswer.{VendorAnswer}
+use Rattle.hub_rows.specs.StoreView.{StoreView}
+use Rattle.station_calls.specs.Vendors.{HandlerView}
 use Rattle.lines.specs.Forms.{what_of}
 use Rattle.lines.specs.Orders.{order_of, order_in, is_order, has_line_feed}
 use Rattle.lines.specs.Words.{◌>>=◌}
@@ -91,13 +91,13 @@ runs-append : (st : Setting) (w v u : World) (before after : List Step) → Runs
 runs-append st w v u [] after e more = subst (λ x. Runs st x after u) e more
 runs-append st w v u (s ∷ before) after runs more = (runs.0, runs.1, runs-append st (world_step st w s.event) v u before after runs.2 more)
 
-module _ {S V : Type 0} (clean : S → Type 0) (rows : S → Rows) (name : V → List ℕ) (gives : V → Option (List ℕ) → Option (List ℕ) → VendorAnswer) (old new : Hub S V) where
+module _ {S V : Type 0} (view : S → StoreView) (handlers : V → HandlerView) (old new : Hub S V) where
   -- one event
   pub handed : (Change : List Step → Type 0) (event : Event) (outs : List Out) → Change (record { event = event; outs = outs } ∷ [])
-      → is_taken (setting name gives old) event ≡ true
-      → (is_clean clean new → outs ≡ world_outputs (setting name gives old) (world rows old) event)
-      → (is_clean clean new → world rows new ≡ world_step (setting name gives old) (world rows old) event)
-      → Takes clean rows name gives old new Change
+      → is_taken (setting handlers old) event ≡ true
+      → (is_clean view new → outs ≡ world_outputs (setting handlers old) (world view old) event)
+      → (is_clean view new → world view new ≡ world_step (setting handlers old) (world view old) event)
+      → Takes view handlers old new Change
   handed Change event outs change taken said moves = record {
     steps = record { event = event; outs = outs } ∷ [];
     change = change;
@@ -105,15 +105,15 @@ module _ {S V : Type 0} (clean : S → Type 0) (rows : S → Rows) (name : V →
   }
 
   -- none
-  pub nothing : (Change : List Step → Type 0) → Change [] → (is_clean clean new → world rows new ≡ world rows old) → Takes clean rows name gives old new Change
+  pub nothing : (Change : List Step → Type 0) → Change [] → (is_clean view new → world view new ≡ world view old) → Takes view handlers old new Change
   nothing Change change stands = record { steps = []; change = change; runs = stands }
 
   -- the same steps, of which more holds
-  pub changed : (C D : List Step → Type 0) → ((steps : List Step) → C steps → D steps) → Takes clean rows name gives old new C → Takes clean rows name gives old new D
+  pub changed : (C D : List Step → Type 0) → ((steps : List Step) → C steps → D steps) → Takes view handlers old new C → Takes view handlers old new D
   changed C D to takes = record { steps = takes.steps; change = to takes.steps takes.change; runs = takes.runs }
 
-module _ {S V : Type 0} (clean : S → Type 0) (rows : S → Rows) (failures : S → ℕ) (name : V → List ℕ) (gives : V → Option (List ℕ) → Option (List ℕ) → VendorAnswer) (old mid new : Hub S V) where
-  pub counted_more : (Early Late : Type 0) → IsCounted (failures_of failures) (is_clean clean) old mid Early → IsCounted (failures_of failures) (is_clean clean) mid new Late → IsCounted (failures_of failures) (is_clean clean) old new ⊥
+module _ {S V : Type 0} (view : S → StoreView) (handlers : V → HandlerView) (old mid new : Hub S V) where
+  pub counted_more : (Early Late : Type 0) → IsCounted (hub_view view) old mid Early → IsCounted (hub_view view) mid new Late → IsCounted (hub_view view) old new ⊥
   counted_more Early Late first second = record {
     was_clean = λ c. first.was_clean (second.was_clean c);
     failed = λ f. absurd f;
@@ -122,12 +122,12 @@ module _ {S V : Type 0} (clean : S → Type 0) (rows : S → Rows) (failures : S
 
   -- steps after steps
   pub taken_on : (C D E : List Step → Type 0) → ((before after : List Step) → C before → D after → E (before ++ after))
-      → setting name gives mid ≡ setting name gives old → (is_clean clean new → is_clean clean mid)
-      → Takes clean rows name gives old mid C → Takes clean rows name gives mid new D → Takes clean rows name gives old new E
+      → setting handlers mid ≡ setting handlers old → (is_clean view new → is_clean view mid)
+      → Takes view handlers old mid C → Takes view handlers mid new D → Takes view handlers old new E
   taken_on C D E joins same was first second = record {
     steps = first.steps ++ second.steps;
     change = joins first.steps second.steps first.change second.change;
-    runs = λ c. runs-append (setting name gives old) (world rows old) (world rows mid) (world rows new) first.steps second.steps (first.runs (was c)) (subst (λ st. Runs st (world rows mid) second.steps (world rows new)) same (second.runs c));
+    runs = λ c. runs-append (setting handlers old) (world view old) (world view mid) (world view new) first.steps second.steps (first.runs (was c)) (subst (λ st. Runs st (world view mid) second.steps (world view new)) same (second.runs c));
   }
 
 module _ {P : Type 0} (C : ℕ → Change P) where

@@ -1,7 +1,7 @@
 //! Admitting a connection.
 ghost use Rattle.std.specs.Prelude.{◌≡◌, true, false, Err, IfErr, OnOk};
 ghost use Rattle.hub_rows.specs.Reads.{IsCounted};
-ghost use Rattle.hub.specs.Hub.{setting, is_clean, failures_of, is_taken};
+ghost use Rattle.hub.specs.Hub.{hub_view, setting, is_taken};
 ghost use Rattle.ws_peers.specs.Lists.{peers, has_room};
 ghost use Rattle.ws_server.specs.Admits.{Enters};
 ghost use Rattle.ws_server.specs.Steps.{Takes};
@@ -32,12 +32,12 @@ impl<T: Read + Write + Drop> Gateway<T> {
         route: Route,
         moment: Moment,
     ) -> Result<(), Fault>
-        ensures takes { Takes S.clean S.rows V.name V.gives hub.old hub.new
+        ensures takes { Takes S.view V.view hub.old hub.new
             (λ steps. Admits T.contents socket moment route (peers_of self.old) (peers_of self.new) steps result) }
-        ensures hosted { OnOk result (is_route_of_hosted (setting V.name V.gives hub.old).is_hosted route ≡ true) }
-        ensures not_hosted { IfErr result (λ f. f ≡ Fault.NoSuchOperator → is_route_of_hosted (setting V.name V.gives hub.old).is_hosted route ≡ false) }
-        ensures counted { IsCounted (failures_of S.failures) (is_clean S.clean) hub.old hub.new (result ≡ Err Fault.Store) }
-        ensures setting { setting V.name V.gives hub.new ≡ setting V.name V.gives hub.old }
+        ensures hosted { OnOk result (is_route_of_hosted (setting V.view hub.old).is_hosted route ≡ true) }
+        ensures not_hosted { IfErr result (λ f. f ≡ Fault.NoSuchOperator → is_route_of_hosted (setting V.view hub.old).is_hosted route ≡ false) }
+        ensures counted { IsCounted (hub_view S.view) hub.old hub.new (result ≡ Err Fault.Store) }
+        ensures setting { setting V.view hub.new ≡ setting V.view hub.old }
     {
         match &route {
             Route::Station(op, station) => {
@@ -66,12 +66,12 @@ impl<T: Read + Write + Drop> Gateway<T> {
         route: Route,
         event: &Event,
     ) -> Result<(), Fault>
-        ensures takes { Takes S.clean S.rows V.name V.gives hub.old hub.new
+        ensures takes { Takes S.view V.view hub.old hub.new
             (λ steps. Connects T.contents socket event.now route (peers_of self.old) (peers_of self.new) steps result) }
-        ensures taken { OnOk result (is_taken (setting V.name V.gives hub.old) event.now ≡ true) }
-        ensures not_taken { IfErr result (λ f. f ≡ Fault.NoSuchOperator → is_taken (setting V.name V.gives hub.old) event.now ≡ false) }
-        ensures counted { IsCounted (failures_of S.failures) (is_clean S.clean) hub.old hub.new (result ≡ Err Fault.Store) }
-        ensures setting { setting V.name V.gives hub.new ≡ setting V.name V.gives hub.old }
+        ensures taken { OnOk result (is_taken (setting V.view hub.old) event.now ≡ true) }
+        ensures not_taken { IfErr result (λ f. f ≡ Fault.NoSuchOperator → is_taken (setting V.view hub.old) event.now ≡ false) }
+        ensures counted { IsCounted (hub_view S.view) hub.old hub.new (result ≡ Err Fault.Store) }
+        ensures setting { setting V.view hub.new ≡ setting V.view hub.old }
     {
         self.peers.reserve()?;
         let outs = hub.handle(event)?;

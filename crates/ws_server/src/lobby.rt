@@ -1,7 +1,7 @@
 //! Connections whose handshake is not done.
 ghost use Rattle.std.specs.Prelude.{◌≡◌, ◌≢◌, ◌++◌, ◌∷◌, ◌<◌, ◌≤◌, [], Err, OnOk, OnErr, IfOk, IfErr, length};
 ghost use Rattle.hub_rows.specs.Reads.{IsCounted};
-ghost use Rattle.hub.specs.Hub.{setting, is_clean, failures_of};
+ghost use Rattle.hub.specs.Hub.{hub_view, setting, is_clean};
 ghost use Rattle.ws_server.specs.Lobbies.{waiting_count, with_room};
 ghost use Rattle.ws_server.specs.Steps.{Takes};
 ghost use Rattle.ws_server.specs.Tells.{peers_of};
@@ -101,11 +101,11 @@ impl<T: Peek + Read + Write + Drop> Lobby<T> {
         hub: &mut Hub<S, V>,
         moment: Moment,
     ) -> Result<(), Fault>
-        ensures takes { Takes S.clean S.rows V.name V.gives hub.old hub.new
+        ensures takes { Takes S.view V.view hub.old hub.new
             (λ steps. WelcomesSome T.contents moment (peers_of gateway.old) (peers_of gateway.new) steps result) }
-        ensures counted { IsCounted (failures_of S.failures) (is_clean S.clean) hub.old hub.new (result ≡ Err Fault.Store) }
-        ensures hosted { is_clean S.clean hub.new → IfErr result (λ f. f ≢ Fault.NoSuchOperator) }
-        ensures setting { setting V.name V.gives hub.new ≡ setting V.name V.gives hub.old }
+        ensures counted { IsCounted (hub_view S.view) hub.old hub.new (result ≡ Err Fault.Store) }
+        ensures hosted { is_clean S.view hub.new → IfErr result (λ f. f ≢ Fault.NoSuchOperator) }
+        ensures setting { setting V.view hub.new ≡ setting V.view hub.old }
         ensures fewer { waiting_count self.new ≤ waiting_count self.old }
     {
         let mut n = 0_usize;
@@ -124,11 +124,11 @@ impl<T: Peek + Read + Write + Drop> Lobby<T> {
         n: &mut usize,
         moment: Moment,
     ) -> Result<(), Fault>
-        ensures takes { Takes S.clean S.rows V.name V.gives hub.old hub.new
+        ensures takes { Takes S.view V.view hub.old hub.new
             (λ steps. WelcomesOne T.contents moment (peers_of gateway.old) (peers_of gateway.new) steps result) }
-        ensures counted { IsCounted (failures_of S.failures) (is_clean S.clean) hub.old hub.new (result ≡ Err Fault.Store) }
-        ensures hosted { is_clean S.clean hub.new → IfErr result (λ f. f ≢ Fault.NoSuchOperator) }
-        ensures setting { setting V.name V.gives hub.new ≡ setting V.name V.gives hub.old }
+        ensures counted { IsCounted (hub_view S.view) hub.old hub.new (result ≡ Err Fault.Store) }
+        ensures hosted { is_clean S.view hub.new → IfErr result (λ f. f ≢ Fault.NoSuchOperator) }
+        ensures setting { setting V.view hub.new ≡ setting V.view hub.old }
         ensures fewer { waiting_count self.new ≤ waiting_count self.old }
     {
         if *n >= self.waiting.len() {

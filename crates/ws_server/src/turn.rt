@@ -1,7 +1,7 @@
 //! Serving the peers.
 ghost use Rattle.std.specs.Prelude.{◌≡◌, ◌<◌, List, ℕ, Err, IfErr, OnErr, length};
 ghost use Rattle.hub_rows.specs.Reads.{IsCounted};
-ghost use Rattle.hub.specs.Hub.{setting, is_clean, failures_of};
+ghost use Rattle.hub.specs.Hub.{hub_view, setting};
 ghost use Rattle.ws_server.specs.Steps.{Takes};
 ghost use Rattle.ws_server.specs.Tells.{peers_of};
 
@@ -24,10 +24,10 @@ impl<T: Read + Write + Drop> Gateway<T> {
         near: usize,
         event: &Event,
     ) -> Result<(), Fault>
-        ensures takes { Takes S.clean S.rows V.name V.gives hub.old hub.new
-            (λ steps. Hands T.contents (setting V.name V.gives hub.old).is_hosted event.now (peers_of self.old) (peers_of self.new) steps result) }
-        ensures counted { IsCounted (failures_of S.failures) (is_clean S.clean) hub.old hub.new (result ≡ Err Fault.Store) }
-        ensures setting { setting V.name V.gives hub.new ≡ setting V.name V.gives hub.old }
+        ensures takes { Takes S.view V.view hub.old hub.new
+            (λ steps. Hands T.contents (setting V.view hub.old).is_hosted event.now (peers_of self.old) (peers_of self.new) steps result) }
+        ensures counted { IsCounted (hub_view S.view) hub.old hub.new (result ≡ Err Fault.Store) }
+        ensures setting { setting V.view hub.new ≡ setting V.view hub.old }
         ensures count { length (peers_of self.new) ≡ length (peers_of self.old) }
     {
         let outs = hub.handle(event)?;
@@ -45,10 +45,10 @@ impl<T: Read + Write + Drop> Gateway<T> {
         text: &str,
     ) -> Result<(), Fault>
         requires { n < length (peers_of self.old) }
-        ensures takes { Takes S.clean S.rows V.name V.gives hub.old hub.new
-            (λ steps. HandsText T.contents (setting V.name V.gives hub.old).is_hosted moment n text.now (peers_of self.old) (peers_of self.new) steps result) }
-        ensures counted { IsCounted (failures_of S.failures) (is_clean S.clean) hub.old hub.new (result ≡ Err Fault.Store) }
-        ensures setting { setting V.name V.gives hub.new ≡ setting V.name V.gives hub.old }
+        ensures takes { Takes S.view V.view hub.old hub.new
+            (λ steps. HandsText T.contents (setting V.view hub.old).is_hosted moment n text.now (peers_of self.old) (peers_of self.new) steps result) }
+        ensures counted { IsCounted (hub_view S.view) hub.old hub.new (result ≡ Err Fault.Store) }
+        ensures setting { setting V.view hub.new ≡ setting V.view hub.old }
         ensures count { length (peers_of self.new) ≡ length (peers_of self.old) }
     {
         let route = self.peers.peer(n).route();
@@ -70,10 +70,10 @@ impl<T: Read + Write + Drop> Gateway<T> {
         moment: Moment,
     ) -> Result<(), Fault>
         requires { n < length (peers_of self.old) }
-        ensures takes { Takes S.clean S.rows V.name V.gives hub.old hub.new
-            (λ steps. Serves T.remaining T.contents (setting V.name V.gives hub.old).is_hosted moment n (peers_of self.old) (peers_of self.new) steps result) }
-        ensures counted { IsCounted (failures_of S.failures) (is_clean S.clean) hub.old hub.new (result ≡ Err Fault.Store) }
-        ensures setting { setting V.name V.gives hub.new ≡ setting V.name V.gives hub.old }
+        ensures takes { Takes S.view V.view hub.old hub.new
+            (λ steps. Serves T.remaining T.contents (setting V.view hub.old).is_hosted moment n (peers_of self.old) (peers_of self.new) steps result) }
+        ensures counted { IsCounted (hub_view S.view) hub.old hub.new (result ≡ Err Fault.Store) }
+        ensures setting { setting V.view hub.new ≡ setting V.view hub.old }
         ensures count { length (peers_of self.new) ≡ length (peers_of self.old) }
     {
         let Some(text) = self.peers.take(n) else {
@@ -96,10 +96,10 @@ impl<T: Read + Write + Drop> Gateway<T> {
         moment: Moment,
     ) -> Result<(), Fault>
         requires { n < length (peers_of self.old) }
-        ensures takes { Takes S.clean S.rows V.name V.gives hub.old hub.new
-            (λ steps. Parts T.contents (setting V.name V.gives hub.old).is_hosted moment n (peers_of self.old) (peers_of self.new) steps result) }
-        ensures counted { IsCounted (failures_of S.failures) (is_clean S.clean) hub.old hub.new (result ≡ Err Fault.Store) }
-        ensures setting { setting V.name V.gives hub.new ≡ setting V.name V.gives hub.old }
+        ensures takes { Takes S.view V.view hub.old hub.new
+            (λ steps. Parts T.contents (setting V.view hub.old).is_hosted moment n (peers_of self.old) (peers_of self.new) steps result) }
+        ensures counted { IsCounted (hub_view S.view) hub.old hub.new (result ≡ Err Fault.Store) }
+        ensures setting { setting V.view hub.new ≡ setting V.view hub.old }
         ensures count { length (peers_of self.new) ≡ length (peers_of self.old) }
     {
         let Some(event) = parting(self.peers.peer(n), moment)? else {
@@ -116,10 +116,10 @@ impl<T: Read + Write + Drop> Gateway<T> {
         hub: &mut Hub<S, V>,
         moment: Moment,
     ) -> Result<(), Fault>
-        ensures takes { Takes S.clean S.rows V.name V.gives hub.old hub.new
-            (λ steps. Each (Serves T.remaining T.contents (setting V.name V.gives hub.old).is_hosted moment) (peers_of self.old) (peers_of self.new) steps result) }
-        ensures counted { IsCounted (failures_of S.failures) (is_clean S.clean) hub.old hub.new (result ≡ Err Fault.Store) }
-        ensures setting { setting V.name V.gives hub.new ≡ setting V.name V.gives hub.old }
+        ensures takes { Takes S.view V.view hub.old hub.new
+            (λ steps. Each (Serves T.remaining T.contents (setting V.view hub.old).is_hosted moment) (peers_of self.old) (peers_of self.new) steps result) }
+        ensures counted { IsCounted (hub_view S.view) hub.old hub.new (result ≡ Err Fault.Store) }
+        ensures setting { setting V.view hub.new ≡ setting V.view hub.old }
     {
         for n in 0..self.count() {
             self.serve(hub, n, moment)?;
@@ -133,10 +133,10 @@ impl<T: Read + Write + Drop> Gateway<T> {
         hub: &mut Hub<S, V>,
         moment: Moment,
     ) -> Result<(), Fault>
-        ensures takes { Takes S.clean S.rows V.name V.gives hub.old hub.new
-            (λ steps. Each (Parts T.contents (setting V.name V.gives hub.old).is_hosted moment) (peers_of self.old) (peers_of self.new) steps result) }
-        ensures counted { IsCounted (failures_of S.failures) (is_clean S.clean) hub.old hub.new (result ≡ Err Fault.Store) }
-        ensures setting { setting V.name V.gives hub.new ≡ setting V.name V.gives hub.old }
+        ensures takes { Takes S.view V.view hub.old hub.new
+            (λ steps. Each (Parts T.contents (setting V.view hub.old).is_hosted moment) (peers_of self.old) (peers_of self.new) steps result) }
+        ensures counted { IsCounted (hub_view S.view) hub.old hub.new (result ≡ Err Fault.Store) }
+        ensures setting { setting V.view hub.new ≡ setting V.view hub.old }
     {
         for n in 0..self.count() {
             self.part(hub, n, moment)?;
@@ -152,10 +152,10 @@ impl<T: Read + Write + Drop> Gateway<T> {
         hub: &mut Hub<S, V>,
         moment: Moment,
     ) -> Result<(), Fault>
-        ensures takes { Takes S.clean S.rows V.name V.gives hub.old hub.new
-            (λ steps. Turns T.remaining T.contents (setting V.name V.gives hub.old).is_hosted moment (peers_of self.old) (peers_of self.new) steps result) }
-        ensures counted { IsCounted (failures_of S.failures) (is_clean S.clean) hub.old hub.new (result ≡ Err Fault.Store) }
-        ensures setting { setting V.name V.gives hub.new ≡ setting V.name V.gives hub.old }
+        ensures takes { Takes S.view V.view hub.old hub.new
+            (λ steps. Turns T.remaining T.contents (setting V.view hub.old).is_hosted moment (peers_of self.old) (peers_of self.new) steps result) }
+        ensures counted { IsCounted (hub_view S.view) hub.old hub.new (result ≡ Err Fault.Store) }
+        ensures setting { setting V.view hub.new ≡ setting V.view hub.old }
     {
         self.serve_each(hub, moment)?;
         self.part_and_tick(hub, moment)
@@ -167,10 +167,10 @@ impl<T: Read + Write + Drop> Gateway<T> {
         hub: &mut Hub<S, V>,
         moment: Moment,
     ) -> Result<(), Fault>
-        ensures takes { Takes S.clean S.rows V.name V.gives hub.old hub.new
-            (λ steps. PartsAndTicks T.contents (setting V.name V.gives hub.old).is_hosted moment (peers_of self.old) (peers_of self.new) steps result) }
-        ensures counted { IsCounted (failures_of S.failures) (is_clean S.clean) hub.old hub.new (result ≡ Err Fault.Store) }
-        ensures setting { setting V.name V.gives hub.new ≡ setting V.name V.gives hub.old }
+        ensures takes { Takes S.view V.view hub.old hub.new
+            (λ steps. PartsAndTicks T.contents (setting V.view hub.old).is_hosted moment (peers_of self.old) (peers_of self.new) steps result) }
+        ensures counted { IsCounted (hub_view S.view) hub.old hub.new (result ≡ Err Fault.Store) }
+        ensures setting { setting V.view hub.new ≡ setting V.view hub.old }
     {
         self.peers.leave();
         self.part_each(hub, moment)?;
@@ -183,10 +183,10 @@ impl<T: Read + Write + Drop> Gateway<T> {
         hub: &mut Hub<S, V>,
         moment: Moment,
     ) -> Result<(), Fault>
-        ensures takes { Takes S.clean S.rows V.name V.gives hub.old hub.new
-            (λ steps. SweepsAndTicks T.contents (setting V.name V.gives hub.old).is_hosted moment (peers_of self.old) (peers_of self.new) steps result) }
-        ensures counted { IsCounted (failures_of S.failures) (is_clean S.clean) hub.old hub.new (result ≡ Err Fault.Store) }
-        ensures setting { setting V.name V.gives hub.new ≡ setting V.name V.gives hub.old }
+        ensures takes { Takes S.view V.view hub.old hub.new
+            (λ steps. SweepsAndTicks T.contents (setting V.view hub.old).is_hosted moment (peers_of self.old) (peers_of self.new) steps result) }
+        ensures counted { IsCounted (hub_view S.view) hub.old hub.new (result ≡ Err Fault.Store) }
+        ensures setting { setting V.view hub.new ≡ setting V.view hub.old }
     {
         self.peers.sweep();
         self.hand(hub, 0, &Event::Tick { moment })

@@ -1,7 +1,7 @@
 //! A connection, from its head to its admission.
 ghost use Rattle.std.specs.Prelude.{◌≡◌, ◌≢◌, ◌&&◌, IfOk, IfErr, Err, false};
 ghost use Rattle.hub_rows.specs.Reads.{IsCounted};
-ghost use Rattle.hub.specs.Hub.{world, setting, is_clean, failures_of};
+ghost use Rattle.hub.specs.Hub.{hub_view, world, setting, is_clean};
 ghost use Rattle.ws_server.specs.Admits.{is_known};
 ghost use Rattle.ws_server.specs.Steps.{Takes};
 ghost use Rattle.ws_server.specs.Tells.{peers_of};
@@ -28,13 +28,13 @@ impl<T: Read + Write + Drop> Gateway<T> {
         route: Route,
         moment: Moment,
     ) -> Result<(), Fault>
-        ensures takes { Takes S.clean S.rows V.name V.gives hub.old hub.new
+        ensures takes { Takes S.view V.view hub.old hub.new
             (λ steps. Welcomes T.contents moment route (peers_of self.old) (peers_of self.new) steps result) }
-        ensures known { is_clean S.clean hub.new → is_known (setting V.name V.gives hub.old).is_hosted (world S.rows hub.old).rows route ≡ false
+        ensures known { is_clean S.view hub.new → is_known (setting V.view hub.old).is_hosted (world S.view hub.old).rows route ≡ false
             → peers_of self.new ≡ peers_of self.old }
-        ensures hosted { is_clean S.clean hub.new → IfErr result (λ f. f ≢ Fault.NoSuchOperator) }
-        ensures counted { IsCounted (failures_of S.failures) (is_clean S.clean) hub.old hub.new (result ≡ Err Fault.Store) }
-        ensures setting { setting V.name V.gives hub.new ≡ setting V.name V.gives hub.old }
+        ensures hosted { is_clean S.view hub.new → IfErr result (λ f. f ≢ Fault.NoSuchOperator) }
+        ensures counted { IsCounted (hub_view S.view) hub.old hub.new (result ≡ Err Fault.Store) }
+        ensures setting { setting V.view hub.new ≡ setting V.view hub.old }
     {
         let is_known = is_known(hub, &route)?;
         let is_station = matches!(route, Route::Station(_, _));
@@ -50,11 +50,11 @@ fn is_known<S: Store + Drop, V: VendorHandler>(
     hub: &mut Hub<S, V>,
     route: &Route,
 ) -> Result<bool, Fault>
-    ensures known { is_clean S.clean hub.new → IfOk result (λ k. k ≡ is_known (setting V.name V.gives hub.old).is_hosted (world S.rows hub.old).rows route.now) }
-    ensures world { is_clean S.clean hub.new → world S.rows hub.new ≡ world S.rows hub.old }
+    ensures known { is_clean S.view hub.new → IfOk result (λ k. k ≡ is_known (setting V.view hub.old).is_hosted (world S.view hub.old).rows route.now) }
+    ensures world { is_clean S.view hub.new → world S.view hub.new ≡ world S.view hub.old }
     ensures hosted { IfErr result (λ f. f ≢ Fault.NoSuchOperator) }
-    ensures counted { IsCounted (failures_of S.failures) (is_clean S.clean) hub.old hub.new (result ≡ Err Fault.Store) }
-    ensures setting { setting V.name V.gives hub.new ≡ setting V.name V.gives hub.old }
+    ensures counted { IsCounted (hub_view S.view) hub.old hub.new (result ≡ Err Fault.Store) }
+    ensures setting { setting V.view hub.new ≡ setting V.view hub.old }
 {
     match route {
         Route::Station(op, station) => hub.knows(op.as_str(), station.as_str()),

@@ -13,8 +13,8 @@ on_err P (Err e) holds = holds
 
 pub returns-in_err-of_second-clause-first_fault : goal.returns-in_err-of_second-clause-first_fault
 returns-in_err-of_second-clause-first_fault g c = λ clean.
-    let st : Setting = setting g.V.VendorHandler.name g.V.VendorHandler.gives c.args.first.now in
-    let w : World = world g.S.Store.rows c.args.first.now in
+    let st : Setting = setting g.V.VendorHandler.view c.args.first.now in
+    let w : World = world g.S.Store.view c.args.first.now in
     let es : List Event = c.args.first_events.now in
-    on_err (IsAfterSome st w es (world g.S.Store.rows c.outputs_for.new.hub)) c.from_residual-in_err-of_second.result
+    on_err (IsAfterSome st w es (world g.S.Store.view c.outputs_for.new.hub)) c.from_residual-in_err-of_second.result
     (record { taken = length es; within = omega arith; world = c.in_ok-of_first.ensures.world clean ∙ ap (world_run st w) (sym (take-length es)) })

@@ -8,7 +8,7 @@ use Rattle.hub.proofs.worlds.outputs_for.Goals as goal
 
 pub returns-in-Some-clause-not_hosted : goal.returns-in-Some-clause-not_hosted
 returns-in-Some-clause-not_hosted g c = λ is.
-    let st : Setting = setting g.V.VendorHandler.name g.V.VendorHandler.gives c.args.hub.now in
+    let st : Setting = setting g.V.VendorHandler.view c.args.hub.now in
     let es : List Event = c.args.events.now in
     let at : ℕ = c.run-outs.result.1 in
     record {

@@ -8,15 +8,15 @@ use Rattle.replay.proofs.Progress.{ProgressOf}
 use Rattle.replay.proofs.input.pass.Given as goal
 
 abbrev pub invariant-loop-answers : goal.invariant-loop-answers
-invariant-loop-answers g l = let st = setting g.V.VendorHandler.name g.V.VendorHandler.gives l.fn.hub in record {
+invariant-loop-answers g l = let st = setting g.V.VendorHandler.view l.fn.hub in record {
   within : l.lines.start ≤ vec_len l.lines.buffer;
   number : l.answers.number + most_turns l.lines ≤ l.fn.answers.number + most_turns l.fn.lines;
-  was_clean : is_clean g.S.Store.clean l.hub → is_clean g.S.Store.clean l.fn.hub;
-  count : failures_of g.S.Store.failures l.fn.hub ≤ failures_of g.S.Store.failures l.hub;
-  same : setting g.V.VendorHandler.name g.V.VendorHandler.gives l.hub ≡ st;
+  was_clean : is_clean g.S.Store.view l.hub → is_clean g.S.Store.view l.fn.hub;
+  count : failures_of g.S.Store.view l.fn.hub ≤ failures_of g.S.Store.view l.hub;
+  same : setting g.V.VendorHandler.view l.hub ≡ st;
   end : l.lines.ended ≡ true → (0 < l.lines.left) × IsAtEnd (g.R.Read.remaining l.reader);
   reads : Reads (g.R.Read.remaining l.fn.reader) (g.R.Read.remaining l.reader) l.fn.lines.left l.lines.left;
-  progress : ProgressOf (is_clean g.S.Store.clean l.hub) st (world g.S.Store.rows l.fn.hub) (world g.S.Store.rows l.hub)
+  progress : ProgressOf (is_clean g.S.Store.view l.hub) st (world g.S.Store.view l.fn.hub) (world g.S.Store.view l.hub)
       l.fn.answers.number l.answers.number (g.W.Write.contents l.fn.writer) (g.W.Write.contents l.writer) l.fn.answers.text.items l.answers.text.items
       (to_come l.fn.lines (g.R.Read.remaining l.fn.reader)) (to_come l.lines (g.R.Read.remaining l.reader));
 }

@@ -7,16 +7,16 @@ use Rattle.replay.proofs.input.replay.Goals as goal
 
 pub returns-in-Ok-clause-ok : goal.returns-in-Ok-clause-ok
 returns-in-Ok-clause-ok g c = λ clean.
-    let st : Setting = setting g.V.VendorHandler.name g.V.VendorHandler.gives c.args.hub.now in
-    let w : World = world g.S.Store.rows c.args.hub.now in
+    let st : Setting = setting g.V.VendorHandler.view c.args.hub.now in
+    let w : World = world g.S.Store.view c.args.hub.now in
     let new = c.new-lines.ensures in
     let none : unread c.new-lines.result ≡ [] = rw (new.start.0, new.start.1) refl in
     all_to_come _ _ (appends_all _ _ c.new.result.items st w c.new.ensures.items) _ _ _ new.ended none (c.in-Ok.ensures.text clean)
 
 pub returns-clause-fault : goal.returns-clause-fault
 returns-clause-fault g c = λ clean.
-    let st : Setting = setting g.V.VendorHandler.name g.V.VendorHandler.gives c.args.hub.now in
-    let w : World = world g.S.Store.rows c.args.hub.now in
+    let st : Setting = setting g.V.VendorHandler.view c.args.hub.now in
+    let w : World = world g.S.Store.view c.args.hub.now in
     let new = c.new-lines.ensures in
     let none : unread c.new-lines.result ≡ [] = rw (new.start.0, new.start.1) refl in
     all_to_come _ _ (appends_front _ _ _ c.new.result.items _ st w c.new.ensures.items c.write_last.ensures.front) _ _ _ new.ended none (c.in-Err.ensures.fault_text clean)

@@ -9,8 +9,8 @@ use Rattle.station_calls.proofs.calls.decide.Goals as goal
 
 pub returns-in-StartTransaction-clause-decision : goal.returns-in-StartTransaction-clause-decision
 returns-in-StartTransaction-clause-decision g c =
-    let rows : Rows = book_rows g.S.Store.rows c.args.book.now in
-    let answers : Answers = book_answers g.V.VendorHandler.name g.V.VendorHandler.gives c.args.book.now in
+    let rows : Rows = book_rows g.S.Store.view c.args.book.now in
+    let answers : Answers = book_answers g.V.VendorHandler.view c.args.book.now in
     let result = c.on_start_transaction.result in
     let start = c.in-StartTransaction.request in
     let m = c.args.moment in

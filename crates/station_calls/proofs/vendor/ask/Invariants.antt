@@ -4,5 +4,5 @@ use Rattle.station_calls.proofs.vendor.ask.Given as goal
 
 abbrev pub invariant-loop-handler : goal.invariant-loop-handler
 invariant-loop-handler g l =
-    answer_of g.V.VendorHandler.name g.V.VendorHandler.gives (drop l.handler-index l.vendors) l.vendor (lent_text l.message) (lent_text l.content)
-    ≡ answer_of g.V.VendorHandler.name g.V.VendorHandler.gives l.vendors l.vendor (lent_text l.message) (lent_text l.content)
+    answer_of g.V.VendorHandler.view (drop l.handler-index l.vendors) l.vendor (lent_text l.message) (lent_text l.content)
+    ≡ answer_of g.V.VendorHandler.view l.vendors l.vendor (lent_text l.message) (lent_text l.content)

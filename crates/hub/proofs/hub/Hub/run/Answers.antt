@@ -1,18 +1,19 @@
-use Rattle.std.proofs.Common.{◌≡◌, ◌∙◌, ◌+◌, true, take, ap, sym, arith}
+use Rattle.std.proofs.Common.{◌≡◌, ◌∙◌, ◌+◌, true, take, ap, sym, subst, arith}
 use Rattle.std.proofs.lemmas.List.Elements.{AllWithin-more, at_read}
 use Rattle.pending_calls.proofs.OwnSlots.{slots-sorted}
 use Rattle.hub.specs.Hub.{world, setting, is_taken}
 use Rattle.hub.specs.View.{view}
-use Rattle.hub.specs.WellFormed.{WellFormed}
+use Rattle.hub.specs.WellFormed.{WellFormed, SlotsHaveStations}
 use Rattle.hub.specs.World.{Setting, World, outputs_of, run_outputs, world_run}
 use Rattle.hub.proofs.Isolation.{run_outputs-own, world_run-own}
 use Rattle.hub.proofs.Runs.{outputs_go_on, world_goes_on}
+use Rattle.hub.proofs.Stations.{have-run}
 use Rattle.hub.proofs.hub.Hub.run.Goals as goal
 
 pub returns-in-Err-clause-isolated_outputs : goal.returns-in-Err-clause-isolated_outputs
 returns-in-Err-clause-isolated_outputs g c = λ clean a.
-    let st : Setting = setting g.V.VendorHandler.name g.V.VendorHandler.gives c.args.self.now in
-    let w : World = world g.S.Store.rows c.args.self.now in
+    let st : Setting = setting g.V.VendorHandler.view c.args.self.now in
+    let w : World = world g.S.Store.view c.args.self.now in
     let inv = c.loop-event.invariant in
     let before = c.in-Err.ensures.counted.was_clean clean in
     let good : WellFormed w = record { rows = g.met.S.Store.well_formed c.args.self.now.book.store (inv.was_clean before); slots = slots-sorted c.args.self.now.slots } in
@@ -21,8 +22,8 @@ returns-in-Err-clause-isolated_outputs g c = λ clean a.
 
 pub returns-in-Err-clause-isolated_view : goal.returns-in-Err-clause-isolated_view
 returns-in-Err-clause-isolated_view g c = λ clean a.
-    let st : Setting = setting g.V.VendorHandler.name g.V.VendorHandler.gives c.args.self.now in
-    let w : World = world g.S.Store.rows c.args.self.now in
+    let st : Setting = setting g.V.VendorHandler.view c.args.self.now in
+    let w : World = world g.S.Store.view c.args.self.now in
     let inv = c.loop-event.invariant in
     let before = c.in-Err.ensures.counted.was_clean clean in
     let good : WellFormed w = record { rows = g.met.S.Store.well_formed c.args.self.now.book.store (inv.was_clean before); slots = slots-sorted c.args.self.now.slots } in
@@ -31,8 +32,8 @@ returns-in-Err-clause-isolated_view g c = λ clean a.
 
 pub returns-clause-isolated_outputs : goal.returns-clause-isolated_outputs
 returns-clause-isolated_outputs g c = λ clean a.
-    let st : Setting = setting g.V.VendorHandler.name g.V.VendorHandler.gives c.args.self.now in
-    let w : World = world g.S.Store.rows c.args.self.now in
+    let st : Setting = setting g.V.VendorHandler.view c.args.self.now in
+    let w : World = world g.S.Store.view c.args.self.now in
     let inv = c.loop-event.invariant in
     let good : WellFormed w = record { rows = g.met.S.Store.well_formed c.args.self.now.book.store (inv.was_clean clean); slots = slots-sorted c.args.self.now.slots } in
     ap (outputs_of a) (inv.outputs clean ∙ ap (λ n. run_outputs st w (take n c.args.events.now)) (sym inv.at))
@@ -40,8 +41,8 @@ returns-clause-isolated_outputs g c = λ clean a.
 
 pub returns-clause-isolated_view : goal.returns-clause-isolated_view
 returns-clause-isolated_view g c = λ clean a.
-    let st : Setting = setting g.V.VendorHandler.name g.V.VendorHandler.gives c.args.self.now in
-    let w : World = world g.S.Store.rows c.args.self.now in
+    let st : Setting = setting g.V.VendorHandler.view c.args.self.now in
+    let w : World = world g.S.Store.view c.args.self.now in
     let inv = c.loop-event.invariant in
     let good : WellFormed w = record { rows = g.met.S.Store.well_formed c.args.self.now.book.store (inv.was_clean clean); slots = slots-sorted c.args.self.now.slots } in
     ap (view a) (inv.world clean ∙ ap (λ n. world_run st w (take n c.args.events.now)) (sym inv.at))
@@ -49,13 +50,13 @@ returns-clause-isolated_view g c = λ clean a.
 
 pub loop-event-preserved : goal.loop-event-preserved
 loop-event-preserved g c =
-    let st : Setting = setting g.V.VendorHandler.name g.V.VendorHandler.gives c.args.self.now in
-    let w : World = world g.S.Store.rows c.args.self.now in
+    let st : Setting = setting g.V.VendorHandler.view c.args.self.now in
+    let w : World = world g.S.Store.view c.args.self.now in
     let at = c.loop-event in
     let inv = c.loop-event.invariant in
     let i = c.loop-event.event-index in
     let es = c.args.events.now in
-    let mine : Setting = setting g.V.VendorHandler.name g.V.VendorHandler.gives at.self in
+    let mine : Setting = setting g.V.VendorHandler.view at.self in
     record {
       at = ap (λ n. n + 1) inv.at;
       hosted = AllWithin-more (λ e. is_taken st e ≡ true) es 0 i inv.hosted
@@ -63,12 +64,25 @@ loop-event-preserved g c =
           (ap (λ s. is_taken s c.event-item.result) (sym inv.setting) ∙ c.in-Ok.ensures.taken));
       was_clean = λ clean. inv.was_clean (c.in-Ok.ensures.counted.was_clean clean);
       outputs = λ clean. let before = c.in-Ok.ensures.counted.was_clean clean in
-          outputs_go_on st w es i c.event-item.result at.outs.items c.take.new.told.items mine (world g.S.Store.rows at.self) c.loop-event-test.true c.event-item.is inv.setting (inv.world before) (inv.outputs before) (c.in-Ok.ensures.told clean);
+          outputs_go_on st w es i c.event-item.result at.outs.items c.take.new.told.items mine (world g.S.Store.view at.self) c.loop-event-test.true c.event-item.is inv.setting (inv.world before) (inv.outputs before) (c.in-Ok.ensures.told clean);
       world = λ clean. let before = c.in-Ok.ensures.counted.was_clean clean in
-          world_goes_on st w es i c.event-item.result (world g.S.Store.rows c.take.new.self) mine (world g.S.Store.rows at.self) c.loop-event-test.true c.event-item.is inv.setting (inv.world before) (c.in-Ok.ensures.world clean);
+          world_goes_on st w es i c.event-item.result (world g.S.Store.view c.take.new.self) mine (world g.S.Store.view at.self) c.loop-event-test.true c.event-item.is inv.setting (inv.world before) (c.in-Ok.ensures.world clean);
       setting = c.in-Ok.ensures.setting ∙ inv.setting;
       count = omega (arith, c.in-Ok.ensures.counted.count);
     }
 
 pub returns-in-Err-clause-setting : goal.returns-in-Err-clause-setting
 returns-in-Err-clause-setting g c = c.in-Err.ensures.setting ∙ c.loop-event.invariant.setting
+
+pub returns-in-Err-clause-stations : goal.returns-in-Err-clause-stations
+returns-in-Err-clause-stations g c = λ clean have.
+    let st : Setting = setting g.V.VendorHandler.view c.args.self.now in
+    let w : World = world g.S.Store.view c.args.self.now in
+    let before = c.in-Err.ensures.counted.was_clean clean in
+    subst SlotsHaveStations (sym (c.in-Err.ensures.err_world clean ∙ c.loop-event.invariant.world before)) (have-run st w (take c.loop-event.event-index c.args.events.now) have)
+
+pub returns-clause-stations : goal.returns-clause-stations
+returns-clause-stations g c = λ clean have.
+    let st : Setting = setting g.V.VendorHandler.view c.args.self.now in
+    let w : World = world g.S.Store.view c.args.self.now in
+    subst SlotsHaveStations (sym (c.loop-event.invariant.world clean)) (have-run st w (take c.loop-event.event-index c.args.events.now) have)

@@ -3,8 +3,8 @@ use Rattle.hub.proofs.hub.Hub.take.Goals as goal
 
 pub returns-in_err-expire_all-in-Tick-clause-setting : goal.returns-in_err-expire_all-in-Tick-clause-setting
 unfolding setting
-returns-in_err-expire_all-in-Tick-clause-setting g c = λ i. record (setting g.V.VendorHandler.name g.V.VendorHandler.gives c.args.self.now) { first_number = c.expire_all.ensures.number i }
+returns-in_err-expire_all-in-Tick-clause-setting g c = λ i. record (setting g.V.VendorHandler.view c.args.self.now) { first_number = c.expire_all.ensures.number i }
 
 pub returns-in_ok-expire_all-in-Tick-clause-setting : goal.returns-in_ok-expire_all-in-Tick-clause-setting
 unfolding setting
-returns-in_ok-expire_all-in-Tick-clause-setting g c = λ i. record (setting g.V.VendorHandler.name g.V.VendorHandler.gives c.args.self.now) { first_number = c.expire_all.ensures.number i }
+returns-in_ok-expire_all-in-Tick-clause-setting g c = λ i. record (setting g.V.VendorHandler.view c.args.self.now) { first_number = c.expire_all.ensures.number i }

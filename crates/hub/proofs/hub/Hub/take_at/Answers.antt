@@ -12,8 +12,8 @@ use Rattle.hub.proofs.hub.Hub.take_at.Goals as goal
 pub commit-requires-clause-fits : goal.commit-requires-clause-fits
 unfolding setting
 commit-requires-clause-fits g c = λ clean.
-    let st : Setting = setting g.V.VendorHandler.name g.V.VendorHandler.gives c.args.self.now in
-    let w : World = world g.S.Store.rows c.args.self.now in
+    let st : Setting = setting g.V.VendorHandler.view c.args.self.now in
+    let w : World = world g.S.Store.view c.args.self.now in
     let p = c.in_ok-plan.plan in
     subst (λ rows. ForSome (edit_of p.effect) (λ e. EditFits c.args.op.now e rows)) (sym (c.in_ok-plan.ensures.reads.kept clean))
     (edit_of_plan_fits st.first_number st.is_hosted st.answers c.args.op.now c.args.what.now c.args.moment w p (rw c.as_slice-hosted.ensures.value at (c.in_ok-plan.ensures.plan clean)))

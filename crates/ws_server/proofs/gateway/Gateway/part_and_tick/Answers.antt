@@ -13,10 +13,10 @@ returns-in_err-part_each-clause-takes g c =
     let old = peers_of c.args.self.now in
     let new = peers_of c.part_each.new.self in
     let r = c.from_residual.result in
-    let hosts = (setting g.V.VendorHandler.name g.V.VendorHandler.gives c.args.hub.now).is_hosted in
+    let hosts = (setting g.V.VendorHandler.view c.args.hub.now).is_hosted in
     let Parted = Each (Parts g.T.Write.contents hosts c.args.moment) in
     let Rest = SweepsAndTicks g.T.Write.contents hosts c.args.moment in
-    changed _ _ _ _ _ _ _ (λ steps. PartsAndTicks g.T.Write.contents hosts c.args.moment old new steps r)
+    changed _ _ _ _ _ (λ steps. PartsAndTicks g.T.Write.contents hosts c.args.moment old new steps r)
     (λ steps change. becomes (map leaves) (Then Parted Rest) old _ new steps r c.leave.ensures (fails Parted Rest _ new steps c.in_err-part_each.field-0.0 r c.from_residual.ensures.0 c.from_residual.ensures.1 change))
     c.in_err-part_each.ensures.takes
 
@@ -27,9 +27,9 @@ returns-clause-takes g c =
     let new = peers_of c.sweep_and_tick.new.self in
     let r = c.sweep_and_tick.result in
     let Under : Setting → Change (Peer _) = λ st. SweepsAndTicks g.T.Write.contents st.is_hosted c.args.moment in
-    let now = setting g.V.VendorHandler.name g.V.VendorHandler.gives c.args.hub.now in
+    let now = setting g.V.VendorHandler.view c.args.hub.now in
     let Parted = Each (Parts g.T.Write.contents now.is_hosted c.args.moment) in
     let same = c.in_ok-part_each.ensures.setting in
-    taken_on _ _ g.S.Store.failures _ _ _ _ _ _ _ (λ steps. PartsAndTicks g.T.Write.contents now.is_hosted c.args.moment old new steps r)
+    taken_on _ _ _ _ _ _ _ (λ steps. PartsAndTicks g.T.Write.contents now.is_hosted c.args.moment old new steps r)
     (λ before after first second. becomes (map leaves) (Then Parted (Under now)) old _ new _ r c.leave.ensures (follows Parted (Under now) _ mid new before after r first (subst (λ st. Under st mid new after r) same second)))
     same c.sweep_and_tick.ensures.counted.was_clean c.in_ok-part_each.ensures.takes c.sweep_and_tick.ensures.takes

@@ -12,11 +12,11 @@ loop-n-preserved g c =
     let inv = c.loop-n.invariant in
     let e = c.in_ok-part.ensures in
     let Under : Setting → ℕ → Change (Peer _) = λ st. Parts g.T.Write.contents st.is_hosted c.args.moment in
-    let C = Under (setting g.V.VendorHandler.name g.V.VendorHandler.gives c.args.hub.now) in
+    let C = Under (setting g.V.VendorHandler.view c.args.hub.now) in
     record {
-      takes = taken_on _ _ g.S.Store.failures _ _ _ _ _ _ _ (λ steps. FirstPlaces C (c.loop-n.n + 1) (peers_of c.args.self.now) (peers_of c.part.new.self) steps)
+      takes = taken_on _ _ _ _ _ _ _ (λ steps. FirstPlaces C (c.loop-n.n + 1) (peers_of c.args.self.now) (peers_of c.part.new.self) steps)
           (λ before after first more. place_more C c.loop-n.n _ (peers_of c.loop-n.self) (peers_of c.part.new.self) before after first (subst (λ st. Under st c.loop-n.n (peers_of c.loop-n.self) (peers_of c.part.new.self) after (Ok tt)) inv.setting more)) inv.setting e.counted.was_clean inv.takes e.takes;
-      counted = counted_more _ g.S.Store.rows _ g.V.VendorHandler.name g.V.VendorHandler.gives _ _ _ _ _ inv.counted e.counted;
+      counted = counted_more g.S.Store.view g.V.VendorHandler.view _ _ _ _ _ inv.counted e.counted;
       setting = e.setting ∙ inv.setting;
       count = e.count ∙ inv.count;
       end = inv.end;

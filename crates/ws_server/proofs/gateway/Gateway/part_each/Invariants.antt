@@ -1,5 +1,5 @@
 use Rattle.std.proofs.Common.{◌≡◌, length}
-use Rattle.hub.specs.Hub.{setting, is_clean, failures_of}
+use Rattle.hub.specs.Hub.{hub_view, setting}
 use Rattle.hub_rows.specs.Reads.{IsCounted}
 use Rattle.ws_server.specs.Steps.{Takes}
 use Rattle.ws_server.specs.Tells.{peers_of}
@@ -8,9 +8,9 @@ use Rattle.ws_server.proofs.gateway.Gateway.part_each.Given as goal
 
 abbrev pub invariant-loop-n : goal.invariant-loop-n
 invariant-loop-n g l = record {
-  takes : Takes g.S.Store.clean g.S.Store.rows g.V.VendorHandler.name g.V.VendorHandler.gives l.fn.hub l.hub (λ steps. FirstPlaces (Parts g.T.Write.contents (setting g.V.VendorHandler.name g.V.VendorHandler.gives l.fn.hub).is_hosted l.moment) l.n (peers_of l.fn.self) (peers_of l.self) steps);
-  counted : IsCounted (failures_of g.S.Store.failures) (is_clean g.S.Store.clean) l.fn.hub l.hub ⊥;
-  setting : setting g.V.VendorHandler.name g.V.VendorHandler.gives l.hub ≡ setting g.V.VendorHandler.name g.V.VendorHandler.gives l.fn.hub;
+  takes : Takes g.S.Store.view g.V.VendorHandler.view l.fn.hub l.hub (λ steps. FirstPlaces (Parts g.T.Write.contents (setting g.V.VendorHandler.view l.fn.hub).is_hosted l.moment) l.n (peers_of l.fn.self) (peers_of l.self) steps);
+  counted : IsCounted (hub_view g.S.Store.view) l.fn.hub l.hub ⊥;
+  setting : setting g.V.VendorHandler.view l.hub ≡ setting g.V.VendorHandler.view l.fn.hub;
   count : length (peers_of l.self) ≡ length (peers_of l.fn.self);
   end : l.n-end ≡ length (peers_of l.fn.self);
 }

@@ -10,12 +10,12 @@ use Rattle.ws_server.proofs.gateway.Gateway.serve.Goals as goal
 
 pub returns-clause-takes : goal.returns-clause-takes
 returns-clause-takes g c =
-    let hosts = (setting g.V.VendorHandler.name g.V.VendorHandler.gives c.args.hub.now).is_hosted in
+    let hosts = (setting g.V.VendorHandler.view c.args.hub.now).is_hosted in
     let old = peers_of c.args.self.now in
     let mid = lists.peers c.take.new.self in
     let new = lists.peers c.end.new.self in
     let fault = c.in-Err.fault in
-    changed _ _ _ _ _ _ _ (λ steps. Serves g.T.Read.remaining g.T.Write.contents hosts c.args.moment c.args.n old new steps (Err fault))
+    changed _ _ _ _ _ (λ steps. Serves g.T.Read.remaining g.T.Write.contents hosts c.args.moment c.args.n old new steps (Err fault))
     (λ steps change. record {
       text = Some c.in-Some.text;
       mid = mid;

@@ -13,10 +13,10 @@ returns-clause-takes g c =
     let mid = peers_of c.serve_each.new.self in
     let new = peers_of c.part_and_tick.new.self in
     let r = c.part_and_tick.result in
-    let now = setting g.V.VendorHandler.name g.V.VendorHandler.gives c.args.hub.now in
+    let now = setting g.V.VendorHandler.view c.args.hub.now in
     let Served = Each (Serves g.T.Read.remaining g.T.Write.contents now.is_hosted c.args.moment) in
     let Under : Setting → Change (Peer _) = λ st. PartsAndTicks g.T.Write.contents st.is_hosted c.args.moment in
     let same = c.in_ok-serve_each.ensures.setting in
-    taken_on _ _ g.S.Store.failures _ _ _ _ _ _ _ (λ steps. Turns g.T.Read.remaining g.T.Write.contents now.is_hosted c.args.moment old new steps r)
+    taken_on _ _ _ _ _ _ _ (λ steps. Turns g.T.Read.remaining g.T.Write.contents now.is_hosted c.args.moment old new steps r)
     (λ before after first second. follows Served (Under now) old mid new before after r first (subst (λ st. Under st mid new after r) same second))
     same c.part_and_tick.ensures.counted.was_clean c.in_ok-serve_each.ensures.takes c.part_and_tick.ensures.takes

@@ -15,13 +15,13 @@ returns-in-Some-clause-takes g c =
     let r = c.admit.result in
     let None : List Step → Type 0 = λ steps. steps ≡ [] in
     let Welcomed : List Step → Type 0 = λ steps. Welcomes g.T.Write.contents c.args.moment c.args.route old new steps r in
-    taken_on _ _ g.S.Store.failures _ _ _ _ _ None _ Welcomed
+    taken_on _ _ _ _ _ None _ Welcomed
     (λ before after none change. subst (λ steps. Welcomed (steps ++ after)) (sym none) (inr (c.in-Some.socket, c.in-Some.ensures.socket, change)))
     c.in_ok-is_known.ensures.setting c.admit.ensures.counted.was_clean
-    (nothing _ _ _ _ _ _ None refl c.in_ok-is_known.ensures.world) c.admit.ensures.takes
+    (nothing _ _ _ _ None refl c.in_ok-is_known.ensures.world) c.admit.ensures.takes
 
 pub returns-in-Some-clause-hosted : goal.returns-in-Some-clause-hosted
 returns-in-Some-clause-hosted g c = λ clean.
     let known = sym (c.in_ok-is_known.ensures.known (c.admit.ensures.counted.was_clean clean)) ∙ c.in-Some.ensures.known in
-    let hosted = subst (λ st. is_route_of_hosted st.is_hosted c.args.route ≡ true) (sym c.in_ok-is_known.ensures.setting) (known_hosted _ (world g.S.Store.rows c.args.hub.now).rows c.args.route known) in
+    let hosted = subst (λ st. is_route_of_hosted st.is_hosted c.args.route ≡ true) (sym c.in_ok-is_known.ensures.setting) (known_hosted _ (world g.S.Store.view c.args.hub.now).rows c.args.route known) in
     no_cause _ c.admit.result hosted c.admit.ensures.not_hosted

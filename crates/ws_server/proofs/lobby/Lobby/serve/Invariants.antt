@@ -1,6 +1,6 @@
 use Rattle.std.proofs.Common.{Ok, ◌≡◌, ◌≤◌}
 use Rattle.hub_rows.specs.Reads.{IsCounted}
-use Rattle.hub.specs.Hub.{setting, is_clean, failures_of}
+use Rattle.hub.specs.Hub.{hub_view, setting}
 use Rattle.ws_server.specs.Admits.{WelcomesSome}
 use Rattle.ws_server.specs.Lobbies.{waiting_count}
 use Rattle.ws_server.specs.Steps.{Takes}
@@ -9,8 +9,8 @@ use Rattle.ws_server.proofs.lobby.Lobby.serve.Given as goal
 
 abbrev pub invariant-loop : goal.invariant-loop
 invariant-loop g l = record {
-  takes : Takes g.S.Store.clean g.S.Store.rows g.V.VendorHandler.name g.V.VendorHandler.gives l.fn.hub l.hub (λ steps. WelcomesSome g.T.Write.contents l.moment (peers_of l.fn.gateway) (peers_of l.gateway) steps (Ok tt));
-  counted : IsCounted (failures_of g.S.Store.failures) (is_clean g.S.Store.clean) l.fn.hub l.hub ⊥;
-  setting : setting g.V.VendorHandler.name g.V.VendorHandler.gives l.hub ≡ setting g.V.VendorHandler.name g.V.VendorHandler.gives l.fn.hub;
+  takes : Takes g.S.Store.view g.V.VendorHandler.view l.fn.hub l.hub (λ steps. WelcomesSome g.T.Write.contents l.moment (peers_of l.fn.gateway) (peers_of l.gateway) steps (Ok tt));
+  counted : IsCounted (hub_view g.S.Store.view) l.fn.hub l.hub ⊥;
+  setting : setting g.V.VendorHandler.view l.hub ≡ setting g.V.VendorHandler.view l.fn.hub;
   fewer : waiting_count l.self ≤ waiting_count l.fn.self;
 }
