@@ -49,10 +49,11 @@ pub fn hub_of<S: Store + Drop, V: VendorHandler>(
     vendors: Vec<V>,
 ) -> Result<Hub<S, V>, Fail> {
     let hosted = operators(alloc, &["ACME", "BETA"])?;
-    Ok(made(alloc, store, hosted, vendors)?)
+    Ok(hosting(alloc, store, hosted, vendors)?)
 }
 
-fn made<S: Store + Drop, V: VendorHandler>(
+/// A hub of those operators.
+pub fn hosting<S: Store + Drop, V: VendorHandler>(
     alloc: Global,
     store: S,
     hosted: Vec<Text>,

@@ -1,56 +1,62 @@
 //! Two systems, in which ACME has the same and is shown the same, or isn't.
 
-use crate::scripts::{BOOTED, events, hub_of, lines_of, run};
+use crate::scripts::{BOOTED, BOOTED_OUTPUT, events, hosting, hub_of, lines_of, operators, run};
 use hub::Fault;
 use hub::worlds::isolated;
-use ocpp_types::Mem;
+use hub_rows::{Change, Edit, Store, StoreFault, Tag};
+use ocpp_types::{Boxed, Mem, TagKey, Text};
 use station_calls::Echo;
 use std::alloc::Global;
 use std::test::Fail;
 use store_mem::{Failing, MemStore};
 
-/// ACME starts a transaction, sends the start again, and sends commands, which are answered or time
-/// out. No tag ZZ is its own.
-const SCRIPT: &str = r#"1704067200 ACME station add CP01 Accepted 300
-1704067200 ACME connect CP01
-1704067200 ACME frame CP01 [2,"1","BootNotification",{"chargePointVendor":"V","chargePointModel":"M"}]
-1704067200 ACME tag put K1 - 0 -
-1704067200 ACME frame CP01 [2,"7","StartTransaction",{"connectorId":1,"idTag":"K1","meterStart":100,"timestamp":"2024-01-01T00:00:00Z"}]
+/// ACME has a booted station and a tag.
+const READY: &str = "1704067200 ACME tag put K1 - 0 -\n";
+
+/// ACME's station starts a transaction and sends the start again. It is sent commands. One answer bears the
+/// id of no call, one comes after its call has timed out.
+const SCRIPT: &str =
+    r#"1704067200 ACME frame CP01 [2,"7","StartTransaction",{"connectorId":1,"idTag":"K1","meterStart":100,"timestamp":"2024-01-01T00:00:00Z"}]
 1704067200 ACME frame CP01 [2,"8","StartTransaction",{"connectorId":1,"idTag":"K1","meterStart":100,"timestamp":"2024-01-01T00:00:00Z"}]
-1704067200 ACME call CP01 RemoteStartTransaction {"idTag":"ZZ"}
+1704067200 ACME list transactions CP01
 1704067200 ACME call CP01 Reset {"type":"Soft"}
 1704067200 ACME call CP01 ClearCache {}
-1704067200 ACME call CP01 ClearCache {}
-1704067200 ACME call CP01 ClearCache {}
-1704067200 ACME call CP01 ClearCache {}
-1704067200 ACME call CP01 ClearCache {}
-1704067200 ACME call CP01 ClearCache {}
-1704067200 ACME call CP01 ClearCache {}
-1704067200 ACME call CP01 ClearCache {}
-1704067200 ACME call CP01 ClearCache {}
-1704067200 ACME call CP01 ClearCache {}
-1704067200 ACME call CP01 ClearCache {}
-1704067200 ACME call CP01 ClearCache {}
-1704067200 ACME call CP01 ClearCache {}
-1704067200 ACME call CP01 ClearCache {}
-1704067200 ACME call CP01 ClearCache {}
-1704067200 ACME call CP01 ClearCache {}
+1704067200 ACME frame CP01 [3,"7",{"status":"Accepted"}]
 1704067200 ACME frame CP01 [3,"1",{"status":"Accepted"}]
 1704067229 * tick
 1704067230 * tick
-1704067200 ACME list transactions CP01
+1704067230 ACME frame CP01 [3,"2",{"status":"Accepted"}]
+1704067200 ACME call CP01 ClearCache {}
+1704067200 ACME call CP01 ClearCache {}
+1704067200 ACME call CP01 ClearCache {}
+1704067200 ACME call CP01 ClearCache {}
+1704067200 ACME call CP01 ClearCache {}
+1704067200 ACME call CP01 ClearCache {}
+1704067200 ACME call CP01 ClearCache {}
+1704067200 ACME call CP01 ClearCache {}
+1704067200 ACME call CP01 ClearCache {}
+1704067200 ACME call CP01 ClearCache {}
+1704067200 ACME call CP01 ClearCache {}
+1704067200 ACME call CP01 ClearCache {}
+1704067200 ACME call CP01 ClearCache {}
+1704067200 ACME call CP01 ClearCache {}
+1704067200 ACME call CP01 ClearCache {}
+1704067200 ACME call CP01 ClearCache {}
+1704067200 ACME call CP01 ClearCache {}
 "#;
 
-const OUTPUT: &str = r#"ACME ok
-ACME CP01 send [3,"1",{"currentTime":"2024-01-01T00:00:00Z","interval":300,"status":"Accepted"}]
-ACME ok
-ACME CP01 send [3,"7",{"idTagInfo":{"status":"Accepted"},"transactionId":1}]
+const OUTPUT: &str = r#"ACME CP01 send [3,"7",{"idTagInfo":{"status":"Accepted"},"transactionId":1}]
 ACME CP01 send [3,"8",{"idTagInfo":{"status":"Accepted"},"transactionId":1}]
-ACME refused 10 TagRefused Invalid
+ACME row transaction CP01 1 1 "K1" Accepted 100 1704067200000 - - - - -
+ACME ok
 ACME ok 1
 ACME CP01 send [2,"1","Reset",{"type":"Soft"}]
 ACME ok 2
+ACME CP01 done 1 Answer {"status":"Accepted"}
+ACME CP01 send [2,"2","ClearCache",{}]
+ACME CP01 done 2 Timeout
 ACME ok 3
+ACME CP01 send [2,"3","ClearCache",{}]
 ACME ok 4
 ACME ok 5
 ACME ok 6
@@ -64,13 +70,9 @@ ACME ok 13
 ACME ok 14
 ACME ok 15
 ACME ok 16
+ACME ok 17
+ACME ok 18
 ACME refused 8 QueueFull
-ACME CP01 done 1 Answer {"status":"Accepted"}
-ACME CP01 send [2,"2","ClearCache",{}]
-ACME CP01 done 2 Timeout
-ACME CP01 send [2,"3","ClearCache",{}]
-ACME row transaction CP01 1 1 "K1" Accepted 100 1704067200000 - - - - -
-ACME ok
 "#;
 
 /// BETA has a station and a tag ZZ, which it doesn't grant.
@@ -88,7 +90,7 @@ const STARTED: &str = "}]\n";
 
 const HEARTBEAT: &str = "1704067200 BETA frame B1 [2,\"h\",\"Heartbeat\",{}]\n";
 
-/// BETA's events before those of a script: it has 57 transactions then.
+/// The events by which BETA has 57 transactions.
 fn before(alloc: Global) -> Mem<String> {
     let mut text = String::from_str(alloc, OTHERS)?;
     for meter in 0..57 {
@@ -100,13 +102,15 @@ fn before(alloc: Global) -> Mem<String> {
     Ok(text)
 }
 
-/// A script with BETA's events before it, and a heartbeat of BETA's after each line.
+/// A script with a heartbeat of BETA's after each line but ticks.
 fn beside_another(alloc: Global, script: &str) -> Mem<String> {
-    let mut text = before(alloc)?;
+    let mut text = String::new(alloc);
     for line in script.lines() {
         text.push_str(line)?;
         text.push('\n')?;
-        text.push_str(HEARTBEAT)?;
+        if !line.ends_with("* tick") {
+            text.push_str(HEARTBEAT)?;
+        }
     }
     Ok(text)
 }
@@ -118,12 +122,15 @@ struct Told {
     second: String,
 }
 
-fn run_both(alloc: Global, first: &str, second: &str) -> Result<Told, Fail> {
+/// Two systems that ran the first scripts, and are then compared over the second ones.
+fn run_both(alloc: Global, had: (&str, &str), first: &str, second: &str) -> Result<Told, Fail> {
     let no_vendors: Vec<Echo> = Vec::new(alloc);
     let mut one = hub_of(alloc, MemStore::new(alloc), no_vendors)?;
     let no_vendors: Vec<Echo> = Vec::new(alloc);
     let store = Failing::new(MemStore::new(alloc), u64::MAX);
     let mut other = hub_of(alloc, store, no_vendors)?;
+    let _ran = run(alloc, &mut one, events(alloc, had.0)?.as_slice())?;
+    let _ran = run(alloc, &mut other, events(alloc, had.1)?.as_slice())?;
     let first = events(alloc, first)?;
     let second = events(alloc, second)?;
     let (of_one, of_other) = isolated(
@@ -139,13 +146,37 @@ fn run_both(alloc: Global, first: &str, second: &str) -> Result<Told, Fail> {
     })
 }
 
+/// In the first system ACME has its station and K1. In the second BETA has 57 transactions, and a tag ZZ,
+/// beside them.
+fn told_beside(alloc: Global, first: &str, second: &str) -> Result<Told, Fail> {
+    let had = format!(in alloc; "{BOOTED}{READY}")?;
+    let others = before(alloc)?;
+    let had_beside = format!(in alloc; "{others}{BOOTED}{READY}")?;
+    run_both(alloc, (had.as_str(), had_beside.as_str()), first, second)
+}
+
 #[test]
 fn another_operator_changes_nothing(rt: HostRuntime) -> Result<(), Fail> {
     let alloc = rt.alloc();
     let beside = beside_another(alloc, SCRIPT)?;
-    let told = run_both(alloc, SCRIPT, beside.as_str())?;
+    let told = told_beside(alloc, SCRIPT, beside.as_str())?;
     assert_eq!(rt; told.first.as_str(), OUTPUT);
     assert_eq!(rt; told.second.as_str(), OUTPUT);
+    Ok(())
+}
+
+/// ACME's command for a tag ZZ, which BETA has in the second system and nobody in the first.
+const FOR_ZZ: &str = "1704067200 ACME call CP01 RemoteStartTransaction {\"idTag\":\"ZZ\"}\n";
+
+#[test]
+fn a_tag_of_another_operator_is_as_one_that_nobody_has(rt: HostRuntime) -> Result<(), Fail> {
+    let alloc = rt.alloc();
+    let told = told_beside(alloc, FOR_ZZ, FOR_ZZ)?;
+    assert_eq!(rt; told.first.as_str(), "ACME refused 10 TagRefused Invalid\n");
+    assert_eq!(rt;
+        told.second.as_str(),
+        "ACME refused 10 TagRefused Invalid\n"
+    );
     Ok(())
 }
 
@@ -161,9 +192,9 @@ const ASKED: &str = "1704067200 ACME frame CP01 [2,\"3\",\"Authorize\",{\"idTag\
 #[test]
 fn a_grant_taken_back_is_seen(rt: HostRuntime) -> Result<(), Fail> {
     let alloc = rt.alloc();
-    let first = format!(in alloc; "{BOOTED}{GRANTED}{REVOKED}{ASKED}")?;
-    let second = format!(in alloc; "{BOOTED}{GRANTED}{ASKED}")?;
-    let told = run_both(alloc, first.as_str(), second.as_str())?;
+    let first = format!(in alloc; "{GRANTED}{REVOKED}{ASKED}")?;
+    let second = format!(in alloc; "{GRANTED}{ASKED}")?;
+    let told = run_both(alloc, (BOOTED, BOOTED), first.as_str(), second.as_str())?;
     assert!(rt;
         told.first
             .as_str()
@@ -219,5 +250,57 @@ fn fault_of(alloc: Global) -> Result<Option<Fault>, Fail> {
 fn an_operator_that_is_not_hosted_is_a_fault(rt: HostRuntime) -> Result<(), Fail> {
     let alloc = rt.alloc();
     assert!(rt; fault_of(alloc)? == Some(Fault::NoSuchOperator));
+    let no_vendors: Vec<Echo> = Vec::new(alloc);
+    let mut hub = hub_of(alloc, MemStore::new(alloc), no_vendors)?;
+    let script = format!(in alloc; "{BOOTED}{FOREIGN}")?;
+    let ran = run(alloc, &mut hub, events(alloc, script.as_str())?.as_slice())?;
+    assert!(rt; ran.taken == 4 && ran.fault == Some(Fault::NoSuchOperator));
+    assert_eq!(rt; ran.text.as_str(), BOOTED_OUTPUT);
+    Ok(())
+}
+
+/// BETA's tag K2.
+fn put_tag<S: Store>(alloc: Global, store: &mut S) -> Result<(), StoreFault> {
+    let key = TagKey::of(alloc, "K2")?;
+    let tag = Tag {
+        text: Text::copy_of(alloc, "K2")?,
+        parent: None,
+        blocked: false,
+        expiry: None,
+    };
+    let op = Text::copy_of(alloc, "BETA")?;
+    let edit = Boxed::new(alloc, Edit::TagPut { key, tag })?;
+    store.apply(&Change { op, edit })
+}
+
+/// A grant of BETA's tag K2 to another, where it has that tag.
+#[tactic(auto, using(hub_rows::proofs::ListLaws::text_itself))]
+fn grant<S: Store>(alloc: Global, store: &mut S, to: &str) -> Result<(), StoreFault> {
+    let key = TagKey::of(alloc, "K2")?;
+    let op = Text::copy_of(alloc, "BETA")?;
+    if to == op.as_str() || store.own_tag(op.as_str(), &key)?.is_none() {
+        return Ok(());
+    }
+    let to = Text::copy_of(alloc, to)?;
+    let until = None;
+    let edit = Boxed::new(alloc, Edit::GrantPut { key, to, until })?;
+    store.apply(&Change { op, edit })
+}
+
+#[test]
+fn a_grant_of_an_owner_that_is_not_hosted_counts(rt: HostRuntime) -> Result<(), Fail> {
+    let alloc = rt.alloc();
+    let mut store = MemStore::new(alloc);
+    put_tag(alloc, &mut store)?;
+    grant(alloc, &mut store, "ACME")?;
+    let no_vendors: Vec<Echo> = Vec::new(alloc);
+    let mut hub = hosting(alloc, store, operators(alloc, &["ACME"])?, no_vendors)?;
+    let script = format!(in alloc; "{BOOTED}{ASKED}")?;
+    let ran = run(alloc, &mut hub, events(alloc, script.as_str())?.as_slice())?;
+    assert!(rt;
+        ran.text
+            .as_str()
+            .ends_with("{\"idTagInfo\":{\"status\":\"Accepted\"}}]\n")
+    );
     Ok(())
 }
