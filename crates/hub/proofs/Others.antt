@@ -1,7 +1,6 @@
 -- An event of another operator leaves an operator alone.
-use Rattle.std.specs.Prelude.{◌≡◌, ◌≢◌, ℕ, Option, None, Some, List, [], ◌∷◌, ◌++◌, true, false, cond}
+use Rattle.std.specs.Prelude.{◌≡◌, ℕ, Option, None, Some, List, [], ◌∷◌, ◌++◌, false, cond}
 use Rattle.std.proofs.Common.{refl, sym, ◌∙◌, ap, subst}
-use Rattle.std.specs.Str.{bytes_eq}
 use Rattle.std.proofs.lemmas.Bool.{true≢false}
 use Rattle.hub_rows.specs.declared.change.Edit.{Edit}
 use Rattle.hub_rows.specs.declared.change.Edit.TheVariants.{StationAdded, BootSeen, PolicySet, ConnectorSeen, TagPut, TagDropped, GrantPut, GrantDropped, TxStarted, TxStopped, ReadingsAdded, ReservationPut, ReservationDropped, ListSet}
@@ -13,11 +12,10 @@ use Rattle.hub_rows.proofs.ListLaws.{other_text}
 use Rattle.pending_calls.proofs.OwnSlots.{slot_of-op}
 use Rattle.event_plans.specs.declared.event.Event.{Event}
 use Rattle.event_plans.specs.declared.event.Event.TheVariants.{At, Tick}
-use Rattle.event_plans.specs.declared.event.What.{What}
 use Rattle.event_plans.specs.declared.out.Out.{Out}
 use Rattle.hub.specs.Effects.{edit_of}
-use Rattle.hub.specs.Others.{IsOfAnother, LeavesAlone, edit_by, edits_tags, is_of_tags}
-use Rattle.hub.specs.View.{Granted, Item, Own, granted_to, news, seen, seen_of, view}
+use Rattle.hub.specs.Others.{IsOfAnother, LeavesAlone, edits_tags, is_of_tags}
+use Rattle.hub.specs.View.{Granted, Own, granted_to, news, seen_of}
 use Rattle.hub.specs.World.{Setting, World, facts_at, plan_at, rows_after, world_outputs, world_step}
 use Rattle.hub.proofs.GrantedTags.{granted_same}
 use Rattle.hub.proofs.Isolation.{own_rows-after_other, plan-for}

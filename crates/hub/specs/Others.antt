@@ -6,7 +6,7 @@ use Rattle.event_plans.specs.declared.event.Event.{Event}
 use Rattle.event_plans.specs.declared.event.Event.TheVariants.{At, Tick}
 use Rattle.event_plans.specs.declared.out.Out.{Out}
 use Rattle.hub.specs.Effects.{edit_of}
-use Rattle.hub.specs.View.{View, granted_to, seen, view}
+use Rattle.hub.specs.View.{granted_to, seen, view}
 use Rattle.hub.specs.World.{Setting, World, outputs_of, plan_at}
 
 -- an event of another operator than a; a tick is of all operators
