@@ -1,0 +1,42 @@
+-- What the writing texts mean, each by one of the forms.
+use Rattle.std.proofs.Common.{◌≡◌, ℕ, List, [], length, Bool}
+use Rattle.sqlite_value.specs.Order.{Row}
+use Rattle.sqlite_schema.specs.declared.schema.Keys.TheVariants.{Enforced}
+use Rattle.sqlite_rules.specs.Action.{works}
+use Rattle.sql_tables.specs.Tables.{hub_schema}
+use Rattle.sql_tables.specs.Forms.{where_is, put_command, drop_command}
+use Rattle.sql_tables.specs.Meanings.{IsWrite}
+use Rattle.sql_shelf.specs.Shelf.{Shelf}
+use Rattle.sql_shelf.specs.Shelves.{hub_good}
+use Rattle.sql_shelf.specs.Kept.{IsPutIn, IsDropped}
+use Rattle.sql_shelf.proofs.ShelfLemmas.{IsShelf}
+use Rattle.sql_shelf.proofs.PutLemmas.{IsPutForm, does_put, put_means, put_shelved}
+use Rattle.sql_shelf.proofs.ReadLaws.{IsTest}
+use Rattle.sql_shelf.proofs.DropLemmas.{does_drop, drop_means, drop_shelved}
+use Rattle.sql_shelf.proofs.StoreLemmas.{Means}
+
+module _ {T : Type 0} (at : ℕ) (s : Shelf T) (is : IsShelf hub_schema hub_good at s) (sql : List ℕ) where
+  pub puts : (m : ℕ) (form : IsPutForm s m) → IsWrite sql (put_command at s.table.tree (length s.parts) m) → (t : T) → Means sql (s.row t) (IsPutIn s t)
+  puts m form text t = record {
+    command = put_command at s.table.tree (length s.parts) m;
+    is = text.0;
+    plain = text.1;
+    writes = tt;
+    does = λ limit st db words tally after has kept obeys h.
+        let d = does_put hub_schema hub_good at s is m form t limit st db words tally after has kept obeys h in
+        let shelved = put_shelved hub_schema hub_good at s is db.trees after.trees t kept d.0 in
+        (d.1, shelved, λ sound. record { rows = put_means hub_schema hub_good at s is db.trees after.trees t kept obeys shelved sound d.0; frame = d.0.frame });
+  }
+
+  pub drops : (columns : List ℕ) (params : Row) (p : T → Bool) → IsTest s (where_is 0 columns) params p → ((olds : List Row) → works hub_schema Enforced 0 s.table.tree olds [] ≡ [])
+      → IsWrite sql (drop_command at s.table.tree columns) → Means sql params (IsDropped s p)
+  drops columns params p test frees text = record {
+    command = drop_command at s.table.tree columns;
+    is = text.0;
+    plain = text.1;
+    writes = tt;
+    does = λ limit st db words tally after has kept obeys h.
+        let d = does_drop hub_schema hub_good at s is columns params p test frees limit st db words tally after has kept h in
+        let shelved = drop_shelved hub_schema hub_good at s is db.trees after.trees p kept d.0 in
+        (d.1, shelved, λ sound. record { rows = drop_means hub_schema hub_good at s is db.trees after.trees p kept obeys shelved sound d.0.inside; frame = d.0.frame });
+  }

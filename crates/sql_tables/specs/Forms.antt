@@ -1,0 +1,80 @@
+-- The forms of the statements. The parameters are slot 0 of a query, and its table is slot 1, whose column 0 is the rowid.
+use Rattle.std.specs.Prelude.{ℕ, zero, suc, ◌+◌, ◌*◌, false, true, pos, negsuc, List, [], ◌∷◌, ◌++◌, Some, None}
+use Rattle.sqlite_value.specs.declared.value.Value.TheVariants.{Null, Int}
+use Rattle.sqlite_value.specs.declared.keys.Collation.TheVariants.{Binary}
+use Rattle.sqlite_value.specs.declared.keys.Key.{Key}
+use Rattle.sqlite_sql.specs.declared.ops.BinaryOp.TheVariants.{Compare}
+use Rattle.sqlite_sql.specs.declared.ops.CompareOp.TheVariants.{Eq, Ge, Le}
+use Rattle.sqlite_sql.specs.Term.{Term, lit, col, op2}
+use Rattle.sqlite_sql.specs.Query.{Query, Join, inner, end}
+use Rattle.sqlite.specs.Command.{Command}
+use Rattle.sqlite.specs.Command.TheVariants.{InsertOr, Delete}
+use Rattle.sqlite.specs.Source.TheVariants.{Values}
+use Rattle.sqlite_schema.specs.declared.command.Conflict.TheVariants.{Abort}
+use Rattle.sqlite_schema.specs.declared.command.Upsert.{Upsert}
+use Rattle.sql_tables.specs.Tables.{places}
+
+-- ---- SELECT
+
+abbrev pub plain_query : Join → List Term → List Term → List (Term × Key) → Query
+plain_query from filter project order = record {
+  from = from;
+  filter = filter;
+  group = None;
+  project = project;
+  distinct = false;
+  collations = [];
+  order = order;
+  limit = lit (Int (negsuc 0));
+  offset = lit (Int (pos 0));
+}
+
+-- so many columns of a slot from that one on
+abbrev pub cols : ℕ → ℕ → ℕ → List Term
+cols slot from zero = []
+cols slot from (suc n) = col slot from ∷ cols slot (suc from) n
+
+-- these columns equal the parameters from that one on
+abbrev pub where_is : ℕ → List ℕ → List Term
+where_is from [] = []
+where_is from (at ∷ columns) = op2 (Compare Eq Binary) (col 1 at) (col 0 from) ∷ where_is (suc from) columns
+
+-- this column lies between that parameter and the next
+abbrev pub range_is : ℕ → ℕ → List Term
+range_is from at = op2 (Compare Ge Binary) (col 1 at) (col 0 from) ∷ op2 (Compare Le Binary) (col 1 at) (col 0 (suc from)) ∷ []
+
+abbrev pub by_column : ℕ → Term × Key
+by_column at = (col 1 at, record { collation = Binary; descending = false })
+
+-- the first row in the descending order of this column
+abbrev pub last_query : ℕ → List Term → List Term → ℕ → Query
+last_query tree filter project at = record (plain_query (inner tree end) filter project ((col 1 at, record { collation = Binary; descending = true }) ∷ [])) { limit = lit (Int (pos 1)) }
+
+-- ---- INSERT .. ON CONFLICT (the n columns of the key) DO UPDATE SET each of the m other columns
+
+abbrev pub put_terms : ℕ → List Term
+put_terms w = lit Null ∷ cols 0 0 w
+
+abbrev pub put_filter : ℕ → List Term
+put_filter w = op2 (Compare Eq Binary) (col 1 0) (col 0 w) ∷ []
+
+abbrev pub put_project : ℕ → ℕ → List Term
+put_project n m = col 1 0 ∷ col 1 0 ∷ cols 1 1 n ++ cols 0 (2 * n + m + 2) m
+
+abbrev pub put_query : ℕ → ℕ → ℕ → Query
+put_query tree n m = plain_query (inner tree end) (put_filter (n + m)) (put_project n m) []
+
+abbrev pub put_clause : ℕ → ℕ → ℕ → Upsert
+put_clause tree n m = record { target = Some (places 1 n); update = Some (record { lets = []; body = put_query tree n m }) }
+
+-- into the table at that place of the schema, whose tree has that number
+abbrev pub put_command : ℕ → ℕ → ℕ → ℕ → Command
+put_command at tree n m = InsertOr at Abort (Values (put_terms (n + m)) (n + m + 1)) (put_clause tree n m ∷ [])
+
+-- ---- DELETE .. WHERE these columns equal the parameters
+
+abbrev pub drop_query : ℕ → List ℕ → Query
+drop_query tree columns = plain_query (inner tree end) (where_is 0 columns) (col 1 0 ∷ []) []
+
+abbrev pub drop_command : ℕ → ℕ → List ℕ → Command
+drop_command at tree columns = Delete at (record { lets = []; body = drop_query tree columns })

@@ -1,0 +1,5 @@
+pub mod Tables
+pub mod Statements
+pub mod Forms
+pub mod Meanings
+pub mod Opening

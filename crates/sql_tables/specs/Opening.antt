@@ -1,0 +1,43 @@
+-- How the tables and their indexes come to be.
+use Rattle.std.specs.Prelude.{◌≡◌, ℕ, false, List, [], slice_get, Some, Result, Ok, Err}
+use Rattle.sqlite_schema.specs.declared.schema.Schema.{Schema}
+use Rattle.sqlite_schema.specs.declared.schema.Table.{Table}
+use Rattle.sqlite_schema.specs.declared.schema.Index.{Index}
+use Rattle.sqlite_schema.specs.declared.command.Command.{Command}
+use Rattle.sqlite_schema.specs.declared.command.Command.TheVariants.{CreateTable, CreateIndex, Nothing}
+use Rattle.sqlite_catalog.specs.Change.{created}
+use Rattle.sqlite.specs.Compile.{table_defined_by, index_defined_by}
+use Rattle.sqlite_resolve.specs.declared.compiled.Compiled.{Compiled}
+use Rattle.sqlite_resolve.specs.declared.error.CompileError.{CompileError}
+use Rattle.sqlite.specs.Does.{lacks_sequence}
+use Rattle.sqlite.specs.Given.{IsPlain}
+use Rattle.sqlite.specs.Listing.{understood}
+use Rattle.sqlite.specs.State.{text_of}
+
+-- an empty database
+abbrev pub no_schema : Schema
+no_schema = record { tables = []; indexes = []; views = [] }
+
+abbrev pub command_in : Result Compiled CompileError → Command
+command_in (Ok c) = c.command
+command_in (Err e) = Nothing
+
+abbrev pub text_in : List ℕ → Result Compiled CompileError → List ℕ
+text_in sql (Ok c) = text_of sql c
+text_in sql (Err e) = []
+
+-- over a schema the text creates this table
+pub record IsCreate (sql : List ℕ) (from : Schema) (table : Table) : Type 0 where
+  pub command : command_in (understood from sql) ≡ CreateTable
+  pub plain : IsPlain (understood from sql)
+  pub text : text_in sql (understood from sql) ≡ sql
+  pub defined : table_defined_by sql ≡ Ok table
+  pub uncounted : lacks_sequence (created from table) ≡ false
+
+-- over a schema the text creates this index of the table at that place
+pub record IsIndexCreate (sql : List ℕ) (from : Schema) (at : ℕ) (table : Table) (index : Index) : Type 0 where
+  pub command : command_in (understood from sql) ≡ CreateIndex at
+  pub plain : IsPlain (understood from sql)
+  pub text : text_in sql (understood from sql) ≡ sql
+  pub here : slice_get from.tables at ≡ Some table
+  pub defined : index_defined_by table sql ≡ Ok index

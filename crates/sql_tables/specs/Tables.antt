@@ -1,0 +1,129 @@
+-- The tables. The columns of a key come first, in its order. A column is a whole number or a text.
+use Rattle.std.specs.Prelude.{Bool, true, false, [], ◌∷◌, None, codes, List, ℕ, zero, suc}
+use Rattle.sqlite_value.specs.declared.value.Value.TheVariants.{Null}
+use Rattle.sqlite_value.specs.declared.keys.Collation.TheVariants.{Binary}
+use Rattle.sqlite_value.specs.Keys.{plain}
+use Rattle.sqlite_schema.specs.declared.schema.Table.{Table}
+use Rattle.sqlite_schema.specs.declared.schema.Column.{Column}
+use Rattle.sqlite_schema.specs.declared.schema.Index.{Index}
+use Rattle.sqlite_schema.specs.declared.schema.Schema.{Schema}
+use Rattle.sqlite_schema.specs.declared.schema.Reference.{Reference}
+use Rattle.sqlite_schema.specs.declared.schema.Kind.{Kind}
+use Rattle.sqlite_schema.specs.declared.schema.Kind.TheVariants.{Integer, Text}
+use Rattle.sqlite_schema.specs.declared.schema.Action.TheVariants.{NoAction, Cascade}
+
+abbrev pub column_of : Kind → Bool → List ℕ → Column
+column_of kind not_null name = record { name = name; kind = kind; is_strict = true; not_null = not_null; default = Null; collation = Binary }
+
+abbrev pub text : List ℕ → Column
+text = column_of Text true
+
+abbrev pub text_or_null : List ℕ → Column
+text_or_null = column_of Text false
+
+abbrev pub whole : List ℕ → Column
+whole = column_of Integer true
+
+abbrev pub whole_or_null : List ℕ → Column
+whole_or_null = column_of Integer false
+
+-- so many columns from that one on
+abbrev pub places : ℕ → ℕ → List ℕ
+places at zero = []
+places at (suc n) = at ∷ places (suc at) n
+
+-- a table whose first n columns are its PRIMARY KEY
+abbrev pub keyed_table : List ℕ → ℕ → List Column → ℕ → List Reference → Table
+keyed_table name tree columns n references = record {
+  name = name;
+  tree = tree;
+  columns = columns;
+  key = None;
+  primary = places 1 n;
+  uniques = places 1 n ∷ [];
+  orders = plain ∷ [];
+  checks = [];
+  references = references;
+  computed = [];
+  stamps = record { places = []; terms = []; formats = [] };
+  is_counted = false;
+}
+
+-- the index of a table's key, which comes with the table
+abbrev pub key_index : List ℕ → ℕ → ℕ → Index
+key_index name tree n = record { name = name; tree = suc tree; table = tree; columns = places 1 n; order = plain; is_unique = true }
+
+abbrev pub more_index : List ℕ → ℕ → ℕ → List ℕ → Index
+more_index name tree table columns = record { name = name; tree = tree; table = table; columns = columns; order = plain; is_unique = false }
+
+-- a FOREIGN KEY whose row goes with the row that it refers to
+abbrev pub of_parent : List ℕ → List ℕ → List (List ℕ) → Reference
+of_parent columns parent names = record { columns = columns; parent = parent; parent_columns = names; on_delete = Cascade; on_update = NoAction; is_deferred = false }
+
+-- ---- the tables of the hub
+
+-- what the program notes of the database itself
+abbrev pub hub_meta : Table
+hub_meta = keyed_table (codes "hub_meta") 0 (text (codes "name") ∷ whole (codes "number") ∷ []) 1 []
+
+-- stations; `booted` is in seconds since 1970, and what follows it is of that boot
+abbrev pub hub_station : Table
+hub_station = keyed_table (codes "hub_station") 2 (text (codes "op") ∷ text (codes "station") ∷ text (codes "policy") ∷ whole (codes "interval") ∷ text (codes "state") ∷ whole_or_null (codes "booted") ∷ text_or_null (codes "charge_point_model") ∷ text_or_null (codes "charge_point_vendor") ∷ text_or_null (codes "charge_box_serial_number") ∷ text_or_null (codes "charge_point_serial_number") ∷ text_or_null (codes "firmware_version") ∷ text_or_null (codes "iccid") ∷ text_or_null (codes "imsi") ∷ text_or_null (codes "meter_serial_number") ∷ text_or_null (codes "meter_type") ∷ []) 2 []
+
+-- connectors as they were reported last; `at` is in milliseconds since 1970
+abbrev pub hub_connector : Table
+hub_connector = keyed_table (codes "hub_connector") 4 (text (codes "op") ∷ text (codes "station") ∷ whole (codes "connector") ∷ text (codes "status") ∷ text (codes "error_code") ∷ whole (codes "at") ∷ text_or_null (codes "info") ∷ text_or_null (codes "vendor_id") ∷ text_or_null (codes "vendor_error_code") ∷ []) 3 []
+
+-- id tags; `expiry_date` is in seconds since 1970, and `parent_key` is the key of `parent_id_tag`
+abbrev pub hub_tag : Table
+hub_tag = keyed_table (codes "hub_tag") 6 (text (codes "op") ∷ text (codes "tag_key") ∷ text (codes "id_tag") ∷ text_or_null (codes "parent_id_tag") ∷ text_or_null (codes "parent_key") ∷ whole (codes "blocked") ∷ whole_or_null (codes "expiry_date") ∷ []) 2 []
+
+-- id tags that `op` granted to `to_op`; `until` is in seconds since 1970
+abbrev pub hub_grant : Table
+hub_grant = keyed_table (codes "hub_grant") 8 (text (codes "op") ∷ text (codes "tag_key") ∷ text (codes "to_op") ∷ whole_or_null (codes "until") ∷ []) 3 (of_parent (1 ∷ 2 ∷ []) (codes "hub_tag") (codes "op" ∷ codes "tag_key" ∷ []) ∷ [])
+
+-- transactions; `start_at` and `stop_at` are the station's, in milliseconds since 1970, `begun` and `ended` the hub's, in seconds;
+-- `is_open` is 1 without a stop, and `in_use` is 1 if it is open and its status is Accepted
+abbrev pub hub_tx : Table
+hub_tx = keyed_table (codes "hub_tx") 10 (text (codes "op") ∷ text (codes "station") ∷ whole (codes "number") ∷ whole (codes "connector") ∷ text (codes "tag_key") ∷ whole (codes "meter_start") ∷ whole (codes "start_at") ∷ text (codes "id_tag") ∷ whole_or_null (codes "reservation_id") ∷ text (codes "status") ∷ whole (codes "begun") ∷ whole (codes "is_open") ∷ whole (codes "in_use") ∷ whole_or_null (codes "meter_stop") ∷ whole_or_null (codes "stop_at") ∷ text_or_null (codes "stop_reason") ∷ text_or_null (codes "stop_id_tag") ∷ whole_or_null (codes "ended") ∷ []) 3 []
+
+-- meter readings; `at` is in milliseconds since 1970, and `value` is as it was sent
+abbrev pub hub_reading : Table
+hub_reading = keyed_table (codes "hub_reading") 12 (text (codes "op") ∷ text (codes "station") ∷ whole (codes "number") ∷ whole (codes "connector") ∷ whole_or_null (codes "transaction_id") ∷ whole (codes "at") ∷ text (codes "context") ∷ text (codes "format") ∷ text (codes "measurand") ∷ text_or_null (codes "phase") ∷ text (codes "location") ∷ text_or_null (codes "unit") ∷ text (codes "value") ∷ []) 3 []
+
+-- reservations; `expiry_date` is in seconds since 1970
+abbrev pub hub_reservation : Table
+hub_reservation = keyed_table (codes "hub_reservation") 14 (text (codes "op") ∷ text (codes "station") ∷ whole (codes "reservation_id") ∷ whole (codes "connector") ∷ text (codes "id_tag") ∷ text_or_null (codes "parent_id_tag") ∷ whole (codes "expiry_date") ∷ []) 3 []
+
+-- the versions of local lists
+abbrev pub hub_list : Table
+hub_list = keyed_table (codes "hub_list") 16 (text (codes "op") ∷ text (codes "station") ∷ whole (codes "version") ∷ []) 2 []
+
+-- the entries of local lists; `expiry_date` is in seconds since 1970
+abbrev pub hub_list_entry : Table
+hub_list_entry = keyed_table (codes "hub_list_entry") 18 (text (codes "op") ∷ text (codes "station") ∷ text (codes "tag_key") ∷ text (codes "id_tag") ∷ whole_or_null (codes "expiry_date") ∷ text_or_null (codes "parent_id_tag") ∷ text (codes "status") ∷ []) 3 (of_parent (1 ∷ 2 ∷ []) (codes "hub_list") (codes "op" ∷ codes "station" ∷ []) ∷ [])
+
+-- ---- further indexes
+
+abbrev pub hub_grant_to : Index
+hub_grant_to = more_index (codes "hub_grant_to") 20 8 (3 ∷ 2 ∷ 1 ∷ [])
+
+abbrev pub hub_tx_in_use : Index
+hub_tx_in_use = more_index (codes "hub_tx_in_use") 21 10 (1 ∷ 5 ∷ 13 ∷ [])
+
+abbrev pub hub_tx_is_open : Index
+hub_tx_is_open = more_index (codes "hub_tx_is_open") 22 10 (1 ∷ 2 ∷ 12 ∷ [])
+
+abbrev pub hub_tx_start_at : Index
+hub_tx_start_at = more_index (codes "hub_tx_start_at") 23 10 (1 ∷ 2 ∷ 7 ∷ [])
+
+abbrev pub hub_reading_transaction : Index
+hub_reading_transaction = more_index (codes "hub_reading_transaction") 24 12 (1 ∷ 2 ∷ 5 ∷ 3 ∷ [])
+
+-- the tables of the hub, with the indexes of their keys and the further ones
+abbrev pub hub_schema : Schema
+hub_schema = record {
+  tables = hub_meta ∷ hub_station ∷ hub_connector ∷ hub_tag ∷ hub_grant ∷ hub_tx ∷ hub_reading ∷ hub_reservation ∷ hub_list ∷ hub_list_entry ∷ [];
+  indexes = key_index (codes "sqlite_autoindex_hub_meta_1") 0 1 ∷ key_index (codes "sqlite_autoindex_hub_station_1") 2 2 ∷ key_index (codes "sqlite_autoindex_hub_connector_1") 4 3 ∷ key_index (codes "sqlite_autoindex_hub_tag_1") 6 2 ∷ key_index (codes "sqlite_autoindex_hub_grant_1") 8 3 ∷ key_index (codes "sqlite_autoindex_hub_tx_1") 10 3 ∷ key_index (codes "sqlite_autoindex_hub_reading_1") 12 3 ∷ key_index (codes "sqlite_autoindex_hub_reservation_1") 14 3 ∷ key_index (codes "sqlite_autoindex_hub_list_1") 16 2 ∷ key_index (codes "sqlite_autoindex_hub_list_entry_1") 18 3 ∷ hub_grant_to ∷ hub_tx_in_use ∷ hub_tx_is_open ∷ hub_tx_start_at ∷ hub_reading_transaction ∷ [];
+  views = [];
+}

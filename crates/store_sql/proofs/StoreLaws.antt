@@ -1,0 +1,121 @@
+-- What the store says of a call, by what the connection says of it.
+use Rattle.std.proofs.Common.{◌≡◌, ◌≤◌, IsTrue, Result, Ok, Err, OnOk, OnErr, IfOk, sym, ap, ◌∙◌, subst}
+use Rattle.sqlite_trees.specs.declared.store.Store.{Ghosts}
+use Rattle.sqlite.specs.Effect.{Database}
+use Rattle.sqlite.specs.Held.{Held, state}
+use Rattle.sqlite.specs.State.{State}
+use Rattle.hub_rows.specs.Changes.{Fits, after_change}
+use Rattle.hub_rows.specs.Failures.{Rose}
+use Rattle.hub_rows.specs.Reads.{OnlyReads, IsCounted}
+use Rattle.hub_rows.specs.Rows.{Rows}
+use Rattle.hub_rows.specs.WellFormed.{WellFormedRows}
+use Rattle.hub_rows.specs.declared.change.Change.{Change}
+use Rattle.hub_rows.specs.declared.store.StoreFault.{StoreFault}
+use Rattle.hub_rows.specs.declared.store.StoreFault.TheVariants.{Failed}
+use Rattle.hub_rows.proofs.WellFormedLaws.{well_formed-edit}
+use Rattle.sql_shelf.specs.Kept.{Serves, IsServing, IsAsBefore, Rests, Finds, Changes, IsMade, Made}
+use Rattle.sql_shelf.specs.Opening.{IsOurs}
+use Rattle.sql_shelf.specs.Shelves.{rows_of}
+use Rattle.store_sql.specs.Store.{SqlView, IsKept, IsReady, sql_rows, sql_view, IsCleanSql}
+
+pub serving_if : (taken s : State) → IsKept taken s → IsOurs taken → IsServing s
+serving_if taken s kept ours = λ up. (kept ours up).0
+
+pub kept_still : (taken old new : State) → IsKept taken old → Rests old new → IsKept taken new
+kept_still taken old new kept rests = λ ours up.
+    let r = rests (serving_if taken old kept ours) up in
+    (r.serves, subst (λ (d : Database). WellFormedRows (rows_of d.trees)) (sym r.now) (kept ours r.was_open).1)
+
+-- ---- a read
+
+-- `inside` is the store by its fields, whose connection becomes that of the new store
+module _ {S : Type 0} (g : Ghosts S) (inside old new : SqlView S) (view_is : inside ≡ old) (kept : IsKept (state g inside.taken) (state g inside.conn)) (conn : Held S) (same_taken : new.taken ≡ inside.taken) (same_conn : new.conn ≡ conn)
+    (rests : Rests (state g inside.conn) (state g conn)) where
+  rests_new : Rests (state g inside.conn) (state g new.conn)
+  rests_new = subst (λ h. Rests (state g inside.conn) (state g h)) (sym same_conn) rests
+
+  ours_before : IsCleanSql g new → IsOurs (state g inside.taken)
+  ours_before clean = subst (λ h. IsOurs (state g h)) same_taken clean.ours
+
+  serving_before : IsCleanSql g new → IsServing (state g inside.conn)
+  serving_before clean = serving_if (state g inside.taken) (state g inside.conn) kept (ours_before clean)
+
+  clean_before : IsCleanSql g new → IsCleanSql g inside
+  clean_before clean =
+      let ours = ours_before clean in
+      let up = (rests_new (serving_before clean) clean.up).was_open in
+      record { ours = ours; up = up; good = (kept ours up).1 }
+
+  pub only_reads : {T : Type 0} (done result : Result T StoreFault) → result ≡ done → (done ≡ Err Failed → Rose inside.failures new.failures) → inside.failures ≤ new.failures → OnlyReads (sql_view g) old new result
+  only_reads done result same failed count = subst (λ o. OnlyReads (sql_view g) o new result) view_is (record {
+    was_clean = clean_before;
+    kept = λ clean. ap (λ (d : Database). rows_of d.trees) (rests_new (serving_before clean) clean.up).now;
+    failed = λ e. failed (sym same ∙ e);
+    count = count;
+  })
+
+  -- what the call answers of the rows of the connection, it answers of the rows of the store
+  pub found_in : {T : Type 0} (done result : Result T StoreFault) → result ≡ done → (P : Rows → T → Type 0) → Finds (state g inside.conn) (state g conn) done P
+      → IsCleanSql g new → IfOk result (P (sql_rows g old))
+  found_in done result same P found clean =
+      subst (λ o. IfOk result (P (sql_rows g o))) view_is
+      (subst (λ r. IfOk r (P (sql_rows g inside))) (sym same) (found (serving_before clean) (subst (λ h. IsTrue (state g h).is_open) same_conn clean.up)))
+
+-- ---- a change
+
+module _ {S : Type 0} (g : Ghosts S) (inside : SqlView S) (conn : Held S) (kept : IsKept (state g inside.taken) (state g inside.conn)) (change : Change) (fits : IsCleanSql g inside → Fits change (sql_rows g inside)) (r : Result (Unit {0}) StoreFault)
+    (made : IsReady change (state g inside.conn) → Changes (IsMade (after_change change)) (state g inside.conn) (state g conn) r) where
+  ready : IsOurs (state g inside.taken) → IsReady change (state g inside.conn)
+  ready ours up = let k = kept ours up in (k.0, k.1, fits (record { ours = ours; up = up; good = k.1 }))
+
+  abbrev pub Outcome : Result (Unit {0}) StoreFault → Type 0
+  Outcome (Ok x) = Made (IsMade (after_change change)) (state g inside.conn) (state g conn)
+  Outcome (Err e) = IsAsBefore (state g inside.conn) (state g conn)
+
+  outcome_of : (r : Result (Unit {0}) StoreFault) → OnOk r (Made (IsMade (after_change change)) (state g inside.conn) (state g conn)) → OnErr r (IsAsBefore (state g inside.conn) (state g conn)) → Outcome r
+  outcome_of (Ok x) ok err = ok
+  outcome_of (Err e) ok err = err
+
+  outcome : IsOurs (state g inside.taken) → IsTrue (state g conn).is_open → Outcome r
+  outcome ours up = let m = made (ready ours) in outcome_of r (m.ok up) (m.err up)
+
+  was_up : (r : Result (Unit {0}) StoreFault) → Outcome r → IsTrue (state g inside.conn).is_open
+  was_up (Ok x) m = m.was_open
+  was_up (Err e) m = m.was_open
+
+  pub change_kept : IsKept (state g inside.taken) (state g conn)
+  change_kept ours up = go r (outcome ours up)
+    where
+      go : (r : Result (Unit {0}) StoreFault) → Outcome r → Serves (state g conn) × WellFormedRows (rows_of (state g conn).now.trees)
+      go (Ok x) m = let k = ready ours m.was_open in (m.serves, subst WellFormedRows (sym m.edit) (well_formed-edit change.op change.edit (sql_rows g inside) k.1 k.2))
+      go (Err e) m = (m.serves, subst (λ (d : Database). WellFormedRows (rows_of d.trees)) (sym m.now) (kept ours m.was_open).1)
+
+  module _ (old new : SqlView S) (view_is : inside ≡ old) (same_taken : new.taken ≡ inside.taken) (same_conn : new.conn ≡ conn) (result : Result (Unit {0}) StoreFault) (same : result ≡ r) where
+    outcome_at : IsCleanSql g new → Outcome r
+    outcome_at clean = outcome (subst (λ h. IsOurs (state g h)) same_taken clean.ours) (subst (λ h. IsTrue (state g h).is_open) same_conn clean.up)
+
+    rows_at : sql_rows g new ≡ rows_of (state g conn).now.trees
+    rows_at = ap (λ h. rows_of (state g h).now.trees) same_conn
+
+    clean_then : IsCleanSql g new → IsCleanSql g inside
+    clean_then clean =
+        let ours = subst (λ h. IsOurs (state g h)) same_taken clean.ours in
+        let up = was_up r (outcome_at clean) in
+        record { ours = ours; up = up; good = (kept ours up).1 }
+
+    pub change_counted : (r ≡ Err Failed → Rose inside.failures new.failures) → inside.failures ≤ new.failures → IsCounted (sql_view g) old new (result ≡ Err Failed)
+    change_counted failed count = subst (λ o. IsCounted (sql_view g) o new (result ≡ Err Failed)) view_is (record { was_clean = clean_then; failed = λ e. failed (sym same ∙ e); count = count })
+
+    pub change_ok : IsCleanSql g new → OnOk result (sql_rows g new ≡ after_change change (sql_rows g old))
+    change_ok clean = subst (λ o. OnOk result (sql_rows g new ≡ after_change change (sql_rows g o))) view_is (subst (λ q. OnOk q (sql_rows g new ≡ after_change change (sql_rows g inside))) (sym same) (go r (outcome_at clean)))
+      where
+        go : (r : Result (Unit {0}) StoreFault) → Outcome r → OnOk r (sql_rows g new ≡ after_change change (sql_rows g inside))
+        go (Ok x) m = rows_at ∙ m.edit
+        go (Err e) m = tt
+
+    pub change_err : IsCleanSql g new → OnErr result (sql_rows g new ≡ sql_rows g old)
+    change_err clean = subst (λ o. OnErr result (sql_rows g new ≡ sql_rows g o)) view_is (subst (λ q. OnErr q (sql_rows g new ≡ sql_rows g inside)) (sym same) (go r (outcome_at clean)))
+      where
+        go : (r : Result (Unit {0}) StoreFault) → Outcome r → OnErr r (sql_rows g new ≡ sql_rows g inside)
+        go (Ok x) m = tt
+        go (Err e) m = rows_at ∙ ap (λ (d : Database). rows_of d.trees) m.now

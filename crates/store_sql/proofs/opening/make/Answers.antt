@@ -1,0 +1,6 @@
+use Rattle.sqlite.specs.Held.{state}
+use Rattle.sql_shelf.proofs.OpeningLemmas.{prepares_as}
+use Rattle.store_sql.proofs.opening.make.Goals as goal
+
+pub returns : goal.returns
+returns g c = record { prepares = prepares_as (state g.S.Store c.args.conn.now) (state g.S.Store c.make_tables.new.conn) c.make_tables.result c.told.result c.make_tables.ensures.prepares c.told.ensures.ok c.told.ensures.err }

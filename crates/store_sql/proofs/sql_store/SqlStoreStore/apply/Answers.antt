@@ -1,0 +1,29 @@
+use Rattle.std.proofs.Common.{sym, subst}
+use Rattle.hub_rows.specs.Changes.{Fits}
+use Rattle.store_sql.specs.Store.{SqlView, sql_rows, IsCleanSql}
+use Rattle.store_sql.proofs.StoreLaws.{change_kept, change_counted, change_ok, change_err}
+use Rattle.store_sql.proofs.sql_store.SqlStoreStore.apply.Goals as goal
+
+pub invariant_of-self : goal.invariant_of-self
+invariant_of-self g c =
+    let inside : SqlView _ = record { conn = c.self.inside.conn; failures = c.self.inside.failures; taken = c.self.inside.taken.value } in
+    let fits : IsCleanSql g.A.Store inside → Fits c.args.change.now (sql_rows g.A.Store inside) = subst (λ o. IsCleanSql g.A.Store o → Fits c.args.change.now (sql_rows g.A.Store o)) (sym c.self.view_is) c.requires in
+    change_kept g.A.Store inside c.apply-done.new.conn c.self.invariant c.args.change.now fits c.apply-done.result c.apply-done.ensures.changes
+
+pub returns-clause-counted : goal.returns-clause-counted
+returns-clause-counted g c =
+    let inside : SqlView _ = record { conn = c.self.inside.conn; failures = c.self.inside.failures; taken = c.self.inside.taken.value } in
+    let fits : IsCleanSql g.A.Store inside → Fits c.args.change.now (sql_rows g.A.Store inside) = subst (λ o. IsCleanSql g.A.Store o → Fits c.args.change.now (sql_rows g.A.Store o)) (sym c.self.view_is) c.requires in
+    change_counted g.A.Store inside c.apply-done.new.conn c.self.invariant c.args.change.now fits c.apply-done.result c.apply-done.ensures.changes c.args.self.now c.counted.new.self c.self.view_is c.counted.ensures.taken c.counted.ensures.conn c.counted.result c.counted.ensures.same c.counted.ensures.failed c.counted.ensures.count
+
+pub returns-clause-ok : goal.returns-clause-ok
+returns-clause-ok g c =
+    let inside : SqlView _ = record { conn = c.self.inside.conn; failures = c.self.inside.failures; taken = c.self.inside.taken.value } in
+    let fits : IsCleanSql g.A.Store inside → Fits c.args.change.now (sql_rows g.A.Store inside) = subst (λ o. IsCleanSql g.A.Store o → Fits c.args.change.now (sql_rows g.A.Store o)) (sym c.self.view_is) c.requires in
+    change_ok g.A.Store inside c.apply-done.new.conn c.self.invariant c.args.change.now fits c.apply-done.result c.apply-done.ensures.changes c.args.self.now c.counted.new.self c.self.view_is c.counted.ensures.taken c.counted.ensures.conn c.counted.result c.counted.ensures.same
+
+pub returns-clause-err : goal.returns-clause-err
+returns-clause-err g c =
+    let inside : SqlView _ = record { conn = c.self.inside.conn; failures = c.self.inside.failures; taken = c.self.inside.taken.value } in
+    let fits : IsCleanSql g.A.Store inside → Fits c.args.change.now (sql_rows g.A.Store inside) = subst (λ o. IsCleanSql g.A.Store o → Fits c.args.change.now (sql_rows g.A.Store o)) (sym c.self.view_is) c.requires in
+    change_err g.A.Store inside c.apply-done.new.conn c.self.invariant c.args.change.now fits c.apply-done.result c.apply-done.ensures.changes c.args.self.now c.counted.new.self c.self.view_is c.counted.ensures.taken c.counted.ensures.conn c.counted.result c.counted.ensures.same

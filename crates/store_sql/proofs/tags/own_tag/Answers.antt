@@ -1,0 +1,9 @@
+use Rattle.sqlite.specs.Held.{state}
+use Rattle.sql_shelf.proofs.StoreLemmas.{rests_then}
+use Rattle.store_sql.proofs.tags.own_tag.Goals as goal
+
+pub returns-in_err-by_parent-in-Some-clause-same : goal.returns-in_err-by_parent-in-Some-clause-same
+returns-in_err-by_parent-in-Some-clause-same g c = rests_then (state g.S.Store c.args.conn.now) (state g.S.Store c.find_tag.new.conn) (state g.S.Store c.is_parent_blocked.new.conn) c.in_ok-find_tag.ensures.same c.in_err-by_parent-in-Some.ensures.same
+
+pub returns-after-tag-clause-same : goal.returns-after-tag-clause-same
+returns-after-tag-clause-same g c = rests_then (state g.S.Store c.args.conn.now) (state g.S.Store c.find_tag.new.conn) (state g.S.Store c.is_parent_blocked.new.conn) c.in_ok-find_tag.ensures.same c.in_ok-by_parent-in-Some.ensures.same

@@ -1,0 +1,45 @@
+-- The store: a connection, the count of its failures, and the connection that it took over.
+use Rattle.std.specs.Prelude.{ℕ, IsTrue, refl}
+use Rattle.std.specs.Coded.{Coded, code_by, coded×, coded_ℕ}
+use Rattle.sqlite_trees.specs.declared.store.Store.{Ghosts}
+use Rattle.sqlite.specs.Held.{Held, held_code, state}
+use Rattle.sqlite.specs.State.{State}
+use Rattle.hub_rows.specs.Changes.{Fits}
+use Rattle.hub_rows.specs.Rows.{Rows}
+use Rattle.hub_rows.specs.StoreView.{StoreView}
+use Rattle.hub_rows.specs.WellFormed.{WellFormedRows}
+use Rattle.hub_rows.specs.declared.change.Change.{Change}
+use Rattle.sql_shelf.specs.Kept.{Serves}
+use Rattle.sql_shelf.specs.Opening.{IsOurs}
+use Rattle.sql_shelf.specs.Shelves.{rows_of}
+
+pub record SqlView (S : Type 0) : Type 0 where
+  pub conn : Held S
+  pub failures : ℕ
+  pub taken : Held S
+
+abbrev pub sql_code : {S : Type 0} → Coded S → Coded (SqlView S)
+sql_code {S} store =
+    code_by (Held S × (ℕ × Held S)) (coded× (held_code store) (coded× coded_ℕ (held_code store))) (λ v. (v.conn, (v.failures, v.taken))) (λ p. record { conn = p.0; failures = p.1.0; taken = p.1.1 }) (λ _. refl)
+
+-- a connection that was taken over serves, if the rows that it had then were ours
+abbrev pub IsKept : State → State → Type 0
+IsKept taken s = IsOurs taken → IsTrue s.is_open → Serves s × WellFormedRows (rows_of s.now.trees)
+
+-- the change fits, and the connection is one that serves
+abbrev pub IsReady : Change → State → Type 0
+IsReady change s = IsTrue s.is_open → Serves s × WellFormedRows (rows_of s.now.trees) × Fits change (rows_of s.now.trees)
+
+module _ {S : Type 0} (g : Ghosts S) where
+  abbrev pub sql_rows : SqlView S → Rows
+  sql_rows s = rows_of (state g s.conn).now.trees
+
+  -- what it took over was ours, it is open, and its rows are well formed, which follows
+  pub record IsCleanSql (s : SqlView S) : Type 0 where
+    pub ours : IsOurs (state g s.taken)
+    pub up : IsTrue (state g s.conn).is_open
+    pub good : WellFormedRows (sql_rows s)
+
+  -- the store, as the trait sees it
+  abbrev pub sql_view : SqlView S → StoreView
+  sql_view s = record { rows = sql_rows s; failures = s.failures; clean = IsCleanSql s }

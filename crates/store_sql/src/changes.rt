@@ -1,0 +1,137 @@
+//! Changes of the records.
+ghost use Rattle.std.specs.Prelude.{◌≡◌, IsErr, IsOk, OnErr, OnOk};
+ghost use Rattle.sqlite.specs.Held.{state};
+ghost use Rattle.hub_rows.specs.Changes.{after_change, edit};
+ghost use Rattle.hub_rows.specs.declared.change.Edit.TheVariants.{TxStopped};
+ghost use Rattle.sql_shelf.specs.Kept.{Changes, Goes, IsInside, IsMade};
+ghost use Rattle.store_sql.specs.Store.{IsReady};
+
+use crate::columns::told;
+use crate::connectors::put_connector;
+use crate::grants::{drop_grant, put_grant};
+use crate::readings::add_readings;
+use crate::reservations::{drop_reservation, put_reservation};
+use crate::stations::{add_station, see_boot, set_policy};
+use crate::tags::{drop_tag, put_tag};
+use crate::txs::{start_tx, stop_tx};
+use hub_rows::{Change, Edit, Reading, Stop, StoreFault};
+use sqlite::{Alter, Connection, Error, Transaction};
+use std::alloc::Global;
+
+/// Keeps the stop of a transaction, and the readings that came with it.
+fn end_tx<S: Alter>(
+    tx: &mut Transaction<'_, S>,
+    alloc: Global,
+    op: &str,
+    station: &str,
+    number: u32,
+    stop: &Stop,
+    first: u32,
+    readings: &[Reading],
+) -> Result<(), StoreFault>
+    ensures same_reference { tx.new.conn.ghost_name ≡ tx.old.conn.ghost_name }
+    ensures goes { IsInside (state S.Store tx.old.conn.now) → Goes (IsMade (edit op.now (TxStopped station.now number stop.now first readings.now))) (state S.Store tx.old.conn.now) (state S.Store tx.new.conn.now) result }
+{
+    stop_tx(tx, alloc, op, station, number, stop)?;
+    add_readings(tx, op, station, first, readings)
+}
+
+/// Makes an edit inside a transaction.
+fn make<S: Alter>(
+    tx: &mut Transaction<'_, S>,
+    alloc: Global,
+    op: &str,
+    change: &Edit,
+) -> Result<(), StoreFault>
+    ensures same_reference { tx.new.conn.ghost_name ≡ tx.old.conn.ghost_name }
+    ensures goes { IsInside (state S.Store tx.old.conn.now) → Goes (IsMade (edit op.now change.now)) (state S.Store tx.old.conn.now) (state S.Store tx.new.conn.now) result }
+{
+    match change {
+        Edit::StationAdded {
+            station,
+            policy,
+            interval,
+        } => add_station(tx, op, station.as_str(), *policy, *interval),
+        Edit::BootSeen {
+            station,
+            boot,
+            state,
+        } => see_boot(tx, alloc, op, station.as_str(), boot, *state),
+        Edit::PolicySet {
+            station,
+            policy,
+            interval,
+        } => set_policy(tx, alloc, op, station.as_str(), *policy, *interval),
+        Edit::ConnectorSeen {
+            station,
+            connector,
+            report,
+        } => put_connector(tx, op, station.as_str(), *connector, report),
+        Edit::TagPut { key, tag } => put_tag(tx, alloc, op, key.as_str(), tag),
+        Edit::TagDropped { key } => drop_tag(tx, op, key.as_str()),
+        Edit::GrantPut { key, to, until } => put_grant(tx, op, key.as_str(), to.as_str(), until),
+        Edit::GrantDropped { key, to } => drop_grant(tx, op, key.as_str(), to.as_str()),
+        Edit::TxStarted {
+            station,
+            number,
+            start,
+        } => start_tx(tx, op, station.as_str(), *number, start),
+        Edit::TxStopped {
+            station,
+            number,
+            stop,
+            first,
+            readings,
+        } => end_tx(
+            tx,
+            alloc,
+            op,
+            station.as_str(),
+            *number,
+            stop,
+            *first,
+            readings.as_slice(),
+        ),
+        Edit::ReadingsAdded {
+            station,
+            first,
+            readings,
+        } => add_readings(tx, op, station.as_str(), *first, readings.as_slice()),
+        Edit::ReservationPut {
+            station,
+            id,
+            reservation,
+        } => put_reservation(tx, op, station.as_str(), *id, reservation),
+        Edit::ReservationDropped { station, id } => {
+            drop_reservation(tx, op, station.as_str(), *id)
+        }
+        Edit::ListSet { .. } => Err(StoreFault::Failed),
+    }
+}
+
+/// What a commit did, as a store tells it.
+fn committed(ran: Result<(), Error>) -> Result<(), StoreFault>
+    ensures ok { OnOk result (IsOk ran) }
+    ensures err { OnErr result (IsErr ran) }
+{
+    match ran {
+        Ok(()) => Ok(()),
+        Err(error) => Err(told(error)),
+    }
+}
+
+/// Makes a change, in one transaction.
+pub(crate) fn apply<S: Alter>(
+    conn: &mut Connection<S>,
+    alloc: Global,
+    change: &Change,
+) -> Result<(), StoreFault>
+    ensures changes { IsReady change.now (state S.Store conn.old) → Changes (IsMade (after_change change.now)) (state S.Store conn.old) (state S.Store conn.new) result }
+{
+    if !conn.is_autocommit() {
+        return Err(StoreFault::Failed);
+    }
+    let mut tx = conn.transaction();
+    make(&mut tx, alloc, change.op.as_str(), change.edit.as_ref())?;
+    committed(tx.commit())
+}

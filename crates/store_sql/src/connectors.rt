@@ -1,0 +1,110 @@
+//! Connectors in their table.
+ghost use Rattle.std.specs.Prelude.{◌≡◌, ◌&&◌};
+ghost use Rattle.std.specs.Str.{bytes_eq};
+ghost use Rattle.sqlite.specs.Held.{state};
+ghost use Rattle.hub_rows.specs.Lookups.{connectors_in};
+ghost use Rattle.sql_shelf.specs.Kept.{IsServing, Finds, Rests, Shows, IsInside, IsMade, Goes};
+ghost use Rattle.sql_shelf.specs.Shelves.{connectors};
+ghost use Rattle.hub_rows.specs.Changes.{edit};
+ghost use Rattle.hub_rows.specs.declared.change.Edit.TheVariants.{ConnectorSeen};
+
+use crate::binds::{done, lent};
+use crate::columns::{connector, named, number, text, text_if_any};
+use crate::stored::{Stored, listed};
+use hub_rows::{ConnectorReport, ConnectorRow, StoreFault};
+use ocpp_types::{Listed, Named};
+use sqlite::{Alter, Connection, Error, Row, Transaction, params};
+use std::alloc::Global;
+
+const LIST: &str =
+    "SELECT op, station, connector, status, error_code, at, info, vendor_id, vendor_error_code FROM hub_connector WHERE op = ?1 AND station = ?2 ORDER BY connector";
+
+const PUT: &str =
+    "INSERT INTO hub_connector (op, station, connector, status, error_code, at, info, vendor_id, vendor_error_code) VALUES (?1, ?2, ?3, ?4, ?5, ?6, ?7, ?8, ?9) ON CONFLICT (op, station, connector) DO UPDATE SET status = excluded.status, error_code = excluded.error_code, at = excluded.at, info = excluded.info, vendor_id = excluded.vendor_id, vendor_error_code = excluded.vendor_error_code";
+
+impl Stored for ConnectorRow {
+    ghost use Rattle.sql_shelf.specs.Shelves.{connectors};
+
+    ghost read = { connectors.read };
+
+    fn read(alloc: Global, row: &Row) -> Result<ConnectorRow, StoreFault> {
+        Ok(ConnectorRow {
+            op: text(row, 0)?,
+            station: text(row, 1)?,
+            connector: connector(row, 2)?,
+            report: ConnectorReport {
+                status: named(row, 3)?,
+                error_code: named(row, 4)?,
+                at: number(row, 5)?,
+                info: text_if_any(row, 6)?,
+                vendor_id: text_if_any(row, 7)?,
+                vendor_error_code: text_if_any(row, 8)?,
+            },
+        })
+    }
+}
+
+fn list<S: Alter>(conn: &mut Connection<S>, op: &str, station: &str) -> Result<Vec<Row>, Error>
+    ensures shows { IsServing (state S.Store conn.old) → Shows (λ v. v.items) connectors (λ r. bytes_eq r.op op.now && bytes_eq r.station station.now) (state S.Store conn.old) (state S.Store conn.new) result }
+{
+    conn.query_all(LIST, params![op, station])
+}
+
+/// The connectors of a station.
+pub(crate) fn connectors<S: Alter>(
+    conn: &mut Connection<S>,
+    alloc: Global,
+    op: &str,
+    station: &str,
+) -> Result<Listed<ConnectorRow>, StoreFault>
+    ensures found { Finds (state S.Store conn.old) (state S.Store conn.new) result (λ rows list. list ≡ connectors_in op.now station.now rows.connectors) }
+    ensures same { Rests (state S.Store conn.old) (state S.Store conn.new) }
+{
+    listed(alloc, list(conn, op, station))
+}
+
+/// Puts the row of a connector.
+fn put_row<S: Alter>(
+    tx: &mut Transaction<'_, S>,
+    op: &str,
+    station: &str,
+    connector: u8,
+    report: &ConnectorReport,
+    number: u32,
+    at: i64,
+) -> Result<usize, Error>
+    requires number { number ≡ connector }
+    requires at { at ≡ report.now.at }
+    ensures same_reference { tx.new.conn.ghost_name ≡ tx.old.conn.ghost_name }
+    ensures goes { IsInside (state S.Store tx.old.conn.now) → Goes (IsMade (edit op.now (ConnectorSeen station.now connector report.now))) (state S.Store tx.old.conn.now) (state S.Store tx.new.conn.now) result }
+{
+    tx.execute(
+        PUT,
+        params![
+            op,
+            station,
+            number,
+            report.status.name(),
+            report.error_code.name(),
+            at,
+            lent(&report.info),
+            lent(&report.vendor_id),
+            lent(&report.vendor_error_code)
+        ],
+    )
+}
+
+/// Puts a report on a connector, in place of the one before.
+pub(crate) fn put_connector<S: Alter>(
+    tx: &mut Transaction<'_, S>,
+    op: &str,
+    station: &str,
+    connector: u8,
+    report: &ConnectorReport,
+) -> Result<(), StoreFault>
+    ensures same_reference { tx.new.conn.ghost_name ≡ tx.old.conn.ghost_name }
+    ensures goes { IsInside (state S.Store tx.old.conn.now) → Goes (IsMade (edit op.now (ConnectorSeen station.now connector report.now))) (state S.Store tx.old.conn.now) (state S.Store tx.new.conn.now) result }
+{
+    let number = u32::from(connector);
+    done(put_row(tx, op, station, connector, report, number, report.at))
+}

@@ -1,0 +1,198 @@
+//! Grants of id tags in their table.
+ghost use Rattle.std.specs.Prelude.{◌≡◌, ◌&&◌, true, filter, option_map, pos};
+ghost use Rattle.std.specs.Str.{bytes_eq};
+ghost use Rattle.sqlite.specs.Held.{state};
+ghost use Rattle.hub_rows.specs.Grants.{grants_in, grants_of_key, has_grant_in, is_grant};
+ghost use Rattle.hub_rows.specs.Keyed.{found};
+ghost use Rattle.sql_shelf.specs.Kept.{IsServing, Finds, Rests, Shows, IsInside, IsMade, Goes};
+ghost use Rattle.sql_shelf.specs.Shelves.{grants};
+ghost use Rattle.hub_rows.specs.Changes.{edit};
+ghost use Rattle.hub_rows.specs.declared.change.Edit.TheVariants.{GrantPut, GrantDropped};
+
+use crate::binds::{done, seconds_if_any};
+use crate::columns::{key, moment_if_any, text};
+use crate::stored::{Stored, first_row, is_found, listed};
+use hub_rows::{GrantRow, StoreFault};
+use ocpp_types::{Listed, Moment};
+use sqlite::{Alter, Connection, Error, Row, Transaction, params};
+use std::alloc::Global;
+
+const FIND: &str =
+    "SELECT op, tag_key, to_op, until FROM hub_grant WHERE op = ?1 AND tag_key = ?2 AND to_op = ?3";
+
+const LIST: &str =
+    "SELECT op, tag_key, to_op, until FROM hub_grant WHERE op = ?1 ORDER BY tag_key, to_op";
+
+const RECEIVED: &str =
+    "SELECT op, tag_key, to_op, until FROM hub_grant WHERE to_op = ?1 AND tag_key BETWEEN ?2 AND ?3 ORDER BY tag_key, op";
+
+const PUT: &str =
+    "INSERT INTO hub_grant (op, tag_key, to_op, until) VALUES (?1, ?2, ?3, ?4) ON CONFLICT (op, tag_key, to_op) DO UPDATE SET until = excluded.until";
+
+const DROP: &str = "DELETE FROM hub_grant WHERE op = ?1 AND tag_key = ?2 AND to_op = ?3";
+
+impl Stored for GrantRow {
+    ghost use Rattle.sql_shelf.specs.Shelves.{grants};
+
+    ghost read = { grants.read };
+
+    fn read(alloc: Global, row: &Row) -> Result<GrantRow, StoreFault> {
+        Ok(GrantRow {
+            op: text(row, 0)?,
+            key: key(alloc, row, 1)?,
+            to: text(row, 2)?,
+            until: moment_if_any(row, 3)?,
+        })
+    }
+}
+
+fn find<S: Alter>(
+    conn: &mut Connection<S>,
+    op: &str,
+    key: &str,
+    to: &str,
+) -> Result<Vec<Row>, Error>
+    ensures shows { IsServing (state S.Store conn.old) → Shows (λ v. v.items) grants (λ r. bytes_eq r.op op.now && is_grant key.now to.now r) (state S.Store conn.old) (state S.Store conn.new) result }
+{
+    conn.query_all(FIND, params![op, key, to])
+}
+
+fn list<S: Alter>(conn: &mut Connection<S>, op: &str) -> Result<Vec<Row>, Error>
+    ensures shows { IsServing (state S.Store conn.old) → Shows (λ v. v.items) grants (λ r. bytes_eq r.op op.now && true) (state S.Store conn.old) (state S.Store conn.new) result }
+{
+    conn.query_all(LIST, params![op])
+}
+
+fn find_received<S: Alter>(conn: &mut Connection<S>, to: &str, key: &str) -> Result<Vec<Row>, Error>
+    ensures shows { IsServing (state S.Store conn.old) → Shows (λ v. v.items) grants (λ r. bytes_eq r.to to.now && bytes_eq r.key key.now) (state S.Store conn.old) (state S.Store conn.new) result }
+{
+    conn.query_all(RECEIVED, params![to, key, key])
+}
+
+fn list_received<S: Alter>(conn: &mut Connection<S>, to: &str) -> Result<Vec<Row>, Error>
+    ensures shows { IsServing (state S.Store conn.old) → Shows (λ v. v.items) grants (λ r. bytes_eq r.to to.now) (state S.Store conn.old) (state S.Store conn.new) result }
+{
+    let above: &[u8] = &[];
+    conn.query_all(RECEIVED, params![to, "", above])
+}
+
+/// The grant of a tag to an operator.
+fn find_grant<S: Alter>(
+    conn: &mut Connection<S>,
+    alloc: Global,
+    op: &str,
+    key: &str,
+    to: &str,
+) -> Result<Option<GrantRow>, StoreFault>
+    ensures found { Finds (state S.Store conn.old) (state S.Store conn.new) result (λ rows r. r ≡ found (λ g. g.op) op.now (is_grant key.now to.now) rows.grants) }
+    ensures same { Rests (state S.Store conn.old) (state S.Store conn.new) }
+{
+    first_row(alloc, find(conn, op, key, to))
+}
+
+/// Whether an operator granted its tag of a key to another.
+pub(crate) fn has_grant<S: Alter>(
+    conn: &mut Connection<S>,
+    alloc: Global,
+    op: &str,
+    key: &str,
+    to: &str,
+) -> Result<bool, StoreFault>
+    ensures found { Finds (state S.Store conn.old) (state S.Store conn.new) result (λ rows has. has ≡ has_grant_in op.now key.now to.now rows.grants) }
+    ensures same { Rests (state S.Store conn.old) (state S.Store conn.new) }
+{
+    is_found(find_grant(conn, alloc, op, key, to))
+}
+
+/// What an operator granted.
+pub(crate) fn grants_out<S: Alter>(
+    conn: &mut Connection<S>,
+    alloc: Global,
+    op: &str,
+) -> Result<Listed<GrantRow>, StoreFault>
+    ensures found { Finds (state S.Store conn.old) (state S.Store conn.new) result (λ rows list. list ≡ grants_in op.now rows.grants) }
+    ensures same { Rests (state S.Store conn.old) (state S.Store conn.new) }
+{
+    listed(alloc, list(conn, op))
+}
+
+/// What is granted to an operator, in the order of the owners.
+pub(crate) fn received<S: Alter>(
+    conn: &mut Connection<S>,
+    alloc: Global,
+    to: &str,
+) -> Result<Listed<GrantRow>, StoreFault>
+    ensures found { Finds (state S.Store conn.old) (state S.Store conn.new) result (λ rows list. list ≡ filter (λ r. bytes_eq r.to to.now) rows.grants) }
+    ensures same { Rests (state S.Store conn.old) (state S.Store conn.new) }
+{
+    listed(alloc, list_received(conn, to))
+}
+
+/// The grants of the tags of a key to an operator, in the order of the owners.
+pub(crate) fn received_of_key<S: Alter>(
+    conn: &mut Connection<S>,
+    alloc: Global,
+    to: &str,
+    key: &str,
+) -> Result<Listed<GrantRow>, StoreFault>
+    ensures found { Finds (state S.Store conn.old) (state S.Store conn.new) result (λ rows list. list ≡ grants_of_key to.now key.now rows.grants) }
+    ensures same { Rests (state S.Store conn.old) (state S.Store conn.new) }
+{
+    listed(alloc, find_received(conn, to, key))
+}
+
+/// Puts the row of a grant.
+fn put_row<S: Alter>(
+    tx: &mut Transaction<'_, S>,
+    op: &str,
+    key: &str,
+    to: &str,
+    until: &Option<Moment>,
+    seconds: Option<i64>,
+) -> Result<usize, Error>
+    requires { seconds ≡ option_map pos until.now }
+    ensures same_reference { tx.new.conn.ghost_name ≡ tx.old.conn.ghost_name }
+    ensures goes { IsInside (state S.Store tx.old.conn.now) → Goes (IsMade (edit op.now (GrantPut key.now to.now until.now))) (state S.Store tx.old.conn.now) (state S.Store tx.new.conn.now) result }
+{
+    tx.execute(PUT, params![op, key, to, seconds])
+}
+
+/// Drops the row of a grant.
+fn drop_row<S: Alter>(
+    tx: &mut Transaction<'_, S>,
+    op: &str,
+    key: &str,
+    to: &str,
+) -> Result<usize, Error>
+    ensures same_reference { tx.new.conn.ghost_name ≡ tx.old.conn.ghost_name }
+    ensures goes { IsInside (state S.Store tx.old.conn.now) → Goes (IsMade (edit op.now (GrantDropped key.now to.now))) (state S.Store tx.old.conn.now) (state S.Store tx.new.conn.now) result }
+{
+    tx.execute(DROP, params![op, key, to])
+}
+
+/// Puts a grant of a tag, in place of the one to that operator.
+pub(crate) fn put_grant<S: Alter>(
+    tx: &mut Transaction<'_, S>,
+    op: &str,
+    key: &str,
+    to: &str,
+    until: &Option<Moment>,
+) -> Result<(), StoreFault>
+    ensures same_reference { tx.new.conn.ghost_name ≡ tx.old.conn.ghost_name }
+    ensures goes { IsInside (state S.Store tx.old.conn.now) → Goes (IsMade (edit op.now (GrantPut key.now to.now until.now))) (state S.Store tx.old.conn.now) (state S.Store tx.new.conn.now) result }
+{
+    done(put_row(tx, op, key, to, until, seconds_if_any(until)))
+}
+
+/// Drops a grant of a tag.
+pub(crate) fn drop_grant<S: Alter>(
+    tx: &mut Transaction<'_, S>,
+    op: &str,
+    key: &str,
+    to: &str,
+) -> Result<(), StoreFault>
+    ensures same_reference { tx.new.conn.ghost_name ≡ tx.old.conn.ghost_name }
+    ensures goes { IsInside (state S.Store tx.old.conn.now) → Goes (IsMade (edit op.now (GrantDropped key.now to.now))) (state S.Store tx.old.conn.now) (state S.Store tx.new.conn.now) result }
+{
+    done(drop_row(tx, op, key, to))
+}

@@ -1,0 +1,21 @@
+//! The store of the records of all operators in SQLite, in memory or in a file.
+#![tactic(auto)]
+
+mod binds;
+mod changes;
+mod columns;
+mod connectors;
+mod grants;
+mod last_numbers;
+mod opening;
+mod readings;
+mod reservations;
+mod same;
+mod sql_store;
+mod stations;
+mod stored;
+mod tags;
+mod txs;
+
+pub use opening::{PrepareFault, prepare};
+pub use sql_store::SqlStore;

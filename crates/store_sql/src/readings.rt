@@ -1,0 +1,251 @@
+//! Meter readings in their table.
+ghost use Rattle.std.specs.Prelude.{◌≡◌, ◌&&◌, pos, None, Some, IfOk, filter, ◌+◌, length, option_map};
+ghost use Rattle.std.specs.Str.{bytes_eq};
+ghost use Rattle.sqlite.specs.Held.{state};
+ghost use Rattle.hub_rows.specs.Keyed.{greatest, by_key, put};
+ghost use Rattle.hub_rows.specs.Transactions.{is_reading, is_sent_with, numbers_of, readings_in};
+ghost use Rattle.sql_shelf.specs.Kept.{IsServing, Finds, Rests, Shows, ShowsLast, IsInside, IsMade, Goes, Inside};
+ghost use Rattle.sql_shelf.specs.Shelves.{readings};
+ghost use Rattle.hub_rows.specs.Rows.{reading_key};
+ghost use Rattle.hub_rows.specs.Changes.{edit, with_readings};
+ghost use Rattle.hub_rows.specs.declared.change.Edit.TheVariants.{ReadingsAdded};
+
+use crate::binds::{done, name_if_any};
+use crate::columns::{connector, count, named, named_if_any, number, number_if_any, text};
+use crate::stored::{Stored, listed};
+use crate::txs::only_number;
+use hub_rows::{Reading, ReadingRow, StoreFault};
+use ocpp_types::{Listed, Named};
+use sqlite::{Alter, Connection, Error, Row, Transaction, params};
+use std::alloc::Global;
+
+const LIST: &str =
+    "SELECT op, station, number, connector, transaction_id, at, context, format, measurand, phase, location, unit, value FROM hub_reading WHERE op = ?1 AND station = ?2 ORDER BY number";
+
+const LIST_OF_TX: &str =
+    "SELECT op, station, number, connector, transaction_id, at, context, format, measurand, phase, location, unit, value FROM hub_reading WHERE op = ?1 AND station = ?2 AND transaction_id = ?3 ORDER BY number";
+
+const FIND_LAST: &str =
+    "SELECT op, station, number, connector, transaction_id, at, context, format, measurand, phase, location, unit, value FROM hub_reading WHERE op = ?1 AND station = ?2 ORDER BY number DESC LIMIT 1";
+
+const PUT: &str =
+    "INSERT INTO hub_reading (op, station, number, connector, transaction_id, at, context, format, measurand, phase, location, unit, value) VALUES (?1, ?2, ?3, ?4, ?5, ?6, ?7, ?8, ?9, ?10, ?11, ?12, ?13) ON CONFLICT (op, station, number) DO UPDATE SET connector = excluded.connector, transaction_id = excluded.transaction_id, at = excluded.at, context = excluded.context, format = excluded.format, measurand = excluded.measurand, phase = excluded.phase, location = excluded.location, unit = excluded.unit, value = excluded.value";
+
+impl Stored for ReadingRow {
+    ghost use Rattle.sql_shelf.specs.Shelves.{readings};
+
+    ghost read = { readings.read };
+
+    fn read(alloc: Global, row: &Row) -> Result<ReadingRow, StoreFault> {
+        Ok(ReadingRow {
+            op: text(row, 0)?,
+            station: text(row, 1)?,
+            number: count(row, 2)?,
+            reading: reading(row)?,
+        })
+    }
+}
+
+fn reading(row: &Row) -> Result<Reading, StoreFault>
+    ensures { IfOk result (λ r. r ≡ (readings.read row.now).reading) }
+{
+    Ok(Reading {
+        connector: connector(row, 3)?,
+        transaction: number_if_any(row, 4)?,
+        at: number(row, 5)?,
+        context: named(row, 6)?,
+        format: named(row, 7)?,
+        measurand: named(row, 8)?,
+        phase: named_if_any(row, 9)?,
+        location: named(row, 10)?,
+        unit: named_if_any(row, 11)?,
+        text: text(row, 12)?,
+    })
+}
+
+fn list<S: Alter>(conn: &mut Connection<S>, op: &str, station: &str) -> Result<Vec<Row>, Error>
+    ensures shows { IsServing (state S.Store conn.old) → Shows (λ v. v.items) readings (λ r. bytes_eq r.op op.now && is_reading station.now None r) (state S.Store conn.old) (state S.Store conn.new) result }
+{
+    conn.query_all(LIST, params![op, station])
+}
+
+fn list_of_tx<S: Alter>(
+    conn: &mut Connection<S>,
+    op: &str,
+    station: &str,
+    transaction: u64,
+    number: i64,
+) -> Result<Vec<Row>, Error>
+    requires { number ≡ pos transaction }
+    ensures shows { IsServing (state S.Store conn.old) → Shows (λ v. v.items) readings (λ r. bytes_eq r.op op.now && is_reading station.now (Some transaction) r) (state S.Store conn.old) (state S.Store conn.new) result }
+{
+    conn.query_all(LIST_OF_TX, params![op, station, number])
+}
+
+fn find_last<S: Alter>(conn: &mut Connection<S>, op: &str, station: &str) -> Result<Vec<Row>, Error>
+    ensures shows { IsServing (state S.Store conn.old) → ShowsLast (λ v. v.items) readings (λ r. r.number) (λ r. bytes_eq r.op op.now && is_reading station.now None r) (state S.Store conn.old) (state S.Store conn.new) result }
+{
+    conn.query_all(FIND_LAST, params![op, station])
+}
+
+/// All readings of a station.
+fn all_readings<S: Alter>(
+    conn: &mut Connection<S>,
+    alloc: Global,
+    op: &str,
+    station: &str,
+) -> Result<Listed<ReadingRow>, StoreFault>
+    ensures found { Finds (state S.Store conn.old) (state S.Store conn.new) result (λ rows list. list ≡ readings_in op.now station.now None rows.readings) }
+    ensures same { Rests (state S.Store conn.old) (state S.Store conn.new) }
+{
+    listed(alloc, list(conn, op, station))
+}
+
+/// The readings of a station that were sent with the number of a transaction.
+fn tx_readings<S: Alter>(
+    conn: &mut Connection<S>,
+    alloc: Global,
+    op: &str,
+    station: &str,
+    transaction: u64,
+    number: i64,
+) -> Result<Listed<ReadingRow>, StoreFault>
+    requires { number ≡ pos transaction }
+    ensures found { Finds (state S.Store conn.old) (state S.Store conn.new) result (λ rows list. list ≡ readings_in op.now station.now (Some transaction) rows.readings) }
+    ensures same { Rests (state S.Store conn.old) (state S.Store conn.new) }
+{
+    listed(alloc, list_of_tx(conn, op, station, transaction, number))
+}
+
+fn is_sent_with(wanted: u64, transaction: Option<i32>) -> bool
+    ensures { result ≡ is_sent_with (Some wanted) transaction }
+{
+    match transaction {
+        None => false,
+        Some(transaction) => i128::from(transaction) == i128::from(wanted),
+    }
+}
+
+/// Those of some readings that were sent with that number.
+fn sent_with(
+    alloc: Global,
+    rows: Listed<ReadingRow>,
+    wanted: u64,
+) -> Result<Listed<ReadingRow>, StoreFault>
+    ensures { IfOk result (λ list. list ≡ filter (λ r. is_sent_with (Some wanted) r.reading.transaction) rows) }
+{
+    let sent: Vec<ReadingRow> = rows
+        .into_vec()
+        .into_iter()
+        .filter(|row| is_sent_with(wanted, row.reading.transaction))
+        .collect(alloc)?;
+    Ok(Listed::from(sent))
+}
+
+/// The readings of a station: all, or those that were sent with the number of a transaction. No
+/// number past 64 bits with a sign is in the table.
+pub(crate) fn readings<S: Alter>(
+    conn: &mut Connection<S>,
+    alloc: Global,
+    op: &str,
+    station: &str,
+    transaction: Option<u64>,
+) -> Result<Listed<ReadingRow>, StoreFault>
+    ensures found { Finds (state S.Store conn.old) (state S.Store conn.new) result (λ rows list. list ≡ readings_in op.now station.now transaction rows.readings) }
+    ensures same { Rests (state S.Store conn.old) (state S.Store conn.new) }
+{
+    let wanted = match transaction {
+        None => return all_readings(conn, alloc, op, station),
+        Some(wanted) => wanted,
+    };
+    if wanted <= i64::MAX as u64 {
+        return tx_readings(conn, alloc, op, station, wanted, wanted as i64);
+    }
+    let all = all_readings(conn, alloc, op, station)?;
+    sent_with(alloc, all, wanted)
+}
+
+/// The last number of a station's readings, 0 where there is none.
+pub(crate) fn last_number<S: Alter>(
+    conn: &mut Connection<S>,
+    op: &str,
+    station: &str,
+) -> Result<u32, StoreFault>
+    ensures found { Finds (state S.Store conn.old) (state S.Store conn.new) result (λ rows n. n ≡ greatest (numbers_of (λ r. r.number) (readings_in op.now station.now None rows.readings))) }
+    ensures same { Rests (state S.Store conn.old) (state S.Store conn.new) }
+{
+    only_number(find_last(conn, op, station))
+}
+
+/// Puts the row of a reading.
+fn put_row<S: Alter>(
+    tx: &mut Transaction<'_, S>,
+    op: &str,
+    station: &str,
+    number: u32,
+    reading: &Reading,
+    connector: u32,
+    at: i64,
+) -> Result<usize, Error>
+    requires connector { connector ≡ reading.now.connector }
+    requires at { at ≡ reading.now.at }
+    ensures same_reference { tx.new.conn.ghost_name ≡ tx.old.conn.ghost_name }
+    ensures goes { IsInside (state S.Store tx.old.conn.now) → Goes (IsMade (λ rows. record rows { readings = put (by_key reading_key) (record { op = op.now; station = station.now; number = number; reading = reading.now }) rows.readings })) (state S.Store tx.old.conn.now) (state S.Store tx.new.conn.now) result }
+{
+    tx.execute(
+        PUT,
+        params![
+            op,
+            station,
+            number,
+            connector,
+            reading.transaction,
+            at,
+            reading.context.name(),
+            reading.format.name(),
+            reading.measurand.name(),
+            name_if_any(&reading.phase),
+            reading.location.name(),
+            name_if_any(&reading.unit),
+            reading.text.as_str()
+        ],
+    )
+}
+
+/// Puts a reading.
+fn put_reading<S: Alter>(
+    tx: &mut Transaction<'_, S>,
+    op: &str,
+    station: &str,
+    number: u32,
+    reading: &Reading,
+) -> Result<(), StoreFault>
+    ensures same_reference { tx.new.conn.ghost_name ≡ tx.old.conn.ghost_name }
+    ensures goes { IsInside (state S.Store tx.old.conn.now) → Goes (IsMade (λ rows. record rows { readings = put (by_key reading_key) (record { op = op.now; station = station.now; number = number; reading = reading.now }) rows.readings })) (state S.Store tx.old.conn.now) (state S.Store tx.new.conn.now) result }
+{
+    let connector = u32::from(reading.connector);
+    done(put_row(tx, op, station, number, reading, connector, reading.at))
+}
+
+/// Puts readings of a station, numbered from the first number on. The last number is within 32
+/// bits, or else this answers Failed.
+pub(crate) fn add_readings<S: Alter>(
+    tx: &mut Transaction<'_, S>,
+    op: &str,
+    station: &str,
+    first: u32,
+    readings: &[Reading],
+) -> Result<(), StoreFault>
+    ensures same_reference { tx.new.conn.ghost_name ≡ tx.old.conn.ghost_name }
+    ensures goes { IsInside (state S.Store tx.old.conn.now) → Goes (IsMade (λ rows. record rows { readings = with_readings op.now station.now first readings.now rows.readings })) (state S.Store tx.old.conn.now) (state S.Store tx.new.conn.now) result }
+{
+    if readings.len() > (u32::MAX - first) as usize {
+        return Err(StoreFault::Failed);
+    }
+    let mut number = first;
+    'readings: for reading in readings {
+        put_reading(tx, op, station, number, reading)?;
+        number += 1;
+    }
+    Ok(())
+}

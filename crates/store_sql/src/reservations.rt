@@ -1,0 +1,215 @@
+//! Reservations in their table.
+ghost use Rattle.std.specs.Prelude.{◌≡◌, ◌&&◌, option_map, pos};
+ghost use Rattle.std.specs.Str.{bytes_eq};
+ghost use Rattle.sqlite.specs.Held.{state};
+ghost use Rattle.hub_rows.specs.Keyed.{found};
+ghost use Rattle.hub_rows.specs.Reservations.{is_reservation, reservations_in, reserved_until_in, unshifted, without_named};
+ghost use Rattle.sql_shelf.specs.Kept.{IsServing, Finds, Rests, Shows, IsInside, IsMade, Goes};
+ghost use Rattle.sql_shelf.specs.Shelves.{reservations};
+ghost use Rattle.hub_rows.specs.Changes.{edit};
+ghost use Rattle.hub_rows.specs.declared.change.Edit.TheVariants.{ReservationPut, ReservationDropped};
+
+use crate::binds::{done, lent, seconds};
+use crate::columns::{connector, moment, reservation_id, text, text_if_any};
+use crate::stored::{Stored, first_row, listed};
+use hub_rows::{Reservation, ReservationId, ReservationRow, StoreFault};
+use ocpp_types::{Listed, Moment};
+use sqlite::{Alter, Connection, Error, Row, Transaction, params};
+use std::alloc::Global;
+
+const FIND: &str =
+    "SELECT op, station, reservation_id, connector, id_tag, parent_id_tag, expiry_date FROM hub_reservation WHERE op = ?1 AND station = ?2 AND reservation_id BETWEEN ?3 AND ?4 ORDER BY reservation_id";
+
+/// The least id.
+const LEAST: i64 = -2147483648;
+
+const PUT: &str =
+    "INSERT INTO hub_reservation (op, station, reservation_id, connector, id_tag, parent_id_tag, expiry_date) VALUES (?1, ?2, ?3, ?4, ?5, ?6, ?7) ON CONFLICT (op, station, reservation_id) DO UPDATE SET connector = excluded.connector, id_tag = excluded.id_tag, parent_id_tag = excluded.parent_id_tag, expiry_date = excluded.expiry_date";
+
+const DROP: &str =
+    "DELETE FROM hub_reservation WHERE op = ?1 AND station = ?2 AND reservation_id = ?3";
+
+impl Stored for ReservationRow {
+    ghost use Rattle.sql_shelf.specs.Shelves.{reservations};
+
+    ghost read = { reservations.read };
+
+    fn read(alloc: Global, row: &Row) -> Result<ReservationRow, StoreFault> {
+        Ok(ReservationRow {
+            op: text(row, 0)?,
+            station: text(row, 1)?,
+            id: reservation_id(row, 2)?,
+            reservation: Reservation {
+                connector: connector(row, 3)?,
+                tag: text(row, 4)?,
+                parent: text_if_any(row, 5)?,
+                expiry: moment(row, 6)?,
+            },
+        })
+    }
+}
+
+fn find_one<S: Alter>(
+    conn: &mut Connection<S>,
+    op: &str,
+    station: &str,
+    id: ReservationId,
+    number: i32,
+) -> Result<Vec<Row>, Error>
+    requires { number ≡ unshifted id }
+    ensures shows { IsServing (state S.Store conn.old) → Shows (λ v. v.items) reservations (λ r. bytes_eq r.op op.now && is_reservation station.now id r) (state S.Store conn.old) (state S.Store conn.new) result }
+{
+    conn.query_all(FIND, params![op, station, number, number])
+}
+
+fn find_all<S: Alter>(conn: &mut Connection<S>, op: &str, station: &str) -> Result<Vec<Row>, Error>
+    ensures shows { IsServing (state S.Store conn.old) → Shows (λ v. v.items) reservations (λ r. bytes_eq r.op op.now && bytes_eq r.station station.now) (state S.Store conn.old) (state S.Store conn.new) result }
+{
+    let above: &[u8] = &[];
+    conn.query_all(FIND, params![op, station, LEAST, above])
+}
+
+/// The reservation of an id at a station.
+fn find_reservation<S: Alter>(
+    conn: &mut Connection<S>,
+    alloc: Global,
+    op: &str,
+    station: &str,
+    id: ReservationId,
+) -> Result<Option<ReservationRow>, StoreFault>
+    ensures found { Finds (state S.Store conn.old) (state S.Store conn.new) result (λ rows r. r ≡ found (λ r. r.op) op.now (is_reservation station.now id) rows.reservations) }
+    ensures same { Rests (state S.Store conn.old) (state S.Store conn.new) }
+{
+    first_row(alloc, find_one(conn, op, station, id, id.get()))
+}
+
+/// When the reservation of an id at a station expires.
+pub(crate) fn reserved_until<S: Alter>(
+    conn: &mut Connection<S>,
+    alloc: Global,
+    op: &str,
+    station: &str,
+    id: ReservationId,
+) -> Result<Option<Moment>, StoreFault>
+    ensures found { Finds (state S.Store conn.old) (state S.Store conn.new) result (λ rows until. until ≡ reserved_until_in op.now station.now id rows.reservations) }
+    ensures same { Rests (state S.Store conn.old) (state S.Store conn.new) }
+{
+    let found = find_reservation(conn, alloc, op, station, id)?;
+    match &found {
+        Some(row) => Ok(Some(row.reservation.expiry)),
+        None => Ok(None),
+    }
+}
+
+/// The reservations at a station.
+pub(crate) fn reservations<S: Alter>(
+    conn: &mut Connection<S>,
+    alloc: Global,
+    op: &str,
+    station: &str,
+) -> Result<Listed<ReservationRow>, StoreFault>
+    ensures found { Finds (state S.Store conn.old) (state S.Store conn.new) result (λ rows list. list ≡ reservations_in op.now station.now rows.reservations) }
+    ensures same { Rests (state S.Store conn.old) (state S.Store conn.new) }
+{
+    listed(alloc, find_all(conn, op, station))
+}
+
+/// Puts the row of a reservation.
+fn put_row<S: Alter>(
+    tx: &mut Transaction<'_, S>,
+    op: &str,
+    station: &str,
+    id: ReservationId,
+    reservation: &Reservation,
+    number: i32,
+    connector: u32,
+    expiry: i64,
+) -> Result<usize, Error>
+    requires number { number ≡ unshifted id }
+    requires connector { connector ≡ reservation.now.connector }
+    requires expiry { expiry ≡ pos reservation.now.expiry }
+    ensures same_reference { tx.new.conn.ghost_name ≡ tx.old.conn.ghost_name }
+    ensures goes { IsInside (state S.Store tx.old.conn.now) → Goes (IsMade (edit op.now (ReservationPut station.now id reservation.now))) (state S.Store tx.old.conn.now) (state S.Store tx.new.conn.now) result }
+{
+    tx.execute(
+        PUT,
+        params![
+            op,
+            station,
+            number,
+            connector,
+            reservation.tag.as_str(),
+            lent(&reservation.parent),
+            expiry
+        ],
+    )
+}
+
+/// Drops the row of a reservation.
+fn drop_row<S: Alter>(
+    tx: &mut Transaction<'_, S>,
+    op: &str,
+    station: &str,
+    id: ReservationId,
+    number: i32,
+) -> Result<usize, Error>
+    requires { number ≡ unshifted id }
+    ensures same_reference { tx.new.conn.ghost_name ≡ tx.old.conn.ghost_name }
+    ensures goes { IsInside (state S.Store tx.old.conn.now) → Goes (IsMade (edit op.now (ReservationDropped station.now id))) (state S.Store tx.old.conn.now) (state S.Store tx.new.conn.now) result }
+{
+    tx.execute(DROP, params![op, station, number])
+}
+
+/// Puts a reservation, in place of the one with its id.
+pub(crate) fn put_reservation<S: Alter>(
+    tx: &mut Transaction<'_, S>,
+    op: &str,
+    station: &str,
+    id: ReservationId,
+    reservation: &Reservation,
+) -> Result<(), StoreFault>
+    ensures same_reference { tx.new.conn.ghost_name ≡ tx.old.conn.ghost_name }
+    ensures goes { IsInside (state S.Store tx.old.conn.now) → Goes (IsMade (edit op.now (ReservationPut station.now id reservation.now))) (state S.Store tx.old.conn.now) (state S.Store tx.new.conn.now) result }
+{
+    let connector = u32::from(reservation.connector);
+    let expiry = seconds(reservation.expiry);
+    done(put_row(
+        tx,
+        op,
+        station,
+        id,
+        reservation,
+        id.get(),
+        connector,
+        expiry,
+    ))
+}
+
+/// Drops the reservation of an id.
+pub(crate) fn drop_reservation<S: Alter>(
+    tx: &mut Transaction<'_, S>,
+    op: &str,
+    station: &str,
+    id: ReservationId,
+) -> Result<(), StoreFault>
+    ensures same_reference { tx.new.conn.ghost_name ≡ tx.old.conn.ghost_name }
+    ensures goes { IsInside (state S.Store tx.old.conn.now) → Goes (IsMade (edit op.now (ReservationDropped station.now id))) (state S.Store tx.old.conn.now) (state S.Store tx.new.conn.now) result }
+{
+    done(drop_row(tx, op, station, id, id.get()))
+}
+
+/// Drops the reservation that a start names, if it names one.
+pub(crate) fn drop_named<S: Alter>(
+    tx: &mut Transaction<'_, S>,
+    op: &str,
+    station: &str,
+    id: Option<i32>,
+) -> Result<(), StoreFault>
+    ensures same_reference { tx.new.conn.ghost_name ≡ tx.old.conn.ghost_name }
+    ensures goes { IsInside (state S.Store tx.old.conn.now) → Goes (IsMade (λ rows. record rows { reservations = without_named op.now station.now id rows.reservations })) (state S.Store tx.old.conn.now) (state S.Store tx.new.conn.now) result }
+{
+    match id {
+        None => Ok(()),
+        Some(id) => drop_reservation(tx, op, station, ReservationId::new(id)),
+    }
+}

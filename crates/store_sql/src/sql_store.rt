@@ -1,0 +1,274 @@
+//! The store over a connection.
+ghost use Rattle.std.specs.Prelude.{◌≡◌, ◌≤◌, Err, OnOk, OnErr, IsTrue};
+ghost use Rattle.hub_rows.specs.Failures.{Rose};
+ghost use Rattle.hub_rows.specs.declared.store.StoreFault.TheVariants as store_fault;
+
+use crate::opening::{PrepareFault, fault, prepare};
+use crate::{
+    changes, connectors, grants, last_numbers, readings, reservations, stations, tags, txs,
+};
+use hub_rows::{
+    Change, ConnectorRow, GrantRow, GrantedTag, Info, LastNumbers, LocalList, ReadingRow,
+    Registration, ReservationId, ReservationRow, StartKey, StationRow, Store, StoreFault, TagRow,
+    TxKey, TxRow, TxState,
+};
+use ocpp_types::{Listed, Moment, TagKey};
+use sqlite::{Alter, Connection, FileFrom, FileStore, MemStore, Start};
+use std::alloc::Global;
+use std::marker::Model;
+use std::snapshot::Snapshot;
+
+/// Records in a database.
+///
+/// It is clean where the rows that it took over were written by this project and the connection
+/// is open. A connection that is shut answers Failed from then on, and the database has to be
+/// opened again.
+#[derive(Drop)]
+pub struct SqlStore<A: Alter> {
+    alloc: Global,
+    conn: Connection<A>,
+    failures: u64,
+    /// The connection as it was taken over, which takes no memory.
+    taken: Snapshot<Connection<A>>,
+}
+
+impl<A: Alter> Model for SqlStore<A> {
+    ghost use Rattle.sqlite.specs.Held.{state};
+    ghost use Rattle.store_sql.specs.Store.{SqlView, IsKept, sql_code};
+
+    ghost Value = { SqlView A };
+
+    ghost coded = { sql_code A.code };
+
+    ghost view = { λ s. record { conn = s.conn; failures = s.failures; taken = s.taken.value } };
+
+    ghost invariant = { λ s. IsKept (state A.Store s.taken.value) (state A.Store s.conn) };
+}
+
+impl<A: Alter> SqlStore<A> {
+    ghost use Rattle.store_sql.specs.Store.{IsCleanSql, IsKept};
+    ghost use Rattle.sql_shelf.specs.Opening.{IsOurs};
+    ghost use Rattle.sqlite.specs.Held.{state};
+
+    /// The store over a connection that is prepared.
+    pub(crate) fn over(
+        alloc: Global,
+        taken: Snapshot<Connection<A>>,
+        conn: Connection<A>,
+    ) -> SqlStore<A>
+        requires prepared { IsKept (state A.Store taken.value) (state A.Store conn) }
+        ensures clean { IsOurs (state A.Store taken.value) → IsTrue (state A.Store conn).is_open → IsCleanSql A.Store result }
+        ensures conn { result.conn ≡ conn }
+        ensures taken { result.taken ≡ taken.value }
+        ensures failures { result.failures ≡ 0 }
+    {
+        SqlStore {
+            alloc,
+            conn,
+            failures: 0,
+            taken,
+        }
+    }
+
+    /// What was done, counted if the store failed.
+    fn counted<T>(&mut self, done: Result<T, StoreFault>) -> Result<T, StoreFault>
+        ensures same { result ≡ done }
+        ensures failed { done ≡ Err store_fault.Failed → Rose self.old.failures self.new.failures }
+        ensures count { self.old.failures ≤ self.new.failures }
+        ensures conn { self.new.conn ≡ self.old.conn }
+        ensures taken { self.new.taken ≡ self.old.taken }
+    {
+        if let Err(StoreFault::Failed) = &done {
+            self.failures = self.failures.saturating_add(1);
+        }
+        done
+    }
+}
+
+impl<A: Alter + Drop> SqlStore<A> {
+    ghost use Rattle.std.specs.Prelude.{Ok, IfOk, IsTrue, ⊤};
+    ghost use Rattle.store_sql.specs.declared.opening.PrepareFault.{PrepareFault as Unfit};
+    ghost use Rattle.store_sql.specs.Store.{IsCleanSql};
+    ghost use Rattle.sql_shelf.specs.Opening.{IsOurs, Prepares};
+    ghost use Rattle.sqlite.specs.Held.{state};
+
+    /// The store over a connection, whose tables are made if its database is empty.
+    pub fn adopt(alloc: Global, conn: Connection<A>) -> Result<SqlStore<A>, PrepareFault>
+        ensures clean { IfOk result (λ s. IsOurs (state A.Store conn) → IsTrue (state A.Store s.conn).is_open → IsCleanSql A.Store s) }
+        ensures prepares { IfOk result (λ s. Prepares {A = ⊤} {E = Unfit} (state A.Store conn) (state A.Store s.conn) (Ok tt)) }
+        ensures fresh { IfOk result (λ s. (s.taken ≡ conn) × (s.failures ≡ 0)) }
+    {
+        let taken = Snapshot::of(&conn);
+        let mut conn = conn;
+        prepare(&mut conn, alloc)?;
+        Ok(SqlStore::over(alloc, taken, conn))
+    }
+}
+
+impl SqlStore<MemStore> {
+    ghost use Rattle.std.specs.Prelude.{IfOk};
+    ghost use Rattle.sqlite.specs.Steps.{over_memory};
+    ghost use Rattle.hub_rows.specs.Rows.{no_rows};
+    ghost use Rattle.store_sql.specs.Store.{IsCleanSql, sql_rows};
+
+    /// A store with no rows, in memory.
+    pub fn open_in_memory(alloc: Global) -> Result<SqlStore<MemStore>, PrepareFault>
+        ensures clean { IfOk result (IsCleanSql over_memory) }
+        ensures empty { IfOk result (λ s. sql_rows over_memory s ≡ no_rows) }
+    {
+        let conn = Connection::open_in_memory(alloc)?;
+        SqlStore::adopt(alloc, conn)
+    }
+}
+
+impl<S: Start> SqlStore<FileStore<FileFrom<S>>> {
+    ghost use Rattle.std.specs.Prelude.{IfOk, IsTrue};
+    ghost use Rattle.sqlite.specs.Files.{file_state};
+    ghost use Rattle.sqlite.specs.Start.{FindsIn};
+    ghost use Rattle.sqlite.specs.State.{HasCleanDisk};
+    ghost use Rattle.sqlite_wal.specs.Files.{image_at};
+
+    /// The store in the file of a database at a path, which is made if there is none.
+    pub fn open(
+        rt: &HostRuntime,
+        path: &str,
+        start: S,
+    ) -> Result<SqlStore<FileStore<FileFrom<S>>>, PrepareFault>
+        ensures found { IfOk result (λ s. HasCleanDisk (file_state s.taken) → FindsIn (image_at S.Start) (file_state s.taken)) }
+        ensures failures { IfOk result (λ s. s.failures ≡ 0) }
+    {
+        match Connection::open_from(rt, path, false, start) {
+            Ok(conn) => SqlStore::adopt(rt.alloc(), conn),
+            Err((error, _)) => Err(fault(error)),
+        }
+    }
+}
+
+impl<A: Alter> Store for SqlStore<A> {
+    ghost use Rattle.store_sql.specs.Store.{sql_view};
+
+    ghost view = { sql_view A.Store };
+
+    ghost well_formed = { λ s clean. clean.good };
+
+    fn station(&mut self, op: &str, station: &str) -> Result<Option<Registration>, StoreFault> {
+        let found = stations::registration(&mut self.conn, self.alloc, op, station);
+        self.counted(found)
+    }
+
+    fn own_tag(&mut self, op: &str, key: &TagKey) -> Result<Option<Info>, StoreFault> {
+        let found = tags::own_tag(&mut self.conn, self.alloc, op, key.as_str());
+        self.counted(found)
+    }
+
+    fn granted_tag(&mut self, op: &str, key: &TagKey) -> Result<Option<Info>, StoreFault> {
+        self.counted(Err(StoreFault::Failed))
+    }
+
+    fn has_grant(&mut self, op: &str, key: &TagKey, to: &str) -> Result<bool, StoreFault> {
+        let found = grants::has_grant(&mut self.conn, self.alloc, op, key.as_str(), to);
+        self.counted(found)
+    }
+
+    fn is_used(
+        &mut self,
+        op: &str,
+        key: &TagKey,
+        except: &Option<TxKey>,
+    ) -> Result<bool, StoreFault> {
+        let found = txs::is_used(&mut self.conn, self.alloc, op, key.as_str(), except);
+        self.counted(found)
+    }
+
+    fn same_start(
+        &mut self,
+        op: &str,
+        station: &str,
+        start: &StartKey,
+    ) -> Result<Option<u32>, StoreFault> {
+        let found = txs::same_start(&mut self.conn, self.alloc, op, station, start);
+        self.counted(found)
+    }
+
+    fn tx(&mut self, op: &str, station: &str, number: u32) -> Result<Option<TxState>, StoreFault> {
+        let found = txs::tx(&mut self.conn, self.alloc, op, station, number);
+        self.counted(found)
+    }
+
+    fn has_open(&mut self, op: &str, station: &str) -> Result<bool, StoreFault> {
+        let found = txs::has_open(&mut self.conn, self.alloc, op, station);
+        self.counted(found)
+    }
+
+    fn last_numbers(&mut self, op: &str, station: &str) -> Result<LastNumbers, StoreFault> {
+        let found = last_numbers::last_numbers(&mut self.conn, op, station);
+        self.counted(found)
+    }
+
+    fn reserved_until(
+        &mut self,
+        op: &str,
+        station: &str,
+        id: ReservationId,
+    ) -> Result<Option<Moment>, StoreFault> {
+        let found = reservations::reserved_until(&mut self.conn, self.alloc, op, station, id);
+        self.counted(found)
+    }
+
+    fn local_list(&mut self, op: &str, station: &str) -> Result<Option<LocalList>, StoreFault> {
+        self.counted(Err(StoreFault::Failed))
+    }
+
+    fn stations(&mut self, op: &str) -> Result<Listed<StationRow>, StoreFault> {
+        let found = stations::stations(&mut self.conn, self.alloc, op);
+        self.counted(found)
+    }
+
+    fn tags(&mut self, op: &str) -> Result<Listed<TagRow>, StoreFault> {
+        let found = tags::tags(&mut self.conn, self.alloc, op);
+        self.counted(found)
+    }
+
+    fn grants_out(&mut self, op: &str) -> Result<Listed<GrantRow>, StoreFault> {
+        let found = grants::grants_out(&mut self.conn, self.alloc, op);
+        self.counted(found)
+    }
+
+    fn granted(&mut self, op: &str) -> Result<Listed<GrantedTag>, StoreFault> {
+        self.counted(Err(StoreFault::Failed))
+    }
+
+    fn connectors(&mut self, op: &str, station: &str) -> Result<Listed<ConnectorRow>, StoreFault> {
+        let found = connectors::connectors(&mut self.conn, self.alloc, op, station);
+        self.counted(found)
+    }
+
+    fn txs(&mut self, op: &str, station: &str) -> Result<Listed<TxRow>, StoreFault> {
+        let found = txs::txs(&mut self.conn, self.alloc, op, station);
+        self.counted(found)
+    }
+
+    fn readings(
+        &mut self,
+        op: &str,
+        station: &str,
+        transaction: Option<u64>,
+    ) -> Result<Listed<ReadingRow>, StoreFault> {
+        let found = readings::readings(&mut self.conn, self.alloc, op, station, transaction);
+        self.counted(found)
+    }
+
+    fn reservations(
+        &mut self,
+        op: &str,
+        station: &str,
+    ) -> Result<Listed<ReservationRow>, StoreFault> {
+        let found = reservations::reservations(&mut self.conn, self.alloc, op, station);
+        self.counted(found)
+    }
+
+    fn apply(&mut self, change: &Change) -> Result<(), StoreFault> {
+        let done = changes::apply(&mut self.conn, self.alloc, change);
+        self.counted(done)
+    }
+}

@@ -1,0 +1,71 @@
+//! Rows of an answer, read as typed rows.
+ghost use Rattle.std.specs.Prelude.{◌≡◌, [], map, IfOk, IsOk, OnOk, is_some};
+ghost use Rattle.hub_rows.specs.Keyed.{by_key, first, put_all};
+
+use crate::columns::told;
+use hub_rows::{Keyed, StoreFault, put_row};
+use ocpp_types::Listed;
+use sqlite::{Error, Row};
+use std::alloc::Global;
+
+/// A row that is kept in a table.
+pub(crate) trait Stored: Keyed {
+    ghost use Rattle.sqlite_value.specs.Order.{Row as SqlRow};
+
+    /// How it is read from its columns.
+    ghost read: { SqlRow → Self };
+
+    fn read(alloc: Global, row: &Row) -> Result<Self, StoreFault>
+        ensures { IfOk result (λ t. t ≡ read row.now) };
+}
+
+/// The rows of an answer, in the order of their keys. An answer that is in this order takes a
+/// binary search a row and moves none.
+pub(crate) fn rows_of<R: Stored>(alloc: Global, rows: &[Row]) -> Result<Vec<R>, StoreFault>
+    ensures { IfOk result (λ v. v.items ≡ put_all (by_key R.Keyed.key) (map R.read rows.now) []) }
+{
+    let mut read = Vec::new(alloc);
+    'rows: for row in rows {
+        put_row(&mut read, R::read(alloc, row)?)?;
+    }
+    Ok(read)
+}
+
+/// The rows of an answer, or its fault.
+pub(crate) fn listed<R: Stored>(
+    alloc: Global,
+    answer: Result<Vec<Row>, Error>,
+) -> Result<Listed<R>, StoreFault>
+    ensures ok { OnOk result (IsOk answer) }
+    ensures rows { IfOk answer (λ rows. IfOk result (λ list. list ≡ put_all (by_key R.Keyed.key) (map R.read rows.items) [])) }
+{
+    match answer {
+        Ok(rows) => Ok(Listed::from(rows_of(alloc, &rows)?)),
+        Err(error) => Err(told(error)),
+    }
+}
+
+/// The first row of an answer, or its fault.
+pub(crate) fn first_row<R: Stored>(
+    alloc: Global,
+    answer: Result<Vec<Row>, Error>,
+) -> Result<Option<R>, StoreFault>
+    ensures ok { OnOk result (IsOk answer) }
+    ensures row { IfOk answer (λ rows. IfOk result (λ row. row ≡ first (put_all (by_key R.Keyed.key) (map R.read rows.items) []))) }
+{
+    match answer {
+        Ok(rows) => Ok(rows_of(alloc, &rows)?.into_iter().next()),
+        Err(error) => Err(told(error)),
+    }
+}
+
+/// Whether a row was found.
+pub(crate) fn is_found<R: Drop>(found: Result<Option<R>, StoreFault>) -> Result<bool, StoreFault>
+    ensures ok { OnOk result (IsOk found) }
+    ensures found { IfOk found (λ row. IfOk result (λ is. is ≡ is_some row)) }
+{
+    match found {
+        Ok(row) => Ok(row.is_some()),
+        Err(fault) => Err(fault),
+    }
+}
