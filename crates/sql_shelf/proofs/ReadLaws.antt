@@ -58,7 +58,7 @@ module _ {T : Type 0} (schema : Schema) (good : ℕ → Row → Type 0) (at : �
         subst (Has (map s.read rows)) (ap (λ (z : Row). s.read (eval_all project (params ∷ z ∷ []))) u.2 ∙ ap s.read (whole u.1 (Int u.0) params) ∙ is.round u.1 ∙ sym (shelf.typed_is schema good at s is db kept r h))
         (mapped_has s.read rows _ x)
 
-    once : IsSingle (cmp s) (by_key_total s.key) (map s.read rows)
+    pub once : IsSingle (cmp s) (by_key_total s.key) (map s.read rows)
     once a b h l tie =
         let x = has_mapped s.read rows a h in
         let y = has_mapped s.read rows b l in

@@ -1,7 +1,6 @@
 -- Edits that change a row which was read, and those of several parts.
-use Rattle.std.proofs.Common.{◌≡◌, ◌&&◌, ◌==◌, ℕ, ◌+◌, length, arith, List, [], ◌∷◌, ◌++◌, Bool, true, false, cond, not, Option, Some, None, Result, Ok, Err, IsOk, OnOk, map, filter, refl, sym, ap, ap₂, ◌∙◌, subst, eqb-true}
+use Rattle.std.proofs.Common.{◌≡◌, ◌&&◌, ◌==◌, ℕ, ◌+◌, length, arith, List, [], ◌∷◌, ◌++◌, Bool, true, false, cond, not, Some, None, Result, Ok, Err, IsOk, OnOk, map, refl, sym, ap, ap₂, ◌∙◌, eqb-true}
 use Rattle.std.specs.Str.{bytes_eq}
-use Rattle.std.specs.List.Sorted.{IsStrictlySortedBy}
 use Rattle.std.proofs.lemmas.Bool.{and_parts}
 use Rattle.sqlite_trees.specs.Tree.{Trees}
 use Rattle.sqlite.specs.State.{State}
@@ -11,14 +10,14 @@ use Rattle.hub_rows.specs.declared.reservation_row.ReservationRow.{ReservationRo
 use Rattle.hub_rows.specs.declared.reading_row.Reading.{Reading}
 use Rattle.hub_rows.specs.declared.reading_row.ReadingRow.{ReadingRow}
 use Rattle.hub_rows.specs.Changes.{with_readings}
-use Rattle.hub_rows.specs.Keyed.{by_key, changed, found, put, put_all, without}
+use Rattle.hub_rows.specs.Keyed.{by_key, changed, found, put, put_all}
 use Rattle.hub_rows.specs.Reservations.{without_named}
-use Rattle.hub_rows.specs.Rows.{Rows, station_in, station_key, tx_key, reading_key}
+use Rattle.hub_rows.specs.Rows.{station_in, station_key, tx_key, reading_key}
 use Rattle.hub_rows.specs.Transactions.{is_tx, reading_rows}
 use Rattle.hub_rows.proofs.ListLaws.{by_key_total, same_text}
-use Rattle.sql_shelf.specs.Shelf.{cmp, typed, rows_in}
+use Rattle.sql_shelf.specs.Shelf.{typed, rows_in}
 use Rattle.sql_shelf.specs.Shelves.{stations, txs, rows_of}
-use Rattle.sql_shelf.specs.Kept.{IsSame, Inside, Leaves, Goes}
+use Rattle.sql_shelf.specs.Kept.{IsSame, Goes}
 use Rattle.sql_shelf.proofs.ChangedLaws.{found_changed}
 use Rattle.sql_shelf.proofs.MemberLaws.{is_arranged, put_all-last}
 

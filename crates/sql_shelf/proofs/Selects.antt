@@ -1,5 +1,6 @@
 -- What a SELECT answers, in any state of a connection.
-use Rattle.std.proofs.Common.{◌≡◌, ℕ, ℤ, pos, List, [], ◌∷◌, Bool, Ok, Err, Result, IsTrue, IfOk, IfErr, map, filter, sym, subst}
+use Rattle.sqlite_rules.specs.Lists.{Has}
+use Rattle.std.proofs.Common.{◌≡◌, Equal, ℕ, ℤ, pos, List, [], ◌∷◌, Bool, Ok, Err, Result, IsTrue, IfOk, IfErr, map, filter, sym, subst}
 use Rattle.sqlite_value.specs.declared.value.Value.TheVariants.{Null, Int}
 use Rattle.sqlite_value.specs.declared.keys.Key as sort
 use Rattle.sqlite_value.specs.Order.{Row, column}
@@ -21,7 +22,7 @@ use Rattle.sql_shelf.specs.Shelf.{Shelf, cmp, rows_in, AreShelved}
 use Rattle.sql_shelf.specs.Shelves.{hub_good}
 use Rattle.sql_shelf.specs.Kept.{IsServing, IsAsBefore, Shows, ShowsLast}
 use Rattle.sql_shelf.proofs.ShelfLemmas.{IsShelf}
-use Rattle.sql_shelf.proofs.ReadLaws.{IsTest, IsWhole, lists_those}
+use Rattle.sql_shelf.proofs.ReadLaws.{IsTest, IsWhole, lists_those, once}
 use Rattle.sql_shelf.proofs.DownLaws.{last_is}
 use Rattle.sql_shelf.proofs.StoreLemmas.{obeys_in, serves_still, shown_was, shown_unchanged, failed_was, fails_before}
 
@@ -76,6 +77,8 @@ pub shows : {T : Type 0} {sql : List ℕ} {params : Row} {s : Shelf T} {p : T �
 shows {T} {sql} {params} {s} {p} f items old new values r ok err limit given h clean = record {
   ok = λ up. answers sql (plain_query (inner s.table.tree end) f.wanted f.project f.order) f.names f.text params (λ db rows. put_all (cmp s) (map s.read rows) [] ≡ filter p (rows_in s db))
       (λ db kept obeys rows answer. lists_those hub_schema hub_good f.at s f.is f.wanted params p f.test db kept f.project f.whole f.order obeys rows answer) items old new values r given h (ok (clean up));
+  once = λ up. answers sql (plain_query (inner s.table.tree end) f.wanted f.project f.order) f.names f.text params (λ db rows. (a b : T) → Has (map s.read rows) a → Has (map s.read rows) b → cmp s a b ≡ Equal → a ≡ b)
+      (λ db kept obeys rows answer. once hub_schema hub_good f.at s f.is f.wanted params p f.test db kept f.project f.whole f.order obeys rows answer) items old new values r given h (ok (clean up));
   same = λ up. stays sql (plain_query (inner s.table.tree end) f.wanted f.project f.order) f.names f.text params items old new values r limit h up (ok (clean up)) (err (clean up));
 }
 

@@ -1,5 +1,7 @@
 -- What a connection keeps, and what a call makes of it.
 use Rattle.std.specs.Prelude.{◌≡◌, ◌⊎◌, ℕ, false, true, not, None, List, [], map, filter, Bool, IsTrue, Result, OnOk, OnErr, IfOk}
+use Rattle.std.specs.declared.cmp.Ordering.TheVariants.{Equal}
+use Rattle.sqlite_rules.specs.Lists.{Has}
 use Rattle.sqlite_value.specs.Order.{Row}
 use Rattle.sqlite_trees.specs.Tree.{Trees}
 use Rattle.sqlite.specs.declared.error.Error.{Error}
@@ -41,6 +43,8 @@ Finds old new r P = IsServing old → IsTrue new.is_open → IfOk r (P (rows_of 
 -- the rows of an answer are those that pass, and nothing changes
 pub record Shows {V T : Type 0} (items : V → List Row) (s : Shelf T) (p : T → Bool) (old new : State) (r : Result V Error) : Type 0 where
   pub ok : IsTrue new.is_open → IfOk r (λ v. put_all (cmp s) (map s.read (items v)) [] ≡ filter p (rows_in s old.now.trees))
+  -- each key is shown once
+  pub once : IsTrue new.is_open → IfOk r (λ v. (a b : T) → Has (map s.read (items v)) a → Has (map s.read (items v)) b → cmp s a b ≡ Equal → a ≡ b)
   pub same : IsTrue new.is_open → IsAsBefore old new
 
 -- the greatest number that is shown is that of the rows that pass, and nothing changes

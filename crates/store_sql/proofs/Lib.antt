@@ -1,2 +1,3 @@
+pub mod GrantedLaws
 pub mod StoreLaws
 pub mod Calls

@@ -13,7 +13,7 @@ use crate::readings::add_readings;
 use crate::reservations::{drop_reservation, put_reservation};
 use crate::stations::{add_station, see_boot, set_policy};
 use crate::tags::{drop_tag, put_tag};
-use crate::txs::{start_tx, stop_tx};
+use crate::tx_edits::{start_tx, stop_tx};
 use hub_rows::{Change, Edit, Reading, Stop, StoreFault};
 use sqlite::{Alter, Connection, Error, Transaction};
 use std::alloc::Global;

@@ -69,7 +69,7 @@ fn find_received<S: Alter>(conn: &mut Connection<S>, to: &str, key: &str) -> Res
     conn.query_all(RECEIVED, params![to, key, key])
 }
 
-fn list_received<S: Alter>(conn: &mut Connection<S>, to: &str) -> Result<Vec<Row>, Error>
+pub(crate) fn list_received<S: Alter>(conn: &mut Connection<S>, to: &str) -> Result<Vec<Row>, Error>
     ensures shows { IsServing (state S.Store conn.old) → Shows (λ v. v.items) grants (λ r. bytes_eq r.to to.now) (state S.Store conn.old) (state S.Store conn.new) result }
 {
     let above: &[u8] = &[];
@@ -114,18 +114,6 @@ pub(crate) fn grants_out<S: Alter>(
     ensures same { Rests (state S.Store conn.old) (state S.Store conn.new) }
 {
     listed(alloc, list(conn, op))
-}
-
-/// What is granted to an operator, in the order of the owners.
-pub(crate) fn received<S: Alter>(
-    conn: &mut Connection<S>,
-    alloc: Global,
-    to: &str,
-) -> Result<Listed<GrantRow>, StoreFault>
-    ensures found { Finds (state S.Store conn.old) (state S.Store conn.new) result (λ rows list. list ≡ filter (λ r. bytes_eq r.to to.now) rows.grants) }
-    ensures same { Rests (state S.Store conn.old) (state S.Store conn.new) }
-{
-    listed(alloc, list_received(conn, to))
 }
 
 /// The grants of the tags of a key to an operator, in the order of the owners.

@@ -5,6 +5,7 @@ mod binds;
 mod changes;
 mod columns;
 mod connectors;
+mod granted;
 mod grants;
 mod last_numbers;
 mod opening;
@@ -15,6 +16,7 @@ mod sql_store;
 mod stations;
 mod stored;
 mod tags;
+mod tx_edits;
 mod txs;
 
 pub use opening::{PrepareFault, prepare};

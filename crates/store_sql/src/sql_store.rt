@@ -5,7 +5,7 @@ ghost use Rattle.hub_rows.specs.declared.store.StoreFault.TheVariants as store_f
 
 use crate::opening::{PrepareFault, fault, prepare};
 use crate::{
-    changes, connectors, grants, last_numbers, readings, reservations, stations, tags, txs,
+    changes, connectors, granted, grants, last_numbers, readings, reservations, stations, tags, txs,
 };
 use hub_rows::{
     Change, ConnectorRow, GrantRow, GrantedTag, Info, LastNumbers, LocalList, ReadingRow,
@@ -162,7 +162,8 @@ impl<A: Alter> Store for SqlStore<A> {
     }
 
     fn granted_tag(&mut self, op: &str, key: &TagKey) -> Result<Option<Info>, StoreFault> {
-        self.counted(Err(StoreFault::Failed))
+        let found = granted::granted_tag(&mut self.conn, self.alloc, op, key.as_str());
+        self.counted(found)
     }
 
     fn has_grant(&mut self, op: &str, key: &TagKey, to: &str) -> Result<bool, StoreFault> {
@@ -235,7 +236,8 @@ impl<A: Alter> Store for SqlStore<A> {
     }
 
     fn granted(&mut self, op: &str) -> Result<Listed<GrantedTag>, StoreFault> {
-        self.counted(Err(StoreFault::Failed))
+        let found = granted::granted(&mut self.conn, self.alloc, op);
+        self.counted(found)
     }
 
     fn connectors(&mut self, op: &str, station: &str) -> Result<Listed<ConnectorRow>, StoreFault> {

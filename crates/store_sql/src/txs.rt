@@ -1,31 +1,27 @@
 //! Transactions in their table.
-ghost use Rattle.std.specs.Prelude.{◌≡◌, ◌&&◌, not, filter, map, IfOk, OnOk, IsOk, IsTrue, pos, None, Some};
+ghost use Rattle.std.specs.Prelude.{◌≡◌, ◌&&◌, not, filter, map, IfOk, OnOk, IsOk, None, Some};
 ghost use Rattle.std.specs.List.{list_any};
 ghost use Rattle.std.specs.Str.{bytes_eq};
 ghost use Rattle.sqlite.specs.Held.{state};
 ghost use Rattle.sqlite_value.specs.Order.{column};
-ghost use Rattle.hub_rows.specs.Keyed.{found, greatest, by_key, changed, put};
-ghost use Rattle.hub_rows.specs.Transactions.{counts, has_open_in, is_left_out, is_open, is_started, is_tx, is_used_in, numbers_of, same_start_in, tx_in, txs_in, is_accepted};
-ghost use Rattle.sql_shelf.specs.Kept.{IsServing, Finds, Rests, Shows, ShowsLast, IsInside, IsMade, IsSame, Goes, ShowsInside};
-ghost use Rattle.sql_shelf.specs.Shelves.{stop_in, txs, rows_of};
+ghost use Rattle.hub_rows.specs.Keyed.{found, greatest};
+ghost use Rattle.hub_rows.specs.Transactions.{counts, has_open_in, is_left_out, is_open, is_started, is_tx, is_used_in, numbers_of, same_start_in, tx_in, txs_in};
+ghost use Rattle.sql_shelf.specs.Kept.{IsServing, Finds, Rests, Shows, ShowsLast};
+ghost use Rattle.sql_shelf.specs.Shelves.{stop_in, txs};
 ghost use Rattle.sql_shelf.specs.Values.{count_in};
-ghost use Rattle.hub_rows.specs.Changes.{edit, with_stop};
-ghost use Rattle.hub_rows.specs.declared.change.Edit.TheVariants.{TxStarted};
-ghost use Rattle.hub_rows.specs.Rows.{tx_key};
 
-use crate::binds::{done, lent, seconds};
 use crate::columns::{
     connector, count, key, moment, moment_if_any, named, number, number_if_any, text, text_if_any,
     told,
 };
-use crate::reservations::drop_named;
 use crate::stored::{Stored, first_row, is_found, listed};
 use hub_rows::{Start, StartKey, Stop, StoreFault, TxKey, TxRow, TxState};
-use ocpp_types::{AuthorizationStatus, Listed, Named};
-use sqlite::{Alter, Connection, Error, Row, Transaction, params};
+use ocpp_types::Listed;
+use sqlite::{Alter, Connection, Error, Row, params};
 use std::alloc::Global;
 
-const FIND: &str =
+/// Asks for the transactions of a station whose numbers lie in a range.
+pub(crate) const FIND: &str =
     "SELECT op, station, number, connector, tag_key, meter_start, start_at, id_tag, reservation_id, status, begun, is_open, in_use, meter_stop, stop_at, stop_reason, stop_id_tag, ended FROM hub_tx WHERE op = ?1 AND station = ?2 AND number BETWEEN ?3 AND ?4 ORDER BY number";
 
 const FIND_LAST: &str =
@@ -39,9 +35,6 @@ const OPEN: &str =
 
 const SAME_STARTS: &str =
     "SELECT op, station, number, connector, tag_key, meter_start, start_at, id_tag, reservation_id, status, begun, is_open, in_use, meter_stop, stop_at, stop_reason, stop_id_tag, ended FROM hub_tx WHERE op = ?1 AND station = ?2 AND connector = ?3 AND tag_key = ?4 AND meter_start = ?5 AND start_at = ?6 ORDER BY number";
-
-const PUT: &str =
-    "INSERT INTO hub_tx (op, station, number, connector, tag_key, meter_start, start_at, id_tag, reservation_id, status, begun, is_open, in_use, meter_stop, stop_at, stop_reason, stop_id_tag, ended) VALUES (?1, ?2, ?3, ?4, ?5, ?6, ?7, ?8, ?9, ?10, ?11, ?12, ?13, ?14, ?15, ?16, ?17, ?18) ON CONFLICT (op, station, number) DO UPDATE SET connector = excluded.connector, tag_key = excluded.tag_key, meter_start = excluded.meter_start, start_at = excluded.start_at, id_tag = excluded.id_tag, reservation_id = excluded.reservation_id, status = excluded.status, begun = excluded.begun, is_open = excluded.is_open, in_use = excluded.in_use, meter_stop = excluded.meter_stop, stop_at = excluded.stop_at, stop_reason = excluded.stop_reason, stop_id_tag = excluded.stop_id_tag, ended = excluded.ended";
 
 impl Stored for TxRow {
     ghost use Rattle.sql_shelf.specs.Shelves.{txs};
@@ -333,236 +326,4 @@ pub(crate) fn last_number<S: Alter>(
     ensures same { Rests (state S.Store conn.old) (state S.Store conn.new) }
 {
     only_number(find_last(conn, op, station))
-}
-
-/// Puts the row of an open transaction. No number and no text are given for its stop.
-fn put_open<S: Alter>(
-    tx: &mut Transaction<'_, S>,
-    op: &str,
-    station: &str,
-    number: u32,
-    start: &Start,
-    connector: u32,
-    meter_start: i64,
-    at: i64,
-    begun: i64,
-    in_use: bool,
-    number_of_stop: Option<i64>,
-    text_of_stop: Option<&str>,
-) -> Result<usize, Error>
-    requires none { number_of_stop ≡ None }
-    requires text { text_of_stop ≡ None }
-    requires connector { connector ≡ start.now.id.connector }
-    requires meter { meter_start ≡ start.now.id.meter_start }
-    requires at { at ≡ start.now.id.at }
-    requires begun { begun ≡ pos start.now.begun }
-    requires in_use { in_use ≡ is_accepted start.now.status }
-    ensures same_reference { tx.new.conn.ghost_name ≡ tx.old.conn.ghost_name }
-    ensures goes { IsInside (state S.Store tx.old.conn.now) → Goes (IsMade (λ rows. record rows { transactions = put (by_key tx_key) (record { op = op.now; station = station.now; number = number; start = start.now; stop = None }) rows.transactions })) (state S.Store tx.old.conn.now) (state S.Store tx.new.conn.now) result }
-{
-    tx.execute(
-        PUT,
-        params![
-            op,
-            station,
-            number,
-            connector,
-            start.id.key.as_str(),
-            meter_start,
-            at,
-            start.tag.as_str(),
-            start.reservation,
-            start.status.name(),
-            begun,
-            true,
-            in_use,
-            number_of_stop,
-            number_of_stop,
-            text_of_stop,
-            text_of_stop,
-            number_of_stop
-        ],
-    )
-}
-
-/// Puts the row of a transaction that has ended.
-fn put_stopped<S: Alter>(
-    tx: &mut Transaction<'_, S>,
-    op: &str,
-    station: &str,
-    number: u32,
-    start: &Start,
-    connector: u32,
-    meter_start: i64,
-    at: i64,
-    begun: i64,
-    stop: &Stop,
-    meter_stop: i64,
-    stop_at: i64,
-    ended: i64,
-) -> Result<usize, Error>
-    requires connector { connector ≡ start.now.id.connector }
-    requires meter { meter_start ≡ start.now.id.meter_start }
-    requires at { at ≡ start.now.id.at }
-    requires begun { begun ≡ pos start.now.begun }
-    requires meter_stop { meter_stop ≡ stop.now.meter_stop }
-    requires stop_at { stop_at ≡ stop.now.at }
-    requires ended { ended ≡ pos stop.now.moment }
-    ensures same_reference { tx.new.conn.ghost_name ≡ tx.old.conn.ghost_name }
-    ensures goes { IsInside (state S.Store tx.old.conn.now) → Goes (IsMade (λ rows. record rows { transactions = put (by_key tx_key) (record { op = op.now; station = station.now; number = number; start = start.now; stop = Some stop.now }) rows.transactions })) (state S.Store tx.old.conn.now) (state S.Store tx.new.conn.now) result }
-{
-    tx.execute(
-        PUT,
-        params![
-            op,
-            station,
-            number,
-            connector,
-            start.id.key.as_str(),
-            meter_start,
-            at,
-            start.tag.as_str(),
-            start.reservation,
-            start.status.name(),
-            begun,
-            false,
-            false,
-            meter_stop,
-            stop_at,
-            stop.reason.name(),
-            lent(&stop.tag),
-            ended
-        ],
-    )
-}
-
-fn find_inside<S: Alter>(
-    tx: &mut Transaction<'_, S>,
-    op: &str,
-    station: &str,
-    number: u32,
-) -> Result<Vec<Row>, Error>
-    ensures same_reference { tx.new.conn.ghost_name ≡ tx.old.conn.ghost_name }
-    ensures shows { IsInside (state S.Store tx.old.conn.now) → ShowsInside (λ v. v.items) txs (λ r. bytes_eq r.op op.now && is_tx station.now number r) (state S.Store tx.old.conn.now) (state S.Store tx.new.conn.now) result }
-{
-    tx.query_all(FIND, params![op, station, number, number])
-}
-
-/// A transaction of a station, inside a transaction of the database.
-fn tx_inside<S: Alter>(
-    tx: &mut Transaction<'_, S>,
-    alloc: Global,
-    op: &str,
-    station: &str,
-    number: u32,
-) -> Result<Option<TxRow>, StoreFault>
-    ensures same_reference { tx.new.conn.ghost_name ≡ tx.old.conn.ghost_name }
-    ensures found { IsInside (state S.Store tx.old.conn.now) → IsTrue (state S.Store tx.new.conn.now).is_open → IfOk result (λ r. r ≡ found (λ r. r.op) op.now (is_tx station.now number) (rows_of (state S.Store tx.old.conn.now).now.trees).transactions) }
-    ensures goes { IsInside (state S.Store tx.old.conn.now) → Goes IsSame (state S.Store tx.old.conn.now) (state S.Store tx.new.conn.now) result }
-{
-    first_row(alloc, find_inside(tx, op, station, number))
-}
-
-/// Puts a transaction that has begun.
-fn put_started<S: Alter>(
-    tx: &mut Transaction<'_, S>,
-    op: &str,
-    station: &str,
-    number: u32,
-    start: &Start,
-) -> Result<(), StoreFault>
-    ensures same_reference { tx.new.conn.ghost_name ≡ tx.old.conn.ghost_name }
-    ensures goes { IsInside (state S.Store tx.old.conn.now) → Goes (IsMade (λ rows. record rows { transactions = put (by_key tx_key) (record { op = op.now; station = station.now; number = number; start = start.now; stop = None }) rows.transactions })) (state S.Store tx.old.conn.now) (state S.Store tx.new.conn.now) result }
-{
-    let connector = u32::from(start.id.connector);
-    let begun = seconds(start.begun);
-    let in_use = matches!(start.status, AuthorizationStatus::Accepted);
-    let id = &start.id;
-    done(put_open(
-        tx,
-        op,
-        station,
-        number,
-        start,
-        connector,
-        id.meter_start,
-        id.at,
-        begun,
-        in_use,
-        None,
-        None,
-    ))
-}
-
-/// Puts a transaction that has ended.
-fn put_ended<S: Alter>(
-    tx: &mut Transaction<'_, S>,
-    op: &str,
-    station: &str,
-    number: u32,
-    start: &Start,
-    stop: &Stop,
-) -> Result<(), StoreFault>
-    ensures same_reference { tx.new.conn.ghost_name ≡ tx.old.conn.ghost_name }
-    ensures goes { IsInside (state S.Store tx.old.conn.now) → Goes (IsMade (λ rows. record rows { transactions = put (by_key tx_key) (record { op = op.now; station = station.now; number = number; start = start.now; stop = Some stop.now }) rows.transactions })) (state S.Store tx.old.conn.now) (state S.Store tx.new.conn.now) result }
-{
-    let connector = u32::from(start.id.connector);
-    let begun = seconds(start.begun);
-    let ended = seconds(stop.moment);
-    let id = &start.id;
-    done(put_stopped(
-        tx,
-        op,
-        station,
-        number,
-        start,
-        connector,
-        id.meter_start,
-        id.at,
-        begun,
-        stop,
-        stop.meter_stop,
-        stop.at,
-        ended,
-    ))
-}
-
-/// Puts a new transaction, and drops the reservation that it names.
-pub(crate) fn start_tx<S: Alter>(
-    tx: &mut Transaction<'_, S>,
-    op: &str,
-    station: &str,
-    number: u32,
-    start: &Start,
-) -> Result<(), StoreFault>
-    ensures same_reference { tx.new.conn.ghost_name ≡ tx.old.conn.ghost_name }
-    ensures goes { IsInside (state S.Store tx.old.conn.now) → Goes (IsMade (edit op.now (TxStarted station.now number start.now))) (state S.Store tx.old.conn.now) (state S.Store tx.new.conn.now) result }
-{
-    put_started(tx, op, station, number, start)?;
-    drop_named(tx, op, station, start.reservation)
-}
-
-/// Keeps the stop of a transaction. The transaction is on record, or else this answers Failed.
-pub(crate) fn stop_tx<S: Alter>(
-    tx: &mut Transaction<'_, S>,
-    alloc: Global,
-    op: &str,
-    station: &str,
-    number: u32,
-    stop: &Stop,
-) -> Result<(), StoreFault>
-    ensures same_reference { tx.new.conn.ghost_name ≡ tx.old.conn.ghost_name }
-    ensures goes { IsInside (state S.Store tx.old.conn.now) → Goes (IsMade (λ rows. record rows { transactions = changed (λ r. r.op) op.now (is_tx station.now number) (with_stop stop.now) rows.transactions })) (state S.Store tx.old.conn.now) (state S.Store tx.new.conn.now) result }
-{
-    match tx_inside(tx, alloc, op, station, number)? {
-        Some(row) => put_ended(
-            tx,
-            row.op.as_str(),
-            row.station.as_str(),
-            row.number,
-            &row.start,
-            stop,
-        ),
-        None => Err(StoreFault::Failed),
-    }
 }

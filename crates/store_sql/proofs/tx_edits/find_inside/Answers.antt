@@ -3,7 +3,7 @@ use Rattle.sqlite.specs.Held.{state}
 use Rattle.sql_shelf.proofs.Listings.{reads_tx}
 use Rattle.sql_shelf.proofs.StoreLemmas.{open_is_clean}
 use Rattle.sql_shelf.proofs.TxReads.{shows_inside}
-use Rattle.store_sql.proofs.txs.find_inside.Goals as goal
+use Rattle.store_sql.proofs.tx_edits.find_inside.Goals as goal
 
 pub returns-clause-shows : goal.returns-clause-shows
 returns-clause-shows g c =

@@ -1,6 +1,6 @@
 use Rattle.sqlite.specs.Held.{state}
 use Rattle.sql_shelf.proofs.TxLemmas.{goes_as}
-use Rattle.store_sql.proofs.txs.put_ended.Goals as goal
+use Rattle.store_sql.proofs.tx_edits.put_ended.Goals as goal
 
 pub returns-clause-goes : goal.returns-clause-goes
 returns-clause-goes g c = λ inside.

@@ -7,7 +7,7 @@ use Rattle.hub_rows.specs.Reservations.{without_named}
 use Rattle.hub_rows.specs.Rows.{Rows, tx_key}
 use Rattle.sql_shelf.specs.Kept.{IsMade}
 use Rattle.sql_shelf.proofs.TxLemmas.{goes_then}
-use Rattle.store_sql.proofs.txs.start_tx.Goals as goal
+use Rattle.store_sql.proofs.tx_edits.start_tx.Goals as goal
 
 pub returns-clause-goes : goal.returns-clause-goes
 returns-clause-goes g c = λ inside.

@@ -9,7 +9,7 @@ use Rattle.sql_shelf.specs.Kept.{IsMade, IsSame}
 use Rattle.sql_shelf.specs.Shelves.{rows_of}
 use Rattle.sql_shelf.proofs.RowEdits.{tx_changed}
 use Rattle.sql_shelf.proofs.TxLemmas.{goes_then}
-use Rattle.store_sql.proofs.txs.stop_tx.Goals as goal
+use Rattle.store_sql.proofs.tx_edits.stop_tx.Goals as goal
 
 pub returns-in-Some-clause-goes : goal.returns-in-Some-clause-goes
 returns-in-Some-clause-goes g c = λ inside.

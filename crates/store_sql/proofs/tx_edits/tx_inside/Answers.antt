@@ -6,7 +6,7 @@ use Rattle.sql_shelf.specs.Shelves.{txs}
 use Rattle.sql_shelf.proofs.RowEdits.{goes_if}
 use Rattle.hub_rows.specs.Transactions.{is_tx}
 use Rattle.store_sql.proofs.Calls.{first_finds}
-use Rattle.store_sql.proofs.txs.tx_inside.Goals as goal
+use Rattle.store_sql.proofs.tx_edits.tx_inside.Goals as goal
 
 pub returns-clause-found : goal.returns-clause-found
 returns-clause-found g c = λ inside up.

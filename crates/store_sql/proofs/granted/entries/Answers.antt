@@ -1,0 +1,26 @@
+use Rattle.std.proofs.Common.{rules, ◌≡◌, ◌+◌, ◌++◌, [], ◌∷◌, ap, subst, sym, take, ◌∙◌}
+use Rattle.std.proofs.lemmas.List.{take_more}
+use Rattle.std.specs.List.{cons_option, filter_map}
+use Rattle.sqlite.specs.Held.{state}
+use Rattle.sql_shelf.specs.Shelves.{rows_of}
+use Rattle.hub_rows.specs.Grants.{entry_by}
+use Rattle.sql_shelf.proofs.StoreLemmas.{rests_before, rests_then}
+use Rattle.store_sql.proofs.GrantedLaws.{mapped_more}
+use Rattle.store_sql.proofs.granted.entries.Goals as goal
+
+pub grants-preserved : goal.grants-preserved
+grants-preserved g c =
+    let all = c.args.grants.now in
+    let k = c.grants.grant-index in
+    let x = c.grant-item.result in
+    let old = state g.S.Store c.args.conn.now in
+    let mid = state g.S.Store c.grants.conn in
+    let new = state g.S.Store c.entry_of.new.conn in
+    let tags = (rows_of old.now.trees).tags in
+    let more : take (k + 1) all ≡ take k all ++ x ∷ [] = search (rules, take_more) in (
+      rests_then old mid new c.grants.invariant.0 c.in_ok-entry.ensures.same,
+      λ serves up.
+          let before = rests_before old mid new c.grants.invariant.0 c.in_ok-entry.ensures.same serves up in
+          let one : c.in_ok-entry.entry ≡ entry_by tags x = subst (λ d. c.in_ok-entry.entry ≡ entry_by (rows_of d.trees).tags c.as_grant.result.now) before.1 (c.in_ok-entry.ensures.found before.0 up) ∙ ap (entry_by tags) c.as_grant.ensures in
+          c.in_ok-add_entry.ensures ∙ ap (λ l. l ++ cons_option c.in_ok-entry.entry []) (c.grants.invariant.1 serves (c.in_ok-entry.ensures.same before.0 up).was_open) ∙ ap (λ o. filter_map (entry_by tags) (take k all) ++ cons_option o []) one ∙ sym (mapped_more (entry_by tags) (take k all) (take (k + 1) all) x more),
+    )
