@@ -122,8 +122,11 @@ impl SqlStore<MemStore> {
 }
 
 impl<S: Start> SqlStore<FileStore<FileFrom<S>>> {
-    ghost use Rattle.std.specs.Prelude.{IfOk, IsTrue};
-    ghost use Rattle.sqlite.specs.Files.{file_state};
+    ghost use Rattle.std.specs.Prelude.{Ok, IfOk, IsTrue, ⊤};
+    ghost use Rattle.store_sql.specs.declared.opening.PrepareFault.{PrepareFault as Unfit};
+    ghost use Rattle.store_sql.specs.Store.{IsCleanSql};
+    ghost use Rattle.sql_shelf.specs.Opening.{IsOurs, Prepares};
+    ghost use Rattle.sqlite.specs.Files.{file_state, over_files};
     ghost use Rattle.sqlite.specs.Start.{FindsIn};
     ghost use Rattle.sqlite.specs.State.{HasCleanDisk};
     ghost use Rattle.sqlite_wal.specs.Files.{image_at};
@@ -135,6 +138,8 @@ impl<S: Start> SqlStore<FileStore<FileFrom<S>>> {
         start: S,
     ) -> Result<SqlStore<FileStore<FileFrom<S>>>, PrepareFault>
         ensures found { IfOk result (λ s. HasCleanDisk (file_state s.taken) → FindsIn (image_at S.Start) (file_state s.taken)) }
+        ensures clean { IfOk result (λ s. IsOurs (file_state s.taken) → IsTrue (file_state s.conn).is_open → IsCleanSql over_files s) }
+        ensures prepares { IfOk result (λ s. Prepares {A = ⊤} {E = Unfit} (file_state s.taken) (file_state s.conn) (Ok tt)) }
         ensures failures { IfOk result (λ s. s.failures ≡ 0) }
     {
         match Connection::open_from(rt, path, false, start) {
