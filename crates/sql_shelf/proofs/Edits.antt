@@ -21,7 +21,9 @@ use Rattle.sql_tables.specs.Tables.{hub_schema}
 use Rattle.sql_tables.specs.Statements as sql
 use Rattle.sql_tables.proofs.Texts as texts
 use Rattle.sql_shelf.specs.Shelf.{Shelf, cmp, typed, rows_in, Spares}
-use Rattle.sql_shelf.specs.Shelves.{ListHead, EntryRow, MetaRow, metas, stations, connectors, tags, grants, txs, readings, reservations, lists, entries, list_of, rows_of}
+use Rattle.sql_shelf.specs.declared.list_rows.ListHead.{ListHead}
+use Rattle.sql_shelf.specs.declared.list_rows.EntryRow.{EntryRow}
+use Rattle.sql_shelf.specs.Shelves.{MetaRow, metas, stations, connectors, tags, grants, txs, readings, reservations, lists, entries, list_of, rows_of}
 use Rattle.sql_shelf.specs.Kept.{IsPutIn, IsDropped, IsMade}
 use Rattle.sql_shelf.proofs.Instances.{on_metas, put_metas, on_stations, put_stations, on_connectors, put_connectors, on_tags, put_tags, on_grants, put_grants, frees_grants, on_txs, put_txs, on_readings, put_readings, on_reservations, put_reservations, frees_reservations, on_lists, put_lists, on_entries, put_entries, frees_entries}
 use Rattle.sql_shelf.proofs.StoreLemmas.{Means, means_as}

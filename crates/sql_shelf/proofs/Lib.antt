@@ -22,5 +22,6 @@ pub mod TxReads
 pub mod Listings
 pub mod Edits
 pub mod RowEdits
+pub mod ListEdits
 pub mod OrderedLaws
 pub mod OpeningLemmas

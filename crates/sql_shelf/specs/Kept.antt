@@ -36,6 +36,10 @@ pub record IsAsBefore (old new : State) : Type 0 where
 abbrev pub Rests : State → State → Type 0
 Rests old new = IsServing old → IsTrue new.is_open → IsAsBefore old new
 
+-- what a call answers, of the tables
+abbrev pub FindsIn : {A E : Type 0} → State → State → Result A E → (Trees → A → Type 0) → Type 0
+FindsIn old new r P = IsServing old → IsTrue new.is_open → IfOk r (P old.now.trees)
+
 -- what a call answers, of the rows of the hub
 abbrev pub Finds : {A E : Type 0} → State → State → Result A E → (Rows → A → Type 0) → Type 0
 Finds old new r P = IsServing old → IsTrue new.is_open → IfOk r (P (rows_of old.now.trees))

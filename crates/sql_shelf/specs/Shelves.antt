@@ -41,6 +41,8 @@ use Rattle.hub_rows.specs.declared.reading_row.ReadingRow.{ReadingRow}
 use Rattle.hub_rows.specs.declared.reservation_row.ReservationRow.{ReservationRow}
 use Rattle.hub_rows.specs.declared.list_row.ListRow.{ListRow}
 use Rattle.hub_rows.specs.declared.list_row.LocalTag.{LocalTag}
+use Rattle.sql_shelf.specs.declared.list_rows.ListHead.{ListHead}
+use Rattle.sql_shelf.specs.declared.list_rows.EntryRow.{EntryRow}
 use Rattle.hub_rows.specs.Rows.{Rows, station_key, connector_key, tag_key, grant_key, tx_key, reading_key, reservation_key}
 use Rattle.hub_rows.specs.Transactions.{is_open, counts}
 use Rattle.hub_rows.specs.Reservations.{shifted, unshifted}
@@ -211,11 +213,6 @@ reservations = record {
 
 -- ---- a local list is kept as its version, and its entries in another table
 
-pub record ListHead : Type 0 where
-  pub op : List ℕ
-  pub station : List ℕ
-  pub version : ℕ
-
 abbrev pub lists : Shelf ListHead
 lists = record {
   table = hub_list;
@@ -225,20 +222,20 @@ lists = record {
   read = λ r. record { op = text_in (column r 0); station = text_in (column r 1); version = count_in (column r 2) };
 }
 
-pub record EntryRow : Type 0 where
-  pub op : List ℕ
-  pub station : List ℕ
-  pub entry : LocalTag
+-- an entry of a local list, by the key of its tag
+abbrev pub entry_row : List ℕ → List ℕ → LocalTag → EntryRow
+entry_row op station entry = record { op = op; station = station; key = key_of entry.tag; entry = entry }
 
 abbrev pub entries : Shelf EntryRow
 entries = record {
   table = hub_list_entry;
   parts = text_part ∷ text_part ∷ text_part ∷ [];
-  key = λ e. e.op ∷ e.station ∷ key_of e.entry.tag ∷ [];
-  row = λ e. Text e.op ∷ Text e.station ∷ Text (key_of e.entry.tag) ∷ Text e.entry.tag ∷ count_or_null e.entry.info.expiry_date ∷ text_or_null e.entry.info.parent_id_tag ∷ Text (authorization_status_name e.entry.info.status) ∷ [];
+  key = λ e. e.op ∷ e.station ∷ e.key ∷ [];
+  row = λ e. Text e.op ∷ Text e.station ∷ Text e.key ∷ Text e.entry.tag ∷ count_or_null e.entry.info.expiry_date ∷ text_or_null e.entry.info.parent_id_tag ∷ Text (authorization_status_name e.entry.info.status) ∷ [];
   read = λ r. record {
     op = text_in (column r 0);
     station = text_in (column r 1);
+    key = text_in (column r 2);
     entry = record { tag = text_in (column r 3); info = record { expiry_date = count_if_any (column r 4); parent_id_tag = text_if_any (column r 5); status = name_in authorization_statuses judged.Accepted (column r 6) } };
   };
 }

@@ -1,14 +1,15 @@
 -- The store: a connection, the count of its failures, and the connection that it took over.
-use Rattle.std.specs.Prelude.{ℕ, IsTrue, refl}
+use Rattle.std.specs.Prelude.{ℕ, List, IsTrue, refl}
 use Rattle.std.specs.Coded.{Coded, code_by, coded×, coded_ℕ}
 use Rattle.sqlite_trees.specs.declared.store.Store.{Ghosts}
 use Rattle.sqlite.specs.Held.{Held, held_code, state}
 use Rattle.sqlite.specs.State.{State}
-use Rattle.hub_rows.specs.Changes.{Fits}
+use Rattle.hub_rows.specs.Changes.{Fits, EditFits}
 use Rattle.hub_rows.specs.Rows.{Rows}
 use Rattle.hub_rows.specs.StoreView.{StoreView}
 use Rattle.hub_rows.specs.WellFormed.{WellFormedRows}
 use Rattle.hub_rows.specs.declared.change.Change.{Change}
+use Rattle.hub_rows.specs.declared.change.Edit.{Edit}
 use Rattle.sql_shelf.specs.Kept.{Serves}
 use Rattle.sql_shelf.specs.Opening.{IsOurs}
 use Rattle.sql_shelf.specs.Shelves.{rows_of}
@@ -29,6 +30,10 @@ IsKept taken s = IsOurs taken → IsTrue s.is_open → Serves s × WellFormedRow
 -- the change fits, and the connection is one that serves
 abbrev pub IsReady : Change → State → Type 0
 IsReady change s = IsTrue s.is_open → Serves s × WellFormedRows (rows_of s.now.trees) × Fits change (rows_of s.now.trees)
+
+-- an edit fits, inside a transaction
+abbrev pub MayMake : List ℕ → Edit → State → Type 0
+MayMake op change s = IsTrue s.is_open → EditFits op change (rows_of s.now.trees)
 
 module _ {S : Type 0} (g : Ghosts S) where
   abbrev pub sql_rows : SqlView S → Rows

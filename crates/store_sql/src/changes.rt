@@ -4,11 +4,12 @@ ghost use Rattle.sqlite.specs.Held.{state};
 ghost use Rattle.hub_rows.specs.Changes.{after_change, edit};
 ghost use Rattle.hub_rows.specs.declared.change.Edit.TheVariants.{TxStopped};
 ghost use Rattle.sql_shelf.specs.Kept.{Changes, Goes, IsInside, IsMade};
-ghost use Rattle.store_sql.specs.Store.{IsReady};
+ghost use Rattle.store_sql.specs.Store.{IsReady, MayMake};
 
 use crate::columns::told;
 use crate::connectors::put_connector;
 use crate::grants::{drop_grant, put_grant};
+use crate::local_lists::set_list;
 use crate::readings::add_readings;
 use crate::reservations::{drop_reservation, put_reservation};
 use crate::stations::{add_station, see_boot, set_policy};
@@ -36,7 +37,7 @@ fn end_tx<S: Alter>(
     add_readings(tx, op, station, first, readings)
 }
 
-/// Makes an edit inside a transaction.
+/// Makes an edit that fits, inside a transaction.
 fn make<S: Alter>(
     tx: &mut Transaction<'_, S>,
     alloc: Global,
@@ -44,7 +45,7 @@ fn make<S: Alter>(
     change: &Edit,
 ) -> Result<(), StoreFault>
     ensures same_reference { tx.new.conn.ghost_name ≡ tx.old.conn.ghost_name }
-    ensures goes { IsInside (state S.Store tx.old.conn.now) → Goes (IsMade (edit op.now change.now)) (state S.Store tx.old.conn.now) (state S.Store tx.new.conn.now) result }
+    ensures goes { MayMake op.now change.now (state S.Store tx.old.conn.now) → IsInside (state S.Store tx.old.conn.now) → Goes (IsMade (edit op.now change.now)) (state S.Store tx.old.conn.now) (state S.Store tx.new.conn.now) result }
 {
     match change {
         Edit::StationAdded {
@@ -105,7 +106,7 @@ fn make<S: Alter>(
         Edit::ReservationDropped { station, id } => {
             drop_reservation(tx, op, station.as_str(), *id)
         }
-        Edit::ListSet { .. } => Err(StoreFault::Failed),
+        Edit::ListSet { station, list } => set_list(tx, alloc, op, station.as_str(), list),
     }
 }
 

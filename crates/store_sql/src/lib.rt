@@ -8,6 +8,7 @@ mod connectors;
 mod granted;
 mod grants;
 mod last_numbers;
+mod local_lists;
 mod opening;
 mod readings;
 mod reservations;

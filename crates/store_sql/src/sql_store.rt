@@ -5,7 +5,8 @@ ghost use Rattle.hub_rows.specs.declared.store.StoreFault.TheVariants as store_f
 
 use crate::opening::{PrepareFault, fault, prepare};
 use crate::{
-    changes, connectors, granted, grants, last_numbers, readings, reservations, stations, tags, txs,
+    changes, connectors, granted, grants, last_numbers, local_lists, readings, reservations,
+    stations, tags, txs,
 };
 use hub_rows::{
     Change, ConnectorRow, GrantRow, GrantedTag, Info, LastNumbers, LocalList, ReadingRow,
@@ -222,7 +223,8 @@ impl<A: Alter> Store for SqlStore<A> {
     }
 
     fn local_list(&mut self, op: &str, station: &str) -> Result<Option<LocalList>, StoreFault> {
-        self.counted(Err(StoreFault::Failed))
+        let found = local_lists::local_list(&mut self.conn, self.alloc, op, station);
+        self.counted(found)
     }
 
     fn stations(&mut self, op: &str) -> Result<Listed<StationRow>, StoreFault> {

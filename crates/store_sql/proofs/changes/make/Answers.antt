@@ -7,7 +7,7 @@ use Rattle.sql_shelf.specs.Kept.{Goes, IsMade}
 use Rattle.store_sql.proofs.changes.make.Goals as goal
 
 pub returns-in-TxStarted-clause-goes : goal.returns-in-TxStarted-clause-goes
-returns-in-TxStarted-clause-goes g c = λ inside.
+returns-in-TxStarted-clause-goes g c = λ may inside.
     let op = c.args.op.now in
     let old = state g.S.Store c.args.tx.now.conn.now in
     let new = state g.S.Store c.start_tx.new.tx.conn.now in

@@ -1,0 +1,268 @@
+//! Local lists in their tables: the version of each in one, the entries in another.
+ghost use Rattle.std.specs.Prelude.{◌≡◌, ◌&&◌, filter, find, map, option_map, pos, IfOk, IsTrue};
+ghost use Rattle.std.specs.Str.{bytes_eq};
+ghost use Rattle.sqlite.specs.Held.{state};
+ghost use Rattle.ocpp_types.specs.TagKey.{key_of};
+ghost use Rattle.hub_rows.specs.Changes.{edit};
+ghost use Rattle.hub_rows.specs.declared.change.Edit.TheVariants.{ListSet};
+ghost use Rattle.hub_rows.specs.LocalLists.{AreEntries, local_list_in};
+ghost use Rattle.sql_shelf.specs.Kept.{ArePutIn, Finds, FindsIn, Goes, IsDropped, IsInside, IsMade, IsPutIn, IsServing, Rests, Shows};
+ghost use Rattle.sql_shelf.specs.Shelf.{rows_in};
+ghost use Rattle.sql_shelf.specs.Shelves.{entries, entry_row, lists};
+
+use crate::binds::{done, lent, seconds_if_any};
+use crate::columns::{count, moment_if_any, named, text, text_if_any};
+use crate::stored::{Stored, first_row, listed};
+use hub_rows::{LocalList, LocalTag, StoreFault};
+use ocpp_types::{IdTagInfo, Listed, Named, TagKey};
+use sql_shelf::{EntryRow, ListHead};
+use sqlite::{Alter, Connection, Error, Row, Transaction, params};
+use std::alloc::Global;
+
+const FIND: &str = "SELECT op, station, version FROM hub_list WHERE op = ?1 AND station = ?2";
+
+const LIST_ENTRIES: &str =
+    "SELECT op, station, tag_key, id_tag, expiry_date, parent_id_tag, status FROM hub_list_entry WHERE op = ?1 AND station = ?2 ORDER BY tag_key";
+
+const PUT: &str =
+    "INSERT INTO hub_list (op, station, version) VALUES (?1, ?2, ?3) ON CONFLICT (op, station) DO UPDATE SET version = excluded.version";
+
+const PUT_ENTRY: &str =
+    "INSERT INTO hub_list_entry (op, station, tag_key, id_tag, expiry_date, parent_id_tag, status) VALUES (?1, ?2, ?3, ?4, ?5, ?6, ?7) ON CONFLICT (op, station, tag_key) DO UPDATE SET id_tag = excluded.id_tag, expiry_date = excluded.expiry_date, parent_id_tag = excluded.parent_id_tag, status = excluded.status";
+
+const DROP_ENTRIES: &str = "DELETE FROM hub_list_entry WHERE op = ?1 AND station = ?2";
+
+impl Stored for ListHead {
+    ghost use Rattle.sql_shelf.specs.Shelves.{lists};
+
+    ghost read = { lists.read };
+
+    fn read(alloc: Global, row: &Row) -> Result<ListHead, StoreFault> {
+        Ok(ListHead {
+            op: text(row, 0)?,
+            station: text(row, 1)?,
+            version: count(row, 2)?,
+        })
+    }
+}
+
+impl Stored for EntryRow {
+    ghost use Rattle.sql_shelf.specs.Shelves.{entries};
+
+    ghost read = { entries.read };
+
+    fn read(alloc: Global, row: &Row) -> Result<EntryRow, StoreFault> {
+        Ok(EntryRow {
+            op: text(row, 0)?,
+            station: text(row, 1)?,
+            key: text(row, 2)?,
+            entry: LocalTag {
+                tag: text(row, 3)?,
+                info: IdTagInfo {
+                    expiry_date: moment_if_any(row, 4)?,
+                    parent_id_tag: text_if_any(row, 5)?,
+                    status: named(row, 6)?,
+                },
+            },
+        })
+    }
+}
+
+fn find_one<S: Alter>(conn: &mut Connection<S>, op: &str, station: &str) -> Result<Vec<Row>, Error>
+    ensures shows { IsServing (state S.Store conn.old) → Shows (λ v. v.items) lists (λ l. bytes_eq l.op op.now && bytes_eq l.station station.now) (state S.Store conn.old) (state S.Store conn.new) result }
+{
+    conn.query_all(FIND, params![op, station])
+}
+
+fn find_entries<S: Alter>(
+    conn: &mut Connection<S>,
+    op: &str,
+    station: &str,
+) -> Result<Vec<Row>, Error>
+    ensures shows { IsServing (state S.Store conn.old) → Shows (λ v. v.items) entries (λ e. bytes_eq e.op op.now && bytes_eq e.station station.now) (state S.Store conn.old) (state S.Store conn.new) result }
+{
+    conn.query_all(LIST_ENTRIES, params![op, station])
+}
+
+/// The list of a station, without its entries.
+fn head<S: Alter>(
+    conn: &mut Connection<S>,
+    alloc: Global,
+    op: &str,
+    station: &str,
+) -> Result<Option<ListHead>, StoreFault>
+    ensures found { FindsIn (state S.Store conn.old) (state S.Store conn.new) result (λ db head. head ≡ find (λ l. bytes_eq l.op op.now && bytes_eq l.station station.now) (rows_in lists db)) }
+    ensures same { Rests (state S.Store conn.old) (state S.Store conn.new) }
+{
+    first_row(alloc, find_one(conn, op, station))
+}
+
+/// The rows of the entries of a station's list.
+fn entry_rows<S: Alter>(
+    conn: &mut Connection<S>,
+    alloc: Global,
+    op: &str,
+    station: &str,
+) -> Result<Listed<EntryRow>, StoreFault>
+    ensures found { FindsIn (state S.Store conn.old) (state S.Store conn.new) result (λ db rows. rows ≡ filter (λ e. bytes_eq e.op op.now && bytes_eq e.station station.now) (rows_in entries db)) }
+    ensures same { Rests (state S.Store conn.old) (state S.Store conn.new) }
+{
+    listed(alloc, find_entries(conn, op, station))
+}
+
+/// The entries in some rows.
+fn entries_of(alloc: Global, rows: Listed<EntryRow>) -> Result<Listed<LocalTag>, StoreFault>
+    ensures { IfOk result (λ list. list ≡ map (λ e. e.entry) rows) }
+{
+    let entries: Vec<LocalTag> = rows
+        .into_vec()
+        .into_iter()
+        .map(|row| row.entry)
+        .collect(alloc)?;
+    Ok(Listed::from(entries))
+}
+
+/// The local list of a station.
+pub(crate) fn local_list<S: Alter>(
+    conn: &mut Connection<S>,
+    alloc: Global,
+    op: &str,
+    station: &str,
+) -> Result<Option<LocalList>, StoreFault>
+    ensures found { Finds (state S.Store conn.old) (state S.Store conn.new) result (λ rows list. list ≡ local_list_in op.now station.now rows.local_lists) }
+    ensures same { Rests (state S.Store conn.old) (state S.Store conn.new) }
+{
+    match head(conn, alloc, op, station)? {
+        None => Ok(None),
+        Some(head) => {
+            let rows = entry_rows(conn, alloc, op, station)?;
+            Ok(Some(LocalList {
+                version: head.version,
+                entries: entries_of(alloc, rows)?,
+            }))
+        }
+    }
+}
+
+/// Drops the rows of a list's entries.
+fn drop_rows<S: Alter>(tx: &mut Transaction<'_, S>, op: &str, station: &str) -> Result<usize, Error>
+    ensures same_reference { tx.new.conn.ghost_name ≡ tx.old.conn.ghost_name }
+    ensures goes { IsInside (state S.Store tx.old.conn.now) → Goes (IsDropped entries (λ e. bytes_eq e.op op.now && bytes_eq e.station station.now)) (state S.Store tx.old.conn.now) (state S.Store tx.new.conn.now) result }
+{
+    tx.execute(DROP_ENTRIES, params![op, station])
+}
+
+/// Drops the entries of a list.
+fn drop_entries<S: Alter>(
+    tx: &mut Transaction<'_, S>,
+    op: &str,
+    station: &str,
+) -> Result<(), StoreFault>
+    ensures same_reference { tx.new.conn.ghost_name ≡ tx.old.conn.ghost_name }
+    ensures goes { IsInside (state S.Store tx.old.conn.now) → Goes (IsDropped entries (λ e. bytes_eq e.op op.now && bytes_eq e.station station.now)) (state S.Store tx.old.conn.now) (state S.Store tx.new.conn.now) result }
+{
+    done(drop_rows(tx, op, station))
+}
+
+/// Puts the row of a list.
+fn put_row<S: Alter>(
+    tx: &mut Transaction<'_, S>,
+    op: &str,
+    station: &str,
+    version: u32,
+) -> Result<usize, Error>
+    ensures same_reference { tx.new.conn.ghost_name ≡ tx.old.conn.ghost_name }
+    ensures goes { IsInside (state S.Store tx.old.conn.now) → Goes (IsPutIn lists (record { op = op.now; station = station.now; version = version })) (state S.Store tx.old.conn.now) (state S.Store tx.new.conn.now) result }
+{
+    tx.execute(PUT, params![op, station, version])
+}
+
+/// Puts a list, without its entries.
+fn put_head<S: Alter>(
+    tx: &mut Transaction<'_, S>,
+    op: &str,
+    station: &str,
+    version: u32,
+) -> Result<(), StoreFault>
+    ensures same_reference { tx.new.conn.ghost_name ≡ tx.old.conn.ghost_name }
+    ensures goes { IsInside (state S.Store tx.old.conn.now) → Goes (IsPutIn lists (record { op = op.now; station = station.now; version = version })) (state S.Store tx.old.conn.now) (state S.Store tx.new.conn.now) result }
+{
+    done(put_row(tx, op, station, version))
+}
+
+/// Puts the row of an entry.
+fn put_entry_row<S: Alter>(
+    tx: &mut Transaction<'_, S>,
+    op: &str,
+    station: &str,
+    key: &str,
+    entry: &LocalTag,
+    expiry: Option<i64>,
+) -> Result<usize, Error>
+    requires key { key.now ≡ key_of entry.now.tag }
+    requires expiry { expiry ≡ option_map pos entry.now.info.expiry_date }
+    ensures same_reference { tx.new.conn.ghost_name ≡ tx.old.conn.ghost_name }
+    ensures goes { IsInside (state S.Store tx.old.conn.now) → Goes (IsPutIn entries (entry_row op.now station.now entry.now)) (state S.Store tx.old.conn.now) (state S.Store tx.new.conn.now) result }
+{
+    tx.execute(
+        PUT_ENTRY,
+        params![
+            op,
+            station,
+            key,
+            entry.tag.as_str(),
+            expiry,
+            lent(&entry.info.parent_id_tag),
+            entry.info.status.name()
+        ],
+    )
+}
+
+/// Puts an entry of a list.
+fn put_entry<S: Alter>(
+    tx: &mut Transaction<'_, S>,
+    alloc: Global,
+    op: &str,
+    station: &str,
+    entry: &LocalTag,
+) -> Result<(), StoreFault>
+    ensures same_reference { tx.new.conn.ghost_name ≡ tx.old.conn.ghost_name }
+    ensures goes { IsInside (state S.Store tx.old.conn.now) → Goes (IsPutIn entries (entry_row op.now station.now entry.now)) (state S.Store tx.old.conn.now) (state S.Store tx.new.conn.now) result }
+{
+    let key = TagKey::of(alloc, entry.tag.as_str())?;
+    let expiry = seconds_if_any(&entry.info.expiry_date);
+    done(put_entry_row(tx, op, station, key.as_str(), entry, expiry))
+}
+
+/// Puts the entries of a list.
+fn put_entries<S: Alter>(
+    tx: &mut Transaction<'_, S>,
+    alloc: Global,
+    op: &str,
+    station: &str,
+    list: &[LocalTag],
+) -> Result<(), StoreFault>
+    ensures same_reference { tx.new.conn.ghost_name ≡ tx.old.conn.ghost_name }
+    ensures goes { IsInside (state S.Store tx.old.conn.now) → Goes (ArePutIn entries (map (entry_row op.now station.now) list.now)) (state S.Store tx.old.conn.now) (state S.Store tx.new.conn.now) result }
+{
+    'entries: for entry in list {
+        put_entry(tx, alloc, op, station, entry)?;
+    }
+    Ok(())
+}
+
+/// Sets the local list of a station, in place of the one before and all its entries.
+pub(crate) fn set_list<S: Alter>(
+    tx: &mut Transaction<'_, S>,
+    alloc: Global,
+    op: &str,
+    station: &str,
+    list: &LocalList,
+) -> Result<(), StoreFault>
+    ensures same_reference { tx.new.conn.ghost_name ≡ tx.old.conn.ghost_name }
+    ensures goes { (IsTrue (state S.Store tx.old.conn.now).is_open → AreEntries list.now.entries) → IsInside (state S.Store tx.old.conn.now) → Goes (IsMade (edit op.now (ListSet station.now list.now))) (state S.Store tx.old.conn.now) (state S.Store tx.new.conn.now) result }
+{
+    drop_entries(tx, op, station)?;
+    put_head(tx, op, station, list.version)?;
+    put_entries(tx, alloc, op, station, list.entries.as_slice())
+}
