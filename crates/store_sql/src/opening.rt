@@ -203,7 +203,13 @@ fn model(alloc: Global) -> Result<Connection<MemStore>, Error>
 pub enum PrepareFault {
     #[error("out of memory")]
     NoMemory,
-    /// The database failed, or tables of the schema are missing, or others stand beside them.
+    /// No file can be opened or made at the path.
+    #[error("the file can't be opened")]
+    CannotOpen,
+    /// Another process has the database open.
+    #[error("another process has the database open")]
+    InUse,
+    /// The file is no database, or it failed, or tables of the schema are missing, or others stand beside them.
     #[error("the database failed")]
     Failed,
     /// It has tables, and no `hub_meta` with one row of one whole number from 1 on.
@@ -219,6 +225,8 @@ pub(crate) fn fault(error: Error) -> PrepareFault
 {
     match error {
         Error::SqliteFailure(ErrorCode::OutOfMemory) => PrepareFault::NoMemory,
+        Error::SqliteFailure(ErrorCode::CannotOpen) => PrepareFault::CannotOpen,
+        Error::SqliteFailure(ErrorCode::DatabaseBusy) => PrepareFault::InUse,
         _ => PrepareFault::Failed,
     }
 }
