@@ -1,5 +1,5 @@
-"""Checks the built program over loopback: its statuses and texts, and one charging session of a
-simulated station that an operator watches. Prints `N passed, M failed`.
+"""Checks the built program: its statuses and texts, its databases, and over loopback a charging session of a
+simulated station that an operator watches, restarts and hostile peers. Prints `N passed, M failed`.
 
     python3 checks/programs.py crates/central/out/central
 """
@@ -8,14 +8,19 @@ import contextlib
 import os
 import re
 import resource
+import signal
 import socket
+import sqlite3
 import subprocess
 import sys
 import tempfile
 import threading
 import time
+from pathlib import Path
 
 from peer import HEAD, Peer, frame
+
+SCRIPTS = Path(__file__).resolve().parent.parent / "crates" / "worked" / "data"
 
 PORT = 9281
 TIME = re.compile(r"\d{4}-\d\d-\d\dT\d\d:\d\d:\d\dZ")
@@ -42,9 +47,16 @@ SESSION = """\
 
 
 class Checks:
-    def __init__(self, program):
+    def __init__(self, program, folder):
         self.program = program
+        self.folder = folder
+        self.files = 0
         self.passed = self.failed = 0
+
+    def new_file(self):
+        """The path of a database that isn't there yet."""
+        self.files += 1
+        return os.path.join(self.folder, f"{self.files}.db")
 
     def check(self, what, got, wanted):
         if got == wanted:
@@ -53,16 +65,16 @@ class Checks:
             self.failed += 1
             print(f"{what}\n  wanted {wanted!r}\n  got    {got!r}")
 
-    def run(self, *words):
-        """The status of a run, its output and its errors."""
-        ran = subprocess.run([self.program, *words], capture_output=True, text=True, timeout=60)
-        return ran.returncode, ran.stdout, ran.stderr
+    def run(self, *words, lines=""):
+        """The status of a run on those lines, its output and its errors."""
+        ran = subprocess.run([self.program, *words], input=lines.encode(), capture_output=True, timeout=60)
+        return ran.returncode, ran.stdout.decode(), ran.stderr.decode()
 
     @contextlib.contextmanager
-    def serve(self, *words, files=4096, errors=None):
-        """A server that listens, which is ended afterwards. It may have so many files open."""
+    def serve(self, *words, db=None, files=4096, errors=None):
+        """A server that listens, over that file or a new one, which is ended afterwards. It may have so many files open."""
         server = subprocess.Popen(
-            [self.program, "serve", "--port", str(PORT), *words],
+            [self.program, "serve", "--port", str(PORT), "--db", db or self.new_file(), *words],
             stderr=errors,
             preexec_fn=lambda: resource.setrlimit(resource.RLIMIT_NOFILE, (files, files)),
         )
@@ -90,15 +102,17 @@ def wait_for(port):
 
 
 def check_statuses(checks):
-    serve = f"serve --port {PORT} --turns 0 --operators"
+    db = checks.new_file()
+    serve = f"serve --port {PORT} --db {db} --turns 0 --operators"
     checks.check("0 turns", checks.run(*serve.split(" "), "ACME"), (0, "", ""))
     checks.ends("an operator twice", f"{serve} A,A", 2, "fault BadOperators")
     checks.ends("an operator with no name", f"{serve} ", 2, "fault BadOperators")
-    checks.ends("no operators", f"serve --port {PORT}", 1, "--operators")
-    checks.ends("no port", "serve --operators A", 1, "--port")
-    checks.ends("port 0", "serve --port 0 --operators A", 1, "port")
-    checks.ends("port 65536", "serve --port 65536 --operators A", 1, "port")
-    checks.ends("too many turns", f"serve --port {PORT} --operators A --turns 1000001", 1, "turns")
+    checks.ends("no operators", f"serve --port {PORT} --db {db}", 1, "--operators")
+    checks.ends("no file", f"serve --port {PORT} --operators A", 1, "--db")
+    checks.ends("no port", f"serve --operators A --db {db}", 1, "--port")
+    checks.ends("port 0", f"serve --port 0 --operators A --db {db}", 1, "port")
+    checks.ends("port 65536", f"serve --port 65536 --operators A --db {db}", 1, "port")
+    checks.ends("too many turns", f"serve --port {PORT} --operators A --db {db} --turns 1000001", 1, "turns")
     checks.ends("no such command", "charge", 1, "charge")
     checks.ends("nobody listens", "sim --port 9 --path /ocpp/ACME/CP01", 2, "fault Stream")
     with socket.create_server(("127.0.0.1", PORT)):
@@ -108,6 +122,119 @@ def check_statuses(checks):
     checks.check("--version", (code, text.split(" ")[0]), (0, "central"))
     code, text, _ = checks.run("--help")
     checks.check("--help", (code, "serve" in text and "sim" in text), (0, True))
+
+
+def made(checks, *statements):
+    """A database that SQLite makes by these statements."""
+    path = checks.new_file()
+    database = sqlite3.connect(path)
+    for statement in statements:
+        database.execute(statement)
+    database.commit()
+    database.close()
+    return path
+
+
+def check_databases(checks):
+    """A file that can't be used is named before the operators are looked at, and stays as it is."""
+    meta = "CREATE TABLE hub_meta (name TEXT, number INTEGER)"
+    later = made(checks, meta, "INSERT INTO hub_meta VALUES ('schema', 9)")
+    other = made(checks, "CREATE TABLE hub_tag (op TEXT)")
+    text = checks.new_file()
+    Path(text).write_text("no database\n" * 100)
+    faults = {
+        later: "a later version of the program made the database",
+        other: "the database is not one of this program",
+        text: "the database failed",
+        checks.folder: "the file can't be opened",
+        os.path.join(checks.folder, "none", "new.db"): "the file can't be opened",
+    }
+    for path, fault in faults.items():
+        before = os.path.isfile(path) and Path(path).read_bytes()
+        for command in (["replay"], ["serve", "--port", str(PORT), "--turns", "0"]):
+            got = checks.run(*command, "--operators", "A,A", "--db", path)
+            checks.check(f"{command[0]} over {path}", got, (2, "", f"fault Store: {fault}\n"))
+        after = os.path.isfile(path) and Path(path).read_bytes()
+        checks.check(f"{path} stays", before == after, True)
+
+
+def check_replays(checks):
+    """Each script gives over a file what it gives in memory."""
+    scripts = sorted(SCRIPTS.glob("*.script"))
+    checks.check("scripts", len(scripts) > 100, True)
+    for script in scripts:
+        operators = script.with_suffix(".operators")
+        hosted = operators.read_text().rstrip("\n") if operators.exists() else "ACME,BETA"
+        words = ["replay", "--operators", hosted, "--db", checks.new_file()]
+        _, text, errors = checks.run(*words, lines=script.read_text())
+        checks.check(f"{script.stem} over a file", text + errors, script.with_suffix(".expected").read_text())
+
+
+def check_two_runs(checks):
+    """A replay goes on where the one before it ended."""
+    db = checks.new_file()
+    replay = ["replay", "--operators", "ACME", "--db", db]
+    checks.check("a first run", checks.run(*replay, lines="1 ACME tag put K1 - 0 -\n"), (0, "ACME ok\n", ""))
+    row = 'ACME row tag "K1" - 0 -\nACME ok\n'
+    checks.check("a second run", checks.run(*replay, lines="2 ACME list tags\n"), (0, row, ""))
+    others = ["replay", "--operators", "BETA", "--db", db]
+    checks.check("another operator's run", checks.run(*others, lines="2 BETA list tags\n"), (0, "BETA ok\n", ""))
+
+
+def check_restart(checks):
+    """Records outlive a server that is ended, and one that is killed. Two servers have no file in common."""
+    db = checks.new_file()
+    for sign in (signal.SIGTERM, signal.SIGKILL, signal.SIGINT):
+        with checks.serve("--operators", "ACME", db=db) as server:
+            acme, station = connected("CP01")
+            checks.check("a tag is put", acme.ask(f"tag put {sign.name} - 0 -"), "ACME ok")
+            second = checks.run("serve", "--port", "9282", "--db", db, "--operators", "ACME", "--turns", "0")
+            fault = "fault Store: another process has the database open\n"
+            checks.check("a second server", second, (2, "", fault))
+            server.send_signal(sign)
+            server.wait(10)
+            checks.check(f"{sign.name} ends it", server.returncode, -sign)
+    with checks.serve("--operators", "ACME", db=db):
+        acme = Peer(PORT, "/operator/ACME")
+        rows = [acme.ask("list tags")] + [acme.next() for _ in range(3)]
+        wanted = [f'ACME row tag "{name}" - 0 -' for name in ("SIGINT", "SIGKILL", "SIGTERM")]
+        checks.check("all tags are there", rows, [*wanted, "ACME ok"])
+    check_with_sqlite(checks, db)
+
+
+def check_with_sqlite(checks, db):
+    """SQLite itself reads a file that the program wrote, and finds it whole."""
+    database = sqlite3.connect(db)
+    checks.check("integrity_check", database.execute("PRAGMA integrity_check").fetchall(), [("ok",)])
+    checks.check("foreign_key_check", database.execute("PRAGMA foreign_key_check").fetchall(), [])
+    tags = database.execute("SELECT id_tag FROM hub_tag WHERE op = 'ACME' ORDER BY tag_key").fetchall()
+    checks.check("the tags in SQL", tags, [("SIGINT",), ("SIGKILL",), ("SIGTERM",)])
+    database.close()
+
+
+def check_ask(checks):
+    """The operator's tool: a line, lines of standard input, a command that is followed to its end."""
+    ask = ["ask", "--port", str(PORT), "--operator", "ACME"]
+    checks.check("nobody listens", checks.run(*ask, "list tags"), (2, "", "fault Stream\n"))
+    with checks.serve("--operators", "ACME"):
+        checks.check("a line", checks.run(*ask, "tag put K1 - 0 -"), (0, "ACME ok\n", ""))
+        checks.check("a listing", checks.run(*ask, "list tags"), (0, 'ACME row tag "K1" - 0 -\nACME ok\n', ""))
+        refused = "ACME refused 7 NotConnected\n"
+        checks.check("a bad line", checks.run(*ask, "list"), (3, "bad line\n", ""))
+        lines = "".join(f"tag put K{n} - 0 -\n" for n in range(1000))
+        checks.check("lines", checks.run(*ask, lines=lines), (0, "ACME ok\n" * 1000, ""))
+        mixed = checks.run(*ask, lines="station add CP01 Accepted 300\n\ncall CP01 ClearCache {}\nlist grants\n")
+        checks.check("lines of which one is refused", mixed, (3, "ACME ok\n" + refused + "ACME ok\n", ""))
+        station = Peer(PORT, "/ocpp/ACME/CP01")
+        station.ask(BOOT)
+        waiting = subprocess.Popen(
+            [checks.program, *ask, "--wait", "call CP01 ClearCache {}"], stdout=subprocess.PIPE, text=True
+        )
+        checks.check("its call", station.next(), '[2,"1","ClearCache",{}]')
+        station.send('[3,"1",{"status":"Accepted"}]')
+        told = waiting.communicate(timeout=10)[0].splitlines()
+        checks.check("a command to its end", told, ["ACME ok 1", 'ACME CP01 done 1 Answer {"status":"Accepted"}'])
+        checks.check("its status", waiting.returncode, 0)
 
 
 def check_turns(checks):
@@ -295,8 +422,20 @@ def listening(port):
 
 
 def main():
-    checks = Checks(sys.argv[1])
+    with tempfile.TemporaryDirectory() as folder:
+        checks = Checks(sys.argv[1], folder)
+        check_all(checks)
+    print(f"{checks.passed} passed, {checks.failed} failed")
+    sys.exit(1 if checks.failed else 0)
+
+
+def check_all(checks):
     check_statuses(checks)
+    check_databases(checks)
+    check_replays(checks)
+    check_two_runs(checks)
+    check_restart(checks)
+    check_ask(checks)
     check_turns(checks)
     check_session(checks)
     check_handshakes(checks)
@@ -306,8 +445,6 @@ def main():
     check_silent(checks)
     check_files(checks)
     check_idle(checks)
-    print(f"{checks.passed} passed, {checks.failed} failed")
-    sys.exit(1 if checks.failed else 0)
 
 
 if __name__ == "__main__":
