@@ -1,7 +1,7 @@
 //! The words of a command line.
 
 use clap::error::ErrorKind;
-use clap::{Arg, ArgMatches, Command, Error, value_parser};
+use clap::{Arg, ArgAction, ArgMatches, Command, Error, value_parser};
 use ocpp_types::Text;
 use std::alloc::{AllocError, Global};
 
@@ -12,11 +12,21 @@ const MAX_TURNS: u32 = 1_000_000;
 #[derive(Drop)]
 pub enum Plan {
     /// A replay of the lines of standard input.
-    Replay { operators: Vec<Text> },
+    Replay(ReplayOptions),
     /// A server.
     Serve(ServeOptions),
     /// A simulated station.
     Sim(SimOptions),
+    /// Lines of an operator.
+    Ask(AskOptions),
+}
+
+/// What a replay is to do.
+#[derive(Drop)]
+pub struct ReplayOptions {
+    pub operators: Vec<Text>,
+    /// The path of the file with the records; without it they are in memory.
+    pub db: Option<Text>,
 }
 
 /// What a server is to do.
@@ -24,6 +34,8 @@ pub enum Plan {
 pub struct ServeOptions {
     pub port: u16,
     pub operators: Vec<Text>,
+    /// The path of the file with the records.
+    pub db: Text,
     /// It ends after so many turns; without them it serves until it is ended.
     pub turns: Option<u32>,
 }
@@ -33,6 +45,17 @@ pub struct ServeOptions {
 pub struct SimOptions {
     pub port: u16,
     pub path: Text,
+}
+
+/// What an operator asks for.
+#[derive(Drop)]
+pub struct AskOptions {
+    pub port: u16,
+    pub operator: Text,
+    /// The line to send; without it, the lines of standard input.
+    pub line: Option<Text>,
+    /// The call of a command is followed to its end.
+    pub wait: bool,
 }
 
 /// Reads the words of a command line, the program's name first. An error prints itself; it is
@@ -47,8 +70,7 @@ pub fn read(alloc: Global, words: &[String]) -> Result<Plan, Error> {
 
 fn plan_of(alloc: Global, matches: &ArgMatches) -> Result<Option<Plan>, Error> {
     if let Some(found) = matches.subcommand_matches("replay") {
-        let operators = parts(alloc, found.get_str("operators"))?;
-        return Ok(Some(Plan::Replay { operators }));
+        return Ok(Some(Plan::Replay(replay_options(alloc, found)?)));
     }
     if let Some(found) = matches.subcommand_matches("serve") {
         return Ok(Some(Plan::Serve(serve_options(alloc, found)?)));
@@ -56,7 +78,25 @@ fn plan_of(alloc: Global, matches: &ArgMatches) -> Result<Option<Plan>, Error> {
     if let Some(found) = matches.subcommand_matches("sim") {
         return Ok(Some(Plan::Sim(sim_options(alloc, found)?)));
     }
+    if let Some(found) = matches.subcommand_matches("ask") {
+        return Ok(Some(Plan::Ask(ask_options(alloc, found)?)));
+    }
     Ok(None)
+}
+
+fn replay_options(alloc: Global, found: &ArgMatches) -> Result<ReplayOptions, AllocError> {
+    Ok(ReplayOptions {
+        operators: parts(alloc, found.get_str("operators"))?,
+        db: text_if_any(alloc, found.get_str("db"))?,
+    })
+}
+
+/// A value, if it was given.
+fn text_if_any(alloc: Global, value: Option<&str>) -> Result<Option<Text>, AllocError> {
+    match value {
+        Some(value) => Ok(Some(Text::from(value.to_string(alloc)?))),
+        None => Ok(None),
+    }
 }
 
 fn serve_options(alloc: Global, found: &ArgMatches) -> Result<ServeOptions, Error> {
@@ -67,6 +107,7 @@ fn serve_options(alloc: Global, found: &ArgMatches) -> Result<ServeOptions, Erro
     Ok(ServeOptions {
         port: port_of(alloc, found)?,
         operators: parts(alloc, found.get_str("operators"))?,
+        db: Text::from(found.get_str("db").unwrap_or("").to_string(alloc)?),
         turns,
     })
 }
@@ -75,6 +116,15 @@ fn sim_options(alloc: Global, found: &ArgMatches) -> Result<SimOptions, Error> {
     Ok(SimOptions {
         port: port_of(alloc, found)?,
         path: Text::from(found.get_str("path").unwrap_or("").to_string(alloc)?),
+    })
+}
+
+fn ask_options(alloc: Global, found: &ArgMatches) -> Result<AskOptions, Error> {
+    Ok(AskOptions {
+        port: port_of(alloc, found)?,
+        operator: Text::from(found.get_str("operator").unwrap_or("").to_string(alloc)?),
+        line: text_if_any(alloc, found.get_str("line"))?,
+        wait: found.get_flag("wait"),
     })
 }
 
@@ -97,7 +147,8 @@ fn central<'a>(alloc: Global) -> Result<Command<'a>, AllocError> {
         .subcommand_required(true);
     let central = with(central, replay_command(alloc))?;
     let central = with(central, serve_command(alloc))?;
-    with(central, sim_command(alloc))
+    let central = with(central, sim_command(alloc))?;
+    with(central, ask_command(alloc))
 }
 
 fn with<'a>(
@@ -110,7 +161,11 @@ fn with<'a>(
 fn replay_command<'a>(alloc: Global) -> Result<Command<'a>, AllocError> {
     Command::new(alloc, "replay")
         .about("Reads lines of events from standard input and writes what the hub answers")
-        .arg(operators_arg(alloc))
+        .arg(operators_arg(alloc))?
+        .arg(db_arg(
+            alloc,
+            "The file with the records, made if there is none; else they are in memory",
+        ))
 }
 
 fn serve_command<'a>(alloc: Global) -> Result<Command<'a>, AllocError> {
@@ -120,8 +175,9 @@ fn serve_command<'a>(alloc: Global) -> Result<Command<'a>, AllocError> {
         .help("Ends after N turns, up to 1000000, without waiting; else serves until it is ended")
         .value_parser(value_parser!(u32));
     Command::new(alloc, "serve")
-        .about("Serves stations and operators over WebSocket on 127.0.0.1, with records in memory")
+        .about("Serves stations and operators over WebSocket on 127.0.0.1")
         .arg(port_arg(alloc, "The port to listen on"))?
+        .arg(db_arg(alloc, "The file with the records, made if there is none").required(true))?
         .arg(operators_arg(alloc))?
         .arg(turns)
 }
@@ -139,6 +195,32 @@ fn sim_command<'a>(alloc: Global) -> Result<Command<'a>, AllocError> {
         .arg(path)
 }
 
+fn ask_command<'a>(alloc: Global) -> Result<Command<'a>, AllocError> {
+    let operator = Arg::new(alloc, "operator")
+        .long("operator")
+        .value_name("OP")
+        .help(
+            "The operator that asks. What other connections of it are answered is printed too, and counts",
+        )
+        .allow_hyphen_values(true)
+        .required(true);
+    let wait = Arg::new(alloc, "wait")
+        .long("wait")
+        .help("Follows the call of a command to its end")
+        .action(ArgAction::SetTrue);
+    let line = Arg::new(alloc, "line").value_name("LINE").help(
+        "The line to send; without it each line of standard input, one after the other",
+    );
+    Command::new(alloc, "ask")
+        .about(
+            "Sends lines as an operator, and prints what they are answered. Status 3: one was refused",
+        )
+        .arg(port_arg(alloc, "The port of the server on 127.0.0.1"))?
+        .arg(operator)?
+        .arg(wait)?
+        .arg(line)
+}
+
 fn port_arg<'a>(alloc: Global, help: &'a str) -> Arg<'a> {
     Arg::new(alloc, "port")
         .long("port")
@@ -146,6 +228,15 @@ fn port_arg<'a>(alloc: Global, help: &'a str) -> Arg<'a> {
         .help(help)
         .value_parser(value_parser!(u16))
         .required(true)
+}
+
+/// The file of a database, a path that is taken as it is given.
+fn db_arg<'a>(alloc: Global, help: &'a str) -> Arg<'a> {
+    Arg::new(alloc, "db")
+        .long("db")
+        .value_name("FILE")
+        .help(help)
+        .allow_hyphen_values(true)
 }
 
 fn operators_arg<'a>(alloc: Global) -> Arg<'a> {

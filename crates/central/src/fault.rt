@@ -1,14 +1,22 @@
-//! Why a server or a station stops.
+//! Why a run stops.
 
 use ocpp_types::NoMemory;
+use replay::ReplayFault;
 use station_sim::SimFault;
 use std::alloc::AllocError;
 use std::io;
+use store_sql::PrepareFault;
 use thiserror::Error;
 
-/// Why a server or a simulated station stops.
+/// Why a run stops.
 #[derive(Debug, Drop, Error)]
 pub enum RunFault {
+    /// The database can't be opened, or isn't one of this program.
+    #[error("Store: {0}")]
+    Database(PrepareFault),
+    /// A replay ended before its input.
+    #[error("{0}")]
+    Replay(ReplayFault),
     /// An allocation was refused.
     #[error("NoMemory")]
     NoMemory,
@@ -24,6 +32,21 @@ pub enum RunFault {
     /// The clock gives no moment.
     #[error("Clock")]
     Clock,
+}
+
+impl From<PrepareFault> for RunFault {
+    fn from(fault: PrepareFault) -> RunFault {
+        match fault {
+            PrepareFault::NoMemory => RunFault::NoMemory,
+            other => RunFault::Database(other),
+        }
+    }
+}
+
+impl From<ReplayFault> for RunFault {
+    fn from(fault: ReplayFault) -> RunFault {
+        RunFault::Replay(fault)
+    }
 }
 
 impl From<NoMemory> for RunFault {

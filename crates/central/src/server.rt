@@ -3,6 +3,7 @@
 use crate::clock::now;
 use crate::command::ServeOptions;
 use crate::fault::RunFault;
+use crate::records::{StoreInFile, open};
 use hub::{Fault, Hub};
 use ocpp_types::Moment;
 use ready_streams::{ReadyStream, Streams};
@@ -10,7 +11,6 @@ use station_calls::VendorHandler;
 use std::alloc::Global;
 use std::io;
 use std::time::Duration;
-use store_mem::MemStore;
 use ws_server::{Gateway, Lobby, listen};
 
 /// The most seconds between two turns. Calls that stations leave unanswered end in such turns.
@@ -20,7 +20,7 @@ const MAX_WAIT: u64 = 1;
 #[derive(Drop)]
 struct Server<V> {
     alloc: Global,
-    hub: Hub<MemStore, V>,
+    hub: Hub<StoreInFile, V>,
     gateway: Gateway<ReadyStream>,
     lobby: Lobby<ReadyStream>,
     streams: Streams,
@@ -28,9 +28,10 @@ struct Server<V> {
     failed_accept: Option<Moment>,
 }
 
-/// Serves, by records in memory that begin empty and by those handlers of vendors' messages. A fault of a
-/// turn is written to standard error as `fault NAME`, and the next turn follows. Errors: operators that can't be
-/// hosted, a port that can't be listened on, a wait that fails, a clock without a moment, no memory at the start.
+/// Serves, by the records of a file and by those handlers of vendors' messages. A fault of a turn is written to
+/// standard error as `fault NAME`, and the next turn follows. Errors: a file that can't be opened or isn't ours,
+/// operators that can't be hosted, a port that can't be listened on, a wait that fails, a clock without a moment, no
+/// memory at the start.
 pub fn serve<V: VendorHandler>(
     rt: &HostRuntime,
     options: ServeOptions,
@@ -48,7 +49,7 @@ impl<V: VendorHandler> Server<V> {
         vendors: Vec<V>,
     ) -> Result<Server<V>, RunFault> {
         let alloc = rt.alloc();
-        let store = MemStore::new(alloc);
+        let store = open(rt, options.db.as_str())?;
         let Ok(hub) = Hub::new(alloc, store, options.operators, vendors) else {
             return Err(RunFault::BadOperators);
         };

@@ -34,7 +34,7 @@ where
         passed: 0,
         failed: 0,
     };
-    for name in &names(rt)? {
+    for name in &names(rt, ".script")? {
         let passes = passes(rt, stores, name.as_str()).context(format_args!("script {name}"))?;
         tally.count(passes);
     }

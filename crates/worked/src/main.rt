@@ -2,27 +2,53 @@
 //!
 //! `data/` has the lines of each script, `NAME.script`, and what is to be written, `NAME.expected`.
 //! The operators are those of `NAME.operators`, or else ACME and BETA. A fault is the last line,
-//! `fault NAME`.
+//! `fault NAME`. Each script is replayed over a new store of each kind.
+//!
+//! `data/` has databases too, `NAME.db`, which are opened.
 #![tactic(auto)]
 
 mod checked;
+mod databases;
 mod difference;
+mod kept;
 mod replayed;
 mod script;
 mod stores;
 
 use checked::{Tally, check_all};
+use databases::open_all;
+use kept::fill;
 use std::process::ExitCode;
-use stores::InMemory;
+use stores::{InDatabase, InFile, InMemory, StoreMaker};
 
-/// Statuses: 0 where each script is answered as it is to be, 1 otherwise.
+/// The file of the stores in a file.
+const PATH: &str = "worked.db";
+
+/// Checks the scripts over stores of one kind. Whether all passed.
+fn checks<M: StoreMaker>(rt: &HostRuntime, kind: &str, stores: &M) -> anyhow::Result<bool> {
+    let Tally { passed, failed } = check_all(rt, stores)?;
+    println!(rt; "{kind}: {passed} scripts passed, {failed} failed")?;
+    Ok(failed == 0)
+}
+
+/// Statuses: 0 where each script is answered as it is to be over each kind of store, 1 otherwise.
 fn main(rt: HostRuntime) -> anyhow::Result<ExitCode> {
-    let in_memory = InMemory { alloc: rt.alloc() };
-    let Tally { passed, failed } = check_all(&rt, &in_memory)?;
-    if failed == 0 {
-        println!(rt; "{passed} scripts passed")?;
-        return Ok(ExitCode::from(0));
+    let alloc = rt.alloc();
+    let in_memory = checks(&rt, "in memory", &InMemory { alloc })?;
+    let in_database = checks(&rt, "in a database in memory", &InDatabase { alloc })?;
+    let in_file = checks(
+        &rt,
+        "in a file",
+        &InFile {
+            rt: &rt,
+            path: PATH,
+        },
+    )?;
+    open_all(&rt)?;
+    fill(&rt, PATH)?;
+    if in_memory && in_database && in_file {
+        Ok(ExitCode::from(0))
+    } else {
+        Ok(ExitCode::from(1))
     }
-    println!(rt; "{passed} scripts passed, {failed} failed")?;
-    Ok(ExitCode::from(1))
 }

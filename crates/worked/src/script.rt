@@ -7,12 +7,12 @@ use std::fs;
 use std::path::Path;
 use std::rt::Files;
 
-/// The names of the scripts of this folder, in their order.
-pub fn names<R: Files + AllocGlobal + Clone + Drop>(rt: &R) -> Result<Vec<String>> {
+/// The names of the files of this folder with that ending, without it, in their order.
+pub fn names<R: Files + AllocGlobal + Clone + Drop>(rt: &R, ending: &str) -> Result<Vec<String>> {
     let mut names = Vec::new(rt.alloc());
     for entry in fs::read_dir(rt, ".")? {
         let entry = entry?;
-        if let Some(name) = entry.file_name().strip_suffix(".script") {
+        if let Some(name) = entry.file_name().strip_suffix(ending) {
             names.push(name.to_string(rt.alloc())?)?;
         }
     }
@@ -43,7 +43,7 @@ pub fn operators_of<R: Files + AllocGlobal>(rt: &R, name: &str) -> Result<Vec<Te
 }
 
 /// The parts between commas, empty ones too.
-fn parts(alloc: Global, text: &str) -> Result<Vec<Text>> {
+pub fn parts(alloc: Global, text: &str) -> Result<Vec<Text>> {
     let mut parts = Vec::new(alloc);
     for part in text.split(',') {
         parts.push(Text::copy_of(alloc, part)?)?;

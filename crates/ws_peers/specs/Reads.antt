@@ -3,7 +3,8 @@ use Rattle.std.specs.Prelude.{ℕ, List, [], Option, Some, None, true, false, �
 use Rattle.std.specs.IoError.{error_kind}
 use Rattle.std.specs.declared.io.ErrorKind.{ErrorKind}
 use Rattle.tungstenite.specs.Socket.{Socket, Reads, Flushed}
-use Rattle.tungstenite.specs.declared.CloseCode.TheVariants.{Size}
+use Rattle.tungstenite.specs.declared.CloseCode.TheVariants.{Size, Invalid, Protocol}
+use Rattle.websocket.specs.declared.error.ProtocolError.{ProtocolError}
 use Rattle.tungstenite.specs.declared.error.Error.{Error}
 use Rattle.tungstenite.specs.declared.message.Message.{Message}
 use Rattle.ws_peers.specs.declared.heard.Heard.{Heard}
@@ -14,17 +15,24 @@ use Rattle.ws_peers.specs.Stages.{is_open}
 
 -- a text may have 1,048,576 bytes
 abbrev pub within_limit : List ℕ → Heard
-within_limit t = if nat_le (length t) 1_048_576 then Heard.Text t else Heard.TooLong
+within_limit t = if nat_le (length t) 1_048_576 then Heard.Text t else Heard.Breach Size
 
 -- a read that would block gave nothing, and every other fault of the stream ends the connection
 abbrev pub of_kind : ErrorKind → Heard
 of_kind ErrorKind.WouldBlock = Heard.Nothing
 of_kind _ = Heard.Ends
 
--- what a failed read means
+-- a stream that ends is no breach that gets a code
+abbrev pub of_breach : ProtocolError → Heard
+of_breach ProtocolError.ResetWithoutClosingHandshake = Heard.Ends
+of_breach _ = Heard.Breach Protocol
+
+-- what a failed read means: the close codes are 1009, 1007 and 1002
 abbrev pub of_error : Error → Heard
 of_error (Error.Io e) = of_kind (error_kind e)
-of_error (Error.Capacity e) = Heard.TooLong
+of_error (Error.Capacity e) = Heard.Breach Size
+of_error Error.Utf8 = Heard.Breach Invalid
+of_error (Error.Protocol e) = of_breach e
 of_error _ = Heard.Ends
 
 -- what a read gave
@@ -37,12 +45,12 @@ heard_of (Ok (Message.Close frame)) = Heard.Ends
 heard_of (Err e) = of_error e
 
 module _ {T : Type 0} where
-  -- what is left of a peer after a read that left its socket as `mid`, and the text handed on: a text that is
-  -- too long ends the connection with the code 1009
+  -- what is left of a peer after a read that left its socket as `mid`, and the text handed on: a breach ends the
+  -- connection with its code
   abbrev pub After : (T → Option (List ℕ)) → Heard → Socket T → Peer T → Peer T → Option (List ℕ) → Type 0
   After contents (Heard.Text t) mid old new text = (new ≡ record old { socket = mid }) × (text ≡ Some t)
   After contents Heard.Nothing mid old new text = (new ≡ record old { socket = mid }) × (text ≡ None)
-  After contents Heard.TooLong mid old new text = Closed contents (Some (Size, [])) Ended (record old { socket = mid }) new × (text ≡ None)
+  After contents (Heard.Breach code) mid old new text = Closed contents (Some (code, [])) Ended (record old { socket = mid }) new × (text ≡ None)
   After contents Heard.Ends mid old new text = (new ≡ record old { socket = new.socket; stage = Ended }) × Flushed contents mid new.socket × (text ≡ None)
 
   -- one read of an open connection

@@ -1,5 +1,5 @@
 -- One send to a peer, and one close.
-use Rattle.std.specs.Prelude.{ℕ, List, [], Option, None, ◌≡◌, Result, OnOk, IfErr, true, false}
+use Rattle.std.specs.Prelude.{ℕ, List, [], Option, Some, codes, ◌≡◌, Result, OnOk, IfErr, true, false}
 use Rattle.websocket.specs.Connection.{Effect}
 use Rattle.websocket.specs.declared.error.Error.{Error as FrameError}
 use Rattle.tungstenite.specs.Socket.{Socket, Writes}
@@ -7,6 +7,7 @@ use Rattle.tungstenite.specs.Connection.{write_step, close_step}
 use Rattle.tungstenite.specs.Content.{text as text_content}
 use Rattle.tungstenite.specs.Failure.{WriteFails, IsIo}
 use Rattle.websocket.specs.declared.protocol.frame.coding.CloseCode.{CloseCode}
+use Rattle.websocket.specs.declared.protocol.frame.coding.CloseCode.TheVariants.{Policy}
 use Rattle.tungstenite.specs.declared.error.Error.{Error}
 use Rattle.tungstenite.specs.declared.error.Error.TheVariants.{OutOfMemory, WriteBufferFull}
 use Rattle.ws_peers.specs.declared.peer.Peer.{Peer}
@@ -38,7 +39,7 @@ module _ {T : Type 0} where
     pub sends : SendGives contents (close_step old.socket.conn code) old.socket new.socket gave
     pub rest : new ≡ record old { socket = new.socket; stage = stage }
 
-  -- another connection takes the place of a peer: it is gone, and an open one is closed without a code
+  -- another connection takes the place of a peer: it is gone, and an open one is closed with the code 1008 and a reason
   pub record Replaced (contents : T → Option (List ℕ)) (old new : Peer T) : Type 0 where
-    pub while_open : is_open old.stage ≡ true → Closed contents None Gone old new
+    pub while_open : is_open old.stage ≡ true → Closed contents (Some (Policy, codes "another connection of this station")) Gone old new
     pub once_ended : is_open old.stage ≡ false → new ≡ record old { stage = Gone }

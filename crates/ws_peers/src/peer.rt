@@ -8,6 +8,9 @@ use std::alloc::Global;
 use std::io::{Read, Write};
 use tungstenite::{CloseCode, CloseFrame, Message, NoMask, Utf8Bytes, WebSocket};
 
+/// Why a connection is closed in whose place another comes.
+pub const REPLACED: &str = "another connection of this station";
+
 /// One connected peer: what it stands for, its socket, and how far its connection has come.
 #[derive(Drop)]
 pub struct Peer<T> {
@@ -18,6 +21,7 @@ pub struct Peer<T> {
 
 #[tactic(auto, using(crate::proofs::PeerLaws::unsent, crate::proofs::PeerLaws::took, crate::proofs::PeerLaws::took_none))]
 impl<T: Read + Write + Drop> Peer<T> {
+    ghost use Rattle.std.specs.Prelude.{Some};
     ghost use Rattle.tungstenite.specs.Socket.{close_of};
     ghost use Rattle.ws_peers.specs.Peers.{route_of, stage_of, open_peer, ends, leaves, finishes, Kept};
     ghost use Rattle.ws_peers.specs.Lists.{is_open_at, ForText, Hears, GivesWay};
@@ -65,9 +69,9 @@ impl<T: Read + Write + Drop> Peer<T> {
         }
     }
 
-    /// Reads once, if the connection is open: a text within the limit, or nothing. A longer text ends
-    /// it with the close code 1009, and a Close is answered before it ends (RFC 6455, sections 5.5.1
-    /// and 7.4.1).
+    /// Reads once, if the connection is open: a text within the limit, or nothing. A longer text, one that isn't UTF-8
+    /// and a breach of the protocol end it with the close codes 1009, 1007 and 1002, and a Close is answered before it
+    /// ends (RFC 6455, sections 5.5.1 and 7.4.1).
     pub fn take(&mut self) -> Option<Utf8Bytes>
         ensures took { Took T.remaining T.contents self.old self.new result }
         ensures open { IfSome result (λ _. is_open (stage_of self.new) ≡ true) }
@@ -80,12 +84,8 @@ impl<T: Read + Write + Drop> Peer<T> {
         match what_is_heard(gave) {
             Heard::Text(text) => Some(text),
             Heard::Nothing => None,
-            Heard::TooLong => {
-                let size = CloseFrame {
-                    code: CloseCode::Size,
-                    reason: Utf8Bytes::from_static(""),
-                };
-                self.close(Some(size), Stage::Ended);
+            Heard::Breach(code) => {
+                self.close(code, "", Stage::Ended);
                 None
             }
             Heard::Ends => {
@@ -96,10 +96,17 @@ impl<T: Read + Write + Drop> Peer<T> {
         }
     }
 
-    fn close(&mut self, code: Option<CloseFrame>, stage: Stage)
-        ensures { Closed T.contents (close_of code) stage self.old self.new }
+    fn close(&mut self, code: CloseCode, reason: &'static str, stage: Stage)
+        ensures { Closed T.contents (Some (code, reason.now)) stage self.old self.new }
     {
-        let _closed = self.socket.close(code);
+        let reason = Utf8Bytes::from_static(reason);
+        self.close_with(CloseFrame { code, reason }, stage);
+    }
+
+    fn close_with(&mut self, frame: CloseFrame, stage: Stage)
+        ensures { Closed T.contents (close_of (Some frame)) stage self.old self.new }
+    {
+        let _closed = self.socket.close(Some(frame));
         self.stage = stage;
     }
 
@@ -111,12 +118,13 @@ impl<T: Read + Write + Drop> Peer<T> {
         self.stage = self.stage.ended();
     }
 
-    /// Another connection takes its place. An open one gets a close frame.
+    /// Another connection takes its place. An open one gets a close frame with the code 1008 and a reason (RFC 6455,
+    /// section 7.4.1).
     pub fn replace(&mut self)
         ensures { Replaced T.contents self.old self.new }
     {
         if self.stage.is_open() {
-            self.close(None, Stage::Gone);
+            self.close(CloseCode::Policy, REPLACED, Stage::Gone);
         } else {
             self.stage = Stage::Gone;
         }

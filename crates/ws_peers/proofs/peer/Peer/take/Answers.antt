@@ -9,8 +9,8 @@ returns-in-Text-clause-took g c = took _ _ _ _ _ _ _ (Heard.Text c.in-Text.text)
 pub returns-in-Nothing-clause-took : goal.returns-in-Nothing-clause-took
 returns-in-Nothing-clause-took g c = took _ _ _ _ _ _ _ Heard.Nothing (grind (arith, c.if-not-is_open.false, c.is_open.ensures)) c.read-gave.ensures (sym c.in-Nothing.is ∙ c.what_is_heard.ensures) (refl, refl)
 
-pub returns-in-TooLong-clause-took : goal.returns-in-TooLong-clause-took
-returns-in-TooLong-clause-took g c = took _ _ _ _ _ _ _ Heard.TooLong (grind (arith, c.if-not-is_open.false, c.is_open.ensures)) c.read-gave.ensures (sym c.in-TooLong.is ∙ c.what_is_heard.ensures) (rw c.from_static.ensures at c.close.ensures, refl)
+pub returns-in-Breach-clause-took : goal.returns-in-Breach-clause-took
+returns-in-Breach-clause-took g c = took _ _ _ _ _ _ _ (Heard.Breach c.in-Breach.code) (grind (arith, c.if-not-is_open.false, c.is_open.ensures)) c.read-gave.ensures (sym c.in-Breach.is ∙ c.what_is_heard.ensures) (c.close.ensures, refl)
 
 pub returns-in-Ends-clause-took : goal.returns-in-Ends-clause-took
 returns-in-Ends-clause-took g c = took _ _ _ _ _ _ _ Heard.Ends (grind (arith, c.if-not-is_open.false, c.is_open.ensures)) c.read-gave.ensures (sym c.in-Ends.is ∙ c.what_is_heard.ensures) (refl, c.flush-flushed.ensures.sent, refl)

@@ -1,0 +1,65 @@
+#!/usr/bin/env python3
+"""Makes the databases in crates/worked/data: files of other programs, of later versions and of odd shapes.
+
+Run it at the top of the repository, after a change of the tables. It reads their texts from
+crates/sql_tables/specs/Statements.antt. The files are written by SQLite itself.
+"""
+import os
+import re
+import sqlite3
+
+FOLDER = "crates/worked/data"
+TEXTS = dict(re.findall(r'^(create_\w+) = codes "(.*)"$', open("crates/sql_tables/specs/Statements.antt").read(), re.M))
+META = TEXTS["create_meta"]
+NUMBER = "INSERT INTO hub_meta VALUES ('schema', 1)"
+OURS = list(TEXTS.values()) + [NUMBER]
+
+
+def database(name, statements):
+    """A database that is made by these statements."""
+    path = os.path.join(FOLDER, name + ".db")
+    if os.path.exists(path):
+        os.remove(path)
+    made = sqlite3.connect(path)
+    made.execute("PRAGMA page_size = 512")
+    for statement in statements:
+        made.execute(statement)
+    made.commit()
+    made.close()
+
+
+def raw(name, content):
+    with open(os.path.join(FOLDER, name + ".db"), "wb") as file:
+        file.write(content)
+
+
+def meta(*values, columns="name TEXT, number INTEGER"):
+    return ["CREATE TABLE hub_meta (%s)" % columns] + ["INSERT INTO hub_meta VALUES (%s)" % value for value in values]
+
+
+raw("empty_file", b"")
+raw("no_database", b"T ACME add CP01\n" * 64)
+raw("half_a_header", b"SQLite format 3\0")
+database("no_table", ["CREATE TABLE t (a)", "DROP TABLE t"])
+database("tag_without_meta", [TEXTS["create_tag"]])
+database("other_program", ["CREATE TABLE person (name TEXT)", "INSERT INTO person VALUES ('A')"])
+database("later_version", [META, "INSERT INTO hub_meta VALUES ('schema', 9)"])
+database("later_version_with_other_tables", [META, "INSERT INTO hub_meta VALUES ('schema', 2)", "CREATE TABLE person (name TEXT)"])
+database("meta_without_row", [META])
+database("meta_with_two_rows", meta("'schema', 1", "'other', 1"))
+database("meta_with_0", meta("'schema', 0"))
+database("meta_with_a_negative_number", meta("'schema', -1"))
+database("meta_with_a_text", meta("'schema', 'one'"))
+database("meta_with_null", meta("'schema', NULL"))
+database("meta_with_two_numbers", meta("1, 1", columns="version INTEGER, number INTEGER"))
+database("meta_of_one_column", meta("9", columns="version INTEGER"))
+database("meta_as_a_view", ["CREATE TABLE t (number INTEGER)", "INSERT INTO t VALUES (1)", "CREATE VIEW hub_meta AS SELECT number FROM t"])
+database("ours", OURS)
+database("ours_with_rows", OURS + [
+    "INSERT INTO hub_station VALUES ('ACME', 'CP01', 'Accepted', 300, 'Fresh', NULL, NULL, NULL, NULL, NULL, NULL, NULL, NULL, NULL, NULL)",
+    "INSERT INTO hub_tag VALUES ('ACME', 'd1', 'D1', NULL, NULL, 0, NULL)",
+])
+database("ours_without_a_table", [text for text in OURS if text != TEXTS["create_reservation"]])
+database("ours_without_an_index", [text for text in OURS if text != TEXTS["create_tx_in_use"]])
+database("ours_with_another_table", OURS + ["CREATE TABLE person (name TEXT)"])
+database("ours_with_another_column", [text.replace("until INTEGER", "until INTEGER, note TEXT") for text in OURS])

@@ -1,0 +1,51 @@
+//! Replays.
+
+use crate::command::ReplayOptions;
+use crate::fault::RunFault;
+use crate::records::{StoreInFile, open};
+use hub::Hub;
+use ocpp_types::Text;
+use replay::{replay, replay_in_memory};
+use station_calls::VendorHandler;
+use std::io;
+
+/// Replays the lines of standard input, over records in memory or in a file.
+pub fn replay_lines<V: VendorHandler>(
+    rt: &HostRuntime,
+    options: ReplayOptions,
+    vendors: Vec<V>,
+) -> Result<(), RunFault> {
+    let operators = options.operators;
+    match &options.db {
+        Some(path) => {
+            let store = open(rt, path.as_str())?;
+            replay_over(rt, store, operators, vendors)
+        }
+        None => {
+            let mut writer = io::writer(rt);
+            replay_in_memory(
+                rt.alloc(),
+                operators,
+                vendors,
+                &mut rt.reader(),
+                &mut writer,
+            )?;
+            Ok(())
+        }
+    }
+}
+
+/// Replays the lines over the records of a file.
+fn replay_over<V: VendorHandler>(
+    rt: &HostRuntime,
+    store: StoreInFile,
+    operators: Vec<Text>,
+    vendors: Vec<V>,
+) -> Result<(), RunFault> {
+    let alloc = rt.alloc();
+    let Ok(mut hub) = Hub::new(alloc, store, operators, vendors) else {
+        return Err(RunFault::BadOperators);
+    };
+    replay(alloc, &mut hub, &mut rt.reader(), &mut io::writer(rt))?;
+    Ok(())
+}

@@ -1,0 +1,46 @@
+//! Databases that are opened: what the store says of each, and that those which are refused stay as they are.
+
+use crate::script::names;
+use anyhow::{Context, Result};
+use sqlite::Unknown;
+use std::fs;
+use store_sql::{PrepareFault, SqlStore};
+
+/// Opens each database of this folder, and prints what the store says of it.
+pub fn open_all(rt: &HostRuntime) -> Result<()> {
+    for name in &names(rt, ".db")? {
+        open(rt, name.as_str()).context(format_args!("database {name}"))?;
+    }
+    fs::create_dir(rt, "folder")?;
+    println!(rt; "a folder: {}", said(rt, "folder"))?;
+    println!(rt; "in no folder: {}", said(rt, "none/new.db"))?;
+    Ok(())
+}
+
+/// Opens a database, prints what the store says of it, and whether its file has changed.
+fn open(rt: &HostRuntime, name: &str) -> Result<()> {
+    let path = format!(in rt.alloc(); "{name}.db")?;
+    let before = fs::read(rt, path.as_str())?;
+    let said = said(rt, path.as_str());
+    let after = fs::read(rt, path.as_str())?;
+    let change = if before == after {
+        "as it was"
+    } else {
+        "changed"
+    };
+    println!(rt; "{name}: {said}, {change}")?;
+    Ok(())
+}
+
+/// What the store says of the database in a file.
+fn said(rt: &HostRuntime, path: &str) -> &'static str {
+    match SqlStore::open(rt, path, Unknown) {
+        Ok(_) => "taken",
+        Err(PrepareFault::NoMemory) => "no memory",
+        Err(PrepareFault::CannotOpen) => "can't be opened",
+        Err(PrepareFault::InUse) => "in use",
+        Err(PrepareFault::Failed) => "failed",
+        Err(PrepareFault::NotOurs) => "not ours",
+        Err(PrepareFault::Newer) => "newer",
+    }
+}

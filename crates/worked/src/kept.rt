@@ -1,0 +1,107 @@
+//! Records that are found again: over a file that is closed and opened, a replay writes what it writes over a store in
+//! memory.
+
+use crate::replayed::written;
+use crate::script::parts;
+use crate::stores::{InFile, StoreMaker};
+use anyhow::Result;
+use sqlite::Unknown;
+use std::alloc::Global;
+use store_mem::MemStore;
+use store_sql::SqlStore;
+
+/// A station that boots.
+const STATION: &str = r#"1704067200 ACME station add CP01 Accepted 300
+1704067200 ACME connect CP01
+1704067200 ACME frame CP01 [2,"b","BootNotification",{"chargePointModel":"M","chargePointVendor":"V"}]
+"#;
+
+/// All that is on record.
+const LISTS: &str = "1704067200 ACME list stations
+1704067200 ACME list tags
+1704067200 ACME list connectors CP01
+1704067200 ACME list transactions CP01
+1704067200 ACME list readings CP01
+1704067200 ACME list readings CP01 7
+";
+
+/// Fills a database in memory, and then a file, which is closed and opened before its records are listed. Prints
+/// whether the replays write what they write over a store in memory.
+pub fn fill(rt: &HostRuntime, path: &str) -> Result<()> {
+    let alloc = rt.alloc();
+    let lines = filling(alloc, 1000, 10_000)?;
+    let wanted = in_memory(alloc, lines.as_str())?;
+    let got = in_database(alloc, lines.as_str())?;
+    println!(rt;
+        "1000 tags and 10000 transactions in a database: {}",
+        compared(&wanted, &got)
+    )?;
+
+    let lines = filling(alloc, 100, 1000)?;
+    let wanted = in_memory(alloc, lines.as_str())?;
+    let got = closed_and_opened(rt, path, lines.as_str())?;
+    println!(rt;
+        "100 tags and 1000 transactions in a file: {}",
+        compared(&wanted, &got)
+    )?;
+    Ok(())
+}
+
+/// Lines that put tags and then start and stop transactions of them, each stop with a reading.
+fn filling(alloc: Global, tags: u32, transactions: u32) -> Result<String> {
+    let mut lines = STATION.to_string(alloc)?;
+    for n in 0..tags {
+        lines.push_str(format!(in alloc; "1704067200 ACME tag put T{n} - 0 -\n")?.as_str())?;
+    }
+    for n in 0..transactions {
+        lines.push_str(transaction(alloc, n.saturating_add(1), n % tags.max(1))?.as_str())?;
+    }
+    Ok(lines)
+}
+
+/// The lines of a transaction.
+fn transaction(alloc: Global, number: u32, tag: u32) -> Result<String> {
+    let line = "1704067200 ACME frame CP01";
+    let at = "2024-01-01T00:00:00Z";
+    Ok(format!(in alloc;
+        "{line} [2,\"s{number}\",\"StartTransaction\",{{\"connectorId\":1,\"idTag\":\"T{tag}\",\"meterStart\":{number},\"timestamp\":\"{at}\"}}]\n{line} [2,\"e{number}\",\"StopTransaction\",{{\"meterStop\":{number},\"timestamp\":\"{at}\",\"transactionId\":{number},\"transactionData\":[{{\"timestamp\":\"{at}\",\"sampledValue\":[{{\"value\":\"{number}\"}}]}}]}}]\n"
+    )?)
+}
+
+/// The lines and then the lists, over a store in memory.
+fn in_memory(alloc: Global, lines: &str) -> Result<String> {
+    let all = format!(in alloc; "{lines}{LISTS}")?;
+    written(
+        alloc,
+        MemStore::new(alloc),
+        parts(alloc, "ACME")?,
+        all.as_bytes(),
+    )
+}
+
+/// The same over a database in memory.
+fn in_database(alloc: Global, lines: &str) -> Result<String> {
+    let all = format!(in alloc; "{lines}{LISTS}")?;
+    let store = SqlStore::open_in_memory(alloc)?;
+    written(alloc, store, parts(alloc, "ACME")?, all.as_bytes())
+}
+
+/// The same over a file, which is closed and opened after the lines.
+fn closed_and_opened(rt: &HostRuntime, path: &str, lines: &str) -> Result<String> {
+    let alloc = rt.alloc();
+    let new = InFile { rt, path }.make()?;
+    let mut text = written(alloc, new, parts(alloc, "ACME")?, lines.as_bytes())?;
+    let opened = SqlStore::open(rt, path, Unknown)?;
+    let listed = written(alloc, opened, parts(alloc, "ACME")?, LISTS.as_bytes())?;
+    text.push_str(listed.as_str())?;
+    Ok(text)
+}
+
+/// What is said of two texts.
+fn compared(wanted: &String, got: &String) -> &'static str {
+    if wanted == got {
+        "as in memory"
+    } else {
+        "otherwise than in memory"
+    }
+}
