@@ -27,6 +27,6 @@ pub fn of_ask<E: Drop>(answer: &Result<bool, E>) -> u8
     match answer {
         Ok(true) => 0,
         Ok(false) => 3,
-        Err(_) => 2,
+        Err(_fault) => 2,
     }
 }
