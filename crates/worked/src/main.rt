@@ -34,6 +34,7 @@ fn checks<M: StoreMaker>(rt: &HostRuntime, kind: &str, stores: &M) -> anyhow::Re
 /// Statuses: 0 where each script is answered as it is to be over each kind of store, 1 otherwise.
 fn main(rt: HostRuntime) -> anyhow::Result<ExitCode> {
     let alloc = rt.alloc();
+    open_all(&rt)?;
     let in_memory = checks(&rt, "in memory", &InMemory { alloc })?;
     let in_database = checks(&rt, "in a database in memory", &InDatabase { alloc })?;
     let in_file = checks(
@@ -44,7 +45,6 @@ fn main(rt: HostRuntime) -> anyhow::Result<ExitCode> {
             path: PATH,
         },
     )?;
-    open_all(&rt)?;
     fill(&rt, PATH)?;
     if in_memory && in_database && in_file {
         Ok(ExitCode::from(0))
