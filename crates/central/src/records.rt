@@ -3,10 +3,10 @@
 use sqlite::{FileFrom, FileStore, Unknown};
 use store_sql::{PrepareFault, SqlStore};
 
-/// A store in a file.
-pub type StoreInFile = SqlStore<FileStore<FileFrom<Unknown>>>;
-
 /// Opens the store in the file at a path, which is made if there is none.
-pub fn open(rt: &HostRuntime, path: &str) -> Result<StoreInFile, PrepareFault> {
+pub fn open(
+    rt: &HostRuntime,
+    path: &str,
+) -> Result<SqlStore<FileStore<FileFrom<Unknown>>>, PrepareFault> {
     SqlStore::open(rt, path, Unknown)
 }

@@ -2,12 +2,14 @@
 
 use crate::command::ReplayOptions;
 use crate::fault::RunFault;
-use crate::records::{StoreInFile, open};
+use crate::records::open;
 use hub::Hub;
 use ocpp_types::Text;
 use replay::{replay, replay_in_memory};
+use sqlite::Alter;
 use station_calls::VendorHandler;
 use std::io;
+use store_sql::SqlStore;
 
 /// Replays the lines of standard input, over records in memory or in a file.
 pub fn replay_lines<V: VendorHandler>(
@@ -35,10 +37,10 @@ pub fn replay_lines<V: VendorHandler>(
     }
 }
 
-/// Replays the lines over the records of a file.
-fn replay_over<V: VendorHandler>(
+/// Replays the lines over the records of a database.
+fn replay_over<A: Alter + Drop, V: VendorHandler>(
     rt: &HostRuntime,
-    store: StoreInFile,
+    store: SqlStore<A>,
     operators: Vec<Text>,
     vendors: Vec<V>,
 ) -> Result<(), RunFault> {

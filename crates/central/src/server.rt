@@ -3,14 +3,16 @@
 use crate::clock::now;
 use crate::command::ServeOptions;
 use crate::fault::RunFault;
-use crate::records::{StoreInFile, open};
+use crate::records::open;
 use hub::{Fault, Hub};
 use ocpp_types::Moment;
 use ready_streams::{ReadyStream, Streams};
+use sqlite::Alter;
 use station_calls::VendorHandler;
 use std::alloc::Global;
 use std::io;
 use std::time::Duration;
+use store_sql::SqlStore;
 use ws_server::{Gateway, Lobby, listen};
 
 /// The most seconds between two turns. Calls that stations leave unanswered end in such turns.
@@ -18,9 +20,9 @@ const MAX_WAIT: u64 = 1;
 
 /// A server as it runs.
 #[derive(Drop)]
-struct Server<V> {
+struct Server<A: Alter, V> {
     alloc: Global,
-    hub: Hub<StoreInFile, V>,
+    hub: Hub<SqlStore<A>, V>,
     gateway: Gateway<ReadyStream>,
     lobby: Lobby<ReadyStream>,
     streams: Streams,
@@ -37,19 +39,30 @@ pub fn serve<V: VendorHandler>(
     options: ServeOptions,
     vendors: Vec<V>,
 ) -> Result<(), RunFault> {
+    let store = open(rt, options.db.as_str())?;
+    serve_over(rt, store, options, vendors)
+}
+
+/// Serves by the records of a database.
+fn serve_over<A: Alter + Drop, V: VendorHandler>(
+    rt: &HostRuntime,
+    store: SqlStore<A>,
+    options: ServeOptions,
+    vendors: Vec<V>,
+) -> Result<(), RunFault> {
     let turns = options.turns;
-    let mut server = Server::new(rt, options, vendors)?;
+    let mut server = Server::new(rt, store, options, vendors)?;
     server.run(rt, turns)
 }
 
-impl<V: VendorHandler> Server<V> {
+impl<A: Alter + Drop, V: VendorHandler> Server<A, V> {
     fn new(
         rt: &HostRuntime,
+        store: SqlStore<A>,
         options: ServeOptions,
         vendors: Vec<V>,
-    ) -> Result<Server<V>, RunFault> {
+    ) -> Result<Server<A, V>, RunFault> {
         let alloc = rt.alloc();
-        let store = open(rt, options.db.as_str())?;
         let Ok(hub) = Hub::new(alloc, store, options.operators, vendors) else {
             return Err(RunFault::BadOperators);
         };

@@ -1,9 +1,8 @@
 //! Scripts compared with what they are to write.
 
 use crate::difference::first_difference;
-use crate::replayed::written;
 use crate::script::{lines_of, names, operators_of, wanted_of};
-use crate::stores::StoreMaker;
+use crate::stores::Replays;
 use anyhow::{Context, Result};
 use std::rt::Files;
 
@@ -28,7 +27,7 @@ impl Tally {
 pub fn check_all<R, M>(rt: &R, stores: &M) -> Result<Tally>
 where
     R: Files + AllocGlobal + Print + Clone + Drop,
-    M: StoreMaker,
+    M: Replays,
 {
     let mut tally = Tally {
         passed: 0,
@@ -46,7 +45,7 @@ where
 fn passes<R, M>(rt: &R, stores: &M, name: &str) -> Result<bool>
 where
     R: Files + AllocGlobal + Print,
-    M: StoreMaker,
+    M: Replays,
 {
     let got = got_of(rt, stores, name)?;
     let wanted = wanted_of(rt, name)?;
@@ -61,9 +60,9 @@ where
 fn got_of<R, M>(rt: &R, stores: &M, name: &str) -> Result<String>
 where
     R: Files + AllocGlobal,
-    M: StoreMaker,
+    M: Replays,
 {
     let operators = operators_of(rt, name)?;
     let lines = lines_of(rt, name)?;
-    written(rt.alloc(), stores.make()?, operators, lines.as_slice())
+    stores.written(operators, lines.as_slice())
 }

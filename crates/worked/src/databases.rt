@@ -1,10 +1,10 @@
 //! Databases that are opened: what the store says of each, and that those which are refused stay as they are.
 
 use crate::script::names;
+use crate::stores;
 use anyhow::{Context, Result};
-use sqlite::Unknown;
 use std::fs;
-use store_sql::{PrepareFault, SqlStore};
+use store_sql::PrepareFault;
 
 /// Opens each database of this folder, and prints what the store says of it.
 pub fn open_all(rt: &HostRuntime) -> Result<()> {
@@ -34,7 +34,7 @@ fn open(rt: &HostRuntime, name: &str) -> Result<()> {
 
 /// What the store says of the database in a file.
 fn said(rt: &HostRuntime, path: &str) -> &'static str {
-    match SqlStore::open(rt, path, Unknown) {
+    match stores::open(rt, path) {
         Ok(_) => "taken",
         Err(PrepareFault::NoMemory) => "no memory",
         Err(PrepareFault::CannotOpen) => "can't be opened",

@@ -1,14 +1,10 @@
 //! Records that are found again: over a file that is closed and opened, a replay writes what it writes over a store in
 //! memory.
 
-use crate::replayed::written;
 use crate::script::parts;
-use crate::stores::{InFile, StoreMaker};
+use crate::stores::{InDatabase, InFile, InMemory, Replays, written_over_file};
 use anyhow::Result;
-use sqlite::Unknown;
 use std::alloc::Global;
-use store_mem::MemStore;
-use store_sql::SqlStore;
 
 /// A station that boots.
 const STATION: &str = r#"1704067200 ACME station add CP01 Accepted 300
@@ -30,15 +26,19 @@ const LISTS: &str = "1704067200 ACME list stations
 pub fn fill(rt: &HostRuntime, path: &str) -> Result<()> {
     let alloc = rt.alloc();
     let lines = filling(alloc, 1000, 10_000)?;
-    let wanted = in_memory(alloc, lines.as_str())?;
-    let got = in_database(alloc, lines.as_str())?;
+    let wanted = listed(alloc, &InMemory { alloc }, lines.as_str())?;
+    let got = listed(alloc, &InDatabase { alloc }, lines.as_str())?;
     println!(rt;
         "1000 tags and 10000 transactions in a database: {}",
         compared(&wanted, &got)
     )?;
+    fill_file(rt, path)
+}
 
+fn fill_file(rt: &HostRuntime, path: &str) -> Result<()> {
+    let alloc = rt.alloc();
     let lines = filling(alloc, 100, 1000)?;
-    let wanted = in_memory(alloc, lines.as_str())?;
+    let wanted = listed(alloc, &InMemory { alloc }, lines.as_str())?;
     let got = closed_and_opened(rt, path, lines.as_str())?;
     println!(rt;
         "100 tags and 1000 transactions in a file: {}",
@@ -68,32 +68,18 @@ fn transaction(alloc: Global, number: u32, tag: u32) -> Result<String> {
     )?)
 }
 
-/// The lines and then the lists, over a store in memory.
-fn in_memory(alloc: Global, lines: &str) -> Result<String> {
+/// What is written of the lines and then of the lists.
+fn listed<M: Replays>(alloc: Global, stores: &M, lines: &str) -> Result<String> {
     let all = format!(in alloc; "{lines}{LISTS}")?;
-    written(
-        alloc,
-        MemStore::new(alloc),
-        parts(alloc, "ACME")?,
-        all.as_bytes(),
-    )
-}
-
-/// The same over a database in memory.
-fn in_database(alloc: Global, lines: &str) -> Result<String> {
-    let all = format!(in alloc; "{lines}{LISTS}")?;
-    let store = SqlStore::open_in_memory(alloc)?;
-    written(alloc, store, parts(alloc, "ACME")?, all.as_bytes())
+    stores.written(parts(alloc, "ACME")?, all.as_bytes())
 }
 
 /// The same over a file, which is closed and opened after the lines.
 fn closed_and_opened(rt: &HostRuntime, path: &str, lines: &str) -> Result<String> {
     let alloc = rt.alloc();
-    let new = InFile { rt, path }.make()?;
-    let mut text = written(alloc, new, parts(alloc, "ACME")?, lines.as_bytes())?;
-    let opened = SqlStore::open(rt, path, Unknown)?;
-    let listed = written(alloc, opened, parts(alloc, "ACME")?, LISTS.as_bytes())?;
-    text.push_str(listed.as_str())?;
+    let mut text = InFile { rt, path }.written(parts(alloc, "ACME")?, lines.as_bytes())?;
+    let lists = written_over_file(rt, path, parts(alloc, "ACME")?, LISTS.as_bytes())?;
+    text.push_str(lists.as_str())?;
     Ok(text)
 }
 

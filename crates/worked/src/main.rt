@@ -19,13 +19,13 @@ use checked::{Tally, check_all};
 use databases::open_all;
 use kept::fill;
 use std::process::ExitCode;
-use stores::{InDatabase, InFile, InMemory, StoreMaker};
+use stores::{InDatabase, InFile, InMemory, Replays};
 
 /// The file of the stores in a file.
 const PATH: &str = "worked.db";
 
 /// Checks the scripts over stores of one kind. Whether all passed.
-fn checks<M: StoreMaker>(rt: &HostRuntime, kind: &str, stores: &M) -> anyhow::Result<bool> {
+fn checks<M: Replays>(rt: &HostRuntime, kind: &str, stores: &M) -> anyhow::Result<bool> {
     let Tally { passed, failed } = check_all(rt, stores)?;
     println!(rt; "{kind}: {passed} scripts passed, {failed} failed")?;
     Ok(failed == 0)

@@ -1,66 +1,87 @@
-//! The stores that scripts are replayed over.
+//! The stores that lines are replayed over.
 
-use hub_rows::Store;
-use sqlite::{FileFrom, FileStore, Unknown};
+use crate::replayed::written;
+use anyhow::Result;
+use ocpp_types::Text;
+use sqlite::{Alter, FileFrom, FileStore, Unknown};
 use std::alloc::Global;
 use std::fs;
 use std::path::Path;
 use store_mem::MemStore;
-use store_sql::SqlStore;
+use store_sql::{PrepareFault, SqlStore};
 
-/// Makes stores with no records.
-pub trait StoreMaker {
-    type Made: Store + Drop;
-
-    /// A new store, apart from those made before.
-    fn make(&self) -> anyhow::Result<Self::Made>;
+/// Replays lines over a store of one kind.
+pub trait Replays {
+    /// What a replay of the lines over a new store writes, and after it the fault, if there is one.
+    fn written(&self, operators: Vec<Text>, lines: &[u8]) -> Result<String>;
 }
 
-/// Makes stores in memory.
+/// Replays over stores in memory.
 #[derive(Drop)]
 pub struct InMemory {
     pub alloc: Global,
 }
 
-impl StoreMaker for InMemory {
-    type Made = MemStore;
-
-    fn make(&self) -> anyhow::Result<MemStore> {
-        Ok(MemStore::new(self.alloc))
+impl Replays for InMemory {
+    fn written(&self, operators: Vec<Text>, lines: &[u8]) -> Result<String> {
+        written(self.alloc, MemStore::new(self.alloc), operators, lines)
     }
 }
 
-/// Makes stores in databases in memory.
+/// Replays over databases in memory.
 #[derive(Drop)]
 pub struct InDatabase {
     pub alloc: Global,
 }
 
-impl StoreMaker for InDatabase {
-    type Made = SqlStore<sqlite::MemStore>;
-
-    fn make(&self) -> anyhow::Result<SqlStore<sqlite::MemStore>> {
-        Ok(SqlStore::open_in_memory(self.alloc)?)
+impl Replays for InDatabase {
+    fn written(&self, operators: Vec<Text>, lines: &[u8]) -> Result<String> {
+        let store = SqlStore::open_in_memory(self.alloc)?;
+        written_over(self.alloc, store, operators, lines)
     }
 }
 
-/// A store in the database of a file.
-pub type StoreInFile = SqlStore<FileStore<FileFrom<Unknown>>>;
-
-/// Makes stores in a file, in place of the one before.
+/// Replays over a file, in place of the one before.
 #[derive(Drop)]
 pub struct InFile<'a> {
     pub rt: &'a HostRuntime,
     pub path: &'a str,
 }
 
-impl StoreMaker for InFile<'_> {
-    type Made = StoreInFile;
-
-    fn make(&self) -> anyhow::Result<StoreInFile> {
+impl Replays for InFile<'_> {
+    fn written(&self, operators: Vec<Text>, lines: &[u8]) -> Result<String> {
         if Path::new(self.path).exists(self.rt) {
             fs::remove_file(self.rt, self.path)?;
         }
-        Ok(SqlStore::open(self.rt, self.path, Unknown)?)
+        written_over_file(self.rt, self.path, operators, lines)
     }
+}
+
+/// What a replay of the lines writes over the records that a file has.
+pub fn written_over_file(
+    rt: &HostRuntime,
+    path: &str,
+    operators: Vec<Text>,
+    lines: &[u8],
+) -> Result<String> {
+    let store = open(rt, path)?;
+    written_over(rt.alloc(), store, operators, lines)
+}
+
+/// Opens the store in a file.
+pub fn open(
+    rt: &HostRuntime,
+    path: &str,
+) -> Result<SqlStore<FileStore<FileFrom<Unknown>>>, PrepareFault> {
+    SqlStore::open(rt, path, Unknown)
+}
+
+/// What a replay of the lines writes over a database.
+fn written_over<A: Alter + Drop>(
+    alloc: Global,
+    store: SqlStore<A>,
+    operators: Vec<Text>,
+    lines: &[u8],
+) -> Result<String> {
+    written(alloc, store, operators, lines)
 }
