@@ -59,13 +59,21 @@ fn filling(alloc: Global, tags: u32, transactions: u32) -> Result<String> {
     Ok(lines)
 }
 
-/// The lines of a transaction.
+/// The lines of a transaction. Each begins a second after the one before.
 fn transaction(alloc: Global, number: u32, tag: u32) -> Result<String> {
     let line = "1704067200 ACME frame CP01";
-    let at = "2024-01-01T00:00:00Z";
+    let at = time_of(alloc, number)?;
     Ok(format!(in alloc;
         "{line} [2,\"s{number}\",\"StartTransaction\",{{\"connectorId\":1,\"idTag\":\"T{tag}\",\"meterStart\":{number},\"timestamp\":\"{at}\"}}]\n{line} [2,\"e{number}\",\"StopTransaction\",{{\"meterStop\":{number},\"timestamp\":\"{at}\",\"transactionId\":{number},\"transactionData\":[{{\"timestamp\":\"{at}\",\"sampledValue\":[{{\"value\":\"{number}\"}}]}}]}}]\n"
     )?)
+}
+
+/// A second of a day.
+fn time_of(alloc: Global, second: u32) -> Result<String> {
+    let hour = second / 3600 % 24;
+    let minute = second / 60 % 60;
+    let second = second % 60;
+    Ok(format!(in alloc; "2024-01-01T{hour:02}:{minute:02}:{second:02}Z")?)
 }
 
 /// What is written of the lines and then of the lists.
