@@ -4,6 +4,7 @@ use crate::command::ReplayOptions;
 use crate::fault::RunFault;
 use crate::records::open;
 use hub::Hub;
+use hub_rows::Store;
 use ocpp_types::Text;
 use replay::{replay, replay_in_memory};
 use sqlite::Alter;
@@ -21,7 +22,7 @@ pub fn replay_lines<V: VendorHandler>(
     match &options.db {
         Some(path) => {
             let store = open(rt, path.as_str())?;
-            replay_over(rt, store, operators, vendors)
+            replay_database(rt, store, operators, vendors)
         }
         None => {
             let mut writer = io::writer(rt);
@@ -38,9 +39,19 @@ pub fn replay_lines<V: VendorHandler>(
 }
 
 /// Replays the lines over the records of a database.
-fn replay_over<A: Alter + Drop, V: VendorHandler>(
+fn replay_database<A: Alter + Drop, V: VendorHandler>(
     rt: &HostRuntime,
     store: SqlStore<A>,
+    operators: Vec<Text>,
+    vendors: Vec<V>,
+) -> Result<(), RunFault> {
+    replay_over(rt, store, operators, vendors)
+}
+
+/// Replays the lines over the records of a store.
+fn replay_over<S: Store + Drop, V: VendorHandler>(
+    rt: &HostRuntime,
+    store: S,
     operators: Vec<Text>,
     vendors: Vec<V>,
 ) -> Result<(), RunFault> {

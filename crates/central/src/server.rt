@@ -5,6 +5,7 @@ use crate::command::ServeOptions;
 use crate::fault::RunFault;
 use crate::records::open;
 use hub::{Fault, Hub};
+use hub_rows::Store;
 use ocpp_types::Moment;
 use ready_streams::{ReadyStream, Streams};
 use sqlite::Alter;
@@ -20,9 +21,9 @@ const MAX_WAIT: u64 = 1;
 
 /// A server as it runs.
 #[derive(Drop)]
-struct Server<A: Alter, V> {
+struct Server<S, V> {
     alloc: Global,
-    hub: Hub<SqlStore<A>, V>,
+    hub: Hub<S, V>,
     gateway: Gateway<ReadyStream>,
     lobby: Lobby<ReadyStream>,
     streams: Streams,
@@ -40,13 +41,23 @@ pub fn serve<V: VendorHandler>(
     vendors: Vec<V>,
 ) -> Result<(), RunFault> {
     let store = open(rt, options.db.as_str())?;
-    serve_over(rt, store, options, vendors)
+    serve_database(rt, store, options, vendors)
 }
 
 /// Serves by the records of a database.
-fn serve_over<A: Alter + Drop, V: VendorHandler>(
+fn serve_database<A: Alter + Drop, V: VendorHandler>(
     rt: &HostRuntime,
     store: SqlStore<A>,
+    options: ServeOptions,
+    vendors: Vec<V>,
+) -> Result<(), RunFault> {
+    serve_over(rt, store, options, vendors)
+}
+
+/// Serves by the records of a store.
+fn serve_over<S: Store + Drop, V: VendorHandler>(
+    rt: &HostRuntime,
+    store: S,
     options: ServeOptions,
     vendors: Vec<V>,
 ) -> Result<(), RunFault> {
@@ -55,13 +66,13 @@ fn serve_over<A: Alter + Drop, V: VendorHandler>(
     server.run(rt, turns)
 }
 
-impl<A: Alter + Drop, V: VendorHandler> Server<A, V> {
+impl<S: Store + Drop, V: VendorHandler> Server<S, V> {
     fn new(
         rt: &HostRuntime,
-        store: SqlStore<A>,
+        store: S,
         options: ServeOptions,
         vendors: Vec<V>,
-    ) -> Result<Server<A, V>, RunFault> {
+    ) -> Result<Server<S, V>, RunFault> {
         let alloc = rt.alloc();
         let Ok(hub) = Hub::new(alloc, store, options.operators, vendors) else {
             return Err(RunFault::BadOperators);
