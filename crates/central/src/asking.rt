@@ -4,14 +4,13 @@ use crate::client::{PATIENCE, Socket, connect};
 use crate::command::AskOptions;
 use crate::fault::RunFault;
 use crate::reply::{Reply, is_done, reply_of};
-use std::alloc::Global;
 use std::io::{ErrorKind, Input};
 use tungstenite::{Error as SocketError, Message, Utf8Bytes};
 
-/// The most seconds from a line to its answer.
+/// The most seconds of silence before a line is answered.
 const MAX_ANSWER: u64 = 60;
 
-/// The most seconds from a command that is taken to the end of its call.
+/// The most seconds of silence before a call has ended.
 const MAX_CALL: u64 = 3600;
 
 /// An operator's connection.
@@ -79,16 +78,19 @@ impl Asking<'_> {
 
     /// Prints what comes until a line is answered.
     fn answer(&mut self) -> Result<Reply, RunFault> {
-        let mut quiet = 0;
-        while quiet < MAX_ANSWER {
-            let Some(text) = self.read()? else {
-                quiet += PATIENCE;
-                continue;
-            };
-            println!(self.rt; "{text}")?;
-            let reply = reply_of(self.options.operator.as_str(), text.as_str());
-            if reply != Reply::Other {
-                return Ok(reply);
+        let mut silent: u64 = 0;
+        for _ in 0..u64::MAX {
+            match self.read()? {
+                Some(text) => {
+                    silent = 0;
+                    println!(self.rt; "{text}")?;
+                    let reply = reply_of(self.options.operator.as_str(), text.as_str());
+                    if reply != Reply::Other {
+                        return Ok(reply);
+                    }
+                }
+                None if silent >= MAX_ANSWER => break,
+                None => silent = silent.saturating_add(PATIENCE),
             }
         }
         Err(RunFault::Stream)
@@ -96,15 +98,18 @@ impl Asking<'_> {
 
     /// Prints what comes until a call has ended.
     fn end_of(&mut self, station: &str, call: u64) -> Result<(), RunFault> {
-        let mut quiet = 0;
-        while quiet < MAX_CALL {
-            let Some(text) = self.read()? else {
-                quiet += PATIENCE;
-                continue;
-            };
-            println!(self.rt; "{text}")?;
-            if is_done(self.options.operator.as_str(), station, call, text.as_str()) {
-                return Ok(());
+        let mut silent: u64 = 0;
+        for _ in 0..u64::MAX {
+            match self.read()? {
+                Some(text) => {
+                    silent = 0;
+                    println!(self.rt; "{text}")?;
+                    if is_done(self.options.operator.as_str(), station, call, text.as_str()) {
+                        return Ok(());
+                    }
+                }
+                None if silent >= MAX_CALL => break,
+                None => silent = silent.saturating_add(PATIENCE),
             }
         }
         Err(RunFault::Stream)
@@ -112,11 +117,20 @@ impl Asking<'_> {
 
     /// Reads once: a text, or none in the time that a read waits.
     fn read(&mut self) -> Result<Option<Utf8Bytes>, RunFault> {
-        match self.socket.read() {
-            Ok(Message::Text(text)) => Ok(Some(text)),
-            Ok(_) => Ok(None),
-            Err(SocketError::Io(error)) if error.kind() == ErrorKind::WouldBlock => Ok(None),
-            Err(_) => Err(RunFault::Stream),
-        }
+        let gave = self.socket.read();
+        heard(gave)
+    }
+}
+
+/// The text of a read. A ping, a pong, a binary message and a Close give none.
+fn heard(gave: Result<Message, SocketError>) -> Result<Option<Utf8Bytes>, RunFault> {
+    match gave {
+        Ok(Message::Text(text)) => Ok(Some(text)),
+        Ok(_) => Ok(None),
+        Err(SocketError::Io(error)) => match error.kind() {
+            ErrorKind::WouldBlock => Ok(None),
+            _ => Err(RunFault::Stream),
+        },
+        Err(_) => Err(RunFault::Stream),
     }
 }
