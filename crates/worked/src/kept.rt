@@ -25,11 +25,11 @@ const LISTS: &str = "1704067200 ACME list stations
 /// whether the replays write what they write over a store in memory.
 pub fn fill(rt: &HostRuntime, path: &str) -> Result<()> {
     let alloc = rt.alloc();
-    let lines = filling(alloc, 1000, 10_000)?;
+    let lines = filling(alloc, 1000, 2000)?;
     let wanted = listed(alloc, &InMemory { alloc }, lines.as_str())?;
     let got = listed(alloc, &InDatabase { alloc }, lines.as_str())?;
     println!(rt;
-        "1000 tags and 10000 transactions in a database: {}",
+        "1000 tags and 2000 transactions in a database: {}",
         compared(&wanted, &got)
     )?;
     fill_file(rt, path)
