@@ -65,9 +65,9 @@ class Checks:
             self.failed += 1
             print(f"{what}\n  wanted {wanted!r}\n  got    {got!r}")
 
-    def run(self, *words, lines=""):
+    def run(self, *words, lines=b""):
         """The status of a run on those lines, its output and its errors."""
-        ran = subprocess.run([self.program, *words], input=lines.encode(), capture_output=True, timeout=60)
+        ran = subprocess.run([self.program, *words], input=lines, capture_output=True, timeout=60)
         return ran.returncode, ran.stdout.decode(), ran.stderr.decode()
 
     @contextlib.contextmanager
@@ -166,19 +166,19 @@ def check_replays(checks):
         operators = script.with_suffix(".operators")
         hosted = operators.read_text().rstrip("\n") if operators.exists() else "ACME,BETA"
         words = ["replay", "--operators", hosted, "--db", checks.new_file()]
-        _, text, errors = checks.run(*words, lines=script.read_text())
-        checks.check(f"{script.stem} over a file", text + errors, script.with_suffix(".expected").read_text())
+        _, text, errors = checks.run(*words, lines=script.read_bytes())
+        checks.check(f"{script.stem} over a file", text + errors, script.with_suffix(".expected").read_bytes().decode())
 
 
 def check_two_runs(checks):
     """A replay goes on where the one before it ended."""
     db = checks.new_file()
     replay = ["replay", "--operators", "ACME", "--db", db]
-    checks.check("a first run", checks.run(*replay, lines="1 ACME tag put K1 - 0 -\n"), (0, "ACME ok\n", ""))
+    checks.check("a first run", checks.run(*replay, lines=b"1 ACME tag put K1 - 0 -\n"), (0, "ACME ok\n", ""))
     row = 'ACME row tag "K1" - 0 -\nACME ok\n'
-    checks.check("a second run", checks.run(*replay, lines="2 ACME list tags\n"), (0, row, ""))
+    checks.check("a second run", checks.run(*replay, lines=b"2 ACME list tags\n"), (0, row, ""))
     others = ["replay", "--operators", "BETA", "--db", db]
-    checks.check("another operator's run", checks.run(*others, lines="2 BETA list tags\n"), (0, "BETA ok\n", ""))
+    checks.check("another operator's run", checks.run(*others, lines=b"2 BETA list tags\n"), (0, "BETA ok\n", ""))
 
 
 def check_restart(checks):
@@ -221,9 +221,9 @@ def check_ask(checks):
         checks.check("a listing", checks.run(*ask, "list tags"), (0, 'ACME row tag "K1" - 0 -\nACME ok\n', ""))
         refused = "ACME refused 7 NotConnected\n"
         checks.check("a bad line", checks.run(*ask, "list"), (3, "bad line\n", ""))
-        lines = "".join(f"tag put K{n} - 0 -\n" for n in range(1000))
+        lines = "".join(f"tag put K{n} - 0 -\n" for n in range(1000)).encode()
         checks.check("lines", checks.run(*ask, lines=lines), (0, "ACME ok\n" * 1000, ""))
-        mixed = checks.run(*ask, lines="station add CP01 Accepted 300\n\ncall CP01 ClearCache {}\nlist grants\n")
+        mixed = checks.run(*ask, lines=b"station add CP01 Accepted 300\n\ncall CP01 ClearCache {}\nlist grants\n")
         checks.check("lines of which one is refused", mixed, (3, "ACME ok\n" + refused + "ACME ok\n", ""))
         station = Peer(PORT, "/ocpp/ACME/CP01")
         station.ask(BOOT)
