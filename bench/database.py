@@ -6,6 +6,7 @@ processor time, the best of some rounds. The file is on /dev/shm, so a sync of i
 
 import argparse
 import os
+import shutil
 import sqlite3
 import subprocess
 import tempfile
@@ -57,21 +58,30 @@ def filled(program, db, tags, readings):
     database.close()
 
 
+def spent_on_copy(program, db, lines):
+    """The same over a copy of the file."""
+    copy = db + ".copy"
+    shutil.copyfile(db, copy)
+    found = spent(program, copy, lines)
+    for path in (copy, copy + "-wal"):
+        os.remove(path)
+    return found
+
+
 def measure(program, db, rounds, count):
     """The least seconds to open the file, and the least microseconds of each line over it."""
-    opening = min(spent(program, db, "") for _ in range(rounds))
+    opening = min(spent_on_copy(program, db, CONNECT) for _ in range(rounds))
     print(f"  opened in {opening[0]:.3f} s of processor, {opening[1]:.3f} s by the clock, {opening[2]:.0f} MiB")
     for name, line in LINES.items():
-        whole = min(spent(program, db, CONNECT + line * count)[0] for _ in range(rounds))
-        front = min(spent(program, db, CONNECT)[0] for _ in range(rounds))
-        print(f"  {name}: {(whole - front) / count * 1e6:.1f} us")
+        whole = min(spent_on_copy(program, db, CONNECT + line * count)[0] for _ in range(rounds))
+        print(f"  {name}: {(whole - opening[0]) / count * 1e6:.1f} us")
 
 
 def main():
     parser = argparse.ArgumentParser()
     parser.add_argument("program")
     parser.add_argument("--rounds", type=int, default=3)
-    parser.add_argument("--count", type=int, default=5000)
+    parser.add_argument("--count", type=int, default=50_000)
     parser.add_argument("--rows", default="1000,100000")
     wanted = parser.parse_args()
     for rows in map(int, wanted.rows.split(",")):
