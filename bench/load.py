@@ -2,8 +2,10 @@
 in flight each. It prints the messages per second, the median of the answers' times, and the processor
 time of the server per message.
 
-    python3 bench/load.py "crates/central/out/central serve" --stations 1000 --active 1000
-    python3 bench/load.py "crates/central/out/central serve" --stations 1000 --active 1 --action heartbeat
+    python3 bench/load.py "crates/central/out/central serve --db /dev/shm/load.db" --stations 1000 --active 1000
+    python3 bench/load.py "crates/central/out/central serve --db /dev/shm/load.db" --stations 1000 --active 1 --action heartbeat
+
+The file is a new one for each run.
 
 `--action` is heartbeat, or session: a start, five MeterValues and a stop. With `--active 0` it measures
 what idle connections cost the server.

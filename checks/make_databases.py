@@ -29,11 +29,13 @@ def database(name, statements):
 
 
 def raw(name, content):
+    """A file of these bytes."""
     with open(os.path.join(FOLDER, name + ".db"), "wb") as file:
         file.write(content)
 
 
 def meta(*values, columns="name TEXT, number INTEGER"):
+    """The statements that make a hub_meta with these columns and rows."""
     return ["CREATE TABLE hub_meta (%s)" % columns] + ["INSERT INTO hub_meta VALUES (%s)" % value for value in values]
 
 
@@ -57,7 +59,7 @@ database("meta_as_a_view", ["CREATE TABLE t (number INTEGER)", "INSERT INTO t VA
 database("ours", OURS)
 database("ours_with_rows", OURS + [
     "INSERT INTO hub_station VALUES ('ACME', 'CP01', 'Accepted', 300, 'Fresh', NULL, NULL, NULL, NULL, NULL, NULL, NULL, NULL, NULL, NULL)",
-    "INSERT INTO hub_tag VALUES ('ACME', 'd1', 'D1', NULL, NULL, 0, NULL)",
+    "INSERT INTO hub_tag VALUES ('ACME', 'k1', 'K1', NULL, NULL, 0, NULL)",
 ])
 database("ours_without_a_table", [text for text in OURS if text != TEXTS["create_reservation"]])
 database("ours_without_an_index", [text for text in OURS if text != TEXTS["create_tx_in_use"]])
