@@ -1,0 +1,3 @@
+pub mod MemoLaws
+pub mod TagLaws
+pub mod StationLaws

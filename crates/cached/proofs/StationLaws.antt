@@ -1,0 +1,98 @@
+-- Answers on registrations that an edit leaves right.
+use Rattle.std.specs.Prelude.{◌≡◌, ℕ, List, [], ◌∷◌, Bool, true, false, ◌&&◌, is_some, Some}
+use Rattle.std.proofs.Common.{refl, sym, ◌∙◌, ap, subst, arith, true≢false}
+use Rattle.std.specs.Option.{option_map}
+use Rattle.std.specs.Str.{bytes_eq}
+use Rattle.std.specs.Cmp.Lexicographic.{bytes_decides}
+use Rattle.hub_rows.specs.declared.change.Edit.{Edit}
+use Rattle.hub_rows.specs.declared.change.Edit.TheVariants.{StationAdded, BootSeen, PolicySet, ConnectorSeen, TagPut, TagDropped, GrantPut, GrantDropped, TxStarted, TxStopped, ReadingsAdded, ReservationPut, ReservationDropped, ListSet}
+use Rattle.hub_rows.specs.declared.station_row.StationRow.{StationRow}
+use Rattle.hub_rows.specs.Changes.{edit, new_station, with_boot, with_policy}
+use Rattle.hub_rows.specs.Keyed.{by_key, changed, first, put}
+use Rattle.hub_rows.specs.Rows.{Rows, registration_at, registration_of, station_in, station_key}
+use Rattle.hub_rows.proofs.GrantLaws.{second}
+use Rattle.hub_rows.proofs.ListLaws.{filter-put_not, head, ties_key, same_text}
+use Rattle.hub_rows.proofs.OrderLaws.{find-first}
+use Rattle.cached.specs.declared.station_answer.StationAnswer.{StationAnswer}
+use Rattle.cached.specs.StationAnswers.{changed_station, IsOf, IsRegistered}
+
+and_first : (p q : Bool) → p && q ≡ true → p ≡ true
+and_first p q e = grind (arith, e)
+
+and_second : (p q : Bool) → p && q ≡ true → q ≡ true
+and_second p q e = grind (arith, e)
+
+-- a station of that name
+abbrev pub named : List ℕ → List ℕ → StationRow → Bool
+named a s r = bytes_eq r.op a && bytes_eq r.station s
+
+station-put : (a s : List ℕ) (r : StationRow) (stations : List StationRow) → named a s r ≡ false → station_in a s (put (by_key station_key) r stations) ≡ station_in a s stations
+station-put a s r stations other =
+    find-first (named a s) (put (by_key station_key) r stations)
+    ∙ ap first (filter-put_not (by_key station_key) (named a s) (ties_key station_key (λ ks. bytes_eq (head ks) a && bytes_eq (second ks) s)) r stations other)
+    ∙ sym (find-first (named a s) stations)
+
+station-changed : (a s b t : List ℕ) (f : StationRow → StationRow) → ((r : StationRow) → ((f r).op ≡ r.op) × ((f r).station ≡ r.station)) → bytes_eq a b && bytes_eq s t ≡ false → (stations : List StationRow) → station_in a s (changed (λ r. r.op) b (λ r. bytes_eq r.station t) f stations) ≡ station_in a s stations
+station-changed a s b t f same other [] = refl
+station-changed a s b t f same other (r ∷ rs) =
+    let rest = station-changed a s b t f same other rs in
+    let is_other : named a s r ≡ true → named b t r ≡ false = λ is. subst (λ x. x ≡ false) (λ i. bytes_eq (sym (same_text r.op a (and_first (bytes_eq r.op a) (bytes_eq r.station s) is)) i) b && bytes_eq (sym (same_text r.station s (and_second (bytes_eq r.op a) (bytes_eq r.station s) is)) i) t) other in
+    let stays : named a s (f r) ≡ named a s r = λ i. bytes_eq ((same r).0 i) a && bytes_eq ((same r).1 i) s in
+    grind (arith, rest, is_other, stays)
+
+both : (p q : Bool) → p ≡ true → q ≡ true → p && q ≡ true
+both p q is also = grind (arith, is, also)
+
+flipped : (a s b t : List ℕ) → bytes_eq a b && bytes_eq s t ≡ false → bytes_eq b a && bytes_eq t s ≡ false
+flipped a s b t other =
+    elim (bytes_eq b a && bytes_eq t s) as (λ x. bytes_eq b a && bytes_eq t s ≡ x → x ≡ false) [
+      | false ↦ λ e. refl
+      | true ↦ λ e.
+          let op = (bytes_decides a b).1 (sym (same_text b a (and_first (bytes_eq b a) (bytes_eq t s) e))) in
+          let name = (bytes_decides s t).1 (sym (same_text t s (and_second (bytes_eq b a) (bytes_eq t s) e))) in
+          absurd (true≢false (sym (both (bytes_eq a b) (bytes_eq s t) op name) ∙ other))
+    ] refl
+
+pub unchanged_station : (b t : List ℕ) (e : Edit) (rows : Rows) (answer : StationAnswer) → changed_station e ≡ Some t → bytes_eq answer.op b && bytes_eq answer.station t ≡ false → IsRegistered rows answer → IsRegistered (edit b e rows) answer
+unchanged_station b t (StationAdded station policy interval) rows answer is other right =
+    let same : t ≡ station = cc in
+    let apart = flipped answer.op answer.station b station (subst (λ x. bytes_eq answer.op b && bytes_eq answer.station x ≡ false) same other) in
+    right ∙ sym (ap (option_map registration_of) (station-put answer.op answer.station (new_station b station policy interval) rows.stations apart))
+unchanged_station b t (BootSeen station boot state) rows answer is other right =
+    let same : t ≡ station = cc in
+    right ∙ sym (ap (option_map registration_of) (station-changed answer.op answer.station b station (with_boot boot state) (λ r. (refl, refl)) (subst (λ x. bytes_eq answer.op b && bytes_eq answer.station x ≡ false) same other) rows.stations))
+unchanged_station b t (PolicySet station policy interval) rows answer is other right =
+    let same : t ≡ station = cc in
+    right ∙ sym (ap (option_map registration_of) (station-changed answer.op answer.station b station (with_policy policy interval) (λ r. (refl, refl)) (subst (λ x. bytes_eq answer.op b && bytes_eq answer.station x ≡ false) same other) rows.stations))
+unchanged_station b t (ConnectorSeen station connector report) rows answer is other right = right
+unchanged_station b t (TagPut key tag) rows answer is other right = right
+unchanged_station b t (TagDropped key) rows answer is other right = right
+unchanged_station b t (GrantPut key to until) rows answer is other right = right
+unchanged_station b t (GrantDropped key to) rows answer is other right = right
+unchanged_station b t (TxStarted station number start) rows answer is other right = right
+unchanged_station b t (TxStopped station number stop from readings) rows answer is other right = right
+unchanged_station b t (ReadingsAdded station from readings) rows answer is other right = right
+unchanged_station b t (ReservationPut station id reservation) rows answer is other right = right
+unchanged_station b t (ReservationDropped station id) rows answer is other right = right
+unchanged_station b t (ListSet station list) rows answer is other right = right
+
+-- an edit that changes no station
+pub unseen_station : (b : List ℕ) (e : Edit) (rows : Rows) (answer : StationAnswer) → is_some (changed_station e) ≡ false → IsRegistered rows answer → IsRegistered (edit b e rows) answer
+unseen_station b (StationAdded station policy interval) rows answer none right = absurd (true≢false none)
+unseen_station b (BootSeen station boot state) rows answer none right = absurd (true≢false none)
+unseen_station b (PolicySet station policy interval) rows answer none right = absurd (true≢false none)
+unseen_station b (ConnectorSeen station connector report) rows answer none right = right
+unseen_station b (TagPut key tag) rows answer none right = right
+unseen_station b (TagDropped key) rows answer none right = right
+unseen_station b (GrantPut key to until) rows answer none right = right
+unseen_station b (GrantDropped key to) rows answer none right = right
+unseen_station b (TxStarted station number start) rows answer none right = right
+unseen_station b (TxStopped station number stop from readings) rows answer none right = right
+unseen_station b (ReadingsAdded station from readings) rows answer none right = right
+unseen_station b (ReservationPut station id reservation) rows answer none right = right
+unseen_station b (ReservationDropped station id) rows answer none right = right
+unseen_station b (ListSet station list) rows answer none right = right
+
+-- what the rows give of the station that an answer is of
+pub registered_of : (rows : Rows) (answer : StationAnswer) (a name : List ℕ) → IsOf a name answer → registration_at answer.op answer.station rows ≡ registration_at a name rows
+registered_of rows answer a name of = λ i. registration_at (of.op i) (of.station i) rows
