@@ -75,7 +75,7 @@ class Checks:
         """A server that listens, over that file or a new one, which is ended afterwards. It may have so many files open."""
         server = subprocess.Popen(
             [self.program, "serve", "--port", str(PORT), "--db", db or self.new_file(), *words],
-            stderr=errors,
+            stderr=errors or subprocess.DEVNULL,
             preexec_fn=lambda: resource.setrlimit(resource.RLIMIT_NOFILE, (files, files)),
         )
         try:
@@ -104,7 +104,8 @@ def wait_for(port):
 def check_statuses(checks):
     db = checks.new_file()
     serve = f"serve --port {PORT} --db {db} --turns 0 --operators"
-    checks.check("0 turns", checks.run(*serve.split(" "), "ACME"), (0, "", ""))
+    checks.check("0 turns", checks.run(*serve.split(" "), "ACME", "--log", "errors"), (0, "", ""))
+    checks.ends("no such log", f"{serve} A --log all", 1, "--log")
     checks.ends("an operator twice", f"{serve} A,A", 2, "fault BadOperators")
     checks.ends("an operator with no name", f"{serve} ", 2, "fault BadOperators")
     checks.ends("no operators", f"serve --port {PORT} --db {db}", 1, "--operators")
@@ -235,6 +236,74 @@ def check_ask(checks):
         told = waiting.communicate(timeout=10)[0].splitlines()
         checks.check("a command to its end", told, ["ACME ok 1", 'ACME CP01 done 1 Answer {"status":"Accepted"}'])
         checks.check("its status", waiting.returncode, 0)
+
+
+def log_of(checks, level, talk):
+    """The lines of the log of a server to whom peers talk so, with T for each time and P for each port but its own."""
+    db = checks.new_file()
+    path = checks.new_file()
+    with open(path, "w") as log, checks.serve("--operators", "ACME", "--log", level, db=db, errors=log):
+        talk()
+        Peer(PORT, "/operator/ACME").ask("list stations")
+    with open(path) as log:
+        text = TIME.sub("T", log.read()).replace(f"from 127.0.0.1:{PORT}", "from ?")
+    text = re.sub(r"from 127\.0\.0\.1:\d+", "from P", text)
+    return [re.sub(r"in \d+ ms", "in N ms", line).replace(db, "FILE") for line in text.splitlines()]
+
+
+def raw(head, rest=b""):
+    """Sends a head, and the rest once it is answered; then reads up to the end of the stream."""
+    with socket.create_connection(("127.0.0.1", PORT), timeout=5) as stream:
+        stream.sendall(head.encode())
+        with contextlib.suppress(OSError):
+            if stream.recv(4096) and rest:
+                stream.sendall(rest)
+            while stream.recv(4096):
+                pass
+
+
+def check_log(checks):
+    """What the log tells of connections, at each of its levels. No line has a text that a peer sent."""
+
+    def talk():
+        acme = Peer(PORT, "/operator/ACME")
+        acme.ask("station add CP01 Accepted 300")
+        acme.ask("station add CP02 Rejected 300")
+        first = Peer(PORT, "/ocpp/ACME/CP01")
+        second = Peer(PORT, "/ocpp/ACME/CP01")
+        second.ask(BOOT)
+        raw(HEAD.format("/ocpp/ACME/CP09%0Afault"))
+        raw(HEAD.format("/ocpp/ACME/CP02"))
+        raw(HEAD.format("/ocpp/ACME/CP01").replace("Sec-WebSocket-Protocol: ocpp1.6\r\n", ""))
+        raw(HEAD.format("/operator/ACME").replace("Sec-WebSocket-Version: 13\r\n", ""))
+        raw("no request\r\n\r\n")
+        raw(HEAD.format("/operator/ACME"), b"\x81\x81\0\0\0\0\xff")
+        second.stream.close()
+        first.stream.close()
+        time.sleep(0.3)
+
+    start = f"[INFO ] T central 0.1.0 serves ACME on 127.0.0.1:{PORT}, records in FILE, opened in N ms, stations on record: 0"
+    wrong = [
+        "[WARN ] T station ACME/CP09\\nfault from P refused: unknown (404)",
+        "[WARN ] T station ACME/CP02 from P refused: rejected by its policy",
+        "[WARN ] T station ACME/CP01 from P refused: no subprotocol ocpp1.6",
+        "[WARN ] T operator ACME from P refused: handshake failed",
+        "[WARN ] T connection from P refused: no request",
+        "[WARN ] T operator ACME ended: not UTF-8 (1007)",
+    ]
+    lines = log_of(checks, "connections", talk)
+    checks.check("the log begins", lines[:1], [start])
+    checks.check("what went wrong", [line for line in lines if line.startswith("[WARN ]")][1:], wrong)
+    for wanted in (
+        "[INFO ] T operator ACME from P connected",
+        "[INFO ] T station ACME/CP01 from P connected",
+        "[INFO ] T station ACME/CP01 replaced by another connection",
+        "[INFO ] T station ACME/CP01 ended: the stream ended",
+    ):
+        checks.check(wanted, wanted in lines, True)
+    lines = log_of(checks, "errors", talk)
+    checks.check("errors alone", lines[1:], wrong)
+    checks.check("no log", log_of(checks, "none", talk), [])
 
 
 def check_turns(checks):
@@ -436,6 +505,7 @@ def check_all(checks):
     check_two_runs(checks)
     check_restart(checks)
     check_ask(checks)
+    check_log(checks)
     check_turns(checks)
     check_session(checks)
     check_handshakes(checks)

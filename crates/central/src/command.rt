@@ -1,9 +1,17 @@
 //! The words of a command line.
 
+use crate::journal::level_of;
 use clap::error::ErrorKind;
 use clap::{Arg, ArgAction, ArgMatches, Command, Error, value_parser};
+use log::LevelFilter;
 use ocpp_types::Text;
 use std::alloc::{AllocError, Global};
+
+/// The version of the program.
+pub const VERSION: &str = "0.1.0";
+
+/// The words of `--log`.
+const LOGS: &[&str] = &["none", "errors", "connections"];
 
 /// The most turns that `--turns` takes.
 const MAX_TURNS: u32 = 1_000_000;
@@ -38,6 +46,8 @@ pub struct ServeOptions {
     pub db: Text,
     /// It ends after so many turns; without them it serves until it is ended.
     pub turns: Option<u32>,
+    /// Which lines its log has.
+    pub log: LevelFilter,
 }
 
 /// What a simulated station is to do.
@@ -109,6 +119,7 @@ fn serve_options(alloc: Global, found: &ArgMatches) -> Result<ServeOptions, Erro
         operators: parts(alloc, found.get_str("operators"))?,
         db: Text::from(found.get_str("db").unwrap_or("").to_string(alloc)?),
         turns,
+        log: level_of(found.get_str("log").unwrap_or("connections")),
     })
 }
 
@@ -142,7 +153,7 @@ fn invalid(alloc: Global, reason: &str) -> Result<Error, AllocError> {
 
 fn central<'a>(alloc: Global) -> Result<Command<'a>, AllocError> {
     let central = Command::new(alloc, "central")
-        .version("0.1.0")
+        .version(VERSION)
         .about("A central system for charging stations of several operators (OCPP 1.6 JSON)")
         .subcommand_required(true);
     let central = with(central, replay_command(alloc))?;
@@ -174,12 +185,20 @@ fn serve_command<'a>(alloc: Global) -> Result<Command<'a>, AllocError> {
         .value_name("N")
         .help("Ends after N turns, up to 1000000, without waiting; else serves until it is ended")
         .value_parser(value_parser!(u32));
+    let log = Arg::new(alloc, "log")
+        .long("log")
+        .value_name("LEVEL")
+        .help(
+            "What is written to standard error: faults alone, what went wrong, or each connection too",
+        )
+        .value_parser(LOGS);
     Command::new(alloc, "serve")
         .about("Serves stations and operators over WebSocket on 127.0.0.1")
         .arg(port_arg(alloc, "The port to listen on"))?
         .arg(db_arg(alloc, "The file with the records, made if there is none").required(true))?
         .arg(operators_arg(alloc))?
-        .arg(turns)
+        .arg(turns)?
+        .arg(log)
 }
 
 fn sim_command<'a>(alloc: Global) -> Result<Command<'a>, AllocError> {

@@ -1,5 +1,6 @@
 //! Why a run stops.
 
+use cached::CacheFault;
 use ocpp_types::NoMemory;
 use replay::ReplayFault;
 use station_sim::SimFault;
@@ -40,6 +41,12 @@ impl From<PrepareFault> for RunFault {
             PrepareFault::NoMemory => RunFault::NoMemory,
             other => RunFault::Database(other),
         }
+    }
+}
+
+impl From<CacheFault> for RunFault {
+    fn from(_fault: CacheFault) -> RunFault {
+        RunFault::NoMemory
     }
 }
 

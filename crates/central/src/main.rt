@@ -6,6 +6,7 @@ mod client;
 mod clock;
 mod command;
 mod fault;
+mod journal;
 mod records;
 mod replaying;
 mod reply;

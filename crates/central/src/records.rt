@@ -3,6 +3,9 @@
 use sqlite::{FileFrom, FileStore, Unknown};
 use store_sql::{PrepareFault, SqlStore};
 
+/// How many answers of a kind are kept in front of a database.
+pub const ANSWERS: usize = 1024;
+
 /// Opens the store in the file at a path, which is made if there is none.
 pub fn open(
     rt: &HostRuntime,

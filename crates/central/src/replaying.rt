@@ -2,7 +2,8 @@
 
 use crate::command::ReplayOptions;
 use crate::fault::RunFault;
-use crate::records::open;
+use crate::records::{ANSWERS, open};
+use cached::Cached;
 use hub::Hub;
 use hub_rows::Store;
 use ocpp_types::Text;
@@ -38,13 +39,14 @@ pub fn replay_lines<V: VendorHandler>(
     }
 }
 
-/// Replays the lines over the records of a database.
+/// Replays the lines over the records of a database, behind a cache.
 fn replay_database<A: Alter + Drop, V: VendorHandler>(
     rt: &HostRuntime,
     store: SqlStore<A>,
     operators: Vec<Text>,
     vendors: Vec<V>,
 ) -> Result<(), RunFault> {
+    let store = Cached::new(rt.alloc(), store, ANSWERS)?;
     replay_over(rt, store, operators, vendors)
 }
 

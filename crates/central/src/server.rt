@@ -3,16 +3,20 @@
 use crate::clock::now;
 use crate::command::ServeOptions;
 use crate::fault::RunFault;
-use crate::records::open;
+use crate::journal::{start_text, write_notes, write_start};
+use crate::records::{ANSWERS, open};
+use cached::Cached;
 use hub::{Fault, Hub};
 use hub_rows::Store;
-use ocpp_types::Moment;
+use log::sink::Console;
+use log::{LevelFilter, Log, Logged};
+use ocpp_types::{Moment, Text};
 use ready_streams::{ReadyStream, Streams};
 use sqlite::Alter;
 use station_calls::VendorHandler;
 use std::alloc::Global;
 use std::io;
-use std::time::Duration;
+use std::time::{Duration, Instant};
 use store_sql::SqlStore;
 use ws_server::{Gateway, Lobby, listen};
 
@@ -40,30 +44,60 @@ pub fn serve<V: VendorHandler>(
     options: ServeOptions,
     vendors: Vec<V>,
 ) -> Result<(), RunFault> {
+    let began = Instant::now(rt)?;
     let store = open(rt, options.db.as_str())?;
-    serve_database(rt, store, options, vendors)
+    let opening = began.elapsed(rt)?;
+    serve_database(rt, store, options, vendors, opening)
 }
 
-/// Serves by the records of a database.
+/// Serves by the records of a database, behind a cache.
 fn serve_database<A: Alter + Drop, V: VendorHandler>(
     rt: &HostRuntime,
     store: SqlStore<A>,
     options: ServeOptions,
     vendors: Vec<V>,
+    opening: Duration,
 ) -> Result<(), RunFault> {
-    serve_over(rt, store, options, vendors)
+    let store = Cached::new(rt.alloc(), store, ANSWERS)?;
+    serve_over(rt, store, options, vendors, opening)
 }
 
-/// Serves by the records of a store.
+/// Serves by the records of a store, whose opening took so long.
 fn serve_over<S: Store + Drop, V: VendorHandler>(
     rt: &HostRuntime,
-    store: S,
+    mut store: S,
     options: ServeOptions,
     vendors: Vec<V>,
+    opening: Duration,
 ) -> Result<(), RunFault> {
+    let stations = count_stations(&mut store, options.operators.as_slice());
+    let start = start_text(rt.alloc(), &options, opening, stations)?;
     let turns = options.turns;
+    let level = options.log;
     let mut server = Server::new(rt, store, options, vendors)?;
-    server.run(rt, turns)
+    if level != LevelFilter::Off {
+        server.lobby.keep_notes();
+        server.gateway.keep_notes();
+    }
+    let log = Logged::new(*rt, level, Console(*rt));
+    write_start(
+        &log,
+        rt.alloc(),
+        now(rt).ok_or(RunFault::Clock)?,
+        start.as_str(),
+    );
+    server.run(rt, &log, turns)
+}
+
+/// How many stations the operators have on record. Those that can't be read don't count.
+fn count_stations<S: Store>(store: &mut S, operators: &[Text]) -> usize {
+    let mut count = 0_usize;
+    for operator in operators {
+        if let Ok(found) = store.stations(operator.as_str()) {
+            count = count.saturating_add(found.as_slice().len());
+        }
+    }
+    count
 }
 
 impl<S: Store + Drop, V: VendorHandler> Server<S, V> {
@@ -89,11 +123,17 @@ impl<S: Store + Drop, V: VendorHandler> Server<S, V> {
     }
 
     /// Makes that many turns, without waiting, or goes on until it is ended.
-    fn run(&mut self, rt: &HostRuntime, turns: Option<u32>) -> Result<(), RunFault> {
+    fn run<L: Log>(
+        &mut self,
+        rt: &HostRuntime,
+        log: &L,
+        turns: Option<u32>,
+    ) -> Result<(), RunFault> {
         for _ in 0..turns.map_or(u64::MAX, u64::from) {
             self.wait(turns.is_none())?;
             let moment = now(rt).ok_or(RunFault::Clock)?;
             self.turn(rt, moment);
+            self.write_log(log, moment);
         }
         Ok(())
     }
@@ -118,13 +158,21 @@ impl<S: Store + Drop, V: VendorHandler> Server<S, V> {
         report(rt, self.gateway.turn(&mut self.hub, moment));
     }
 
+    /// Writes the notes of a turn to the log.
+    fn write_log<L: Log>(&mut self, log: &L, moment: Moment) {
+        let notes = self.lobby.take_notes();
+        write_notes(log, self.alloc, moment, notes.as_slice());
+        let notes = self.gateway.take_notes();
+        write_notes(log, self.alloc, moment, notes.as_slice());
+    }
+
     fn accept(&mut self, moment: Moment) -> Result<(), RunFault> {
         if self.failed_accept == Some(moment) {
             return Ok(());
         }
         self.failed_accept = None;
-        if let Some(stream) = self.streams.accept()? {
-            self.lobby.enter(stream, moment)?;
+        if let Some((stream, address)) = self.streams.accept()? {
+            self.lobby.enter(stream, Some(address), moment)?;
         }
         Ok(())
     }

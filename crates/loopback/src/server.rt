@@ -95,11 +95,11 @@ impl Server {
 
     /// Accepts one connection, if there is one.
     fn accept(&mut self) -> Mem<()> {
-        let Ok((stream, _address)) = self.listener.accept() else {
+        let Ok((stream, address)) = self.listener.accept() else {
             return Ok(());
         };
         if stream.set_nonblocking(true).is_ok() && stream.set_nodelay(true).is_ok() {
-            self.lobby.enter(stream, self.moment)?;
+            self.lobby.enter(stream, Some(address), self.moment)?;
         }
         Ok(())
     }

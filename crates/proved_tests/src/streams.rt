@@ -132,10 +132,10 @@ fn served(alloc: Global, before: u64) -> Result<(String, Sent), Fail> {
     let at = moment(1704067200)?;
     let mut gateway = Gateway::new(alloc);
     let first = socket(alloc, before, nothing_sent(alloc)?);
-    gateway.admit(&mut hub, first, station(alloc, "CP01")?, at)?;
+    gateway.admit(&mut hub, first, None, station(alloc, "CP01")?, at)?;
     let sent = nothing_sent(alloc)?;
     let second = socket(alloc, u64::MAX, Rc::clone(&sent)?);
-    gateway.admit(&mut hub, second, station(alloc, "CP02")?, at)?;
+    gateway.admit(&mut hub, second, None, station(alloc, "CP02")?, at)?;
     for _ in 0..4 {
         gateway.turn(&mut hub, at)?;
     }
@@ -175,7 +175,7 @@ fn answered(alloc: Global, before: u64) -> Result<String, Fail> {
     let at = moment(1704067200)?;
     let mut gateway = Gateway::new(alloc);
     let socket = socket(alloc, u64::MAX, nothing_sent(alloc)?);
-    gateway.admit(&mut hub, socket, station(alloc, "CP01")?, at)?;
+    gateway.admit(&mut hub, socket, None, station(alloc, "CP01")?, at)?;
     let is_fault = matches!(gateway.turn(&mut hub, at), Err(Fault::Store));
     gateway.turn(&mut hub, at)?;
     if !is_fault || gateway.count() != 0 {

@@ -6,7 +6,7 @@ use mio::{Events, Interest, Poll, Token};
 use std::alloc::Global;
 use std::io;
 use std::io::ErrorKind;
-use std::net::Net;
+use std::net::{Net, SocketAddr};
 use std::rc::Rc;
 use std::time::Duration;
 
@@ -50,15 +50,15 @@ impl Streams {
         })
     }
 
-    /// Accepts one connection. `None` is that there is none. Errors: those of the system's accept,
+    /// Accepts one connection: its stream, and the address that it comes from. `None` is that there is none. Errors: those of the system's accept,
     /// as where no descriptor is left, after which the connection waits on; and those of setting it
     /// up, after which it is dropped.
-    pub fn accept(&mut self) -> io::Result<Option<ReadyStream>> {
+    pub fn accept(&mut self) -> io::Result<Option<(ReadyStream, SocketAddr)>> {
         if !self.may_accept {
             return Ok(None);
         }
         match self.listener.accept() {
-            Ok((stream, _address)) => Ok(Some(self.add(stream)?)),
+            Ok((stream, address)) => Ok(Some((self.add(stream)?, address))),
             Err(error) if error.kind() == ErrorKind::WouldBlock => {
                 self.may_accept = false;
                 Ok(None)

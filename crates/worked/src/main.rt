@@ -7,6 +7,7 @@
 //! `data/` has databases too, `NAME.db`, which are opened.
 #![tactic(auto)]
 
+mod caches;
 mod checked;
 mod databases;
 mod difference;
@@ -15,11 +16,12 @@ mod replayed;
 mod script;
 mod stores;
 
+use caches::try_caches;
 use checked::{Tally, check_all};
 use databases::open_all;
 use kept::fill;
 use std::process::ExitCode;
-use stores::{InDatabase, InFile, InMemory, Replays};
+use stores::{InCache, InCachedDatabase, InDatabase, InFile, InMemory, Replays};
 
 /// The file of the stores in a file.
 const PATH: &str = "worked.db";
@@ -31,12 +33,28 @@ fn checks<M: Replays>(rt: &HostRuntime, kind: &str, stores: &M) -> anyhow::Resul
     Ok(failed == 0)
 }
 
+/// Checks the scripts over caches of several capacities. Whether all passed.
+fn check_caches(rt: &HostRuntime) -> anyhow::Result<bool> {
+    let alloc = rt.alloc();
+    let mut all = true;
+    for capacity in [1, 2, 1024] {
+        all &= checks(rt, "in a cache", &InCache { alloc, capacity })?;
+        all &= checks(
+            rt,
+            "in a cache of a database",
+            &InCachedDatabase { alloc, capacity },
+        )?;
+    }
+    Ok(all)
+}
+
 /// Statuses: 0 where each script is answered as it is to be over each kind of store, 1 otherwise.
 fn main(rt: HostRuntime) -> anyhow::Result<ExitCode> {
     let alloc = rt.alloc();
     open_all(&rt)?;
     let in_memory = checks(&rt, "in memory", &InMemory { alloc })?;
     let in_database = checks(&rt, "in a database in memory", &InDatabase { alloc })?;
+    let in_cache = check_caches(&rt)?;
     let in_file = checks(
         &rt,
         "in a file",
@@ -46,7 +64,8 @@ fn main(rt: HostRuntime) -> anyhow::Result<ExitCode> {
         },
     )?;
     fill(&rt, PATH)?;
-    if in_memory && in_database && in_file {
+    try_caches(&rt)?;
+    if in_memory && in_database && in_cache && in_file {
         Ok(ExitCode::from(0))
     } else {
         Ok(ExitCode::from(1))

@@ -2,6 +2,7 @@
 
 use crate::replayed::written;
 use anyhow::Result;
+use cached::Cached;
 use ocpp_types::Text;
 use sqlite::{Alter, FileFrom, FileStore, Unknown};
 use std::alloc::Global;
@@ -39,6 +40,46 @@ impl Replays for InDatabase {
         let store = SqlStore::open_in_memory(self.alloc)?;
         written_over(self.alloc, store, operators, lines)
     }
+}
+
+/// Replays over caches of so many answers, before stores in memory.
+#[derive(Drop)]
+pub struct InCache {
+    pub alloc: Global,
+    pub capacity: usize,
+}
+
+impl Replays for InCache {
+    fn written(&self, operators: Vec<Text>, lines: &[u8]) -> Result<String> {
+        let store = Cached::new(self.alloc, MemStore::new(self.alloc), self.capacity)?;
+        written(self.alloc, store, operators, lines)
+    }
+}
+
+/// Replays over caches of so many answers, before databases in memory.
+#[derive(Drop)]
+pub struct InCachedDatabase {
+    pub alloc: Global,
+    pub capacity: usize,
+}
+
+impl Replays for InCachedDatabase {
+    fn written(&self, operators: Vec<Text>, lines: &[u8]) -> Result<String> {
+        let store = SqlStore::open_in_memory(self.alloc)?;
+        written_through(self.alloc, store, self.capacity, operators, lines)
+    }
+}
+
+/// What a replay of the lines writes over a cache before a database.
+fn written_through<A: Alter + Drop>(
+    alloc: Global,
+    store: SqlStore<A>,
+    capacity: usize,
+    operators: Vec<Text>,
+    lines: &[u8],
+) -> Result<String> {
+    let store = Cached::new(alloc, store, capacity)?;
+    written(alloc, store, operators, lines)
 }
 
 /// Replays over a file, in place of the one before.

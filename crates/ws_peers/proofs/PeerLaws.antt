@@ -4,6 +4,7 @@ use Rattle.tungstenite.specs.Socket.{Socket, Reads}
 use Rattle.tungstenite.specs.declared.error.Error.{Error}
 use Rattle.tungstenite.specs.declared.error.Error.TheVariants.{OutOfMemory}
 use Rattle.tungstenite.specs.declared.message.Message.{Message}
+use Rattle.ws_peers.specs.declared.cause.Cause.TheVariants.{NoMemory}
 use Rattle.ws_peers.specs.declared.heard.Heard.{Heard}
 use Rattle.ws_peers.specs.declared.peer.Peer.{Peer}
 use Rattle.ws_peers.specs.Sends.{Sent}
@@ -12,7 +13,7 @@ use Rattle.ws_peers.specs.Reads.{Took, After, heard_of}
 
 module _ {T : Type 0} where
   -- a text that finds no memory
-  pub unsent : (contents : T → Option (List ℕ)) (t : List ℕ) (old : Peer T) → Sent contents t old (record old { stage = ended old.stage })
+  pub unsent : (contents : T → Option (List ℕ)) (t : List ℕ) (old : Peer T) → Sent contents t old (record old { stage = ended NoMemory old.stage })
   unsent contents t old = record {
     gave = Err OutOfMemory;
     sends = record { wrote = tt; empty = tt; failed = inr (inl tt); stream_failed = λ io. absurd io; memory = λ _. refl };

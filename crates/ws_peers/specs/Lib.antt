@@ -1,4 +1,5 @@
 pub mod Paths
+pub mod Causes
 pub mod Stages
 pub mod Peers
 pub mod Sends

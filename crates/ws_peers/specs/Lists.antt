@@ -28,6 +28,12 @@ module _ {T : Type 0} where
   abbrev pub is_open_at : List ℕ → List ℕ → Peer T → Bool
   is_open_at op station p = is_open p.stage && is_station op station p.route
 
+  -- a station that has an open connection
+  abbrev pub is_connected : Route → List (Peer T) → Bool
+  is_connected (Station op station) ps = list_any (is_open_at op station) ps
+  is_connected (Operator op) ps = false
+  is_connected Nothing ps = false
+
   -- an open connection of that operator
   abbrev pub is_open_for : List ℕ → Peer T → Bool
   is_open_for op p = is_open p.stage && is_operator_of op p.route

@@ -2,6 +2,7 @@
 use Rattle.std.specs.Prelude.{◌≡◌, Bool, false}
 use Rattle.tungstenite.specs.Socket.{Socket}
 use Rattle.ws_peers.specs.declared.peer.Peer.{Peer}
+use Rattle.ws_peers.specs.declared.cause.Cause.{Cause}
 use Rattle.ws_peers.specs.declared.routes.Route.{Route}
 use Rattle.ws_peers.specs.declared.stage.Stage.{Stage}
 use Rattle.ws_peers.specs.declared.stage.Stage.TheVariants.{Open, Gone}
@@ -19,9 +20,9 @@ module _ {T : Type 0} where
   abbrev pub open_peer : Socket T → Route → Peer T
   open_peer socket route = record { socket = socket; route = route; stage = Open }
 
-  -- the peer as its connection ends
-  abbrev pub ends : Peer T → Peer T
-  ends p = record p { stage = ended p.stage }
+  -- the peer as its connection ends, for that cause
+  abbrev pub ends : Cause → Peer T → Peer T
+  ends cause p = record p { stage = ended cause p.stage }
 
   -- the peer as those that have ended leave
   abbrev pub leaves : Peer T → Peer T

@@ -13,7 +13,7 @@ use tungstenite::{NoMask, WebSocket};
 
 #[tactic(auto, using(crate::proofs::ListLaws::sent_at, crate::proofs::ListLaws::to_nobody, crate::proofs::ListLaws::position_within, crate::proofs::ListLaws::position_found, crate::proofs::ListLaws::position_missing))]
 impl<T: Read + Write + Drop> Peers<T> {
-    ghost use Rattle.ws_peers.specs.Lists.{peers, has_room, ForText, ToStation, ToOperator, GivesWay, GiveWay};
+    ghost use Rattle.ws_peers.specs.Lists.{peers, has_room, is_connected, ForText, ToStation, ToOperator, GivesWay, GiveWay};
     ghost use Rattle.ws_peers.specs.Peers.{stage_of, open_peer, leaves};
     ghost use Rattle.ws_peers.specs.Stages.{is_held};
 
@@ -38,6 +38,16 @@ impl<T: Read + Write + Drop> Peers<T> {
             return Some(near);
         }
         first_open(&self.items, op, station)
+    }
+
+    /// Whether a route is that of a station with an open connection.
+    pub fn is_connected(&self, route: &Route) -> bool
+        ensures { result ≡ is_connected route.now (peers self.now) }
+    {
+        match route {
+            Route::Station(op, station) => has_open(&self.items, op.as_str(), station.as_str()),
+            Route::Operator(_) | Route::Nothing => false,
+        }
     }
 
     /// Sends a text to an operator, on each open connection of it. Where the text is `None`, since
@@ -119,6 +129,13 @@ fn first_open<T: Read + Write + Drop>(peers: &[Peer<T>], op: &str, station: &str
     ensures { result ≡ position (is_open_at op.now station.now) peers.now }
 {
     peers.iter().position(|peer| peer.is_open_at(op, station))
+}
+
+/// Whether a station has an open connection.
+fn has_open<T: Read + Write + Drop>(peers: &[Peer<T>], op: &str, station: &str) -> bool
+    ensures { result ≡ list_any (is_open_at op.now station.now) peers.now }
+{
+    peers.iter().any(|peer| peer.is_open_at(op, station))
 }
 
 /// Whether an operator is among them.

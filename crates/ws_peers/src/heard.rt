@@ -2,6 +2,7 @@
 ghost use Rattle.std.specs.Prelude.{◌≡◌};
 ghost use Rattle.ws_peers.specs.Reads.{heard_of, of_breach, of_error};
 
+use crate::cause::Cause;
 use std::io::ErrorKind;
 use tungstenite::{CloseCode, Error, Message, Utf8Bytes};
 use websocket::error::ProtocolError;
@@ -18,8 +19,8 @@ pub enum Heard {
     Nothing,
     /// A message that ends the connection with that close code.
     Breach(CloseCode),
-    /// A close, or a fault of the stream.
-    Ends,
+    /// A close, or a fault of the stream, ends the connection.
+    Ends(Cause),
 }
 
 /// What a read gave. A text may have 1,048,576 bytes, and a longer one ends the connection with 1009. Binary messages,
@@ -35,7 +36,7 @@ pub fn what_is_heard(gave: Result<Message, Error>) -> Heard
                 Heard::Breach(CloseCode::Size)
             }
         }
-        Ok(Message::Close(_)) => Heard::Ends,
+        Ok(Message::Close(_)) => Heard::Ends(Cause::Closed),
         Ok(_) => Heard::Nothing,
         Err(error) => of_error(&error),
     }
@@ -50,12 +51,12 @@ fn of_error(error: &Error) -> Heard
     match error {
         Error::Io(fault) => match fault.kind() {
             ErrorKind::WouldBlock => Heard::Nothing,
-            _ => Heard::Ends,
+            _ => Heard::Ends(Cause::Lost),
         },
         Error::Capacity(_) => Heard::Breach(CloseCode::Size),
         Error::Utf8 => Heard::Breach(CloseCode::Invalid),
         Error::Protocol(breach) => of_breach(*breach),
-        _ => Heard::Ends,
+        _ => Heard::Ends(Cause::Lost),
     }
 }
 
@@ -63,7 +64,7 @@ fn of_breach(breach: ProtocolError) -> Heard
     ensures { result ≡ of_breach breach }
 {
     match breach {
-        ProtocolError::ResetWithoutClosingHandshake => Heard::Ends,
+        ProtocolError::ResetWithoutClosingHandshake => Heard::Ends(Cause::Lost),
         _ => Heard::Breach(CloseCode::Protocol),
     }
 }

@@ -3,6 +3,7 @@
 #![tactic(auto)]
 
 mod all_peers;
+mod cause;
 mod heard;
 mod one_peer;
 pub mod paths;
@@ -11,6 +12,7 @@ mod peers;
 mod routes;
 mod stage;
 
+pub use cause::Cause;
 pub use heard::MAX_TEXT;
 pub use peer::Peer;
 pub use peers::Peers;

@@ -1,6 +1,7 @@
 //! One of the connected peers.
 ghost use Rattle.std.specs.Prelude.{◌≡◌, ◌<◌, [], length, slice_index_or};
 
+use crate::cause::Cause;
 use crate::peer::Peer;
 use crate::peers::Peers;
 use std::alloc::Global;
@@ -58,13 +59,13 @@ impl<T: Read + Write + Drop> Peers<T> {
         self.items[n].send(self.alloc, text);
     }
 
-    /// The connection of a peer ends, if it is open.
-    pub fn end(&mut self, n: usize)
+    /// The connection of a peer ends for that cause, if it is open.
+    pub fn end(&mut self, n: usize, cause: Cause)
         requires { n < length (peers self.old) }
-        ensures ended { At (λ old new. new ≡ ends old) n (peers self.old) (peers self.new) }
+        ensures ended { At (λ old new. new ≡ ends cause old) n (peers self.old) (peers self.new) }
         ensures count { length (peers self.new) ≡ length (peers self.old) }
     {
-        self.items[n].end();
+        self.items[n].end(cause);
     }
 
     /// A peer is gone.

@@ -1,6 +1,7 @@
 //! One connected peer.
 ghost use Rattle.std.specs.Prelude.{◌≡◌, true, IfSome, option_map};
 
+use crate::cause::Cause;
 use crate::heard::{Heard, what_is_heard};
 use crate::routes::Route;
 use crate::stage::Stage;
@@ -9,7 +10,7 @@ use std::io::{Read, Write};
 use tungstenite::{CloseCode, CloseFrame, Message, NoMask, Utf8Bytes, WebSocket};
 
 /// Why a connection is closed in whose place another comes.
-pub const REPLACED: &str = "another connection of this station";
+const REPLACED: &str = "another connection of this station";
 
 /// One connected peer: what it stands for, its socket, and how far its connection has come.
 #[derive(Drop)]
@@ -61,11 +62,10 @@ impl<T: Read + Write + Drop> Peer<T> {
     {
         match Message::text(alloc, text) {
             Ok(message) => {
-                if self.socket.send(message).is_err() {
-                    self.stage = self.stage.ended();
-                }
+                let gave = self.socket.send(message);
+                self.stage = self.stage.after_send(gave);
             }
-            Err(_) => self.stage = self.stage.ended(),
+            Err(_) => self.stage = self.stage.ended(Cause::NoMemory),
         }
     }
 
@@ -85,11 +85,11 @@ impl<T: Read + Write + Drop> Peer<T> {
             Heard::Text(text) => Some(text),
             Heard::Nothing => None,
             Heard::Breach(code) => {
-                self.close(code, "", Stage::Ended);
+                self.close(code, "", Stage::Ended(Cause::Breach(code)));
                 None
             }
-            Heard::Ends => {
-                self.stage = Stage::Ended;
+            Heard::Ends(cause) => {
+                self.stage = Stage::Ended(cause);
                 let _flushed = self.socket.flush();
                 None
             }
@@ -110,12 +110,12 @@ impl<T: Read + Write + Drop> Peer<T> {
         self.stage = stage;
     }
 
-    /// Its connection ends, if it is open.
-    pub fn end(&mut self)
-        ensures end { self.new ≡ ends self.old }
+    /// Its connection ends for that cause, if it is open.
+    pub fn end(&mut self, cause: Cause)
+        ensures end { self.new ≡ ends cause self.old }
         ensures kept { Kept self.old self.new }
     {
-        self.stage = self.stage.ended();
+        self.stage = self.stage.ended(cause);
     }
 
     /// Another connection takes its place. An open one gets a close frame with the code 1008 and a reason (RFC 6455,
@@ -135,7 +135,7 @@ impl<T: Read + Write + Drop> Peer<T> {
     pub fn leave(&mut self)
         ensures { self.new ≡ leaves self.old }
     {
-        if self.stage == Stage::Ended {
+        if matches!(self.stage, Stage::Ended(_)) {
             self.stage = match &self.route {
                 Route::Station(_, _) => Stage::Leaving,
                 Route::Operator(_) | Route::Nothing => Stage::Gone,
@@ -168,7 +168,7 @@ impl<T: Read + Write + Drop> Peer<T> {
         }
         match text {
             Some(text) => self.send(alloc, text),
-            None => self.end(),
+            None => self.end(Cause::NoMemory),
         }
     }
 

@@ -5,7 +5,7 @@ ghost use Rattle.ws_peers.specs.Routes.{is_station, is_operator, is_operator_of}
 use ocpp_types::Text;
 
 /// What a connection stands for, by the path that it asked for.
-#[derive(Drop)]
+#[derive(Clone, Drop)]
 pub enum Route {
     /// A station: its operator and its name.
     Station(Text, Text),

@@ -24,7 +24,8 @@ use Rattle.ws_peers.specs.Peers.{route_of}
 use Rattle.ws_peers.specs.declared.peer.Peer.{Peer}
 use Rattle.ws_peers.specs.declared.routes.Route.{Route}
 use Rattle.ws_peers.specs.declared.routes.Route.TheVariants.{Station, Operator, Nothing}
-use Rattle.ws_server.specs.Admits.{WelcomesOne, WelcomesSome}
+use Rattle.tungstenite.specs.Socket.{Socket}
+use Rattle.ws_server.specs.Admits.{Connects, WelcomesOne, WelcomesSome}
 use Rattle.ws_server.specs.Events.{event_of, parting, is_route_of_hosted}
 use Rattle.ws_server.specs.Turns.{Change, Then, Becomes, FirstPlaces, Hands, HandsText, Means, Parts, PartsAs}
 use Rattle.ws_server.specs.Steps.{Step, Runs, Takes}
@@ -78,6 +79,11 @@ module _ {T : Type 0} (contents : T → Option (List ℕ)) (hosts : List ℕ →
 
   pub stays : (m n : ℕ) (ps : List (Peer T)) (p : Peer T) (r : Result (Unit {0}) Fault) → IsErr r → IsErrAnd r (λ f. f ≡ fault.NoMemory) → is_some (parting m p) ≡ true → ((d : Peer T) → p ≡ slice_index_or ps n d) → Parts contents hosts m n ps ps [] r
   stays m n ps p r err memory leaves at = (parting m p, λ d. ap (parting m) (at d), parts_as n (parting m p) ps r err memory leaves)
+
+-- a connect that isn't taken
+pub connects_not : {T : Type 0} (contents : T → Option (List ℕ)) (socket : Socket T) (connect : Event) (route : Route) (old new : List (Peer T)) (r : Result (Unit {0}) Fault) → IsErr r → new ≡ old → Connects contents socket connect route old new [] r
+connects_not contents socket connect route old new (Ok u) err same = absurd (true≢false (sym err))
+connects_not contents socket connect route old new (Err f) err same = (same, refl)
 
 -- what is so of the peer at a place beside what becomes of it
 pub at_with : {P : Type 0} (R : P → P → Type 0) (Q : P → Type 0) (n : ℕ) (old new : List P) → lists.At R n old new → ((d : P) → Q (slice_index_or old n d)) → lists.At (λ p q. R p q × Q p) n old new

@@ -36,7 +36,7 @@ disconnect_of Nothing m = None
 abbrev pub parting_at : Stage → Route → ℕ → Option Event
 parting_at Leaving route m = disconnect_of route m
 parting_at Open route m = None
-parting_at Ended route m = None
+parting_at (Ended cause) route m = None
 parting_at Gone route m = None
 
 abbrev pub parting : {T : Type 0} → ℕ → Peer T → Option Event

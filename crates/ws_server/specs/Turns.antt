@@ -7,6 +7,7 @@ use Rattle.event_plans.specs.declared.out.Out.{Out}
 use Rattle.hub.specs.declared.fault.Fault.{Fault}
 use Rattle.hub.specs.declared.fault.Fault.TheVariants.{NoSuchOperator}
 use Rattle.hub.specs.Hub.{is_of_hosted}
+use Rattle.ws_peers.specs.declared.cause.Cause.TheVariants.{Fault as Failed}
 use Rattle.ws_peers.specs.declared.peer.Peer.{Peer}
 use Rattle.ws_peers.specs.Lists as lists
 use Rattle.ws_peers.specs.Peers.{route_of, stage_of, ends, leaves, finishes}
@@ -70,7 +71,7 @@ module _ {T : Type 0} (contents : T → Option (List ℕ)) (is_hosted : List ℕ
   Handles m n None old new steps r = (new ≡ old) × (steps ≡ []) × (r ≡ Ok tt)
   Handles m n (Some text) old new steps (Ok u) = HandsText m n text old new steps (Ok u)
   Handles m n (Some text) old new steps (Err fault) =
-      lists.At (λ p q. (q ≡ ends p) × Means (is_route_of_hosted is_hosted (route_of p)) fault) n old new × (steps ≡ [])
+      lists.At (λ p q. (q ≡ ends Failed p) × Means (is_route_of_hosted is_hosted (route_of p)) fault) n old new × (steps ≡ [])
 
   -- peer n leaves the hub, if it is to leave now; where that ends in a fault it leaves later
   abbrev pub PartsAs : ℕ → Option Event → Change (Peer T)

@@ -9,11 +9,13 @@ ghost use Rattle.ws_server.specs.Tells.{peers_of};
 
 use crate::events::{connect_of, turns_away};
 use crate::gateway::Gateway;
+use crate::notes::{Happened, Notes, Refusal};
 use hub::{Event, Fault, Hub};
 use hub_rows::Store;
 use ocpp_types::Moment;
 use station_calls::VendorHandler;
 use std::io::{Read, Write};
+use std::net::SocketAddr;
 use tungstenite::{NoMask, WebSocket};
 use ws_peers::{Peers, Route};
 
@@ -29,6 +31,7 @@ impl<T: Read + Write + Drop> Gateway<T> {
         &mut self,
         hub: &mut Hub<S, V>,
         socket: WebSocket<T, NoMask>,
+        address: Option<SocketAddr>,
         route: Route,
         moment: Moment,
     ) -> Result<(), Fault>
@@ -42,13 +45,14 @@ impl<T: Read + Write + Drop> Gateway<T> {
         match &route {
             Route::Station(op, station) => {
                 let event = connect_of(op, station, moment)?;
-                self.connect(hub, socket, route, &event)
+                self.connect(hub, socket, address, route, &event)
             }
             Route::Operator(op) => {
                 if !hub.hosts(op.as_str()) {
                     return Err(Fault::NoSuchOperator);
                 }
                 self.peers.reserve()?;
+                self.notes.add(&route, address, Happened::Connected);
                 self.peers.push(socket, route);
                 Ok(())
             }
@@ -63,6 +67,7 @@ impl<T: Read + Write + Drop> Gateway<T> {
         &mut self,
         hub: &mut Hub<S, V>,
         socket: WebSocket<T, NoMask>,
+        address: Option<SocketAddr>,
         route: Route,
         event: &Event,
     ) -> Result<(), Fault>
@@ -76,10 +81,36 @@ impl<T: Read + Write + Drop> Gateway<T> {
         self.peers.reserve()?;
         let outs = hub.handle(event)?;
         let place = self.peers.count();
-        enter(&mut self.peers, turns_away(&outs), socket, route);
+        let is_turned_away = turns_away(&outs);
+        note_connect(
+            &mut self.notes,
+            &self.peers,
+            address,
+            &route,
+            is_turned_away,
+        );
+        enter(&mut self.peers, is_turned_away, socket, route);
         self.tell_all(place, &outs);
         Ok(())
     }
+}
+
+/// Notes the connection of a station.
+fn note_connect<T: Read + Write + Drop>(
+    notes: &mut Notes,
+    peers: &Peers<T>,
+    address: Option<SocketAddr>,
+    route: &Route,
+    is_turned_away: bool,
+) {
+    if is_turned_away {
+        notes.add(route, address, Happened::Refused(Refusal::Rejected));
+        return;
+    }
+    if peers.is_connected(route) {
+        notes.add(route, None, Happened::Replaced);
+    }
+    notes.add(route, address, Happened::Connected);
 }
 
 /// Adds a station, or closes the socket of one that is turned away.

@@ -37,7 +37,7 @@ pub fn parting<T: Read + Write + Drop>(peer: &Peer<T>, moment: Moment) -> Mem<Op
 {
     match peer.stage() {
         Stage::Leaving => disconnect_of(peer.route(), moment),
-        Stage::Open | Stage::Ended | Stage::Gone => Ok(None),
+        Stage::Open | Stage::Ended(_) | Stage::Gone => Ok(None),
     }
 }
 

@@ -1,5 +1,6 @@
 //! The gateway.
 
+use crate::notes::Notes;
 use std::alloc::Global;
 use ws_peers::Peers;
 
@@ -10,4 +11,5 @@ use ws_peers::Peers;
 pub struct Gateway<T> {
     pub(crate) alloc: Global,
     pub(crate) peers: Peers<T>,
+    pub(crate) notes: Notes,
 }

@@ -1,7 +1,8 @@
 //! The handshake of one connection.
-ghost use Rattle.std.specs.Prelude.{◌≡◌, true, false, Some, IfSome};
+ghost use Rattle.std.specs.Prelude.{◌≡◌, true, false, Some, IfOk, IfSome};
 ghost use Rattle.ws_server.specs.Admits.{IsNewSocket};
 
+use crate::notes::Refusal;
 use http::header::{HeaderName, HeaderValue};
 use http::{Request, Response, StatusCode};
 use std::alloc::Global;
@@ -82,17 +83,31 @@ fn limits() -> WebSocketConfig
         .max_frame_size(Some(MAX_MESSAGE))
 }
 
+/// Makes the handshake of a stream by that answer.
+fn agree<T: Read + Write + Drop>(
+    alloc: Global,
+    stream: T,
+    answer: Answer<'_>,
+) -> Option<WebSocket<T, NoMask>>
+    ensures { IfSome result IsNewSocket }
+{
+    let socket = start(alloc, stream, answer, Some(limits()))
+        .handshake()
+        .ok()?;
+    Some(socket)
+}
+
 /// Makes the handshake of a stream whose whole head has come, and gives its socket. A path that
 /// isn't known is answered 404. A station that doesn't offer the subprotocol is accepted without it
-/// and closed at once (OCPP-J 1.6, section 3.1.2). `None` is a connection that has ended.
+/// and closed at once (OCPP-J 1.6, section 3.1.2). An error is a connection that has ended.
 pub fn shake<T: Read + Write + Drop>(
     alloc: Global,
     stream: T,
     is_known: bool,
     is_station: bool,
-) -> Option<WebSocket<T, NoMask>>
-    ensures socket { IfSome result IsNewSocket }
-    ensures known { IfSome result (λ _. is_known ≡ true) }
+) -> Result<WebSocket<T, NoMask>, Refusal>
+    ensures socket { IfOk result IsNewSocket }
+    ensures known { IfOk result (λ _. is_known ≡ true) }
 {
     let mut has_agreed = false;
     let answer = Answer {
@@ -100,13 +115,17 @@ pub fn shake<T: Read + Write + Drop>(
         is_known,
         has_agreed: &mut has_agreed,
     };
-    let mut socket = start(alloc, stream, answer, Some(limits()))
-        .handshake()
-        .ok()?;
-    let may_enter = is_known && (has_agreed || !is_station);
-    if !may_enter {
-        let _closed = socket.close(None);
-        return None;
+    let agreed = agree(alloc, stream, answer);
+    if !is_known {
+        return Err(Refusal::Unknown);
     }
-    Some(socket)
+    let mut socket = match agreed {
+        Some(socket) => socket,
+        None => return Err(Refusal::NoHandshake),
+    };
+    if is_station && !has_agreed {
+        let _closed = socket.close(None);
+        return Err(Refusal::NoSubprotocol);
+    }
+    Ok(socket)
 }

@@ -8,6 +8,7 @@ ghost use Rattle.ws_server.specs.Tells.{peers_of};
 
 use crate::gateway::Gateway;
 use crate::head::{Asked, read_head};
+use crate::notes::{Happened, Note, Notes, Refusal};
 use hub::{Fault, Hub};
 use hub_rows::Store;
 use ocpp_types::{Mem, Moment};
@@ -15,6 +16,7 @@ use ready_streams::Peek;
 use station_calls::VendorHandler;
 use std::alloc::Global;
 use std::io::{ErrorKind, Read, Write};
+use std::net::SocketAddr;
 use ws_peers::Route;
 
 /// The most bytes of the head of a request.
@@ -30,6 +32,7 @@ const MAX_WAITING: usize = 1024;
 #[derive(Drop)]
 struct Waiting<T> {
     stream: T,
+    address: Option<SocketAddr>,
     since: Moment,
 }
 
@@ -40,6 +43,7 @@ struct Waiting<T> {
 pub struct Lobby<T> {
     waiting: Vec<Waiting<T>>,
     head: Vec<u8>,
+    notes: Notes,
 }
 
 /// What is to be done with a connection that waits.
@@ -47,8 +51,8 @@ pub struct Lobby<T> {
 enum Next {
     /// It waits on.
     Wait,
-    /// It is dropped.
-    Drop,
+    /// It is dropped, for that reason.
+    Drop(Refusal),
     /// Its head is complete, and its path leads there.
     Welcome(Route),
 }
@@ -66,6 +70,7 @@ impl<T: Peek + Read + Write + Drop> Lobby<T> {
         Ok(Lobby {
             waiting: Vec::new(alloc),
             head,
+            notes: Notes::new(alloc),
         })
     }
 
@@ -76,20 +81,44 @@ impl<T: Peek + Read + Write + Drop> Lobby<T> {
         self.waiting.len()
     }
 
-    /// Takes a connection that was accepted at that moment. Where 1,024 wait, the one that was
-    /// accepted first is dropped. Without memory for the new one, that is dropped too.
-    pub fn enter(&mut self, stream: T, moment: Moment) -> Mem<()>
-        ensures entered { OnOk result (self.new.waiting.items ≡ with_room self.old.waiting.items ++ record { stream = stream; since = moment } ∷ []) }
+    /// Takes a connection that was accepted at that moment, from that address. Where 1,024 wait, the
+    /// one that was accepted first is dropped. Without memory for the new one, that is dropped too.
+    pub fn enter(&mut self, stream: T, address: Option<SocketAddr>, moment: Moment) -> Mem<()>
+        ensures entered { OnOk result (self.new.waiting.items ≡ with_room self.old.waiting.items ++ record { stream = stream; address = address; since = moment } ∷ []) }
         ensures dropped { OnErr result (self.new.waiting.items ≡ with_room self.old.waiting.items) }
     {
         if self.waiting.len() >= MAX_WAITING {
-            let _first = self.waiting.remove(0);
+            let first = self.waiting.remove(0);
+            self.refuse(first.address, Refusal::Crowded);
         }
         self.waiting.push(Waiting {
             stream,
+            address,
             since: moment,
         })?;
         Ok(())
+    }
+
+    /// From now on it keeps notes of what becomes of connections.
+    pub fn keep_notes(&mut self)
+        ensures { self.new.waiting.items ≡ self.old.waiting.items }
+    {
+        self.notes.keep();
+    }
+
+    /// The notes since they were last taken, in order.
+    pub fn take_notes(&mut self) -> Vec<Note>
+        ensures { self.new.waiting.items ≡ self.old.waiting.items }
+    {
+        self.notes.take()
+    }
+
+    /// Notes a connection that isn't admitted.
+    fn refuse(&mut self, address: Option<SocketAddr>, refusal: Refusal)
+        ensures { self.new.waiting.items ≡ self.old.waiting.items }
+    {
+        self.notes
+            .add(&Route::Nothing, address, Happened::Refused(refusal));
     }
 
     /// Polls each that waits once. One whose head is complete is welcomed by the gateway; after a
@@ -139,13 +168,14 @@ impl<T: Peek + Read + Write + Drop> Lobby<T> {
                 *n = n.saturating_add(1);
                 Ok(())
             }
-            Ok(Next::Drop) => {
-                let _dropped = self.waiting.remove(*n);
+            Ok(Next::Drop(refusal)) => {
+                let dropped = self.waiting.remove(*n);
+                self.refuse(dropped.address, refusal);
                 Ok(())
             }
             Ok(Next::Welcome(route)) => {
                 let one = self.waiting.remove(*n);
-                gateway.welcome(hub, one.stream, route, moment)
+                gateway.welcome(hub, one.stream, one.address, route, moment)
             }
             Err(fault) => {
                 let _dropped = self.waiting.remove(*n);
@@ -160,20 +190,20 @@ impl<T: Peek + Read + Write + Drop> Lobby<T> {
     {
         let one = &self.waiting[n];
         let waits = if one.is_late(moment) {
-            Next::Drop
+            Next::Drop(Refusal::Late)
         } else {
             Next::Wait
         };
         match one.stream.peek(self.head.as_mut_slice()) {
-            Ok(0) => Ok(Next::Drop),
+            Ok(0) => Ok(Next::Drop(Refusal::Lost)),
             Ok(len) => match read_head(alloc, &self.head[..len])? {
-                Asked::Unknown if len == MAX_HEAD => Ok(Next::Drop),
+                Asked::Unknown if len == MAX_HEAD => Ok(Next::Drop(Refusal::NoRequest)),
                 Asked::Unknown => Ok(waits),
-                Asked::Nothing => Ok(Next::Drop),
+                Asked::Nothing => Ok(Next::Drop(Refusal::NoRequest)),
                 Asked::Path(route) => Ok(Next::Welcome(route)),
             },
             Err(error) if error.kind() == ErrorKind::WouldBlock => Ok(waits),
-            Err(_) => Ok(Next::Drop),
+            Err(_) => Ok(Next::Drop(Refusal::Lost)),
         }
     }
 }

@@ -2,6 +2,7 @@
 ghost use Rattle.std.specs.Prelude.{◌≡◌, [], length};
 
 use crate::gateway::Gateway;
+use crate::notes::{Note, Notes};
 use event_plans::{Out, Said};
 use lines::print_out;
 use std::alloc::Global;
@@ -20,7 +21,22 @@ impl<T: Read + Write + Drop> Gateway<T> {
         Gateway {
             alloc,
             peers: Peers::new(alloc),
+            notes: Notes::new(alloc),
         }
+    }
+
+    /// From now on it keeps notes of what becomes of connections.
+    pub fn keep_notes(&mut self)
+        ensures { peers_of self.new ≡ peers_of self.old }
+    {
+        self.notes.keep();
+    }
+
+    /// The notes since they were last taken, in order.
+    pub fn take_notes(&mut self) -> Vec<Note>
+        ensures { peers_of self.new ≡ peers_of self.old }
+    {
+        self.notes.take()
     }
 
     /// How many peers there are. Those that have ended count until a turn has dropped them.

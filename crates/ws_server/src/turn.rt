@@ -7,11 +7,13 @@ ghost use Rattle.ws_server.specs.Tells.{peers_of};
 
 use crate::events::{event_of, parting};
 use crate::gateway::Gateway;
+use crate::notes::{Happened, Notes};
 use hub::{Event, Fault, Hub};
 use hub_rows::Store;
 use ocpp_types::Moment;
 use station_calls::VendorHandler;
 use std::io::{Read, Write};
+use ws_peers::{Cause, Peers, Stage};
 
 #[tactic(auto, using(crate::proofs::StepLaws::handed, crate::proofs::StepLaws::nothing))]
 impl<T: Read + Write + Drop> Gateway<T> {
@@ -82,7 +84,9 @@ impl<T: Read + Write + Drop> Gateway<T> {
         match self.hand_text(hub, n, moment, text.as_str()) {
             Ok(()) => Ok(()),
             Err(fault) => {
-                self.peers.end(n);
+                let route = self.peers.peer(n).route();
+                self.notes.add(route, None, Happened::Failed(fault));
+                self.peers.end(n, Cause::Fault);
                 Err(fault)
             }
         }
@@ -172,6 +176,7 @@ impl<T: Read + Write + Drop> Gateway<T> {
         ensures counted { IsCounted (hub_view S.view) hub.old hub.new (result ≡ Err Fault.Store) }
         ensures setting { setting V.view hub.new ≡ setting V.view hub.old }
     {
+        note_ended(&self.peers, &mut self.notes);
         self.peers.leave();
         self.part_each(hub, moment)?;
         self.sweep_and_tick(hub, moment)
@@ -190,5 +195,15 @@ impl<T: Read + Write + Drop> Gateway<T> {
     {
         self.peers.sweep();
         self.hand(hub, 0, &Event::Tick { moment })
+    }
+}
+
+/// Notes the connections that have ended.
+fn note_ended<T: Read + Write + Drop>(peers: &Peers<T>, notes: &mut Notes) {
+    for n in 0..peers.count() {
+        let peer = peers.peer(n);
+        if let Stage::Ended(cause) = peer.stage() {
+            notes.add(peer.route(), None, Happened::Ended(cause));
+        }
     }
 }

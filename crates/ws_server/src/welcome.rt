@@ -8,11 +8,13 @@ ghost use Rattle.ws_server.specs.Tells.{peers_of};
 
 use crate::gateway::Gateway;
 use crate::handshake::shake;
+use crate::notes::Happened;
 use hub::{Fault, Hub};
 use hub_rows::Store;
 use ocpp_types::Moment;
 use station_calls::VendorHandler;
 use std::io::{Read, Write};
+use std::net::SocketAddr;
 use ws_peers::Route;
 
 impl<T: Read + Write + Drop> Gateway<T> {
@@ -20,11 +22,13 @@ impl<T: Read + Write + Drop> Gateway<T> {
 
     /// Makes the handshake of a stream whose whole head has come, and whose path leads to that
     /// route; then admits it. An unknown path, one of a station that the hub doesn't know, and one
-    /// of an operator that it doesn't host are answered 404.
+    /// of an operator that it doesn't host are answered 404. The address is that from which the
+    /// connection came, for the notes.
     pub fn welcome<S: Store + Drop, V: VendorHandler>(
         &mut self,
         hub: &mut Hub<S, V>,
         stream: T,
+        address: Option<SocketAddr>,
         route: Route,
         moment: Moment,
     ) -> Result<(), Fault>
@@ -39,8 +43,11 @@ impl<T: Read + Write + Drop> Gateway<T> {
         let is_known = is_known(hub, &route)?;
         let is_station = matches!(route, Route::Station(_, _));
         match shake(self.alloc, stream, is_known, is_station) {
-            Some(socket) => self.admit(hub, socket, route, moment),
-            None => Ok(()),
+            Ok(socket) => self.admit(hub, socket, address, route, moment),
+            Err(refusal) => {
+                self.notes.add(&route, address, Happened::Refused(refusal));
+                Ok(())
+            }
         }
     }
 }

@@ -13,4 +13,4 @@ pub returns-in-Breach-clause-took : goal.returns-in-Breach-clause-took
 returns-in-Breach-clause-took g c = took _ _ _ _ _ _ _ (Heard.Breach c.in-Breach.code) (grind (arith, c.if-not-is_open.false, c.is_open.ensures)) c.read-gave.ensures (sym c.in-Breach.is ∙ c.what_is_heard.ensures) (c.close.ensures, refl)
 
 pub returns-in-Ends-clause-took : goal.returns-in-Ends-clause-took
-returns-in-Ends-clause-took g c = took _ _ _ _ _ _ _ Heard.Ends (grind (arith, c.if-not-is_open.false, c.is_open.ensures)) c.read-gave.ensures (sym c.in-Ends.is ∙ c.what_is_heard.ensures) (refl, c.flush-flushed.ensures.sent, refl)
+returns-in-Ends-clause-took g c = took _ _ _ _ _ _ _ (Heard.Ends c.in-Ends.cause) (grind (arith, c.if-not-is_open.false, c.is_open.ensures)) c.read-gave.ensures (sym c.in-Ends.is ∙ c.what_is_heard.ensures) (refl, c.flush-flushed.ensures.sent, refl)

@@ -1,5 +1,6 @@
 use Rattle.std.proofs.Common.{subst, Some, Err, ◌≡◌}
 use Rattle.hub.specs.Hub.{setting}
+use Rattle.ws_peers.specs.declared.cause.Cause.TheVariants.{Fault as Failed}
 use Rattle.ws_peers.specs.Lists as lists
 use Rattle.ws_peers.specs.Peers.{ends, route_of}
 use Rattle.ws_server.specs.Events.{is_route_of_hosted}
@@ -21,8 +22,8 @@ returns-clause-takes g c =
       mid = mid;
       took = c.in-Some.ensures.took;
       handled = (
-        at_with (λ p q. q ≡ ends p) (λ p. Means (is_route_of_hosted hosts (route_of p)) fault) c.args.n mid new
-            (subst (λ ps. lists.At (λ p q. q ≡ ends p) c.args.n ps new) change.0 c.end.ensures.ended) change.2,
+        at_with (λ p q. q ≡ ends Failed p) (λ p. Means (is_route_of_hosted hosts (route_of p)) fault) c.args.n mid new
+            (subst (λ ps. lists.At (λ p q. q ≡ ends Failed p) c.args.n ps new) change.0 c.end.ensures.ended) change.2,
         change.1,
       );
     })

@@ -1,0 +1,96 @@
+//! What became of connections, as a log tells it.
+ghost use Rattle.std.specs.Prelude.{◌≡◌};
+
+use hub::Fault;
+use std::alloc::Global;
+use std::net::SocketAddr;
+use ws_peers::{Cause, Route};
+
+/// Why a connection wasn't admitted.
+#[derive(Clone, Copy, Debug, PartialEq, Eq, Drop)]
+pub enum Refusal {
+    /// The stream ended or failed before the head of a request was whole.
+    Lost,
+    /// The head wasn't whole in time.
+    Late,
+    /// The first bytes are no head of a request, or one of more than 8,192 bytes.
+    NoRequest,
+    /// Others waited in front, and another came.
+    Crowded,
+    /// The path leads to no station and no operator that is known here. It was answered 404.
+    Unknown,
+    /// The request is no WebSocket handshake, or the stream failed.
+    NoHandshake,
+    /// A station doesn't offer the subprotocol `ocpp1.6`.
+    NoSubprotocol,
+    /// A station whose policy is Rejected.
+    Rejected,
+}
+
+/// What became of a connection.
+#[derive(Clone, Copy, Debug, PartialEq, Eq, Drop)]
+pub enum Happened {
+    /// It was admitted.
+    Connected,
+    /// Another of the same station was admitted in its place.
+    Replaced,
+    /// It wasn't admitted.
+    Refused(Refusal),
+    /// An event of it ended in a fault.
+    Failed(Fault),
+    /// It has ended.
+    Ended(Cause),
+}
+
+/// What became of one connection. It holds no text that a peer sent.
+#[derive(Drop)]
+pub struct Note {
+    /// What the connection stands for. `Nothing` is one that asked for nothing yet, or for an unknown path.
+    pub route: Route,
+    /// Where it came from, if that is still known.
+    pub address: Option<SocketAddr>,
+    pub happened: Happened,
+}
+
+/// Notes, in order, until they are taken. One for which there is no memory is left out.
+#[derive(Drop)]
+pub struct Notes {
+    alloc: Global,
+    are_kept: bool,
+    items: Vec<Note>,
+}
+
+impl Notes {
+    /// No note, and none is kept.
+    pub(crate) fn new(alloc: Global) -> Notes {
+        Notes {
+            alloc,
+            are_kept: false,
+            items: Vec::new(alloc),
+        }
+    }
+
+    /// From now on notes are kept.
+    pub(crate) fn keep(&mut self) {
+        self.are_kept = true;
+    }
+
+    /// Adds a note.
+    pub(crate) fn add(&mut self, route: &Route, address: Option<SocketAddr>, happened: Happened) {
+        if !self.are_kept {
+            return;
+        }
+        if let Ok(route) = route.clone() {
+            let _lost = self.items.push(Note {
+                route,
+                address,
+                happened,
+            });
+        }
+    }
+
+    /// The notes, which are then no longer kept here.
+    pub(crate) fn take(&mut self) -> Vec<Note> {
+        std::mem::replace(&mut self.items, Vec::new(self.alloc))
+    }
+}
