@@ -28,7 +28,7 @@ use Rattle.sql_shelf.specs.Kept.{IsPutIn, IsDropped, IsMade}
 use Rattle.sql_shelf.proofs.Instances.{on_metas, put_metas, on_stations, put_stations, on_connectors, put_connectors, on_tags, put_tags, on_grants, put_grants, frees_grants, on_txs, put_txs, on_readings, put_readings, on_reservations, put_reservations, frees_reservations, on_lists, put_lists, on_entries, put_entries, frees_entries}
 use Rattle.sql_shelf.proofs.StoreLemmas.{Means, means_as}
 use Rattle.sql_shelf.proofs.Tests.{of_grant, of_reservation, of_entries}
-use Rattle.sql_shelf.proofs.Writes.{puts, drops}
+use Rattle.sql_shelf.proofs.Writes.{adds, puts, drops}
 
 -- a table with another tree has the rows that it had
 pub same_in : {T : Type 0} (s : Shelf T) (tree : ℕ) (old new : Trees) → Has hub_schema.tables s.table → Spares hub_schema tree old new → (s.table.tree ≡ tree → ⊥) → rows_in s new ≡ rows_in s old
@@ -135,8 +135,11 @@ puts_grant r = means_as (puts 4 grants on_grants sql.put_grant 1 put_grants text
 pub puts_tx : (r : TxRow) → Means sql.put_tx (txs.row r) (IsMade (λ rows. record rows { transactions = put (by_key tx_key) r rows.transactions }))
 puts_tx r = means_as (puts 5 txs on_txs sql.put_tx 15 put_txs texts.put_tx_is r) (λ old new h. transactions_made old new _ h.rows h.frame)
 
-pub puts_reading : (r : ReadingRow) → Means sql.put_reading (readings.row r) (IsMade (λ rows. record rows { readings = put (by_key reading_key) r rows.readings }))
-puts_reading r = means_as (puts 6 readings on_readings sql.put_reading 10 put_readings texts.put_reading_is r) (λ old new h. readings_made old new _ h.rows h.frame)
+pub adds_tx : (r : TxRow) → Means sql.add_tx (txs.row r) (IsMade (λ rows. record rows { transactions = put (by_key tx_key) r rows.transactions }))
+adds_tx r = means_as (adds 5 txs on_txs sql.add_tx 15 put_txs texts.add_tx_is r) (λ old new h. transactions_made old new _ h.rows h.frame)
+
+pub adds_reading : (r : ReadingRow) → Means sql.add_reading (readings.row r) (IsMade (λ rows. record rows { readings = put (by_key reading_key) r rows.readings }))
+adds_reading r = means_as (adds 6 readings on_readings sql.add_reading 10 put_readings texts.add_reading_is r) (λ old new h. readings_made old new _ h.rows h.frame)
 
 pub puts_reservation : (r : ReservationRow) → Means sql.put_reservation (reservations.row r) (IsMade (λ rows. record rows { reservations = put (by_key reservation_key) r rows.reservations }))
 puts_reservation r = means_as (puts 7 reservations on_reservations sql.put_reservation 4 put_reservations texts.put_reservation_is r) (λ old new h. reservations_made old new _ h.rows h.frame)
@@ -147,8 +150,8 @@ puts_meta m = puts 0 metas on_metas sql.put_meta 1 put_metas texts.put_meta_is m
 pub puts_list : (l : ListHead) → Means sql.put_list (lists.row l) (IsPutIn lists l)
 puts_list l = puts 8 lists on_lists sql.put_list 1 put_lists texts.put_list_is l
 
-pub puts_entry : (e : EntryRow) → Means sql.put_list_entry (entries.row e) (IsPutIn entries e)
-puts_entry e = puts 9 entries on_entries sql.put_list_entry 4 put_entries texts.put_list_entry_is e
+pub adds_entry : (e : EntryRow) → Means sql.add_list_entry (entries.row e) (IsPutIn entries e)
+adds_entry e = adds 9 entries on_entries sql.add_list_entry 4 put_entries texts.add_list_entry_is e
 
 -- ---- rows are dropped
 

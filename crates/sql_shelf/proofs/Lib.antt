@@ -3,6 +3,7 @@ pub mod QueryLemmas
 pub mod TableLemmas
 pub mod ShelfLemmas
 pub mod PutLemmas
+pub mod AddLemmas
 pub mod ReadLaws
 pub mod DropLemmas
 pub mod StoreLemmas

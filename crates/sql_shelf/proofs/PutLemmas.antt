@@ -77,7 +77,7 @@ pub record Puts {T : Type 0} (schema : Schema) (s : Shelf T) (old new : Trees) (
   pub ordered : IsTable (new s.table.tree)
   pub frame : Spares schema s.table.tree old new
 
-uncounted : (P Q : Type 0) (b c : Bool) → b ≡ false → MatchBool (if b then c else false) P Q → Q
+pub uncounted : (P Q : Type 0) (b c : Bool) → b ≡ false → MatchBool (if b then c else false) P Q → Q
 uncounted P Q true c e h = absurd (true≢false e)
 uncounted P Q false c e h = h
 

@@ -1,9 +1,9 @@
 -- What the rules of a schema say of the typed rows of one table.
-use Rattle.std.proofs.Common.{◌≡◌, ℕ, ℤ, zero, suc, ◌&&◌, ◌||◌, not, pos, List, [], ◌∷◌, drop, take, map, length, slice_get, Bool, true, false, cond, Some, refl, sym, ap, ap₂, ◌∙◌, subst, true≢false, arith, Ordering, Less, Equal, Greater}
+use Rattle.std.proofs.Common.{◌≡◌, ℕ, ℤ, zero, suc, ◌&&◌, ◌||◌, not, pos, List, [], ◌∷◌, drop, take, map, length, slice_get, Bool, true, false, cond, Some, refl, sym, ap, ap₂, ◌∙◌, subst, true≢false, arith, inl, inr, Ordering, Less, Equal, Greater}
 use Rattle.std.specs.List.{AllByRecursion}
 use Rattle.std.specs.Prelude.{◌==◌}
 use Rattle.std.specs.Ordering.{is_eq, is_ne}
-use Rattle.std.proofs.lemmas.Bool.{and_parts, and_from, not-true, false_from_ne_true}
+use Rattle.std.proofs.lemmas.Bool.{and_parts, and_from, cases_Bool, not-true, false_from_ne_true}
 use Rattle.std.proofs.lemmas.Cmp.{tied_itself}
 use Rattle.std.proofs.lemmas.Map.Lookups.{exact_signed}
 use Rattle.sqlite_value.specs.declared.value.Value.{Value}
@@ -16,10 +16,10 @@ use Rattle.sqlite_trees.specs.Tree.{Trees, rowid, IsTable}
 use Rattle.sqlite_sql.specs.Ops.{binary, is_null, is_true, from_truth}
 use Rattle.sqlite_sql.specs.Program.{overlay}
 use Rattle.sqlite_schema.specs.declared.schema.Keys.TheVariants.{Enforced}
-use Rattle.sqlite_schema.specs.declared.schema.Constraint.TheVariants.{Unique}
+use Rattle.sqlite_schema.specs.declared.schema.Constraint.TheVariants.{Unique, ForeignKey}
 use Rattle.sqlite_schema.specs.declared.schema.Schema.{Schema}
 use Rattle.sqlite_schema.specs.declared.schema.Index.{Index}
-use Rattle.sqlite_schema.specs.Rules.{Obeys, agree, clashes, differ, equal, guards}
+use Rattle.sqlite_schema.specs.Rules.{Obeys, Fits, agree, clashes, differ, equal, guards}
 use Rattle.sqlite_rules.specs.Lists.{Has}
 use Rattle.sqlite_rules.specs.Action.{works}
 use Rattle.sqlite_rules.specs.Cast.{cast_all}
@@ -174,3 +174,21 @@ module _ {T : Type 0} (schema : Schema) (good : ℕ → Row → Type 0) (at : �
 
       pub rows_have : (r : Row) → Has (db s.table.tree) r → Has (rows_in s db) (typed s r)
       rows_have r h = arranged_has (cmp s) (by_key_total s.key) _ (typed s r) single (mapped_has (typed s) (db s.table.tree) r h)
+
+  -- where a new row is there, no row from before has its key
+  module _ (db next : Trees) (kept : AreShelved schema good db) (fits : Fits schema next) (t : T) (i : ℤ) where
+    pub apart_from : Has (next s.table.tree) (Int i ∷ s.row t) → (r : Row) (h : Has (db s.table.tree) r) → Has (next s.table.tree) r → (value_cmp (rowid r) (Int i) ≡ Equal → ⊥) → cmp s (row_in db kept r h).1 t ≡ Equal → ⊥
+    apart_from there r h still other tie =
+        let x = row_in db kept r h in
+        let new : Row = Int i ∷ s.row t in
+        let agreed : agree plain (places 1 (length s.parts)) r (places 1 (length s.parts)) new ≡ true =
+        rw x.2 (keys_agree s.parts 1 1 (Int x.0 ∷ s.row x.1) new (s.key t) (is.long t) (is.key_row x.1 ∙ ap (values_for s.parts) (same_key _ _ tie)) (is.key_row t)) in
+        let unique : not (guards is.index s.table && clashes is.index.order is.index.columns (next s.table.tree) new) ≡ true =
+        test_has (λ (j : Index). not (guards j s.table && clashes j.order j.columns (next s.table.tree) new)) schema.indexes is.index (keeps_at Unique schema next s.table new (fits.rules Unique (λ e. let clash : Unique ≡ ForeignKey = e in cc)) is.listed there) is.guarded in
+        let apart : clashes plain (places 1 (length s.parts)) (next s.table.tree) new ≡ false = not-true _ (rw (is.guards_it, is.order, is.columns) at unique) in
+        let differs : differ (rowid r) (Int i) ≡ true =
+        elim (cases_Bool (differ (rowid r) (Int i))) [
+          | inl e ↦ e
+          | inr e ↦ absurd (other (not_differ (rowid r) (Int i) (rw x.2 refl) refl e))
+        ] in
+        true≢false (sym (some_from (λ z. agree plain (places 1 (length s.parts)) z (places 1 (length s.parts)) new && differ (rowid z) (rowid new)) (next s.table.tree) r still (and_from _ _ agreed differs)) ∙ apart)

@@ -5,7 +5,7 @@ use Rattle.sqlite_trees.specs.Tree.{Trees}
 use Rattle.sqlite_trees.specs.View.{doubt}
 use Rattle.sqlite_schema.specs.Rules.{Obeys}
 use Rattle.sqlite_schema.specs.declared.command.Command.{Command}
-use Rattle.sqlite_schema.specs.declared.command.Command.TheVariants.{InsertOr, Delete}
+use Rattle.sqlite_schema.specs.declared.command.Command.TheVariants.{Insert, InsertOr, Delete}
 use Rattle.sqlite_schema.specs.declared.command.Returning.{Returning}
 use Rattle.sqlite.specs.declared.error.Error.{Error}
 use Rattle.sqlite.specs.Effect.{Database, IsDatabase}
@@ -95,11 +95,13 @@ module _ (sql : List ℕ) (params : Row) (old new : State) where
 
 -- it is one of the commands that write rows
 abbrev pub IsWriting : Command → Type 0
+IsWriting (Insert at from) = Unit {0}
 IsWriting (InsertOr at how from clauses) = Unit {0}
 IsWriting (Delete at q) = Unit {0}
 IsWriting _ = ⊥
 
 pub written_runs : (old new : State) (k : Command) (text : List ℕ) (params : Row) (count : ℕ) → IsWriting k → Runs old new None k text params count → Writes old new None k text params count
+written_runs old new (Insert at from) text params count w h = h
 written_runs old new (InsertOr at how from clauses) text params count w h = h
 written_runs old new (Delete at q) text params count w h = h
 written_runs old new _ text params count w h = absurd w

@@ -1,16 +1,17 @@
 -- What the writing texts mean, each by one of the forms.
-use Rattle.std.proofs.Common.{◌≡◌, ℕ, List, [], length, Bool}
+use Rattle.std.proofs.Common.{◌≡◌, ℕ, ◌+◌, List, [], length, Bool}
 use Rattle.sqlite_value.specs.Order.{Row}
 use Rattle.sqlite_schema.specs.declared.schema.Keys.TheVariants.{Enforced}
 use Rattle.sqlite_rules.specs.Action.{works}
 use Rattle.sql_tables.specs.Tables.{hub_schema}
-use Rattle.sql_tables.specs.Forms.{where_is, put_command, drop_command}
+use Rattle.sql_tables.specs.Forms.{where_is, add_command, put_command, drop_command}
 use Rattle.sql_tables.specs.Meanings.{IsWrite}
 use Rattle.sql_shelf.specs.Shelf.{Shelf}
 use Rattle.sql_shelf.specs.Shelves.{hub_good}
 use Rattle.sql_shelf.specs.Kept.{IsPutIn, IsDropped}
 use Rattle.sql_shelf.proofs.ShelfLemmas.{IsShelf}
 use Rattle.sql_shelf.proofs.PutLemmas.{IsPutForm, does_put, put_means, put_shelved}
+use Rattle.sql_shelf.proofs.AddLemmas.{does_add}
 use Rattle.sql_shelf.proofs.ReadLaws.{IsTest}
 use Rattle.sql_shelf.proofs.DropLemmas.{does_drop, drop_means, drop_shelved}
 use Rattle.sql_shelf.proofs.StoreLemmas.{Means}
@@ -24,6 +25,18 @@ module _ {T : Type 0} (at : ℕ) (s : Shelf T) (is : IsShelf hub_schema hub_good
     writes = tt;
     does = λ limit st db words tally after has kept obeys h.
         let d = does_put hub_schema hub_good at s is m form t limit st db words tally after has kept obeys h in
+        let shelved = put_shelved hub_schema hub_good at s is db.trees after.trees t kept d.0 in
+        (d.1, shelved, λ sound. record { rows = put_means hub_schema hub_good at s is db.trees after.trees t kept obeys shelved sound d.0; frame = d.0.frame });
+  }
+
+  pub adds : (m : ℕ) (form : IsPutForm s m) → IsWrite sql (add_command at (length s.parts + m)) → (t : T) → Means sql (s.row t) (IsPutIn s t)
+  adds m form text t = record {
+    command = add_command at (length s.parts + m);
+    is = text.0;
+    plain = text.1;
+    writes = tt;
+    does = λ limit st db words tally after has kept obeys h.
+        let d = does_add hub_schema hub_good at s is t m form limit st db words tally after has kept obeys h in
         let shelved = put_shelved hub_schema hub_good at s is db.trees after.trees t kept d.0 in
         (d.1, shelved, λ sound. record { rows = put_means hub_schema hub_good at s is db.trees after.trees t kept obeys shelved sound d.0; frame = d.0.frame });
   }

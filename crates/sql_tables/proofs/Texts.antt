@@ -3,9 +3,9 @@ use Rattle.std.proofs.Common.{[], ◌∷◌, ◌++◌, refl}
 use Rattle.sqlite_tied.specs.Compute.{everything}
 use Rattle.sqlite.specs.Listing.{understood}
 use Rattle.sqlite_sql.specs.Query.{inner, end}
-use Rattle.sql_tables.specs.Forms.{by_column, cols, drop_command, last_query, plain_query, put_command, range_is, where_is}
+use Rattle.sql_tables.specs.Forms.{add_command, by_column, cols, drop_command, last_query, plain_query, put_command, range_is, where_is}
 use Rattle.sql_tables.specs.Meanings.{IsRead, IsWrite}
-use Rattle.sql_tables.specs.Statements.{put_meta, put_station, put_connector, put_tag, put_grant, put_tx, put_reading, put_reservation, put_list, put_list_entry, drop_tag, drop_grant, drop_reservation, drop_entries, find_stations, list_connectors, find_tags, find_grant, list_grants, find_received, find_txs, find_last_tx, list_txs_in_use, list_open_txs, list_same_starts, list_readings, list_tx_readings, find_last_reading, find_reservations, find_list, list_entries, station_columns, connector_columns, tag_columns, grant_columns, tx_columns, reading_columns, reservation_columns, list_columns, list_entry_columns}
+use Rattle.sql_tables.specs.Statements.{put_meta, put_station, put_connector, put_tag, put_grant, add_tx, put_tx, add_reading, put_reservation, put_list, add_list_entry, drop_tag, drop_grant, drop_reservation, drop_entries, find_stations, list_connectors, find_tags, find_grant, list_grants, find_received, find_txs, find_last_tx, list_txs_in_use, list_open_txs, list_same_starts, list_readings, list_tx_readings, find_last_reading, find_reservations, find_list, list_entries, station_columns, connector_columns, tag_columns, grant_columns, tx_columns, reading_columns, reservation_columns, list_columns, list_entry_columns}
 
 pub put_meta_is : IsWrite put_meta (put_command 0 0 1 1)
 unfolding understood everything
@@ -31,9 +31,13 @@ pub put_tx_is : IsWrite put_tx (put_command 5 10 3 15)
 unfolding understood everything
 put_tx_is = (refl, (refl, refl))
 
-pub put_reading_is : IsWrite put_reading (put_command 6 12 3 10)
+pub add_tx_is : IsWrite add_tx (add_command 5 18)
 unfolding understood everything
-put_reading_is = (refl, (refl, refl))
+add_tx_is = (refl, (refl, refl))
+
+pub add_reading_is : IsWrite add_reading (add_command 6 13)
+unfolding understood everything
+add_reading_is = (refl, (refl, refl))
 
 pub put_reservation_is : IsWrite put_reservation (put_command 7 14 3 4)
 unfolding understood everything
@@ -43,9 +47,9 @@ pub put_list_is : IsWrite put_list (put_command 8 16 2 1)
 unfolding understood everything
 put_list_is = (refl, (refl, refl))
 
-pub put_list_entry_is : IsWrite put_list_entry (put_command 9 18 3 4)
+pub add_list_entry_is : IsWrite add_list_entry (add_command 9 7)
 unfolding understood everything
-put_list_entry_is = (refl, (refl, refl))
+add_list_entry_is = (refl, (refl, refl))
 
 pub drop_tag_is : IsWrite drop_tag (drop_command 3 6 (1 ∷ 2 ∷ []))
 unfolding understood everything

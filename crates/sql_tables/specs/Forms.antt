@@ -8,7 +8,7 @@ use Rattle.sqlite_sql.specs.declared.ops.CompareOp.TheVariants.{Eq, Ge, Le}
 use Rattle.sqlite_sql.specs.Term.{Term, lit, col, op2}
 use Rattle.sqlite_sql.specs.Query.{Query, Join, inner, end}
 use Rattle.sqlite.specs.Command.{Command}
-use Rattle.sqlite.specs.Command.TheVariants.{InsertOr, Delete}
+use Rattle.sqlite.specs.Command.TheVariants.{Insert, InsertOr, Delete}
 use Rattle.sqlite.specs.Source.TheVariants.{Values}
 use Rattle.sqlite_schema.specs.declared.command.Conflict.TheVariants.{Abort}
 use Rattle.sqlite_schema.specs.declared.command.Upsert.{Upsert}
@@ -50,10 +50,15 @@ by_column at = (col 1 at, record { collation = Binary; descending = false })
 abbrev pub last_query : ℕ → List Term → List Term → ℕ → Query
 last_query tree filter project at = record (plain_query (inner tree end) filter project ((col 1 at, record { collation = Binary; descending = true }) ∷ [])) { limit = lit (Int (pos 1)) }
 
--- ---- INSERT .. ON CONFLICT (the n columns of the key) DO UPDATE SET each of the m other columns
+-- ---- INSERT of a row of w columns, into the table at that place of the schema
 
 abbrev pub put_terms : ℕ → List Term
 put_terms w = lit Null ∷ cols 0 0 w
+
+abbrev pub add_command : ℕ → ℕ → Command
+add_command at w = Insert at (Values (put_terms w) (w + 1))
+
+-- ---- INSERT .. ON CONFLICT (the n columns of the key) DO UPDATE SET each of the m other columns
 
 abbrev pub put_filter : ℕ → List Term
 put_filter w = op2 (Compare Eq Binary) (col 1 0) (col 0 w) ∷ []

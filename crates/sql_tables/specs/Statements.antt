@@ -48,11 +48,14 @@ put_tag = codes "INSERT INTO hub_tag (op, tag_key, id_tag, parent_id_tag, parent
 abbrev pub put_grant : List ℕ
 put_grant = codes "INSERT INTO hub_grant (op, tag_key, to_op, until) VALUES (?1, ?2, ?3, ?4) ON CONFLICT (op, tag_key, to_op) DO UPDATE SET until = excluded.until"
 
+abbrev pub add_tx : List ℕ
+add_tx = codes "INSERT INTO hub_tx (op, station, number, connector, tag_key, meter_start, start_at, id_tag, reservation_id, status, begun, is_open, in_use, meter_stop, stop_at, stop_reason, stop_id_tag, ended) VALUES (?1, ?2, ?3, ?4, ?5, ?6, ?7, ?8, ?9, ?10, ?11, ?12, ?13, ?14, ?15, ?16, ?17, ?18)"
+
 abbrev pub put_tx : List ℕ
 put_tx = codes "INSERT INTO hub_tx (op, station, number, connector, tag_key, meter_start, start_at, id_tag, reservation_id, status, begun, is_open, in_use, meter_stop, stop_at, stop_reason, stop_id_tag, ended) VALUES (?1, ?2, ?3, ?4, ?5, ?6, ?7, ?8, ?9, ?10, ?11, ?12, ?13, ?14, ?15, ?16, ?17, ?18) ON CONFLICT (op, station, number) DO UPDATE SET connector = excluded.connector, tag_key = excluded.tag_key, meter_start = excluded.meter_start, start_at = excluded.start_at, id_tag = excluded.id_tag, reservation_id = excluded.reservation_id, status = excluded.status, begun = excluded.begun, is_open = excluded.is_open, in_use = excluded.in_use, meter_stop = excluded.meter_stop, stop_at = excluded.stop_at, stop_reason = excluded.stop_reason, stop_id_tag = excluded.stop_id_tag, ended = excluded.ended"
 
-abbrev pub put_reading : List ℕ
-put_reading = codes "INSERT INTO hub_reading (op, station, number, connector, transaction_id, at, context, format, measurand, phase, location, unit, value) VALUES (?1, ?2, ?3, ?4, ?5, ?6, ?7, ?8, ?9, ?10, ?11, ?12, ?13) ON CONFLICT (op, station, number) DO UPDATE SET connector = excluded.connector, transaction_id = excluded.transaction_id, at = excluded.at, context = excluded.context, format = excluded.format, measurand = excluded.measurand, phase = excluded.phase, location = excluded.location, unit = excluded.unit, value = excluded.value"
+abbrev pub add_reading : List ℕ
+add_reading = codes "INSERT INTO hub_reading (op, station, number, connector, transaction_id, at, context, format, measurand, phase, location, unit, value) VALUES (?1, ?2, ?3, ?4, ?5, ?6, ?7, ?8, ?9, ?10, ?11, ?12, ?13)"
 
 abbrev pub put_reservation : List ℕ
 put_reservation = codes "INSERT INTO hub_reservation (op, station, reservation_id, connector, id_tag, parent_id_tag, expiry_date) VALUES (?1, ?2, ?3, ?4, ?5, ?6, ?7) ON CONFLICT (op, station, reservation_id) DO UPDATE SET connector = excluded.connector, id_tag = excluded.id_tag, parent_id_tag = excluded.parent_id_tag, expiry_date = excluded.expiry_date"
@@ -60,8 +63,8 @@ put_reservation = codes "INSERT INTO hub_reservation (op, station, reservation_i
 abbrev pub put_list : List ℕ
 put_list = codes "INSERT INTO hub_list (op, station, version) VALUES (?1, ?2, ?3) ON CONFLICT (op, station) DO UPDATE SET version = excluded.version"
 
-abbrev pub put_list_entry : List ℕ
-put_list_entry = codes "INSERT INTO hub_list_entry (op, station, tag_key, id_tag, expiry_date, parent_id_tag, status) VALUES (?1, ?2, ?3, ?4, ?5, ?6, ?7) ON CONFLICT (op, station, tag_key) DO UPDATE SET id_tag = excluded.id_tag, expiry_date = excluded.expiry_date, parent_id_tag = excluded.parent_id_tag, status = excluded.status"
+abbrev pub add_list_entry : List ℕ
+add_list_entry = codes "INSERT INTO hub_list_entry (op, station, tag_key, id_tag, expiry_date, parent_id_tag, status) VALUES (?1, ?2, ?3, ?4, ?5, ?6, ?7)"
 
 -- ---- rows are dropped
 

@@ -2,6 +2,9 @@
 use Rattle.std.specs.Prelude.{ℕ, List, IsTrue, refl}
 use Rattle.std.specs.Coded.{Coded, code_by, coded×, coded_ℕ}
 use Rattle.sqlite_trees.specs.declared.store.Store.{Ghosts}
+use Rattle.sqlite.specs.declared.error.Error.{Error}
+use Rattle.sqlite.specs.declared.error.Error.TheVariants.{SqliteFailure}
+use Rattle.sqlite.specs.declared.error.ErrorCode.TheVariants.{OutOfMemory}
 use Rattle.sqlite.specs.Held.{Held, held_code, state}
 use Rattle.sqlite.specs.State.{State}
 use Rattle.hub_rows.specs.Changes.{Fits, EditFits}
@@ -10,6 +13,8 @@ use Rattle.hub_rows.specs.StoreView.{StoreView}
 use Rattle.hub_rows.specs.WellFormed.{WellFormedRows}
 use Rattle.hub_rows.specs.declared.change.Change.{Change}
 use Rattle.hub_rows.specs.declared.change.Edit.{Edit}
+use Rattle.hub_rows.specs.declared.store.StoreFault.{StoreFault}
+use Rattle.hub_rows.specs.declared.store.StoreFault.TheVariants.{NoMemory, Failed}
 use Rattle.sql_shelf.specs.Kept.{Serves}
 use Rattle.sql_shelf.specs.Opening.{IsOurs}
 use Rattle.sql_shelf.specs.Shelves.{rows_of}
@@ -26,6 +31,11 @@ sql_code {S} store =
 -- a connection that was taken over serves, if the rows that it had then were ours
 abbrev pub IsKept : State → State → Type 0
 IsKept taken s = IsOurs taken → IsTrue s.is_open → Serves s × WellFormedRows (rows_of s.now.trees)
+
+-- want of memory is told as such, and every other error of the database as a failure of the store
+abbrev pub told : Error → StoreFault
+told (SqliteFailure OutOfMemory) = NoMemory
+told _ = Failed
 
 -- the change fits, and the connection is one that serves
 abbrev pub IsReady : Change → State → Type 0

@@ -4,6 +4,7 @@ ghost use Rattle.sqlite_value.specs.Order.{column};
 ghost use Rattle.hub_rows.specs.Reservations.{shifted};
 ghost use Rattle.ocpp_types.specs.Named.{named as by_name};
 ghost use Rattle.sql_shelf.specs.Values.{text_in, text_if_any, flag_in, count_in, count_if_any, number_in, number_if_any, name_if_any};
+ghost use Rattle.store_sql.specs.Store.{told};
 
 use hub_rows::{ReservationId, StoreFault};
 use ocpp_types::{Moment, Named, TagKey, Text};
@@ -11,7 +12,9 @@ use sqlite::{Error, ErrorCode, Row};
 use std::alloc::Global;
 
 /// A fault of the database, as a store tells it.
-pub(crate) fn told(error: Error) -> StoreFault {
+pub(crate) fn told(error: Error) -> StoreFault
+    ensures { result ≡ told error }
+{
     match error {
         Error::SqliteFailure(ErrorCode::OutOfMemory) => StoreFault::NoMemory,
         _ => StoreFault::Failed,

@@ -27,8 +27,8 @@ const LIST_ENTRIES: &str =
 const PUT: &str =
     "INSERT INTO hub_list (op, station, version) VALUES (?1, ?2, ?3) ON CONFLICT (op, station) DO UPDATE SET version = excluded.version";
 
-const PUT_ENTRY: &str =
-    "INSERT INTO hub_list_entry (op, station, tag_key, id_tag, expiry_date, parent_id_tag, status) VALUES (?1, ?2, ?3, ?4, ?5, ?6, ?7) ON CONFLICT (op, station, tag_key) DO UPDATE SET id_tag = excluded.id_tag, expiry_date = excluded.expiry_date, parent_id_tag = excluded.parent_id_tag, status = excluded.status";
+const ADD_ENTRY: &str =
+    "INSERT INTO hub_list_entry (op, station, tag_key, id_tag, expiry_date, parent_id_tag, status) VALUES (?1, ?2, ?3, ?4, ?5, ?6, ?7)";
 
 const DROP_ENTRIES: &str = "DELETE FROM hub_list_entry WHERE op = ?1 AND station = ?2";
 
@@ -205,7 +205,7 @@ fn put_entry_row<S: Alter>(
     ensures goes { IsInside (state S.Store tx.old.conn.now) → Goes (IsPutIn entries (entry_row op.now station.now entry.now)) (state S.Store tx.old.conn.now) (state S.Store tx.new.conn.now) result }
 {
     tx.execute(
-        PUT_ENTRY,
+        ADD_ENTRY,
         params![
             op,
             station,

@@ -28,8 +28,8 @@ const LIST_OF_TX: &str =
 const FIND_LAST: &str =
     "SELECT op, station, number, connector, transaction_id, at, context, format, measurand, phase, location, unit, value FROM hub_reading WHERE op = ?1 AND station = ?2 ORDER BY number DESC LIMIT 1";
 
-const PUT: &str =
-    "INSERT INTO hub_reading (op, station, number, connector, transaction_id, at, context, format, measurand, phase, location, unit, value) VALUES (?1, ?2, ?3, ?4, ?5, ?6, ?7, ?8, ?9, ?10, ?11, ?12, ?13) ON CONFLICT (op, station, number) DO UPDATE SET connector = excluded.connector, transaction_id = excluded.transaction_id, at = excluded.at, context = excluded.context, format = excluded.format, measurand = excluded.measurand, phase = excluded.phase, location = excluded.location, unit = excluded.unit, value = excluded.value";
+const ADD: &str =
+    "INSERT INTO hub_reading (op, station, number, connector, transaction_id, at, context, format, measurand, phase, location, unit, value) VALUES (?1, ?2, ?3, ?4, ?5, ?6, ?7, ?8, ?9, ?10, ?11, ?12, ?13)";
 
 impl Stored for ReadingRow {
     ghost use Rattle.sql_shelf.specs.Shelves.{readings};
@@ -193,7 +193,7 @@ fn put_row<S: Alter>(
     ensures goes { IsInside (state S.Store tx.old.conn.now) → Goes (IsMade (λ rows. record rows { readings = put (by_key reading_key) (record { op = op.now; station = station.now; number = number; reading = reading.now }) rows.readings })) (state S.Store tx.old.conn.now) (state S.Store tx.new.conn.now) result }
 {
     tx.execute(
-        PUT,
+        ADD,
         params![
             op,
             station,

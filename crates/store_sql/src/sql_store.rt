@@ -132,7 +132,8 @@ impl<S: Start> SqlStore<FileStore<FileFrom<S>>> {
     ghost use Rattle.sqlite.specs.State.{HasCleanDisk};
     ghost use Rattle.sqlite_wal.specs.Files.{image_at};
 
-    /// The store in the file of a database at a path, which is made if there is none.
+    /// The store in the file of a database at a path, which is made if there is none. Errors: those of `PrepareFault`; the
+    /// file is then as it was, or has the new tables, whole.
     pub fn open(
         rt: &HostRuntime,
         path: &str,

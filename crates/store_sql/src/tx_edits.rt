@@ -19,10 +19,13 @@ use ocpp_types::{AuthorizationStatus, Named};
 use sqlite::{Alter, Error, Row, Transaction, params};
 use std::alloc::Global;
 
+const ADD: &str =
+    "INSERT INTO hub_tx (op, station, number, connector, tag_key, meter_start, start_at, id_tag, reservation_id, status, begun, is_open, in_use, meter_stop, stop_at, stop_reason, stop_id_tag, ended) VALUES (?1, ?2, ?3, ?4, ?5, ?6, ?7, ?8, ?9, ?10, ?11, ?12, ?13, ?14, ?15, ?16, ?17, ?18)";
+
 const PUT: &str =
     "INSERT INTO hub_tx (op, station, number, connector, tag_key, meter_start, start_at, id_tag, reservation_id, status, begun, is_open, in_use, meter_stop, stop_at, stop_reason, stop_id_tag, ended) VALUES (?1, ?2, ?3, ?4, ?5, ?6, ?7, ?8, ?9, ?10, ?11, ?12, ?13, ?14, ?15, ?16, ?17, ?18) ON CONFLICT (op, station, number) DO UPDATE SET connector = excluded.connector, tag_key = excluded.tag_key, meter_start = excluded.meter_start, start_at = excluded.start_at, id_tag = excluded.id_tag, reservation_id = excluded.reservation_id, status = excluded.status, begun = excluded.begun, is_open = excluded.is_open, in_use = excluded.in_use, meter_stop = excluded.meter_stop, stop_at = excluded.stop_at, stop_reason = excluded.stop_reason, stop_id_tag = excluded.stop_id_tag, ended = excluded.ended";
 
-/// Puts the row of an open transaction. No number and no text are given for its stop.
+/// Adds the row of an open transaction. No number and no text are given for its stop.
 fn put_open<S: Alter>(
     tx: &mut Transaction<'_, S>,
     op: &str,
@@ -48,7 +51,7 @@ fn put_open<S: Alter>(
     ensures goes { IsInside (state S.Store tx.old.conn.now) → Goes (IsMade (λ rows. record rows { transactions = put (by_key tx_key) (record { op = op.now; station = station.now; number = number; start = start.now; stop = None }) rows.transactions })) (state S.Store tx.old.conn.now) (state S.Store tx.new.conn.now) result }
 {
     tx.execute(
-        PUT,
+        ADD,
         params![
             op,
             station,

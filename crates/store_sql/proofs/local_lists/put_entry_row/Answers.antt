@@ -1,7 +1,7 @@
 use Rattle.std.proofs.Common.{refl}
 use Rattle.sqlite.specs.Held.{state}
 use Rattle.sql_shelf.specs.Shelves.{entry_row}
-use Rattle.sql_shelf.proofs.Edits.{puts_entry}
+use Rattle.sql_shelf.proofs.Edits.{adds_entry}
 use Rattle.sql_shelf.proofs.ValueLaws.{optional}
 use Rattle.sql_shelf.proofs.StoreLemmas.{open_is_clean}
 use Rattle.sql_shelf.proofs.TxLemmas.{step}
@@ -10,5 +10,5 @@ use Rattle.store_sql.proofs.local_lists.put_entry_row.Goals as goal
 pub returns-clause-goes : goal.returns-clause-goes
 returns-clause-goes g c =
     let new = c.execute.new.self.conn.now in
-    step (puts_entry (entry_row c.args.op.now c.args.station.now c.args.entry.now)) (state g.S.Store) c.args.tx.now.conn.now new _ c.execute.result c.execute.ensures.runs c.execute.ensures.ended c.execute.ensures.survives
+    step (adds_entry (entry_row c.args.op.now c.args.station.now c.args.entry.now)) (state g.S.Store) c.args.tx.now.conn.now new _ c.execute.result c.execute.ensures.runs c.execute.ensures.ended c.execute.ensures.survives
     (rw (c.params-to_sql.ensures, c.params-to_sql-2.ensures, c.params-to_sql-3.ensures, c.params-to_sql-4.ensures, c.params-to_sql-5.ensures, c.params-to_sql-6.ensures, c.params-to_sql-7.ensures, c.requires.key, c.requires.expiry, c.as_str.ensures, c.name.ensures.value, optional (λ t. t.now) c.lent.result, c.lent.ensures) refl) (open_is_clean _ _ (g.met.S.Store.shut_if_dirty new.store))

@@ -4,7 +4,7 @@ use Rattle.sqlite.specs.Held.{state}
 use Rattle.sqlite.specs.Values.{bound_value, or_null}
 use Rattle.sqlite_value.specs.declared.value.Value.TheVariants.{Int, Text}
 use Rattle.sql_shelf.specs.Values.{flag}
-use Rattle.sql_shelf.proofs.Edits.{puts_tx}
+use Rattle.sql_shelf.proofs.Edits.{adds_tx}
 use Rattle.sql_shelf.proofs.StoreLemmas.{open_is_clean}
 use Rattle.sql_shelf.proofs.TxLemmas.{step}
 use Rattle.store_sql.proofs.tx_edits.put_open.Goals as goal
@@ -12,7 +12,7 @@ use Rattle.store_sql.proofs.tx_edits.put_open.Goals as goal
 pub returns-clause-goes : goal.returns-clause-goes
 returns-clause-goes g c =
     let new = c.execute.new.self.conn.now in
-    step (puts_tx (record { op = c.args.op.now; station = c.args.station.now; number = c.args.number; start = c.args.start.now; stop = None })) (state g.S.Store) c.args.tx.now.conn.now new _ c.execute.result c.execute.ensures.runs c.execute.ensures.ended c.execute.ensures.survives
+    step (adds_tx (record { op = c.args.op.now; station = c.args.station.now; number = c.args.number; start = c.args.start.now; stop = None })) (state g.S.Store) c.args.tx.now.conn.now new _ c.execute.result c.execute.ensures.runs c.execute.ensures.ended c.execute.ensures.survives
     (λ i. (ap bound_value c.params-to_sql.ensures) i ∷
     (ap bound_value c.params-to_sql-2.ensures) i ∷
     (ap bound_value c.params-to_sql-3.ensures) i ∷
