@@ -6,10 +6,15 @@
 from heartbeats import OPERATORS, START, lines as booted, write_script
 
 
-def lines(stations, ticks):
-    yield from booted(stations, 0)
+def calls(stations):
+    """A call to each station."""
     for place in range(stations):
         yield f"{START} {OPERATORS[place % 2]} call CP{place:05} ClearCache {{}}"
+
+
+def lines(stations, ticks):
+    yield from booted(stations, 0)
+    yield from calls(stations)
     for _ in range(ticks):
         yield f"{START + 29} * tick"
 

@@ -5,6 +5,8 @@ ghost use Rattle.std.specs.Str.{bytes_eq};
 ghost use Rattle.hub_rows.specs.Keyed.{by_key, found, without, pair_key};
 ghost use Rattle.hub_rows.specs.Places.{IsPlace};
 
+use ocpp_types::Boxed;
+
 /// A row whose key is its operator and one name.
 pub trait NamedRow: Drop {
     ghost op: { Self → List ℕ };
@@ -18,6 +20,20 @@ pub trait NamedRow: Drop {
     /// What tells the operator's rows apart.
     fn name(&self) -> &str
         ensures { result.now ≡ name self.now };
+}
+
+impl<R: NamedRow> NamedRow for Boxed<R> {
+    ghost op = { R.op };
+
+    ghost name = { R.name };
+
+    fn op(&self) -> &str {
+        self.as_ref().op()
+    }
+
+    fn name(&self) -> &str {
+        self.as_ref().name()
+    }
 }
 
 /// The index of a row, or else the index that it would go to, by a binary search.

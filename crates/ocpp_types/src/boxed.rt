@@ -1,5 +1,7 @@
 //! Boxed values, which contracts see as the values themselves.
 ghost use Rattle.std.specs.Prelude.{◌≡◌, IfOk};
+ghost use Rattle.std.specs.Borrow.{Lends, sem};
+ghost use Rattle.ocpp_types.specs.contracts.boxed.Boxed.{the_row};
 
 use crate::memory::Mem;
 use std::alloc::{AllocError, Global};
@@ -13,6 +15,8 @@ pub struct Boxed<T> {
 }
 
 impl<T> Model for Boxed<T> {
+    ghost use Rattle.std.specs.Prelude.{◌≡◌};
+
     ghost Value = { T };
 
     ghost view = { λ b. b.inner.value };
@@ -24,6 +28,14 @@ impl<T> Boxed<T> {
         ensures { result.now ≡ self.now }
     {
         &self.inner
+    }
+
+    /// The value, lent to be changed.
+    pub fn as_mut(&mut self) -> &mut T
+        ensures* lent { sem 𝓛 (Lends (the_row T.row) T.row self.entry result (λ w. w)) }
+        ensures value { result.now ≡ self.old }
+    {
+        self.inner.as_mut()
     }
 
     /// The value, taken out.

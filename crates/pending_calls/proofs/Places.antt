@@ -38,6 +38,10 @@ sorted-inserted key xs i x false gap sorted = sorted
 split_here : {R : Type 0} (xs : List R) (i : ℕ) (x : R) → i < length xs → ((d : R) → get_or xs i d ≡ x) → xs ≡ take i xs ++ x ∷ drop (i + 1) xs
 split_here xs i x within here = sym (take-append-drop i xs) ∙ ap (λ ys. take i xs ++ ys) (drop_here xs i x within (sym (here x)))
 
+-- what a box at an index lends is the row there
+pub lent_here : {R : Type 0} (xs : List R) (i : ℕ) (lent boxed : R) → boxed ≡ get_or xs i boxed → lent ≡ boxed → lent ≡ get_or xs i lent
+lent_here xs i lent boxed here is = subst (λ x. x ≡ get_or xs i x) (sym is) here
+
 -- ---- slots
 
 module _ {C : Type 0} (b station : List ℕ) (slots : List (SlotState C)) (i : ℕ) where

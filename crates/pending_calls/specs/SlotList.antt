@@ -42,6 +42,10 @@ module _ {C : Type 0} where
   abbrev pub next_expiry : ℕ → List (SlotState C) → Option (Moved C)
   next_expiry m slots = expiry_found m (find (is_overdue m) slots)
 
+  -- no call is overdue at that second
+  abbrev pub NoneDue : ℕ → List (SlotState C) → Type 0
+  NoneDue m = AllByRecursion (λ s. is_overdue m s ≡ false)
+
   -- the slot at index i is the first that passes the test
   pub record IsFirstAt (test : SlotState C → Bool) (slots : List (SlotState C)) (i : ℕ) : Type 0 where
     pub slot : SlotState C

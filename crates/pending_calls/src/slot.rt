@@ -1,5 +1,5 @@
 //! The calls of one station.
-ghost use Rattle.std.specs.Prelude.{◌≡◌, ◌≤◌, length, option_map, IsOk, IfOk, OnOk, OnErr, OnSome, IfNone};
+ghost use Rattle.std.specs.Prelude.{◌≡◌, ◌≤◌, false, length, option_map, IsOk, IfOk, OnOk, OnErr, OnSome, IfNone};
 ghost use Rattle.pending_calls.specs.Slot.{IsSlot, most_calls, fresh, ready, call_of, message_of, call_in_flight, submitted, sent_now, moved_on, move, is_answered, answered, answer_move, is_overdue, expired, expiry, cut, ended_calls, with_connection};
 
 use crate::call::{Call, InFlight, Message, Moved, Waiting};
@@ -18,7 +18,7 @@ const MOST_CALLS: usize = 16;
 const LAST_NUMBER: u32 = 2147483647;
 
 /// The answer time: how many seconds a call waits for its answer.
-const ANSWER_SECONDS: u64 = 30;
+pub const ANSWER_SECONDS: u64 = 30;
 
 /// The calls of one station.
 #[derive(Drop)]
@@ -115,6 +115,16 @@ impl<C: Drop> Slot<C> {
         match &self.in_flight {
             Some(first) => first.sent.seconds() + ANSWER_SECONDS <= moment.seconds(),
             None => false,
+        }
+    }
+
+    /// The last second at which the call in flight isn't overdue.
+    pub fn quiet_until(&self) -> u64
+        ensures { is_overdue result self.now ≡ false }
+    {
+        match &self.in_flight {
+            Some(first) => first.sent.seconds() + (ANSWER_SECONDS - 1),
+            None => u64::MAX,
         }
     }
 

@@ -1,16 +1,16 @@
 //! The calls of all stations.
-ghost use Rattle.std.specs.Prelude.{◌≡◌, ◌≤◌, [], length, option_map, count_by, IsOk, IfOk, OnOk, OnErr};
+ghost use Rattle.std.specs.Prelude.{◌≡◌, ◌≤◌, ◌+◌, [], length, take, option_map, count_by, IsOk, IfOk, OnOk, OnErr};
 ghost use Rattle.std.specs.List.Sorted.{IsStrictlySortedBy};
 ghost use Rattle.std.proofs.Props.{props};
 ghost use Rattle.hub_rows.specs.Keyed.{by_key, put};
 ghost use Rattle.pending_calls.specs.Slot.{IsSlot, most_calls, ready, call_in_flight, is_answered, submitted, sent_now, expired, answered, answer_move, is_overdue, cut, ended_calls, with_connection};
-ghost use Rattle.pending_calls.specs.SlotList.{slot_key, changed_at, first_changed, next_expiry, IsFirstThat};
+ghost use Rattle.pending_calls.specs.SlotList.{slot_key, changed_at, first_changed, next_expiry, IsFirstThat, NoneDue};
 
 use crate::call::{Message, Moved};
 use crate::ended::Ended;
-use crate::slot::Slot;
+use crate::slot::{ANSWER_SECONDS, Slot};
 use hub_rows::{place_of_name, row_of};
-use ocpp_types::{Mem, Moment, Refusal, Text};
+use ocpp_types::{Boxed, Mem, Moment, Refusal, Text};
 use std::alloc::Global;
 
 /// The calls of all stations, in the order of their operators and names. A station that was never
@@ -19,13 +19,24 @@ use std::alloc::Global;
 /// A sender has at most one call in flight at a receiver (OCPP-J 1.6, section 4.1.1). So at each
 /// station at most one call is in flight, and up to 15 more wait for its end. It ends with its
 /// answer, with the connection, or by `expire_next` from 30 seconds after it was sent.
+///
+/// A tick looks at no slot where nothing can be overdue, and the moves of one tick look at each slot
+/// once. A slot is in a box, so that a new one moves little.
 #[derive(Drop)]
 pub struct Slots<C> {
     alloc: Global,
     /// The number of a station's first call.
     first_number: u32,
-    list: Vec<Slot<C>>,
+    list: Vec<Boxed<Slot<C>>>,
+    /// Up to this second no call is overdue.
+    quiet_until: u64,
+    /// How many of the first slots were searched for a call that is overdue at the second
+    /// `searched_at`, and none is.
+    searched: usize,
+    searched_at: u64,
     ghost sorted: { IsStrictlySortedBy (by_key slot_key) list.items } by { Prim.hlevel props },
+    ghost quiet: { NoneDue quiet_until list.items } by { Prim.hlevel props },
+    ghost none_found: { NoneDue searched_at (take searched list.items) } by { Prim.hlevel props },
 }
 
 impl<C: Drop> Slots<C> {
@@ -41,6 +52,9 @@ impl<C: Drop> Slots<C> {
             alloc,
             first_number: number,
             list: Vec::new(alloc),
+            quiet_until: u64::MAX,
+            searched: 0,
+            searched_at: 0,
         }
     }
 
@@ -49,7 +63,7 @@ impl<C: Drop> Slots<C> {
         ensures { result ≡ (slot_at op.now station.now self.now).is_connected }
     {
         match row_of(&self.list, op, station) {
-            Some(slot) => slot.is_connected(),
+            Some(slot) => slot.as_ref().is_connected(),
             None => false,
         }
     }
@@ -62,7 +76,7 @@ impl<C: Drop> Slots<C> {
         ensures slot { IsSlot (slot_at op.now station.now self.now) }
     {
         match row_of(&self.list, op, station) {
-            Some(slot) => slot.ready(),
+            Some(slot) => slot.as_ref().ready(),
             None => Err(Refusal::NotConnected),
         }
     }
@@ -72,7 +86,7 @@ impl<C: Drop> Slots<C> {
     pub fn in_flight<'a>(&'a self, op: &str, station: &str) -> Option<(u32, &'a C)>
         ensures { option_map (λ call. (call.0, call.1.now)) result ≡ call_in_flight (slot_at op.now station.now self.now) }
     {
-        row_of(&self.list, op, station)?.in_flight()
+        row_of(&self.list, op, station)?.as_ref().in_flight()
     }
 
     /// Whether an answer of a station ends its call in flight: whether the answer's `id` is the
@@ -82,7 +96,7 @@ impl<C: Drop> Slots<C> {
         ensures { result ≡ is_answered id.now (slot_at op.now station.now self.now) }
     {
         match row_of(&self.list, op, station) {
-            Some(slot) => slot.is_answered(id),
+            Some(slot) => slot.as_ref().is_answered(id),
             None => false,
         }
     }
@@ -98,7 +112,8 @@ impl<C: Drop> Slots<C> {
     {
         match place_of_name(&self.list, op, station) {
             Ok(place) => {
-                let slot = &mut self.list[place];
+                self.searched = 0;
+                let slot = self.list[place].as_mut();
                 Ok(slot.connect(self.alloc))
             }
             Err(place) => {
@@ -106,6 +121,8 @@ impl<C: Drop> Slots<C> {
                 let station = Text::copy_of(self.alloc, station)?;
                 let mut slot = Slot::new(self.alloc, self.first_number, op, station);
                 let ended = slot.connect(self.alloc);
+                let slot = Boxed::new(self.alloc, slot)?;
+                self.searched = 0;
                 self.list.insert(place, slot)?;
                 Ok(ended)
             }
@@ -122,7 +139,8 @@ impl<C: Drop> Slots<C> {
     {
         match place_of_name(&self.list, op, station) {
             Ok(place) => {
-                let slot = &mut self.list[place];
+                self.searched = 0;
+                let slot = self.list[place].as_mut();
                 slot.cut(self.alloc)
             }
             Err(_) => Ended::none(self.alloc),
@@ -149,7 +167,9 @@ impl<C: Drop> Slots<C> {
     {
         match place_of_name(&self.list, op, station) {
             Ok(place) => {
-                let slot = &mut self.list[place];
+                self.quiet_until = quiet_with(self.quiet_until, moment);
+                self.searched = 0;
+                let slot = self.list[place].as_mut();
                 slot.submit(command, text, moment)
             }
             Err(_) => unreachable!(),
@@ -166,7 +186,9 @@ impl<C: Drop> Slots<C> {
     {
         match place_of_name(&self.list, op, station) {
             Ok(place) => {
-                let slot = &mut self.list[place];
+                self.quiet_until = quiet_with(self.quiet_until, moment);
+                self.searched = 0;
+                let slot = self.list[place].as_mut();
                 slot.answer(id, moment)
             }
             Err(_) => None,
@@ -178,9 +200,12 @@ impl<C: Drop> Slots<C> {
     pub fn due(&self, moment: Moment) -> usize
         ensures { result ≡ count_by (is_overdue moment) (all_slots self.now) }
     {
+        if moment.seconds() <= self.quiet_until {
+            return 0;
+        }
         let mut due = 0;
         for slot in &self.list {
-            if slot.is_overdue(moment) {
+            if slot.as_ref().is_overdue(moment) {
                 due += 1;
             }
         }
@@ -195,20 +220,62 @@ impl<C: Drop> Slots<C> {
         ensures list { all_slots self.new ≡ first_changed (is_overdue moment) (expired moment) (all_slots self.old) }
         ensures number { first_number self.new ≡ first_number self.old }
     {
-        let place = self.overdue_place(moment)?;
-        let slot = &mut self.list[place];
-        slot.expire(moment)
+        if moment.seconds() <= self.quiet_until {
+            return None;
+        }
+        match self.overdue_place(moment) {
+            Some(place) => {
+                self.searched = place;
+                self.searched_at = moment.seconds();
+                let slot = self.list[place].as_mut();
+                slot.expire(moment)
+            }
+            None => {
+                self.quiet_until = self.last_quiet_second();
+                None
+            }
+        }
+    }
+
+    /// The last second up to which no call that is in flight is overdue.
+    fn last_quiet_second(&self) -> u64
+        ensures { NoneDue result (all_slots self.now) }
+    {
+        let mut until = u64::MAX;
+        for slot in &self.list {
+            until = until.min(slot.as_ref().quiet_until());
+        }
+        until
     }
 
     /// The index of the first station whose call in flight is overdue at `moment`.
     fn overdue_place(&self, moment: Moment) -> Option<usize>
         ensures { IsFirstThat (is_overdue moment) (all_slots self.now) result }
     {
-        for i in 0..self.list.len() {
-            if self.list[i].is_overdue(moment) {
+        for i in self.first_unsearched(moment)..self.list.len() {
+            if self.list[i].as_ref().is_overdue(moment) {
                 return Some(i);
             }
         }
         None
     }
+
+    /// How many of the first slots need no search at `moment`.
+    fn first_unsearched(&self, moment: Moment) -> usize
+        ensures { NoneDue moment (take result (all_slots self.now)) }
+    {
+        if moment.seconds() <= self.searched_at {
+            self.searched
+        } else {
+            0
+        }
+    }
+}
+
+/// The last second at which no call is overdue, where that was `until` and a call is sent at `moment`.
+fn quiet_with(until: u64, moment: Moment) -> u64
+    ensures before { result ≤ until }
+    ensures sent { result ≤ moment + 29 }
+{
+    until.min(moment.seconds() + (ANSWER_SECONDS - 1))
 }

@@ -6,7 +6,7 @@ pub returns-in-Some : goal.returns-in-Some
 returns-in-Some g c =
     let s = c.args.self.now in
     let here = ap (slot_or s.first_number c.args.op.now c.args.station.now) (rw c.deref.ensures.value at c.in-Some.ensures) in
-    c.is_connected.ensures ∙ ap (λ slot. slot.is_connected) here
+    c.is_connected.ensures ∙ ap (λ slot. slot.is_connected) (c.as_ref.ensures ∙ here)
 
 pub returns-in-None : goal.returns-in-None
 returns-in-None g c =

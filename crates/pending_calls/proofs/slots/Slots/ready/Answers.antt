@@ -7,7 +7,8 @@ pub returns-in-Some : goal.returns-in-Some
 returns-in-Some g c =
     let s = c.args.self.now in
     let here = ap (slot_or s.first_number c.args.op.now c.args.station.now) (rw c.deref.ensures.value at c.in-Some.ensures) in
-    record { number = c.ready.ensures.number ∙ ap ready here; slot = subst IsSlot here c.ready.ensures.slot }
+    let slot = c.as_ref.ensures ∙ here in
+    record { number = c.ready.ensures.number ∙ ap ready slot; slot = subst IsSlot slot c.ready.ensures.slot }
 
 pub returns-in-None : goal.returns-in-None
 returns-in-None g c =
