@@ -1,5 +1,5 @@
 //! A store that keeps the answers of look-ups.
-ghost use Rattle.std.specs.Prelude.{◌≡◌, ◌<◌, ◌⊎◌, ◌↔◌, Err, IfOk, OnOk};
+ghost use Rattle.std.specs.Prelude.{◌≡◌, ◌<◌, ◌⊎◌, ◌↔◌, Err, IfOk};
 ghost use Rattle.std.proofs.Props.{props};
 ghost use Rattle.hub_rows.specs.Reads.{OnlyReads};
 ghost use Rattle.cached.specs.declared.cached.CacheFault.TheVariants as cache_fault;
@@ -28,6 +28,7 @@ const MOST_ANSWERS: usize = 65_536;
 /// Why there is no cache.
 #[derive(Clone, Copy, Debug, PartialEq, Eq, Drop, Error)]
 pub enum CacheFault {
+    /// No memory for the room of a cache.
     #[error("out of memory")]
     NoMemory,
     /// Not 1 to 65,536 answers.

@@ -1,5 +1,5 @@
 //! The answers that are kept, the last used first.
-ghost use Rattle.std.specs.Prelude.{◌≡◌, IfNone, IfOk, IfSome};
+ghost use Rattle.std.specs.Prelude.{IfNone, IfOk, IfSome};
 ghost use Rattle.hub_rows.specs.Changes.{after_change};
 ghost use Rattle.hub_rows.specs.Rows.{Rows};
 ghost use Rattle.cached.specs.Answers.{AreRight, AreUnchanged};

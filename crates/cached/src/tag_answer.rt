@@ -1,6 +1,6 @@
 //! Answers to look-ups of id tags.
 ghost use Rattle.std.specs.Prelude.{◌≡◌, true, false, IfOk, option_map};
-ghost use Rattle.cached.specs.TagAnswers.{IsAbout, IsApart, IsParentApart, touched, looked_up};
+ghost use Rattle.cached.specs.TagAnswers.{IsAbout, IsApart, IsParentApart, touched};
 
 use crate::answer::Answer;
 use hub_rows::{Change, Edit, Info};
