@@ -213,6 +213,34 @@ def check_with_sqlite(checks, db):
     database.close()
 
 
+def page_size(db):
+    database = sqlite3.connect(db)
+    size = database.execute("PRAGMA page_size").fetchone()[0]
+    database.close()
+    return size
+
+
+def check_pages(checks):
+    """A new file has small pages, and one that is there keeps its own until sqlite3 changes them, as OPERATIONS says."""
+    words = ["replay", "--operators", "ACME", "--db"]
+    put, row = b"1 ACME tag put K1 - 0 -\n", (0, 'ACME row tag "K1" - 0 -\nACME ok\n', "")
+    small, empty, drafted = checks.new_file(), checks.new_file(), checks.new_file()
+    Path(empty).touch()
+    Path(f"{drafted}.new").write_text("left by a crash")
+    for db, size in ((small, 1024), (empty, 4096), (drafted, 4096)):
+        checks.check("a tag is put", checks.run(*words, db, lines=put), (0, "ACME ok\n", ""))
+        checks.check(f"pages of {size}", page_size(db), size)
+    checks.check("no draft is left", os.path.exists(f"{small}.new"), False)
+    checks.check("another's draft stays", Path(f"{drafted}.new").read_text(), "left by a crash")
+    database = sqlite3.connect(empty, isolation_level=None)
+    for statement in ("PRAGMA journal_mode = DELETE", "PRAGMA page_size = 1024", "VACUUM", "PRAGMA journal_mode = WAL"):
+        database.execute(statement).fetchall()
+    database.close()
+    checks.check("smaller pages", page_size(empty), 1024)
+    for db in (small, empty, drafted):
+        checks.check("the tag is there", checks.run(*words, db, lines=b"2 ACME list tags\n"), row)
+
+
 def check_ask(checks):
     """The operator's tool: a line, lines of standard input, a command that is followed to its end."""
     ask = ["ask", "--port", str(PORT), "--operator", "ACME"]
@@ -501,6 +529,7 @@ def check_all(checks):
     check_replays(checks)
     check_two_runs(checks)
     check_restart(checks)
+    check_pages(checks)
     check_ask(checks)
     check_log(checks)
     check_turns(checks)

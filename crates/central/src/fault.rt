@@ -45,6 +45,7 @@ impl From<PrepareFault> for RunFault {
 }
 
 impl From<CacheFault> for RunFault {
+    /// The program's capacity is a good one, so a cache that isn't made found no memory.
     fn from(_fault: CacheFault) -> RunFault {
         RunFault::NoMemory
     }

@@ -7,6 +7,7 @@ mod clock;
 mod command;
 mod fault;
 mod journal;
+mod new_file;
 mod records;
 mod replaying;
 mod reply;

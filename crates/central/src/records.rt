@@ -1,5 +1,6 @@
 //! Records in the file of a database.
 
+use crate::new_file::make_if_new;
 use sqlite::{FileFrom, FileStore, Unknown};
 use store_sql::{PrepareFault, SqlStore};
 
@@ -11,5 +12,7 @@ pub fn open(
     rt: &HostRuntime,
     path: &str,
 ) -> Result<SqlStore<FileStore<FileFrom<Unknown>>>, PrepareFault> {
+    // what was not made here is made below, with larger pages
+    let _made = make_if_new(rt, path);
     SqlStore::open(rt, path, Unknown)
 }

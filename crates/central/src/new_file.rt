@@ -1,0 +1,56 @@
+//! A new file for records.
+
+use std::fs::File;
+use std::io::Write;
+use std::{fs, io};
+
+/// The size of a page of a new file, in bytes. Most changes write a row in each of a few pages, and a page is written
+/// whole. So small pages make a change cheaper.
+const PAGE_SIZE: usize = 1024;
+
+/// Makes a database without tables at a path where there is no file. It is written as `PATH.new`, which then gets its
+/// name: so it is there whole or not at all, and no file that is there is changed. Where a log is left of a file that
+/// is gone, where there is a file `PATH.new`, or where something fails, none is made.
+pub fn make_if_new(rt: &HostRuntime, path: &str) -> io::Result<()> {
+    let log = format!(in rt.alloc(); "{path}-wal")?;
+    if fs::exists(rt, path)? || fs::exists(rt, log.as_str())? {
+        return Ok(());
+    }
+    let draft = format!(in rt.alloc(); "{path}.new")?;
+    let mut file = File::create_new(rt, draft.as_str())?;
+    let made = write_page(&mut file)
+        .and_then(|()| fs::hard_link(rt, draft.as_str(), path))
+        // so that a power cut leaves the new name too
+        .and_then(|()| file.sync_all());
+    fs::remove_file(rt, draft.as_str())?;
+    made
+}
+
+fn write_page(file: &mut File) -> io::Result<()> {
+    file.write_all(&first_page())?;
+    file.sync_all()
+}
+
+/// The one page of a database without tables, which is to be written by a log (the SQLite database file format,
+/// sections 1.3 and 1.6).
+fn first_page() -> [u8; PAGE_SIZE] {
+    let mut page = [0; PAGE_SIZE];
+    page[..16].copy_from_slice(b"SQLite format 3\0");
+    page[16..18].copy_from_slice(&(PAGE_SIZE as u16).to_be_bytes());
+    // the formats of the reader and the writer, no room at a page's end, and the shares of a payload
+    page[18..24].copy_from_slice(&[2, 2, 0, 64, 32, 32]);
+    // one change, and one page
+    page[27] = 1;
+    page[31] = 1;
+    // the format of a schema
+    page[47] = 4;
+    // UTF-8
+    page[59] = 1;
+    // the change by which the number of pages was written, and the version of the library that wrote it
+    page[95] = 1;
+    page[96..100].copy_from_slice(&3040001_u32.to_be_bytes());
+    // the leaf of a tree of rows, with no row; what rows there are ends with the page
+    page[100] = 13;
+    page[105..107].copy_from_slice(&(PAGE_SIZE as u16).to_be_bytes());
+    page
+}
