@@ -129,6 +129,6 @@ fn reason(refusal: Refusal) -> &'static str {
         Refusal::Unknown => "unknown (404)",
         Refusal::NoHandshake => "handshake failed",
         Refusal::NoSubprotocol => "no subprotocol ocpp1.6",
-        Refusal::Rejected => "rejected by its policy",
+        Refusal::Gone => "no longer on record",
     }
 }

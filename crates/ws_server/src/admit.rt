@@ -79,7 +79,13 @@ impl<T: Read + Write + Drop> Gateway<T> {
         ensures setting { setting V.view hub.new ≡ setting V.view hub.old }
     {
         self.peers.reserve()?;
-        let outs = hub.handle(event)?;
+        let outs = match hub.handle(event) {
+            Ok(outs) => outs,
+            Err(fault) => {
+                self.notes.add(&route, address, Happened::Failed(fault));
+                return Err(fault);
+            }
+        };
         let place = self.peers.count();
         let is_turned_away = turns_away(&outs);
         note_connect(
@@ -104,7 +110,7 @@ fn note_connect<T: Read + Write + Drop>(
     is_turned_away: bool,
 ) {
     if is_turned_away {
-        notes.add(route, address, Happened::Refused(Refusal::Rejected));
+        notes.add(route, address, Happened::Refused(Refusal::Gone));
         return;
     }
     if peers.is_connected(route) {

@@ -1,6 +1,5 @@
 //! What a peer hands to the hub.
 ghost use Rattle.std.specs.Prelude.{◌≡◌, IfOk, OnErr, is_some, true};
-ghost use Rattle.std.specs.List.{list_any};
 ghost use Rattle.event_plans.specs.declared.event.Event.TheVariants as event;
 ghost use Rattle.event_plans.specs.declared.event.What.TheVariants as what;
 ghost use Rattle.ws_server.specs.Events.{event_of, disconnect_of, parting, is_turned, turns_away};

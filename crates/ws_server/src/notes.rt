@@ -1,5 +1,4 @@
 //! What became of connections, as a log tells it.
-ghost use Rattle.std.specs.Prelude.{◌≡◌};
 
 use hub::Fault;
 use std::alloc::Global;
@@ -23,8 +22,8 @@ pub enum Refusal {
     NoHandshake,
     /// A station doesn't offer the subprotocol `ocpp1.6`.
     NoSubprotocol,
-    /// A station whose policy is Rejected.
-    Rejected,
+    /// A station that is no longer on record.
+    Gone,
 }
 
 /// What became of a connection.
@@ -42,13 +41,14 @@ pub enum Happened {
     Ended(Cause),
 }
 
-/// What became of one connection. It holds no text that a peer sent.
+/// What became of one connection. Of what a peer sent it has the names in its path alone.
 #[derive(Drop)]
 pub struct Note {
     /// What the connection stands for. `Nothing` is one that asked for nothing yet, or for an unknown path.
     pub route: Route,
     /// Where it came from, if that is still known.
     pub address: Option<SocketAddr>,
+    /// What became of it.
     pub happened: Happened,
 }
 

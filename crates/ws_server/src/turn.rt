@@ -1,5 +1,5 @@
 //! Serving the peers.
-ghost use Rattle.std.specs.Prelude.{◌≡◌, ◌<◌, List, ℕ, Err, IfErr, OnErr, length};
+ghost use Rattle.std.specs.Prelude.{◌≡◌, ◌<◌, Err, length};
 ghost use Rattle.hub_rows.specs.Reads.{IsCounted};
 ghost use Rattle.hub.specs.Hub.{hub_view, setting};
 ghost use Rattle.ws_server.specs.Steps.{Takes};
@@ -109,9 +109,17 @@ impl<T: Read + Write + Drop> Gateway<T> {
         let Some(event) = parting(self.peers.peer(n), moment)? else {
             return Ok(());
         };
-        self.hand(hub, n, &event)?;
-        self.peers.finish(n);
-        Ok(())
+        match self.hand(hub, n, &event) {
+            Ok(()) => {
+                self.peers.finish(n);
+                Ok(())
+            }
+            Err(fault) => {
+                let route = self.peers.peer(n).route();
+                self.notes.add(route, None, Happened::Failed(fault));
+                Err(fault)
+            }
+        }
     }
 
     /// Serves each peer in order of admission, up to the first fault.

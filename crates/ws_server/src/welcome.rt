@@ -1,5 +1,5 @@
 //! A connection, from its head to its admission.
-ghost use Rattle.std.specs.Prelude.{◌≡◌, ◌≢◌, ◌&&◌, IfOk, IfErr, Err, false};
+ghost use Rattle.std.specs.Prelude.{◌≡◌, ◌≢◌, IfOk, IfErr, Err, false};
 ghost use Rattle.hub_rows.specs.Reads.{IsCounted};
 ghost use Rattle.hub.specs.Hub.{hub_view, world, setting, is_clean};
 ghost use Rattle.ws_server.specs.Admits.{is_known};
@@ -40,7 +40,13 @@ impl<T: Read + Write + Drop> Gateway<T> {
         ensures counted { IsCounted (hub_view S.view) hub.old hub.new (result ≡ Err Fault.Store) }
         ensures setting { setting V.view hub.new ≡ setting V.view hub.old }
     {
-        let is_known = is_known(hub, &route)?;
+        let is_known = match is_known(hub, &route) {
+            Ok(is_known) => is_known,
+            Err(fault) => {
+                self.notes.add(&route, address, Happened::Failed(fault));
+                return Err(fault);
+            }
+        };
         let is_station = matches!(route, Route::Station(_, _));
         match shake(self.alloc, stream, is_known, is_station) {
             Ok(socket) => self.admit(hub, socket, address, route, moment),

@@ -3,18 +3,15 @@ use Rattle.ws_peers.specs.Lists.{peers}
 use Rattle.ws_server.specs.Admits.{Enters}
 use Rattle.ws_server.specs.Events.{turns_away}
 use Rattle.ws_server.specs.Tells.{peers_of, TellsAll}
-use Rattle.ws_server.proofs.StepLaws.{connects_not, handed, nothing}
+use Rattle.ws_server.proofs.StepLaws.{handed}
 use Rattle.ws_server.proofs.gateway.Gateway.connect.Goals as goal
 
 pub returns-clause-takes : goal.returns-clause-takes
 returns-clause-takes g c =
-    let outs = c.in_ok-outs.outs.items in
+    let outs = c.in-Ok.outs.items in
     let mid = peers c.enter.new.all in
     let entered = subst (λ away. Enters g.T.Write.contents c.args.socket away c.args.route (peers c.reserve.new.self) mid) (c.turns_away-is_turned_away.ensures ∙ ap turns_away c.deref.ensures.value) c.enter.ensures in
     let inside = subst (λ old. Enters g.T.Write.contents c.args.socket (turns_away outs) c.args.route old mid) c.in_ok-reserve.ensures.peers entered in
     handed _ _ _ _ _ c.args.event.now outs
     (outs, mid, refl, inside, subst (λ os. TellsAll g.T.Write.contents os mid (peers_of c.tell_all.new.self)) c.deref-2.ensures.value c.tell_all.ensures.told)
-    c.in_ok-outs.ensures.taken c.in_ok-outs.ensures.outputs c.in_ok-outs.ensures.world
-
-pub returns-in_err-outs-clause-takes : goal.returns-in_err-outs-clause-takes
-returns-in_err-outs-clause-takes g c = nothing _ _ _ _ _ (connects_not g.T.Write.contents c.args.socket c.args.event.now c.args.route (peers_of c.args.self.now) _ _ c.from_residual-in_err-outs.ensures.0 c.reserve.ensures.peers) c.in_err-outs.ensures.fault
+    c.in-Ok.ensures.taken c.in-Ok.ensures.outputs c.in-Ok.ensures.world

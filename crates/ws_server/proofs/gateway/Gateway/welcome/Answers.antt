@@ -8,20 +8,20 @@ use Rattle.ws_server.proofs.HandshakeLaws.{known_hosted, no_cause}
 use Rattle.ws_server.proofs.StepLaws.{taken_on, nothing}
 use Rattle.ws_server.proofs.gateway.Gateway.welcome.Goals as goal
 
-pub returns-in-Ok-clause-takes : goal.returns-in-Ok-clause-takes
-returns-in-Ok-clause-takes g c =
+pub returns-in-Ok-shake-clause-takes : goal.returns-in-Ok-shake-clause-takes
+returns-in-Ok-shake-clause-takes g c =
     let old = peers_of c.args.self.now in
     let new = peers_of c.admit.new.self in
     let r = c.admit.result in
     let None : List Step → Type 0 = λ steps. steps ≡ [] in
     let Welcomed : List Step → Type 0 = λ steps. Welcomes g.T.Write.contents c.args.moment c.args.route old new steps r in
     taken_on _ _ _ _ _ None _ Welcomed
-    (λ before after none change. subst (λ steps. Welcomed (steps ++ after)) (sym none) (inr (c.in-Ok.socket, c.in-Ok.ensures.socket, change)))
-    c.in_ok-is_known.ensures.setting c.admit.ensures.counted.was_clean
-    (nothing _ _ _ _ None refl c.in_ok-is_known.ensures.world) c.admit.ensures.takes
+    (λ before after none change. subst (λ steps. Welcomed (steps ++ after)) (sym none) (inr (c.in-Ok-shake.socket, c.in-Ok-shake.ensures.socket, change)))
+    c.in-Ok.ensures.setting c.admit.ensures.counted.was_clean
+    (nothing _ _ _ _ None refl c.in-Ok.ensures.world) c.admit.ensures.takes
 
-pub returns-in-Ok-clause-hosted : goal.returns-in-Ok-clause-hosted
-returns-in-Ok-clause-hosted g c = λ clean.
-    let known = sym (c.in_ok-is_known.ensures.known (c.admit.ensures.counted.was_clean clean)) ∙ c.in-Ok.ensures.known in
-    let hosted = subst (λ st. is_route_of_hosted st.is_hosted c.args.route ≡ true) (sym c.in_ok-is_known.ensures.setting) (known_hosted _ (world g.S.Store.view c.args.hub.now).rows c.args.route known) in
+pub returns-in-Ok-shake-clause-hosted : goal.returns-in-Ok-shake-clause-hosted
+returns-in-Ok-shake-clause-hosted g c = λ clean.
+    let known = sym (c.in-Ok.ensures.known (c.admit.ensures.counted.was_clean clean)) ∙ c.in-Ok-shake.ensures.known in
+    let hosted = subst (λ st. is_route_of_hosted st.is_hosted c.args.route ≡ true) (sym c.in-Ok.ensures.setting) (known_hosted _ (world g.S.Store.view c.args.hub.now).rows c.args.route known) in
     no_cause _ c.admit.result hosted c.admit.ensures.not_hosted
