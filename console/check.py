@@ -250,6 +250,7 @@ class Browser:
         self.size(width, height, dark)
         self.command("Page.navigate", url=f"{PAGE.as_uri()}?server={server}&operator={operator}")
         self.wait("document.readyState === 'complete' && typeof fillForm === 'function'")
+        self.run("document.getElementById('open').click()")
 
     def shot(self, name, whole=True):
         time.sleep(0.4)
@@ -334,6 +335,7 @@ def nasty_records():
 class Cases:
     def __init__(self, browser):
         self.browser, self.passed, self.failed = browser, 0, 0
+        self.asked, self.is_sure = [], True
 
     def check(self, name, holds, seen=None):
         if holds:
@@ -363,8 +365,8 @@ class Cases:
         seen = self.browser.run("document.documentElement.scrollWidth")
         self.check(f"{name}: nothing is wider than the window", seen <= width, seen)
 
-    def click(self, text):
-        code = f"[...document.querySelectorAll('button')].find(button => button.textContent === {json.dumps(text)})"
+    def click(self, text, among="button"):
+        code = f"[...document.querySelectorAll('{among}')].find(button => button.textContent === {json.dumps(text)})"
         self.browser.run(f"{code}?.click()")
 
     def send(self, kind, **values):
@@ -377,6 +379,9 @@ class Cases:
                 f"{'field.checked' if value is True else 'field.value'} = {json.dumps(value)};"
                 "field.dispatchEvent(new Event('input', { bubbles: true })); }")
         run("document.getElementById('answer').textContent = ''; document.getElementById('send').click()")
+        if run("document.getElementById('sure').open"):
+            self.asked.append(self.text("question"))
+            self.click("Send" if self.is_sure else "Don't send", "#sure button")
         self.browser.wait("!/^(Sent.*)?$/.test(document.getElementById('answer').textContent)", 5)
         return self.text("answer")
 
@@ -446,6 +451,8 @@ def check_commands(cases, mock):
         ("station policy", dict(station="S9", policy="Rejected", interval="0"), "Taken.", "station policy S9 Rejected 0"),
         ("tag put", dict(tag="K7", parent="P1", until="2024-01-01T00:00:00", blocked=True), "Taken.", "tag put K7 P1 1 1704067200"),
         ("tag drop", dict(tag="K7"), "Taken.", "tag drop K7"),
+        ("call", dict(station="NORTH-01", action="RemoteStopTransaction"), "Taken as call 2. Its end is shown under Calls.",
+         'call NORTH-01 RemoteStopTransaction { "transactionId": 2 }'),
         ("grant", dict(tag="K1", receiver="BETA", until=""), "Refused, NoSuchOperator: no operator of that name is hosted.", "grant K1 BETA -"),
         ("revoke", dict(tag="K1", receiver="BETA"), "Refused, NoSuchGrant: the tag is not granted to that operator.", "revoke K1 BETA"),
         ("line", dict(line="list tags"), "Rows: 1", "list tags"),
@@ -455,7 +462,28 @@ def check_commands(cases, mock):
         seen = cases.send(kind, **values)
         cases.check(f"{line}: the answer", seen == answer, seen)
         cases.check(f"{line}: the line", line in mock.heard, mock.heard[-3:])
+    check_questions(cases, mock)
     check_ends(cases, mock)
+
+
+def check_questions(cases, mock):
+    """Lines that do harm are asked for, and the transaction to stop is one of the station in the form."""
+    questions = [
+        "Reset NORTH-01? Open transactions there: 1.", "Set the policy of S9 to Rejected?", "Drop the id tag K7, with its grants?",
+        "Stop transaction 2 of NORTH-01 (tag K2, connector 1, started at 2024-01-01 00:00:00)?",
+    ]
+    cases.check("what was asked", cases.asked == questions, cases.asked)
+    count, cases.is_sure = len(mock.heard), False
+    seen = cases.send("line", line="tag drop K1")
+    cases.check("a no sends nothing", seen == "Not sent: tag drop K1" and len(mock.heard) == count, [seen, mock.heard[count:]])
+    seen = cases.send("call", station="NORTH-02", action="RemoteStopTransaction")
+    cases.check("no transaction of another station", seen == 'Not sent: call NORTH-02 RemoteStopTransaction { "transactionId": 0 }', seen)
+    cases.click("NORTH-01 / 1")
+    seen = cases.send("call")
+    cases.check("a chosen transaction brings its station", seen == 'Not sent: call NORTH-01 RemoteStopTransaction { "transactionId": 1 }', seen)
+    cases.check("and both are asked", cases.asked[-1].startswith("Stop transaction 1 of NORTH-01 (this page knows of no open one"), cases.asked[-1])
+    cases.click("NORTH-01 / 2")
+    cases.is_sure = True
 
 
 def check_ends(cases, mock):
@@ -602,6 +630,31 @@ def check_one_refresh(cases, mock):
     cases.check("a refresh that is off asks nothing", len(mock.heard) == before)
 
 
+def check_address(cases):
+    """A server that the page's address names is connected to by a person alone, and what can't be an address is told."""
+    browser, mock = cases.browser, Mock(small_records())
+    browser.size(1440, 900)
+    browser.command("Page.navigate", url=f"{PAGE.as_uri()}?server=127.0.0.1:{mock.port}&operator=ACME")
+    browser.wait("document.readyState === 'complete' && typeof fillForm === 'function'")
+    time.sleep(0.3)
+    cases.check("no connection unasked", browser.run("link.socket === null") and not mock.heard, mock.heard)
+    cases.check("the button is at hand", browser.run("document.activeElement.id") == "open")
+    empty = browser.run("[...document.querySelectorAll('section .hint')].map(one => one.textContent).filter(text => text === 'Not loaded.').length")
+    cases.check("what isn't loaded is told", empty == 3, empty)
+    for name, value, fault in (("port", "65536", "Enter a port from 1 to 65535."), ("host", "a b", "Enter a host name or an IP address.")):
+        browser.run(f"{{ const field = document.getElementById('connect').elements.{name}; field.before = field.value; field.value = {json.dumps(value)}; }}")
+        browser.run("document.getElementById('open').click()")
+        seen = browser.run(f"document.getElementById('connect').elements.{name}.validationMessage")
+        cases.check(f"a wrong {name} is told", seen == fault, seen)
+        browser.run(f"{{ const field = document.getElementById('connect').elements.{name}; field.value = field.before; field.dispatchEvent(new Event('input', {{ bubbles: true }})); }}")
+    browser.run("document.getElementById('open').click()")
+    cases.check("connects when asked", browser.wait("document.getElementById('status').textContent.startsWith('Connected')"))
+    cases.is_idle()
+    browser.run("window.usual = setTimeout; window.paused = 0; window.setTimeout = (run, time) => { paused = time; return 0; }; planRefresh(7000)")
+    cases.check("a refresh takes a fifth of the time", browser.run("window.setTimeout = usual; paused") == 28000, browser.run("paused"))
+    mock.stop()
+
+
 def check_first(cases):
     """Answers to another connection before each answer to the first refresh, when no listing is known yet."""
     browser, mock = cases.browser, Mock(small_records())
@@ -654,7 +707,7 @@ def check_nasty(cases):
     mock.stop()
     browser.open("%3Cimg%20src=x%3E", "%22%3E%3Cimg%20src=x%20onerror=window.ran=1%3E")
     check_dump(cases, "nasty query")
-    cases.check("nasty query: no connection", cases.text("status") == "Not connected", cases.text("status"))
+    cases.check("nasty query: no connection", cases.text("status").startswith("Not connected"), cases.text("status"))
 
 
 def check_dump(cases, name):
@@ -723,7 +776,7 @@ def main():
         if options.server:
             cases.attempt(check_server, options.server, options.operator)
         else:
-            for case in (check_policy, check_tables, check_first, check_many, check_nasty, check_holds):
+            for case in (check_policy, check_tables, check_address, check_first, check_many, check_nasty, check_holds):
                 cases.attempt(case)
         cases.check("the page has no errors", browser.faults == [], browser.faults)
     finally:
