@@ -1,10 +1,17 @@
-//! Streams of connections that are read only when the system has reported them ready.
+//! Streams of connections that are read only when the system has reported them ready, and whose bytes are given to
+//! the system at the end of a turn.
 #![tactic(auto)]
 
+mod link;
 mod peek;
+mod readiness;
 mod ready_stream;
+mod served;
 mod streams;
+mod turn;
+mod unsent;
 
 pub use peek::Peek;
 pub use ready_stream::ReadyStream;
+pub use served::Served;
 pub use streams::Streams;

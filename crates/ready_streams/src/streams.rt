@@ -1,19 +1,21 @@
 //! All streams of a listener.
 
-use crate::ready_stream::{Readiness, ReadyStream};
+use crate::link::{Link, NOWHERE};
+use crate::ready_stream::ReadyStream;
+use crate::turn::Turn;
 use mio::net::{TcpListener, TcpStream};
 use mio::{Events, Interest, Poll, Token};
-use std::alloc::Global;
+use std::alloc::{AllocError, Global};
 use std::io;
 use std::io::ErrorKind;
-use std::net::{Net, SocketAddr};
+use std::net::{Ipv4Addr, Net, SocketAddr};
 use std::rc::Rc;
 use std::time::Duration;
 
 /// The most events that one wait takes.
 const MAX_EVENTS: usize = 1024;
 
-/// The token of the listener. A stream's is its place.
+/// The token of the listener. A stream's is its place among the links.
 const LISTENER: Token = Token(usize::MAX);
 
 /// The streams of the connections of one listener, and what the system has reported of them.
@@ -25,19 +27,24 @@ pub struct Streams {
     listener: TcpListener,
     /// There may be a connection to accept.
     may_accept: bool,
-    /// By place. That of a stream that is gone has no other owner.
-    readiness: Vec<Rc<Readiness>>,
+    turn: Rc<Turn>,
+    /// By token. `None` is free.
+    links: Vec<Option<Rc<Link>>>,
+    /// The tokens that are free. It has room for all.
+    free: Vec<usize>,
+    /// The tokens of the streams that may be read. It has room for all.
+    readable: Vec<usize>,
+    /// The places of their peers, as `ready` found them. It has room for all.
+    places: Vec<usize>,
 }
 
 impl Streams {
-    /// The streams of a listener whose `accept` doesn't wait. `rt` gives the network.
-    pub fn new<N: Net>(
-        alloc: Global,
-        rt: &N,
-        listener: std::net::TcpListener,
-    ) -> io::Result<Streams> {
+    /// The streams of a listener on 127.0.0.1 at a port, with the longest queue of connections that the system allows.
+    /// `rt` gives the network. Errors: the port is in use or not allowed, and those of the system's epoll.
+    pub fn listen<N: Net>(alloc: Global, rt: &N, port: u16) -> io::Result<Streams> {
         let poll = Poll::new(rt)?;
-        let mut listener = TcpListener::from_std(listener);
+        let address = SocketAddr::from((Ipv4Addr::LOCALHOST, port));
+        let mut listener = TcpListener::bind(rt, address)?;
         poll.registry()
             .register(&mut listener, LISTENER, Interest::READABLE)?;
         Ok(Streams {
@@ -46,13 +53,17 @@ impl Streams {
             events: Events::with_capacity(alloc, MAX_EVENTS)?,
             listener,
             may_accept: true,
-            readiness: Vec::new(alloc),
+            turn: Rc::new(alloc, Turn::new(alloc))?,
+            links: Vec::new(alloc),
+            free: Vec::new(alloc),
+            readable: Vec::new(alloc),
+            places: Vec::new(alloc),
         })
     }
 
-    /// Accepts one connection: its stream, and the address that it comes from. `None` is that there is none. Errors: those of the system's accept,
-    /// as where no descriptor is left, after which the connection waits on; and those of setting it
-    /// up, after which it is dropped.
+    /// Accepts one connection: its stream, and the address that it comes from. `None` is that there is none. Errors:
+    /// those of the system's accept, as where no descriptor is left, after which the connection waits on; and those of
+    /// setting it up, after which it is dropped.
     pub fn accept(&mut self) -> io::Result<Option<(ReadyStream, SocketAddr)>> {
         if !self.may_accept {
             return Ok(None);
@@ -69,55 +80,152 @@ impl Streams {
 
     fn add(&mut self, mut stream: TcpStream) -> io::Result<ReadyStream> {
         stream.set_nodelay(true)?;
-        let place = self.free_place();
-        let readiness = Rc::new(self.alloc, Readiness::new())?;
-        let shared = Rc::clone(&readiness)?;
-        if place < self.readiness.len() {
-            self.readiness[place] = shared;
-        } else {
-            self.readiness.push(shared)?;
+        let token = self.free_token()?;
+        self.poll.registry().register(
+            &mut stream,
+            Token(token),
+            Interest::READABLE | Interest::WRITABLE,
+        )?;
+        let link = Rc::new(self.alloc, Link::new(&self.turn, stream, token))?;
+        let shared = Rc::clone(&link)?;
+        let turn = Rc::clone(&self.turn)?;
+        if let Some(place) = self.links.get_mut(token) {
+            *place = Some(shared);
+            let _taken = self.free.pop();
+            let _listed = self.readable.push(token);
         }
-        self.poll
-            .registry()
-            .register(&mut stream, Token(place), Interest::READABLE)?;
-        Ok(ReadyStream::new(stream, readiness))
+        Ok(ReadyStream::new(link, turn))
     }
 
-    /// The first place of a stream that is gone, or a new one.
-    fn free_place(&self) -> usize {
-        self.readiness
-            .iter()
-            .position(|readiness| is_gone(readiness))
-            .unwrap_or(self.readiness.len())
+    /// The last token that is free, with room on all lists.
+    fn free_token(&mut self) -> io::Result<usize> {
+        if let Some(token) = self.free.last() {
+            return Ok(*token);
+        }
+        let token = self.links.len();
+        let places = token.saturating_add(1);
+        self.turn.reserve(places)?;
+        reserve(&mut self.free, places)?;
+        reserve(&mut self.readable, places)?;
+        reserve(&mut self.places, places)?;
+        self.links.push(None)?;
+        self.free.push(token)?;
+        Ok(token)
     }
 
     /// Whether something can be done without a wait: a stream can be read on, or, where connections are
     /// accepted, there may be one.
     pub fn is_pending(&self, accepts: bool) -> bool {
-        (accepts && self.may_accept)
-            || self
-                .readiness
-                .iter()
-                .any(|readiness| readiness.is_pending() && !is_gone(readiness))
+        (accepts && self.may_accept) || self.readable.iter().any(|token| self.is_read_on(*token))
+    }
+
+    fn is_read_on(&self, token: usize) -> bool {
+        match self.links.get(token) {
+            Some(Some(link)) => link.readiness.is_pending(),
+            Some(None) | None => false,
+        }
     }
 
     /// Waits for a report of the system, but no longer than that, and takes up to 1,024 reports; the others come
-    /// with the next wait. Errors: those of the system's wait. A signal is none.
+    /// with the next wait. Then a turn begins. Errors: those of the system's wait. A signal is none.
     pub fn wait(&mut self, time: Duration) -> io::Result<()> {
         self.poll.poll(&mut self.events, Some(time))?;
         for event in &self.events {
             let token = event.token();
             if token == LISTENER {
                 self.may_accept = true;
-            } else if let Some(readiness) = self.readiness.get(token.0) {
-                readiness.report(event.is_read_closed() || event.is_error());
+                continue;
+            }
+            let Some(Some(link)) = self.links.get(token.0) else {
+                continue;
+            };
+            if event.is_writable() {
+                link.unblock();
+            }
+            let is_ending = event.is_read_closed() || event.is_error();
+            if event.is_readable() || is_ending {
+                link.readiness.report(is_ending);
+                if !link.is_listed.replace(true) {
+                    let _listed = self.readable.push(token.0);
+                }
             }
         }
+        self.turn.begin();
         Ok(())
+    }
+
+    /// The places of the peers whose streams may be read, in order.
+    pub fn ready(&mut self) -> &[usize] {
+        self.places.clear();
+        for token in &self.readable {
+            if let Some(Some(link)) = self.links.get(*token) {
+                let place = link.place.get();
+                if place != NOWHERE {
+                    let _listed = self.places.push(place);
+                }
+            }
+        }
+        self.places.sort_unstable();
+        self.places.as_slice()
+    }
+
+    /// Ends a turn: what was written is given to the system, and the streams that are gone are closed.
+    pub fn settle(&mut self) {
+        for _ in 0..self.turn.count_used() {
+            if let Some(token) = self.turn.take_used() {
+                self.settle_one(token);
+            }
+        }
+        self.unlist();
+    }
+
+    fn settle_one(&mut self, token: usize) {
+        if let Some(Some(link)) = self.links.get(token) {
+            link.is_noted.set(false);
+            link.give();
+        }
+        self.release(token);
+    }
+
+    /// Closes all streams that are gone. Those that were neither read nor written in their last turn are closed by
+    /// this alone.
+    pub fn release_all(&mut self) {
+        for token in 0..self.links.len() {
+            self.release(token);
+        }
+        self.unlist();
+    }
+
+    /// Closes the stream with that token, if it is gone.
+    fn release(&mut self, token: usize) {
+        if let Some(place) = self.links.get_mut(token) {
+            if place.as_ref().is_some_and(is_gone) {
+                *place = None;
+                let _freed = self.free.push(token);
+            }
+        }
+    }
+
+    /// Takes those off the list that have nothing to be read.
+    fn unlist(&mut self) {
+        let links = &self.links;
+        self.readable.retain(|token| match links.get(*token) {
+            Some(Some(link)) => {
+                let stays = link.readiness.may_find();
+                link.is_listed.set(stays);
+                stays
+            }
+            Some(None) | None => false,
+        });
     }
 }
 
-/// Whether the stream is gone, so that its readiness has no other owner.
-fn is_gone(readiness: &Rc<Readiness>) -> bool {
-    Rc::strong_count(readiness) == 1
+/// Makes room for so many in all.
+fn reserve(list: &mut Vec<usize>, places: usize) -> Result<(), AllocError> {
+    list.reserve(places.saturating_sub(list.len()))
+}
+
+/// Whether the stream is gone, so that its link has no other owner.
+fn is_gone(link: &Rc<Link>) -> bool {
+    Rc::strong_count(link) == 1
 }

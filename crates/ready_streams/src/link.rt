@@ -1,0 +1,135 @@
+//! One connection.
+ghost use Rattle.std.specs.Io.{ReadsAtMost, WritesAtMost};
+
+use crate::readiness::{Readiness, Right};
+use crate::turn::Turn;
+use crate::unsent::Unsent;
+use mio::net::TcpStream;
+use std::cell::{Cell, RefCell};
+use std::io;
+use std::io::{Error, ErrorKind, Read};
+
+/// The bytes that may wait in a stream, if its server says nothing else.
+const ROOM: usize = 2_097_152;
+
+/// A peer that has sent more bytes than this since it was last written to sends a long message.
+const LONG: usize = 8192;
+
+/// What stands for a place that is none.
+pub const NOWHERE: usize = usize::MAX;
+
+/// A connection: its stream, and what waits in it. Its reader and the streams of the listener share it.
+#[derive(Drop)]
+pub struct Link {
+    stream: TcpStream,
+    /// Its place among the streams of the listener.
+    token: usize,
+    pub readiness: Readiness,
+    unsent: RefCell<Unsent>,
+    /// The bytes that may wait.
+    room: Cell<usize>,
+    /// The bytes that were read since it was last written to.
+    unanswered: Cell<usize>,
+    /// The place of its peer, or `NOWHERE`.
+    pub place: Cell<usize>,
+    /// It is on the list of those that may be read.
+    pub is_listed: Cell<bool>,
+    /// It is noted as used in this turn.
+    pub is_noted: Cell<bool>,
+}
+
+impl Link {
+    pub fn new(turn: &Turn, stream: TcpStream, token: usize) -> Link {
+        Link {
+            stream,
+            token,
+            readiness: Readiness::new(),
+            unsent: RefCell::new(Unsent::new(turn.alloc)),
+            room: Cell::new(ROOM),
+            unanswered: Cell::new(0),
+            place: Cell::new(NOWHERE),
+            is_listed: Cell::new(true),
+            is_noted: Cell::new(false),
+        }
+    }
+
+    pub fn set_room(&self, bytes: usize) {
+        self.room.set(bytes);
+    }
+
+    fn note(&self, turn: &Turn) {
+        if !self.is_noted.replace(true) {
+            turn.note(self.token);
+        }
+    }
+
+    /// Reads, where the system has reported bytes and the turn allows it.
+    pub fn read(&self, turn: &Turn, buf: &mut [u8]) -> io::Result<usize>
+        ensures at_most { ReadsAtMost result buf.new }
+    {
+        self.note(turn);
+        let Some(right) = self.right(turn) else {
+            return Err(Error::from(ErrorKind::WouldBlock));
+        };
+        let got = (&self.stream).read(buf);
+        self.readiness.learn(&got, buf.len());
+        if let Ok(len) = &got {
+            self.unanswered
+                .set(self.unanswered.get().saturating_add(*len));
+            if right == Right::Further {
+                turn.spend(*len);
+            }
+        }
+        got
+    }
+
+    /// By which right the next read asks the system, if it does.
+    fn right(&self, turn: &Turn) -> Option<Right> {
+        let is_long = self.unanswered.get() > LONG && self.readiness.has_bytes();
+        if is_long && !turn.admits_long(self.token) {
+            return None;
+        }
+        self.readiness.asks(turn)
+    }
+
+    /// Copies the next bytes, where the system has reported since the last call.
+    pub fn peek(&self, turn: &Turn, buf: &mut [u8]) -> io::Result<usize>
+        ensures at_most { ReadsAtMost result buf.new }
+    {
+        if !self.readiness.is_unseen() {
+            return Err(Error::from(ErrorKind::WouldBlock));
+        }
+        self.note(turn);
+        self.stream.peek(buf)
+    }
+
+    /// Takes all of the bytes, or none.
+    pub fn write(&self, turn: &Turn, buf: &[u8]) -> io::Result<usize>
+        ensures at_most { WritesAtMost result buf.now }
+    {
+        self.note(turn);
+        self.unanswered.set(0);
+        match self.unsent.try_borrow_mut() {
+            Ok(mut unsent) => {
+                unsent.add(&mut &self.stream, buf, self.room.get())?;
+                Ok(buf.len())
+            }
+            Err(_) => Err(Error::from(ErrorKind::WriteZero)),
+        }
+    }
+
+    /// Gives the system what it takes of the bytes that wait.
+    pub fn give(&self) {
+        if let Ok(mut unsent) = self.unsent.try_borrow_mut() {
+            unsent.give(&mut &self.stream);
+        }
+    }
+
+    /// The system has room again.
+    pub fn unblock(&self) {
+        if let Ok(mut unsent) = self.unsent.try_borrow_mut() {
+            unsent.unblock();
+            unsent.give(&mut &self.stream);
+        }
+    }
+}
