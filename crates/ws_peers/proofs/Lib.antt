@@ -1,3 +1,6 @@
 pub mod PathLaws
 pub mod PeerLaws
+pub mod PlaceLaws
+pub mod StageLaws
+pub mod KeyLaws
 pub mod ListLaws

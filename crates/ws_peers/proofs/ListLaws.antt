@@ -1,20 +1,22 @@
 -- One peer of all, and what all keep.
-use Rattle.std.proofs.Common.{arith, inl, inr, add-one, ◌≡◌, ◌∙◌, ℕ, zero, suc, ◌+◌, ◌<◌, ◌≤◌, List, [], ◌∷◌, ◌++◌, length, take, drop, get_or, set, sym, ap, refl, Bool, true, false, true≢false, ◌||◌, ◌&&◌, not, subst, Option, None, Some}
-use Rattle.std.proofs.Math.Seq.{take-append_seam}
+use Rattle.std.proofs.Common.{arith, inl, inr, ◌≡◌, ◌∙◌, ℕ, zero, suc, ◌+◌, ◌<◌, ◌≤◌, List, [], ◌∷◌, ◌++◌, length, map, take, get_or, set, sym, ap, refl, Bool, true, false, true≢false, ◌&&◌, if◌then◌else◌, append-nil, subst, Option, None, Some}
+use Rattle.std.proofs.Math.Seq.{take-append_seam, map-set_same}
 use Rattle.std.proofs.lemmas.Grind.{common_steps}
 use Rattle.std.proofs.lemmas.List.Elements.{All-from_get_or}
-use Rattle.std.proofs.lemmas.List.Folds.{list_any_none, list_any-append}
+use Rattle.std.proofs.lemmas.List.{map-append}
+use Rattle.std.proofs.lemmas.List.Folds.{list_any_none}
 use Rattle.std.proofs.lemmas.List.Quantifiers.{position-Some}
 use Rattle.std.proofs.lemmas.List.Sums.{fails_before_first}
 use Rattle.std.specs.List.{position, position_or_len}
 use Rattle.std.specs.Option.{IfSome, IfNone}
 use Rattle.std.specs.List.{AllZip, list_any}
 use Rattle.ws_peers.specs.Lists.{At, Front, is_open_at, ToStation, is_open_for, GivesWay, Hears, ToOperator, ForText}
-use Rattle.ws_peers.specs.Peers.{is_operator_peer}
+use Rattle.ws_peers.specs.Peers.{is_operator_peer, key_of_peer, places_of}
+use Rattle.ws_peers.proofs.PlaceLaws.{places_set, places_zip, places_more, front_all}
 use Rattle.ws_peers.specs.declared.peer.Peer.{Peer}
 use Rattle.ws_peers.specs.declared.routes.Route.{Route}
 use Rattle.ws_peers.specs.declared.routes.Route.TheVariants.{Station, Operator, Nothing}
-use Rattle.ws_peers.specs.Routes.{is_operator, is_operator_of, is_station}
+use Rattle.ws_peers.specs.Routes.{is_operator, key_of, is_operator_of, is_station}
 use Rattle.ws_peers.specs.Sends.{Sent, Replaced}
 use Rattle.ws_peers.specs.Stages.{is_open}
 
@@ -23,46 +25,35 @@ at_set R n [] d y small r = absurd (omega (arith, small))
 at_set R zero (x ∷ xs) d y small r = (r, refl)
 at_set R (suc n) (x ∷ xs) d y small r = (refl, at_set R n xs d y (omega (arith, small)) r)
 
-any_set : {A : Type 0} (f : A → Bool) (xs : List A) (n : ℕ) (d y : A) → f y ≡ f (get_or xs n d) → list_any f (set xs n y) ≡ list_any f xs
-any_set f [] n d y e = refl
-any_set f (x ∷ xs) zero d y e = ap (λ b. b || list_any f xs) e
-any_set f (x ∷ xs) (suc n) d y e = ap (λ b. f x || b) (any_set f xs n d y e)
-
-any_zip : {A : Type 0} (f : A → Bool) (R : A → A → Type 0) → ((x y : A) → R x y → f y ≡ f x) → (xs ys : List A) → AllZip R xs ys → list_any f ys ≡ list_any f xs
-any_zip f R same [] [] z = refl
-any_zip f R same [] (y ∷ ys) z = absurd z
-any_zip f R same (x ∷ xs) [] z = absurd z
-any_zip f R same (x ∷ xs) (y ∷ ys) z = grind (arith, same x y z.0, any_zip f R same xs ys z.1)
-
 module _ {T : Type 0} where
-  -- what is so of peers with a flag is so of peers with the same routes
-  pub kept_set : (flag : Bool) (ps : List (Peer T)) (n : ℕ) (d p : Peer T) → p.route ≡ (get_or ps n d).route → (flag || not (list_any is_operator_peer ps)) ≡ true → (flag || not (list_any is_operator_peer (set ps n p))) ≡ true
-  kept_set flag ps n d p e is = ap (λ b. flag || not b) (any_set is_operator_peer ps n d p (ap (λ r. is_operator_peer (record p { route = r })) e)) ∙ is
+  operator_route : (p q : Peer T) → q.route ≡ p.route → is_operator_peer q ≡ is_operator_peer p
+  operator_route p q e = ap (λ r. is_operator r) e
 
-  pub kept_zip : (flag : Bool) (R : Peer T → Peer T → Type 0) → ((p q : Peer T) → R p q → q.route ≡ p.route) → (ps qs : List (Peer T)) → AllZip R ps qs → (flag || not (list_any is_operator_peer ps)) ≡ true → (flag || not (list_any is_operator_peer qs)) ≡ true
-  kept_zip flag R same ps qs z is = ap (λ b. flag || not b) (any_zip is_operator_peer R (λ p q r. ap (λ x. is_operator_peer (record p { route = x })) (same p q r)) ps qs z) ∙ is
+  -- the places of the operators among peers are those among peers with the same routes
+  pub kept_set : (places : List ℕ) (ps : List (Peer T)) (n : ℕ) (d p : Peer T) → p.route ≡ (get_or ps n d).route → places ≡ places_of is_operator_peer 0 ps → places ≡ places_of is_operator_peer 0 (set ps n p)
+  kept_set places ps n d p e is = is ∙ sym (places_set is_operator_peer 0 ps n d p (operator_route (get_or ps n d) p e))
+
+  pub kept_zip : (places : List ℕ) (R : Peer T → Peer T → Type 0) → ((p q : Peer T) → R p q → q.route ≡ p.route) → (ps qs : List (Peer T)) → AllZip R ps qs → places ≡ places_of is_operator_peer 0 ps → places ≡ places_of is_operator_peer 0 qs
+  kept_zip places R same ps qs z is = is ∙ sym (places_zip is_operator_peer R (λ p q r. operator_route p q (same p q r)) 0 ps qs z)
 
 -- ---- loops over all
 
-front_more : {A : Type 0} (R : A → A → Type 0) (old now : List A) (i : ℕ) (d y : A) → Front R i old now → i < length now → R (get_or now i d) y → Front R (suc i) old (set now i y)
-front_more R old [] i d y f small r = absurd (omega (arith, small))
-front_more R [] (b ∷ bs) zero d y f small r = absurd (omega (arith, ap length f))
-front_more R (a ∷ aa) (b ∷ bs) zero d y f small r = subst (λ zs. R (get_or zs 0 d) y × (bs ≡ drop 1 zs)) f (r, refl)
-front_more R [] (b ∷ bs) (suc i) d y f small r = absurd f
-front_more R (a ∷ aa) (b ∷ bs) (suc i) d y f small r = (f.0, front_more R aa bs i d y f.1 (omega (arith, small)) r)
+module _ {T : Type 0} where
+  -- and so are the keys
+  pub keyed_set : (keys : List ℕ) (ps : List (Peer T)) (n : ℕ) (d p : Peer T) → p.route ≡ (get_or ps n d).route → keys ≡ map key_of_peer ps → keys ≡ map key_of_peer (set ps n p)
+  keyed_set keys ps n d p e is = is ∙ sym (map-set_same key_of_peer ps n p d (ap (λ r. key_of r) e))
 
--- one more
-pub front_on : {A : Type 0} (R : A → A → Type 0) (old now : List A) (i : ℕ) (d y : A) → Front R i old now → i < length now → R (get_or now i d) y → Front R (i + 1) old (set now i y)
-front_on R old now i d y f small r = rw add-one (front_more R old now i d y f small r)
+  pub keyed_zip : (keys : List ℕ) (R : Peer T → Peer T → Type 0) → ((p q : Peer T) → R p q → q.route ≡ p.route) → (ps qs : List (Peer T)) → AllZip R ps qs → keys ≡ map key_of_peer ps → keys ≡ map key_of_peer qs
+  keyed_zip keys R same ps qs z is = is ∙ keys_zip ps qs z where
+    keys_zip : (ps qs : List (Peer T)) → AllZip R ps qs → map key_of_peer ps ≡ map key_of_peer qs
+    keys_zip [] [] z = refl
+    keys_zip [] (q ∷ qs) z = absurd z
+    keys_zip (p ∷ ps) [] z = absurd z
+    keys_zip (p ∷ ps) (q ∷ qs) z = ap (λ k. k ∷ map key_of_peer ps) (ap (λ r. key_of r) (sym (same p q z.0))) ∙ ap (λ ks. key_of_peer q ∷ ks) (keys_zip ps qs z.1)
 
-front_all : {A : Type 0} (R : A → A → Type 0) (n : ℕ) (old now : List A) → Front R n old now → length now ≤ n → AllZip R old now
-front_all R zero [] [] f small = tt
-front_all R zero (a ∷ aa) [] f small = absurd (omega (arith, ap length f))
-front_all R zero old (b ∷ bs) f small = absurd (omega (arith, small))
-front_all R (suc n) [] [] f small = tt
-front_all R (suc n) [] (b ∷ bs) f small = absurd f
-front_all R (suc n) (a ∷ aa) [] f small = absurd f
-front_all R (suc n) (a ∷ aa) (b ∷ bs) f small = (f.0, front_all R n aa bs f.1 (omega (arith, small)))
+  pub keyed_pushed : (keys more : List ℕ) (key : ℕ) (ps qs : List (Peer T)) (p : Peer T) → key ≡ key_of_peer p → keys ≡ map key_of_peer ps → more ≡ keys ++ key ∷ [] → qs ≡ ps ++ p ∷ [] → more ≡ map key_of_peer qs
+  keyed_pushed keys more key ps qs p same is put added =
+      put ∙ ap (λ k. keys ++ k ∷ []) same ∙ ap (λ ks. ks ++ key_of_peer p ∷ []) is ∙ sym (map-append key_of_peer ps (p ∷ [])) ∙ ap (map key_of_peer) (sym added)
 
 -- all of them
 pub front_end : {A : Type 0} (R : A → A → Type 0) (n len : ℕ) (old now rest : List A) → Front R n old now → length now ≤ n → len ≡ length now → AllZip R old (take len (now ++ rest))
@@ -76,10 +67,6 @@ zip_more to [] [] z = tt
 zip_more to [] (y ∷ ys) z = absurd z
 zip_more to (x ∷ xs) [] z = absurd z
 zip_more to (x ∷ xs) (y ∷ ys) z = (to x y z.0, zip_more to xs ys z.1)
-
-none_of : (a b : Bool) → (a || b) ≡ false → (a ≡ false) × (b ≡ false)
-none_of true b e = absurd (true≢false e)
-none_of false b e = (refl, e)
 
 operator_at : (op : List ℕ) (shown : Bool) (r : Route) → (shown && is_operator_of op r) ≡ true → is_operator r ≡ true
 operator_at op false r e = absurd (true≢false (sym e))
@@ -113,20 +100,13 @@ module _ {T : Type 0} (contents : T → Option (List ℕ)) where
   for_route op None p q h = heard_route op [] p q (h [])
   for_route op (Some t) p q h = heard_route op t p q h
 
-  -- where there is no operator nobody hears
-  none_hears : (op text : List ℕ) (ps : List (Peer T)) → list_any is_operator_peer ps ≡ false → ToOperator contents op text ps ps
-  none_hears op text [] e = tt
-  none_hears op text (p ∷ ps) e =
-      let parts = none_of (is_operator_peer p) (list_any is_operator_peer ps) e in
-      (record { own = λ is. absurd (true≢false (sym (operator_is op p is) ∙ parts.0)); other = λ _. refl }, none_hears op text ps parts.1)
+  -- one that is no operator doesn't hear
+  not_heard : (op text : List ℕ) (p : Peer T) → is_operator_peer p ≡ false → Hears contents op text p p
+  not_heard op text p e = record { own = λ is. absurd (true≢false (sym (operator_is op p is) ∙ e)); other = λ _. refl }
 
-  pub nobody_hears : (flag : Bool) (op : List ℕ) (text : Option (List ℕ)) (ps : List (Peer T)) → flag ≡ false → (flag || not (list_any is_operator_peer ps)) ≡ true → ForText text (λ t. ToOperator contents op t ps ps)
-  nobody_hears flag op None ps e is = λ t. none_hears op t ps (grind (arith, e, is))
-  nobody_hears flag op (Some t) ps e is = none_hears op t ps (grind (arith, e, is))
-
-pub or_not : (b : Bool) → (b || not b) ≡ true
-or_not true = refl
-or_not false = refl
+  pub for_stays : (op : List ℕ) (text : Option (List ℕ)) (p : Peer T) → is_operator_peer p ≡ false → ForText text (λ t. Hears contents op t p p)
+  for_stays op None p e = λ t. not_heard op t p e
+  for_stays op (Some t) p e = not_heard op t p e
 
 -- ---- the first open connection of a station
 
@@ -139,7 +119,7 @@ pub position_found : {X : Type 0} (f : X → Bool) (xs : List X) (r : Option ℕ
 position_found f xs None e = tt
 position_found f xs (Some n) e = λ d. (position-Some f xs n d (sym e)).1
 
-none_passes : {X : Type 0} (f : X → Bool) (xs : List X) → position f xs ≡ None → list_any f xs ≡ false
+pub none_passes : {X : Type 0} (f : X → Bool) (xs : List X) → position f xs ≡ None → list_any f xs ≡ false
 none_passes f [] e = refl
 none_passes f (x ∷ xs) e =
     let all : length (x ∷ xs) ≤ position_or_len f (x ∷ xs) = grind (arith, common_steps) in
@@ -164,13 +144,13 @@ to_nobody contents op station text ps e = inr (e, refl)
 
 -- ---- one more peer
 
-one_more : (flag any one : Bool) → (flag || not any) ≡ true → ((flag || one) || not (any || (one || false))) ≡ true
-one_more true any one e = refl
-one_more false true one e = absurd (true≢false (sym e))
-one_more false false true e = refl
-one_more false false false e = refl
-
-pub pushed : {T : Type 0} (flag one : Bool) (ps qs : List (Peer T)) (p : Peer T) → one ≡ is_operator p.route → (flag || not (list_any is_operator_peer ps)) ≡ true → qs ≡ ps ++ p ∷ [] → ((flag || one) || not (list_any is_operator_peer qs)) ≡ true
-pushed flag one ps qs p same e is =
-    ap (λ any. (flag || one) || not any) (ap (list_any is_operator_peer) is ∙ list_any-append is_operator_peer ps (p ∷ []) ∙ ap (λ o. list_any is_operator_peer ps || (o || false)) (sym same))
-    ∙ one_more flag (list_any is_operator_peer ps) one e
+pub pushed : {T : Type 0} (places more : List ℕ) (ps qs : List (Peer T)) (p : Peer T) → places ≡ places_of is_operator_peer 0 ps → qs ≡ ps ++ p ∷ []
+    → more ≡ (if is_operator_peer p then places ++ length ps ∷ [] else places) → more ≡ places_of is_operator_peer 0 qs
+pushed places more ps qs p e is put =
+    put
+    ∙ (elim (is_operator_peer p) as (λ b. (if b then places ++ length ps ∷ [] else places) ≡ places_of is_operator_peer 0 ps ++ (if b then (0 + length ps) ∷ [] else [])) [
+      | true ↦ ap (λ x. x ++ length ps ∷ []) e ∙ ap (λ k. places_of is_operator_peer 0 ps ++ k ∷ []) (let same : length ps ≡ 0 + length ps = omega arith in same)
+      | false ↦ e ∙ sym (append-nil (places_of is_operator_peer 0 ps))
+    ])
+    ∙ sym (places_more is_operator_peer 0 ps p)
+    ∙ ap (places_of is_operator_peer 0) (sym is)

@@ -20,9 +20,9 @@ module _ {T : Type 0} where
   abbrev pub peers : Peers T → List (Peer T)
   peers all = all.items.items
 
-  -- there is room for one more
+  -- there is room for one more, for its place among those of the operators, and for its key
   abbrev pub has_room : Peers T → Type 0
-  has_room all = vec_len all.items + 1 ≤ vec_capacity all.items
+  has_room all = (vec_len all.items + 1 ≤ vec_capacity all.items) × (vec_len all.items + 1 ≤ vec_capacity all.operators) × (vec_len all.items + 1 ≤ vec_capacity all.keys)
 
   -- an open connection of that station
   abbrev pub is_open_at : List ℕ → List ℕ → Peer T → Bool

@@ -1,13 +1,13 @@
 -- A peer, as contracts see it: its route and its stage.
-use Rattle.std.specs.Prelude.{◌≡◌, Bool, false}
+use Rattle.std.specs.Prelude.{◌≡◌, ℕ, suc, List, [], ◌∷◌, Bool, false, if◌then◌else◌}
 use Rattle.tungstenite.specs.Socket.{Socket}
 use Rattle.ws_peers.specs.declared.peer.Peer.{Peer}
 use Rattle.ws_peers.specs.declared.cause.Cause.{Cause}
 use Rattle.ws_peers.specs.declared.routes.Route.{Route}
 use Rattle.ws_peers.specs.declared.stage.Stage.{Stage}
 use Rattle.ws_peers.specs.declared.stage.Stage.TheVariants.{Open, Gone}
-use Rattle.ws_peers.specs.Routes.{is_operator}
-use Rattle.ws_peers.specs.Stages.{ended, leaving, is_held}
+use Rattle.ws_peers.specs.Routes.{is_operator, key_of}
+use Rattle.ws_peers.specs.Stages.{is_open, ended, leaving, is_held}
 
 module _ {T : Type 0} where
   abbrev pub route_of : Peer T → Route
@@ -36,7 +36,20 @@ module _ {T : Type 0} where
   abbrev pub is_operator_peer : Peer T → Bool
   is_operator_peer p = is_operator p.route
 
+  -- the key of what it stands for
+  abbrev pub key_of_peer : Peer T → ℕ
+  key_of_peer p = key_of p.route
+
+  -- it is served
+  abbrev pub is_open_peer : Peer T → Bool
+  is_open_peer p = is_open p.stage
+
   -- the peer keeps its route, and one that is gone stays gone
   pub record Kept (old new : Peer T) : Type 0 where
     pub route : new.route ≡ old.route
     pub gone : is_held old.stage ≡ false → is_held new.stage ≡ false
+
+-- the places of the items that pass a test, in ascending order, where the first item is at place n
+abbrev pub places_of : {A : Type 0} → (A → Bool) → ℕ → List A → List ℕ
+places_of f n [] = []
+places_of f n (x ∷ xs) = if f x then n ∷ places_of f (suc n) xs else places_of f (suc n) xs

@@ -1,5 +1,6 @@
 -- What a connection stands for.
-use Rattle.std.specs.Prelude.{ℕ, List, Bool, true, false, ◌&&◌}
+use Rattle.std.specs.Prelude.{ℕ, List, Bool, true, false, ◌&&◌, ◌+◌, ◌*◌, ◌%◌}
+use Rattle.std.specs.List.{fold}
 use Rattle.std.specs.Str.{bytes_eq}
 use Rattle.ws_peers.specs.declared.routes.Route.{Route}
 use Rattle.ws_peers.specs.declared.routes.Route.TheVariants.{Station, Operator, Nothing}
@@ -21,3 +22,17 @@ abbrev pub is_operator : Route → Bool
 is_operator (Operator o) = true
 is_operator (Station o s) = false
 is_operator Nothing = false
+
+-- a key after one more byte
+unfoldable pub mixed : ℕ → ℕ → ℕ
+mixed key byte = (key * 257 + byte) % 4_294_967_291
+
+-- a key of a station, so that equal names have equal keys
+abbrev pub station_key : List ℕ → List ℕ → ℕ
+station_key op station = fold mixed (fold mixed 0 op) station
+
+-- the key of what a connection stands for
+abbrev pub key_of : Route → ℕ
+key_of (Station op station) = station_key op station
+key_of (Operator op) = 0
+key_of Nothing = 0

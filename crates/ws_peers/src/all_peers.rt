@@ -1,18 +1,22 @@
 //! All connected peers: sends to them, admission and removal.
 ghost use Rattle.std.specs.Prelude.{◌+◌, ◌≤◌, vec_len, vec_capacity, ℕ, List, ◌≡◌, ◌++◌, ◌∷◌, [], map, length, OnOk, OnErr, IfSome, IfNone, true, false, ◌<◌, slice_index_or, option_map};
-ghost use Rattle.std.specs.List.{AllZip, filter, list_any, position};
+ghost use Rattle.std.specs.List.{AllZip, filter, list_all, list_any, position};
 ghost use Rattle.ws_peers.specs.Lists.{is_open_at};
-ghost use Rattle.ws_peers.specs.Peers.{is_operator_peer};
+ghost use Rattle.ws_peers.specs.Peers.{is_open_peer};
 
+use crate::operators::{list_operators, list_place, tell};
 use crate::peer::Peer;
 use crate::peers::Peers;
+use crate::ready::push_ready;
 use crate::routes::Route;
+use crate::stations::{first_open, give_way, list_keys};
 use ocpp_types::Mem;
+use ready_streams::Served;
 use std::io::{Read, Write};
 use tungstenite::{NoMask, WebSocket};
 
 #[tactic(auto, using(crate::proofs::ListLaws::sent_at, crate::proofs::ListLaws::to_nobody, crate::proofs::ListLaws::position_within, crate::proofs::ListLaws::position_found, crate::proofs::ListLaws::position_missing))]
-impl<T: Read + Write + Drop> Peers<T> {
+impl<T: Read + Write + Served + Drop> Peers<T> {
     ghost use Rattle.ws_peers.specs.Lists.{peers, has_room, is_connected, ForText, ToStation, ToOperator, GivesWay, GiveWay};
     ghost use Rattle.ws_peers.specs.Peers.{stage_of, open_peer, leaves};
     ghost use Rattle.ws_peers.specs.Stages.{is_held};
@@ -37,7 +41,7 @@ impl<T: Read + Write + Drop> Peers<T> {
         if near < self.items.len() && self.items[near].is_open_at(op, station) {
             return Some(near);
         }
-        first_open(&self.items, op, station)
+        first_open(&self.items, &self.keys, op, station)
     }
 
     /// Whether a route is that of a station with an open connection.
@@ -45,7 +49,12 @@ impl<T: Read + Write + Drop> Peers<T> {
         ensures { result ≡ is_connected route.now (peers self.now) }
     {
         match route {
-            Route::Station(op, station) => has_open(&self.items, op.as_str(), station.as_str()),
+            Route::Station(op, station) => first_open(
+                &self.items,
+                &self.keys,
+                op.as_str(),
+                station.as_str(),
+            ).is_some(),
             Route::Operator(_) | Route::Nothing => false,
         }
     }
@@ -56,13 +65,7 @@ impl<T: Read + Write + Drop> Peers<T> {
         ensures sent { ForText (option_map (λ t. t.now) text.entry) (λ t. ToOperator T.contents op.now t (peers self.old) (peers self.new)) }
         ensures count { length (peers self.new) ≡ length (peers self.old) }
     {
-        if !self.has_operators {
-            return;
-        }
-        let alloc = self.alloc;
-        for peer in self.items.iter_mut() {
-            peer.hear(alloc, op, text);
-        }
+        self.has_ended |= tell(&mut self.items, &self.operators, self.alloc, op, text);
     }
 
     /// Makes room for one more.
@@ -71,6 +74,9 @@ impl<T: Read + Write + Drop> Peers<T> {
         ensures peers { peers self.new ≡ peers self.old }
     {
         self.items.reserve(1)?;
+        let after = self.items.len() + 1;
+        self.operators.reserve(after - self.operators.len())?;
+        self.keys.reserve(1)?;
         Ok(())
     }
 
@@ -78,28 +84,45 @@ impl<T: Read + Write + Drop> Peers<T> {
     pub fn leave(&mut self)
         ensures { peers self.new ≡ map leaves (peers self.old) }
     {
+        if !self.has_ended {
+            return;
+        }
         for peer in self.items.iter_mut() {
             peer.leave();
         }
     }
 
-    /// Drops those that are gone.
+    /// Drops those that are gone. The streams of the others are told their places anew.
     pub fn sweep(&mut self)
         ensures { peers self.new ≡ filter (λ p. is_held (stage_of p)) (peers self.old) }
     {
+        if !self.has_ended {
+            return;
+        }
+        let count = self.items.len();
         self.items.retain(|peer| peer.stage().is_held());
-        self.has_operators = has_operator(&self.items);
+        if self.items.len() < count {
+            set_places(&self.items);
+        }
+        list_operators(&self.items, &mut self.operators);
+        list_keys(&self.items, &mut self.keys);
+        self.has_ended = !all_open(&self.items);
     }
 
     /// Adds a peer, for which there is room. Another connection of the same station is replaced.
+    /// Its stream is told its place and its room.
     pub fn push(&mut self, socket: WebSocket<T, NoMask>, route: Route)
         requires { has_room self.old }
         ensures { (older : List (Peer T)) × GiveWay T.contents route (peers self.old) older
             × (peers self.new ≡ older ++ open_peer socket route ∷ []) }
     {
         self.make_way(&route);
-        self.has_operators |= route.is_operator();
-        push_ready(&mut self.items, Peer::new(socket, route));
+        list_place(&mut self.operators, self.items.len(), route.is_operator());
+        push_ready(&mut self.keys, route.key());
+        let peer = Peer::new(socket, route);
+        peer.set_place(self.items.len());
+        peer.set_room();
+        push_ready(&mut self.items, peer);
     }
 
     fn make_way(&mut self, route: &Route)
@@ -118,40 +141,20 @@ impl<T: Read + Write + Drop> Peers<T> {
         ensures way { AllZip (GivesWay T.contents op.now station.now) (peers self.old) (peers self.new) }
         ensures room { has_room self.new }
     {
-        for peer in self.items.iter_mut() {
-            peer.give_way(op, station);
-        }
+        self.has_ended |= give_way(&mut self.items, &self.keys, op, station);
     }
 }
 
-/// The place of the first open connection of a station.
-fn first_open<T: Read + Write + Drop>(peers: &[Peer<T>], op: &str, station: &str) -> Option<usize>
-    ensures { result ≡ position (is_open_at op.now station.now) peers.now }
+/// Whether all are open.
+fn all_open<T: Read + Write + Drop>(peers: &[Peer<T>]) -> bool
+    ensures { result ≡ list_all is_open_peer peers.now }
 {
-    peers.iter().position(|peer| peer.is_open_at(op, station))
+    peers.iter().all(|peer| peer.stage().is_open())
 }
 
-/// Whether a station has an open connection.
-fn has_open<T: Read + Write + Drop>(peers: &[Peer<T>], op: &str, station: &str) -> bool
-    ensures { result ≡ list_any (is_open_at op.now station.now) peers.now }
-{
-    peers.iter().any(|peer| peer.is_open_at(op, station))
-}
-
-/// Whether an operator is among them.
-fn has_operator<T: Read + Write + Drop>(peers: &[Peer<T>]) -> bool
-    ensures { result ≡ list_any is_operator_peer peers.now }
-{
-    peers.iter().any(|peer| peer.route().is_operator())
-}
-
-/// Adds a peer, for which there is room.
-fn push_ready<T: Read + Write + Drop>(peers: &mut Vec<Peer<T>>, peer: Peer<T>)
-    requires { vec_len peers.old + 1 ≤ vec_capacity peers.old }
-    ensures { peers.new.items ≡ peers.old.items ++ peer ∷ [] }
-{
-    match peers.push(peer) {
-        Ok(()) => {}
-        Err(_) => unreachable!(),
+/// Tells each stream its place.
+fn set_places<T: Read + Write + Served + Drop>(peers: &[Peer<T>]) {
+    for (n, peer) in peers.iter().enumerate() {
+        peer.set_place(n);
     }
 }

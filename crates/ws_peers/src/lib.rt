@@ -5,12 +5,16 @@
 mod all_peers;
 mod cause;
 mod heard;
+mod keys;
 mod one_peer;
+mod operators;
 pub mod paths;
 mod peer;
 mod peers;
+mod ready;
 mod routes;
 mod stage;
+mod stations;
 
 pub use cause::Cause;
 pub use heard::MAX_TEXT;

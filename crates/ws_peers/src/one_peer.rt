@@ -1,5 +1,6 @@
 //! One of the connected peers.
-ghost use Rattle.std.specs.Prelude.{◌≡◌, ◌<◌, [], length, slice_index_or};
+ghost use Rattle.std.specs.Prelude.{◌≡◌, ◌<◌, [], length, slice_index_or, true, false};
+ghost use Rattle.std.specs.List.{filter, list_all};
 
 use crate::cause::Cause;
 use crate::peer::Peer;
@@ -8,10 +9,10 @@ use std::alloc::Global;
 use std::io::{Read, Write};
 use tungstenite::Utf8Bytes;
 
-#[tactic(auto, using(crate::proofs::ListLaws::at_set, crate::proofs::ListLaws::kept_set))]
+#[tactic(auto, using(crate::proofs::ListLaws::at_set, crate::proofs::ListLaws::kept_set, crate::proofs::ListLaws::keyed_set, crate::proofs::StageLaws::ended_set, crate::proofs::StageLaws::surely))]
 impl<T: Read + Write + Drop> Peers<T> {
-    ghost use Rattle.ws_peers.specs.Lists.{peers, At};
-    ghost use Rattle.ws_peers.specs.Peers.{ends, finishes};
+    ghost use Rattle.ws_peers.specs.Lists.{peers, At, is_open_for};
+    ghost use Rattle.ws_peers.specs.Peers.{ends, finishes, is_open_peer};
     ghost use Rattle.ws_peers.specs.Reads.{Took};
     ghost use Rattle.ws_peers.specs.Sends.{Sent};
 
@@ -22,7 +23,9 @@ impl<T: Read + Write + Drop> Peers<T> {
         Peers {
             alloc,
             items: Vec::new(alloc),
-            has_operators: false,
+            operators: Vec::new(alloc),
+            keys: Vec::new(alloc),
+            has_ended: false,
         }
     }
 
@@ -31,6 +34,23 @@ impl<T: Read + Write + Drop> Peers<T> {
         ensures { result ≡ length (peers self.now) }
     {
         self.items.len()
+    }
+
+    /// How many open connections an operator has.
+    pub fn count_of(&self, op: &str) -> usize
+        ensures { result ≡ length (filter (is_open_for op.now) (peers self.now)) }
+    {
+        self.items
+            .iter()
+            .filter(|peer| peer.is_open_for(op))
+            .count()
+    }
+
+    /// Whether a connection may be among them that has ended.
+    pub fn has_ended(&self) -> bool
+        ensures { result ≡ false → list_all is_open_peer (peers self.now) ≡ true }
+    {
+        self.has_ended
     }
 
     /// One of them.
@@ -47,7 +67,10 @@ impl<T: Read + Write + Drop> Peers<T> {
         ensures took { At (λ old new. Took T.remaining T.contents old new result) n (peers self.old) (peers self.new) }
         ensures count { length (peers self.new) ≡ length (peers self.old) }
     {
-        self.items[n].take()
+        let peer = &mut self.items[n];
+        let text = peer.take();
+        self.has_ended |= !peer.stage().is_open();
+        text
     }
 
     /// Sends a text to a peer.
@@ -56,7 +79,9 @@ impl<T: Read + Write + Drop> Peers<T> {
         ensures sent { At (Sent T.contents text.now) n (peers self.old) (peers self.new) }
         ensures count { length (peers self.new) ≡ length (peers self.old) }
     {
-        self.items[n].send(self.alloc, text);
+        let peer = &mut self.items[n];
+        peer.send(self.alloc, text);
+        self.has_ended |= !peer.stage().is_open();
     }
 
     /// The connection of a peer ends for that cause, if it is open.
@@ -65,7 +90,9 @@ impl<T: Read + Write + Drop> Peers<T> {
         ensures ended { At (λ old new. new ≡ ends cause old) n (peers self.old) (peers self.new) }
         ensures count { length (peers self.new) ≡ length (peers self.old) }
     {
-        self.items[n].end(cause);
+        let peer = &mut self.items[n];
+        peer.end(cause);
+        self.has_ended |= !peer.stage().is_open();
     }
 
     /// A peer is gone.
@@ -75,5 +102,6 @@ impl<T: Read + Write + Drop> Peers<T> {
         ensures count { length (peers self.new) ≡ length (peers self.old) }
     {
         self.items[n].finish();
+        self.has_ended = true;
     }
 }

@@ -5,9 +5,16 @@ use crate::cause::Cause;
 use crate::heard::{Heard, what_is_heard};
 use crate::routes::Route;
 use crate::stage::Stage;
+use ready_streams::Served;
 use std::alloc::Global;
 use std::io::{Read, Write};
 use tungstenite::{CloseCode, CloseFrame, Message, NoMask, Utf8Bytes, WebSocket};
+
+/// The bytes that may wait in the stream of an operator.
+const OPERATOR_ROOM: usize = 16_777_216;
+
+/// The bytes that may wait in the stream of a station.
+const STATION_ROOM: usize = 2_097_152;
 
 /// Why a connection is closed in whose place another comes.
 const REPLACED: &str = "another connection of this station";
@@ -25,7 +32,7 @@ impl<T: Read + Write + Drop> Peer<T> {
     ghost use Rattle.std.specs.Prelude.{Some};
     ghost use Rattle.tungstenite.specs.Socket.{close_of};
     ghost use Rattle.ws_peers.specs.Peers.{route_of, stage_of, open_peer, ends, leaves, finishes, Kept};
-    ghost use Rattle.ws_peers.specs.Lists.{is_open_at, ForText, Hears, GivesWay};
+    ghost use Rattle.ws_peers.specs.Lists.{is_open_at, is_open_for, ForText, Hears, GivesWay};
     ghost use Rattle.ws_peers.specs.Reads.{Took};
     ghost use Rattle.ws_peers.specs.Sends.{Sent, Closed, Replaced};
     ghost use Rattle.ws_peers.specs.Stages.{is_open};
@@ -157,13 +164,20 @@ impl<T: Read + Write + Drop> Peer<T> {
         self.stage.is_open() && self.route.is_station(op, station)
     }
 
+    /// Whether it is an open connection of that operator.
+    pub fn is_open_for(&self, op: &str) -> bool
+        ensures { result ≡ is_open_for op.now self.now }
+    {
+        self.stage.is_open() && self.route.is_operator_of(op)
+    }
+
     /// Sends a text to it, if it is an open connection of that operator. Where the text is `None`,
     /// since there was no memory for it, the connection ends.
     pub fn hear(&mut self, alloc: Global, op: &str, text: Option<&str>)
         ensures heard { ForText (option_map (λ t. t.now) text.entry) (λ t. Hears T.contents op.now t self.old self.new) }
         ensures kept { Kept self.old self.new }
     {
-        if !self.stage.is_open() || !self.route.is_operator_of(op) {
+        if !self.is_open_for(op) {
             return;
         }
         match text {
@@ -180,5 +194,21 @@ impl<T: Read + Write + Drop> Peer<T> {
         if self.route.is_station(op, station) {
             self.replace();
         }
+    }
+}
+
+impl<T: Read + Write + Served + Drop> Peer<T> {
+    /// Tells its stream its place.
+    pub(crate) fn set_place(&self, place: usize) {
+        self.socket.get_ref().set_place(place);
+    }
+
+    /// Tells its stream how many bytes may wait in it: listings are long, so an operator's has more room.
+    pub(crate) fn set_room(&self) {
+        let room = match &self.route {
+            Route::Operator(_) => OPERATOR_ROOM,
+            Route::Station(_, _) | Route::Nothing => STATION_ROOM,
+        };
+        self.socket.get_ref().set_room(room);
     }
 }

@@ -1,8 +1,7 @@
 //! All connected peers.
-ghost use Rattle.std.specs.Prelude.{◌≡◌, ◌||◌, true, not};
-ghost use Rattle.std.specs.List.{list_any};
-ghost use Rattle.std.proofs.Props.{props};
-ghost use Rattle.ws_peers.specs.Peers.{is_operator_peer};
+ghost use Rattle.std.specs.Prelude.{◌≡◌, ◌≤◌, ◌||◌, true, map, vec_len, vec_capacity};
+ghost use Rattle.std.specs.List.{list_all};
+ghost use Rattle.ws_peers.specs.Peers.{is_open_peer, key_of_peer, is_operator_peer, places_of};
 
 use crate::peer::Peer;
 use std::alloc::Global;
@@ -12,7 +11,14 @@ use std::alloc::Global;
 pub struct Peers<T> {
     pub(crate) alloc: Global,
     pub(crate) items: Vec<Peer<T>>,
-    /// Whether an operator may be among them.
-    pub(crate) has_operators: bool,
-    ghost operators: { has_operators || not (list_any is_operator_peer items.items) ≡ true } by { Prim.hlevel props },
+    /// The places of the operators' connections, in ascending order. There is room for as many as there are peers.
+    pub(crate) operators: Vec<usize>,
+    /// The key of what each stands for. A station is sought by its key first.
+    pub(crate) keys: Vec<u64>,
+    /// Whether one may be among them that isn't open.
+    pub(crate) has_ended: bool,
+    ghost places: { operators.items ≡ places_of is_operator_peer 0 items.items },
+    ghost room: { vec_len items ≤ vec_capacity operators },
+    ghost keyed: { keys.items ≡ map key_of_peer items.items },
+    ghost ended: { has_ended || list_all is_open_peer items.items ≡ true },
 }

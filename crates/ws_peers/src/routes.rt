@@ -1,7 +1,8 @@
 //! What a connection stands for.
 ghost use Rattle.std.specs.Prelude.{◌≡◌};
-ghost use Rattle.ws_peers.specs.Routes.{is_station, is_operator, is_operator_of};
+ghost use Rattle.ws_peers.specs.Routes.{is_station, is_operator, is_operator_of, key_of};
 
+use crate::keys::station_key;
 use ocpp_types::Text;
 
 /// What a connection stands for, by the path that it asked for.
@@ -41,5 +42,15 @@ impl Route {
         ensures { result ≡ is_operator self.now }
     {
         matches!(self, Route::Operator(_))
+    }
+
+    /// Its key: equal stations have equal keys.
+    pub(crate) fn key(&self) -> u64
+        ensures { result ≡ key_of self.now }
+    {
+        match self {
+            Route::Station(op, station) => station_key(op.as_str(), station.as_str()),
+            Route::Operator(_) | Route::Nothing => 0,
+        }
     }
 }
