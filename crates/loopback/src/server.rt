@@ -109,7 +109,18 @@ impl Server {
         self.accept()?;
         self.lobby
             .serve(self.alloc, &mut self.gateway, &mut self.hub, self.moment)?;
-        self.gateway.turn(&mut self.hub, self.moment)
+        let places = self.places()?;
+        self.gateway
+            .turn(&mut self.hub, self.moment, places.as_slice())
+    }
+
+    /// The places of all peers.
+    fn places(&self) -> Mem<Vec<usize>> {
+        let mut places = Vec::new(self.alloc);
+        for place in 0..self.gateway.count() {
+            places.push(place)?;
+        }
+        Ok(places)
     }
 }
 

@@ -3,6 +3,7 @@
 use crate::scripts::{events, hub_of, run};
 use hub::{Fault, Hub};
 use ocpp_types::{Moment, Text};
+use ready_streams::Served;
 use station_calls::Echo;
 use std::alloc::Global;
 use std::cell::RefCell;
@@ -37,6 +38,12 @@ impl Stream {
         self.before -= 1;
         Ok(())
     }
+}
+
+impl Served for Stream {
+    fn set_place(&self, _place: usize) {}
+
+    fn set_room(&self, _bytes: usize) {}
 }
 
 impl Read for Stream {
@@ -137,7 +144,7 @@ fn served(alloc: Global, before: u64) -> Result<(String, Sent), Fail> {
     let second = socket(alloc, u64::MAX, Rc::clone(&sent)?);
     gateway.admit(&mut hub, second, None, station(alloc, "CP02")?, at)?;
     for _ in 0..4 {
-        gateway.turn(&mut hub, at)?;
+        gateway.turn(&mut hub, at, &[0, 1])?;
     }
     let asked = events(alloc, ASKED)?;
     let text = run(alloc, &mut hub, asked.as_slice())?.text;
@@ -176,8 +183,8 @@ fn answered(alloc: Global, before: u64) -> Result<String, Fail> {
     let mut gateway = Gateway::new(alloc);
     let socket = socket(alloc, u64::MAX, nothing_sent(alloc)?);
     gateway.admit(&mut hub, socket, None, station(alloc, "CP01")?, at)?;
-    let is_fault = matches!(gateway.turn(&mut hub, at), Err(Fault::Store));
-    gateway.turn(&mut hub, at)?;
+    let is_fault = matches!(gateway.turn(&mut hub, at, &[0, 1]), Err(Fault::Store));
+    gateway.turn(&mut hub, at, &[0, 1])?;
     if !is_fault || gateway.count() != 0 {
         return Ok(String::new(alloc));
     }

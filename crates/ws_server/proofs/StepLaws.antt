@@ -1,5 +1,9 @@
 -- Steps of the hub.
 use Rattle.std.proofs.Common.{Bool, Err, List, None, Ok, Option, Result, Some, [], add-one, ap, arith, false, if◌then◌else◌, inl, inr, length, nat_lt, refl, slice_index_or, subst, suc, sym, true, true≢false, zero, ℕ, ◌++◌, ◌+◌, ◌∙◌, ◌∷◌, ◌≡◌, ◌||◌}
+use Rattle.std.proofs.Common.{drop, get_or, ◌<◌, ◌≤◌}
+use Rattle.std.proofs.lemmas.List.{append_assoc, append-nil}
+use Rattle.std.proofs.lemmas.List.Folds.{list_all_at}
+use Rattle.std.specs.List.{list_all}
 use Rattle.std.specs.Io.BufRead.{strip_last}
 use Rattle.std.specs.Option.{IfSome}
 use Rattle.std.specs.Prelude.{is_some}
@@ -20,14 +24,17 @@ use Rattle.lines.specs.Forms.{what_of}
 use Rattle.lines.specs.Orders.{order_of, order_in, is_order, has_line_feed}
 use Rattle.lines.specs.Words.{◌>>=◌}
 use Rattle.ws_peers.specs.Lists as lists
-use Rattle.ws_peers.specs.Peers.{route_of}
+use Rattle.ws_peers.specs.Peers.{route_of, stage_of, is_open_peer}
+use Rattle.ws_peers.specs.Stages.{is_open}
+use Rattle.ws_peers.specs.declared.stage.Stage.{Stage}
+use Rattle.ws_peers.specs.declared.stage.Stage.TheVariants.{Open, Ended, Leaving, Gone}
 use Rattle.ws_peers.specs.declared.peer.Peer.{Peer}
 use Rattle.ws_peers.specs.declared.routes.Route.{Route}
 use Rattle.ws_peers.specs.declared.routes.Route.TheVariants.{Station, Operator, Nothing}
 use Rattle.tungstenite.specs.Socket.{Socket}
 use Rattle.ws_server.specs.Admits.{Connects, WelcomesOne, WelcomesSome}
-use Rattle.ws_server.specs.Events.{event_of, parting, is_route_of_hosted}
-use Rattle.ws_server.specs.Turns.{Change, Then, Becomes, FirstPlaces, Hands, HandsText, Means, Parts, PartsAs}
+use Rattle.ws_server.specs.Events.{event_of, parting, parting_at, is_route_of_hosted}
+use Rattle.ws_server.specs.Turns.{Change, Then, Becomes, AtPlace, EachOf, FirstPlaces, Hands, HandsText, Means, Parts, PartsAs}
 use Rattle.ws_server.specs.Steps.{Step, Runs, Takes}
 
 -- ---- what a fault says of an operator
@@ -154,6 +161,45 @@ module _ {P : Type 0} where
   -- after another
   pub follows : (C D : Change P) (old mid new : List P) (before after : List Step) (r : Result (Unit {0}) Fault) → C old mid before (Ok tt) → D mid new after r → Then C D old new (before ++ after) r
   follows C D old mid new before after r first second = inl (mid, before, after, first, second, refl)
+
+-- what is so of all is so of each
+all-at : {X : Type 0} (f : X → Bool) (xs : List X) (i : ℕ) (d : X) (b : Bool) → i < length xs → b ≡ f (get_or xs i d) → list_all f xs ≡ true → b ≡ true
+all-at f xs i d true small is all = refl
+all-at f xs i d false small is all = absurd (true≢false (sym all ∙ list_all_at f xs i d small (sym is)))
+
+-- one that is open doesn't leave now
+open-stays : (m : ℕ) (route : Route) (s : Stage) → is_open s ≡ true → None ≡ parting_at s route m
+open-stays m route Open is = refl
+open-stays m route (Ended cause) is = absurd (true≢false (sym is))
+open-stays m route Leaving is = absurd (true≢false (sym is))
+open-stays m route Gone is = absurd (true≢false (sym is))
+
+-- where all are open none leaves
+pub none-parts : {T : Type 0} (contents : T → Option (List ℕ)) (hosts : List ℕ → Bool) (m k : ℕ) (ps : List (Peer T)) → k ≤ length ps → list_all is_open_peer ps ≡ true → FirstPlaces (Parts contents hosts m) k ps ps []
+none-parts contents hosts m zero ps small all = (refl, refl)
+none-parts contents hosts m (suc k) ps small all =
+    let open-at : (d : Peer _) → is_open (stage_of (get_or ps k d)) ≡ true = λ d. all-at is_open_peer ps k d (is_open (stage_of (get_or ps k d))) (omega (arith, small)) refl all in
+    (ps, [], [], none-parts contents hosts m k ps (omega (arith, small)) all, (None, λ d. open-stays m (route_of (get_or ps k d)) (stage_of (get_or ps k d)) (open-at d), (refl, refl, refl)), refl)
+
+-- ---- the places of a list, one after the other
+module _ {P : Type 0} (C : ℕ → Change P) (all : List ℕ) (old : List P) where
+  -- what is done at the places from i on is done at all, after those steps
+  abbrev pub Rest : ℕ → List P → List Step → Type 0
+  Rest i now before = (end : List P) (after : List Step) (r : Result (Unit {0}) Fault) → EachOf C (drop i all) now end after r → EachOf C all old end (before ++ after) r
+
+  -- one place more
+  pub place-on : (i n : ℕ) (mid new : List P) (before more : List Step) → drop i all ≡ n ∷ drop (i + 1) all → Rest i mid before → AtPlace C n mid new more (Ok tt) → Rest (i + 1) new (before ++ more)
+  place-on i n mid new before more next on at = λ end after r rest. subst (λ steps. EachOf C all old end steps r) (sym (append_assoc before more after))
+      (on end (more ++ after) r (subst (λ ns. EachOf C ns mid end (more ++ after) r) (sym next) (follows (AtPlace C n) (EachOf C (drop (i + 1) all)) mid new end more after r at rest)))
+
+  -- no place is left
+  pub place-end : (i : ℕ) (now : List P) (before : List Step) → drop i all ≡ [] → Rest i now before → EachOf C all old now before (Ok tt)
+  place-end i now before none on = subst (λ steps. EachOf C all old now steps (Ok tt)) (append-nil before) (on now [] (Ok tt) (subst (λ ns. EachOf C ns now now [] (Ok tt)) (sym none) (refl, refl, refl)))
+
+  -- a place that ends in a fault is the last
+  pub place-fails : (i n : ℕ) (mid new : List P) (before more : List Step) (fault : Fault) (r : Result (Unit {0}) Fault) → drop i all ≡ n ∷ drop (i + 1) all → Rest i mid before → IsErr r → IsErrAnd r (λ e. e ≡ fault)
+      → AtPlace C n mid new more (Err fault) → EachOf C all old new (before ++ more) r
+  place-fails i n mid new before more fault r next on err same at = on new more r (subst (λ ns. EachOf C ns mid new more r) (sym next) (fails (AtPlace C n) (EachOf C (drop (i + 1) all)) mid new more fault r err same at))
 
 module _ {T : Type 0} (contents : T → Option (List ℕ)) (m : ℕ) where
   -- one more connection is welcomed

@@ -1,5 +1,6 @@
 -- What admitting a connection does.
-use Rattle.std.specs.Prelude.{ℕ, List, [], ◌∷◌, ◌++◌, Option, Some, Bool, true, false, ◌≡◌, Ok, Err, ◌&&◌, ◌⊎◌, is_some}
+use Rattle.std.specs.Prelude.{ℕ, List, [], ◌∷◌, ◌++◌, Option, Some, Bool, true, false, ◌≡◌, Ok, Err, ◌&&◌, ◌⊎◌, is_some, nat_le, length}
+use Rattle.std.specs.List.{filter}
 use Rattle.tungstenite.specs.Socket.{Socket, IsFresh}
 use Rattle.websocket.specs.declared.protocol.config.WebSocketConfig.{WebSocketConfig as Config}
 use Rattle.websocket.specs.declared.protocol.Role.{Role}
@@ -11,7 +12,7 @@ use Rattle.hub_rows.specs.Rows.{Rows, registration_at}
 use Rattle.ws_peers.specs.declared.peer.Peer.{Peer}
 use Rattle.ws_peers.specs.declared.routes.Route.{Route}
 use Rattle.ws_peers.specs.declared.routes.Route.TheVariants.{Station, Operator, Nothing}
-use Rattle.ws_peers.specs.Lists.{GiveWay}
+use Rattle.ws_peers.specs.Lists.{GiveWay, is_open_for}
 use Rattle.ws_peers.specs.Peers.{open_peer}
 use Rattle.ws_server.specs.Events.{turns_away}
 use Rattle.ws_server.specs.Tells.{TellsAll}
@@ -43,6 +44,12 @@ abbrev pub is_known : (List ℕ → Bool) → Rows → Route → Bool
 is_known is_hosted rows (Station op station) = is_hosted op && is_some (registration_at op station rows)
 is_known is_hosted rows (Operator op) = is_hosted op
 is_known is_hosted rows Nothing = false
+
+-- an operator has as many open connections as it may have
+abbrev pub is_full : {T : Type 0} → Route → List (Peer T) → Bool
+is_full (Operator op) peers = nat_le 32 (length (filter (is_open_for op) peers))
+is_full (Station op station) peers = false
+is_full Nothing peers = false
 
 -- a message of any kind has so many bytes at most, and is masked (RFC 6455, section 5.1)
 abbrev pub TakesAtMost : ℕ → Config → Type 0

@@ -6,6 +6,6 @@ use Rattle.ws_server.specs.declared.lobby.Lobby.{Lobby}
 abbrev pub waiting_count : {T : Type 0} → Lobby T → ℕ
 waiting_count l = length l.waiting.items
 
--- those that wait as one more comes: of 1,024 or more the first is dropped
+-- those that wait as one more comes: of 4,096 or more the first is dropped
 abbrev pub with_room : {A : Type 0} → List A → List A
-with_room waiting = if nat_lt (length waiting) 1024 then waiting else drop 1 waiting
+with_room waiting = if nat_lt (length waiting) 4096 then waiting else drop 1 waiting

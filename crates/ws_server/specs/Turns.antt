@@ -1,5 +1,5 @@
 -- What serving peers does: to them, and which steps the hub takes.
-use Rattle.std.specs.Prelude.{ℕ, zero, suc, List, [], ◌∷◌, ◌++◌, Option, Some, None, Bool, false, ◌≡◌, ◌<◌, ◌⊎◌, Result, Ok, Err, map, length, slice_index_or, codes}
+use Rattle.std.specs.Prelude.{ℕ, zero, suc, List, [], ◌∷◌, ◌++◌, Option, Some, None, Bool, false, ◌≡◌, ◌<◌, ◌≤◌, ◌⊎◌, Result, Ok, Err, map, length, slice_index_or, codes}
 use Rattle.std.specs.List.{filter}
 use Rattle.event_plans.specs.declared.event.Event.{Event}
 use Rattle.event_plans.specs.declared.event.Event.TheVariants.{Tick}
@@ -40,6 +40,16 @@ module _ {P : Type 0} where
   Each C old new steps (Ok u) = FirstPlaces C (length old) old new steps
   Each C old new steps (Err fault) =
       (n : ℕ) × (mid : List P) × (before after : List Step) × (n < length old) × FirstPlaces C n old mid before × C n mid new after (Err fault) × (steps ≡ before ++ after)
+
+  -- the change of place n, if there is one
+  pub record AtPlace (C : ℕ → Change P) (n : ℕ) (old new : List P) (steps : List Step) (r : Result (Unit {0}) Fault) : Type 0 where
+    pub there : n < length old → C n old new steps r
+    pub missing : length old ≤ n → (new ≡ old) × (steps ≡ []) × (r ≡ Ok tt)
+
+  -- the change of each of those places, one after the other, up to the first that ends in a fault
+  abbrev pub EachOf : (ℕ → Change P) → List ℕ → Change P
+  EachOf C [] old new steps r = (new ≡ old) × (steps ≡ []) × (r ≡ Ok tt)
+  EachOf C (n ∷ places) old new steps r = Then (AtPlace C n) (EachOf C places) old new steps r
 
   -- a change that the hub has no part in
   abbrev pub Becomes : (List P → List P) → Change P
@@ -99,6 +109,6 @@ module _ {T : Type 0} (remaining contents : T → Option (List ℕ)) (is_hosted 
     pub took : lists.At (λ p q. Took remaining contents p q text) n old mid
     pub handled : Handles contents is_hosted m n text mid new steps r
 
-  -- a turn at moment m: each peer is served; then those that have ended leave
-  abbrev pub Turns : ℕ → Change (Peer T)
-  Turns m = Then (Each (Serves m)) (PartsAndTicks contents is_hosted m)
+  -- a turn at moment m: the peers at those places are served; then those that have ended leave
+  abbrev pub Turns : ℕ → List ℕ → Change (Peer T)
+  Turns m places = Then (EachOf (Serves m) places) (PartsAndTicks contents is_hosted m)

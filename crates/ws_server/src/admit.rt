@@ -13,13 +13,14 @@ use crate::notes::{Happened, Notes, Refusal};
 use hub::{Event, Fault, Hub};
 use hub_rows::Store;
 use ocpp_types::Moment;
+use ready_streams::Served;
 use station_calls::VendorHandler;
 use std::io::{Read, Write};
 use std::net::SocketAddr;
 use tungstenite::{NoMask, WebSocket};
 use ws_peers::{Peers, Route};
 
-impl<T: Read + Write + Drop> Gateway<T> {
+impl<T: Read + Write + Served + Drop> Gateway<T> {
     ghost use Rattle.ws_server.specs.Admits.{Admits, Connects};
     ghost use Rattle.ws_server.specs.Events.{is_route_of_hosted};
 
@@ -102,7 +103,7 @@ impl<T: Read + Write + Drop> Gateway<T> {
 }
 
 /// Notes the connection of a station.
-fn note_connect<T: Read + Write + Drop>(
+fn note_connect<T: Read + Write + Served + Drop>(
     notes: &mut Notes,
     peers: &Peers<T>,
     address: Option<SocketAddr>,
@@ -120,7 +121,7 @@ fn note_connect<T: Read + Write + Drop>(
 }
 
 /// Adds a station, or closes the socket of one that is turned away.
-fn enter<T: Read + Write + Drop>(
+fn enter<T: Read + Write + Served + Drop>(
     all: &mut Peers<T>,
     is_turned_away: bool,
     socket: WebSocket<T, NoMask>,

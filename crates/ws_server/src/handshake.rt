@@ -19,11 +19,22 @@ const READ_SIZE: usize = 4096;
 /// The most bytes of a message of any kind. A text may have 1,048,576 (`ws_peers::MAX_TEXT`).
 const MAX_MESSAGE: usize = 4_194_304;
 
-/// Answers a request whose path is known or isn't.
+/// How a request is answered.
+#[derive(Clone, Copy, Debug, PartialEq, Eq, Drop)]
+pub enum Door {
+    /// The handshake is made.
+    Open,
+    /// 404: the path leads to nothing that is known here.
+    Unknown,
+    /// 503: the operator has as many connections as it may have.
+    Full,
+}
+
+/// Answers a request.
 #[derive(Drop)]
 struct Answer<'a> {
     alloc: Global,
-    is_known: bool,
+    door: Door,
     has_agreed: &'a mut bool,
 }
 
@@ -35,11 +46,13 @@ impl<'a> Callback for Answer<'a> {
     ) -> Result<Response<()>, ErrorResponse> {
         let Answer {
             alloc,
-            is_known,
+            door,
             has_agreed,
         } = self;
-        if !is_known {
-            return Err(refused(alloc, StatusCode::NOT_FOUND));
+        match door {
+            Door::Open => {}
+            Door::Unknown => return Err(refused(alloc, StatusCode::NOT_FOUND)),
+            Door::Full => return Err(refused(alloc, StatusCode::SERVICE_UNAVAILABLE)),
         }
         if offers_subprotocol(request) {
             let name = HeaderName::from_static("sec-websocket-protocol");
@@ -97,31 +110,30 @@ fn agree<T: Read + Write + Drop>(
     Some(socket)
 }
 
-/// Makes the handshake of a stream whose whole head has come, and gives its socket. A path that
-/// isn't known is answered 404. A station that doesn't offer the subprotocol is accepted without it
-/// and closed at once (OCPP-J 1.6, section 3.1.2). An error is a connection that has ended.
+/// Makes the handshake of a stream whose whole head has come, and gives its socket; or answers it as the door says.
+/// A station that doesn't offer the subprotocol is accepted without it and closed at once (OCPP-J 1.6, section 3.1.2).
+/// An error is a connection that has ended.
 pub fn shake<T: Read + Write + Drop>(
     alloc: Global,
     stream: T,
-    is_known: bool,
+    door: Door,
     is_station: bool,
 ) -> Result<WebSocket<T, NoMask>, Refusal>
     ensures socket { IfOk result IsNewSocket }
-    ensures known { IfOk result (λ _. is_known ≡ true) }
+    ensures open { IfOk result (λ _. door ≡ Door.Open) }
 {
     let mut has_agreed = false;
     let answer = Answer {
         alloc,
-        is_known,
+        door,
         has_agreed: &mut has_agreed,
     };
     let agreed = agree(alloc, stream, answer);
-    if !is_known {
-        return Err(Refusal::Unknown);
-    }
-    let mut socket = match agreed {
-        Some(socket) => socket,
-        None => return Err(Refusal::NoHandshake),
+    let mut socket = match (door, agreed) {
+        (Door::Unknown, _) => return Err(Refusal::Unknown),
+        (Door::Full, _) => return Err(Refusal::TooMany),
+        (Door::Open, None) => return Err(Refusal::NoHandshake),
+        (Door::Open, Some(socket)) => socket,
     };
     if is_station && !has_agreed {
         let _closed = socket.close(None);

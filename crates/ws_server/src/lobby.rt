@@ -1,5 +1,5 @@
 //! Connections whose handshake is not done.
-ghost use Rattle.std.specs.Prelude.{◌≡◌, ◌≢◌, ◌++◌, ◌∷◌, ◌<◌, ◌≤◌, [], Err, OnOk, OnErr, IfOk, IfErr, length};
+ghost use Rattle.std.specs.Prelude.{◌≡◌, ◌≢◌, ◌++◌, ◌∷◌, ◌<◌, ◌≤◌, [], true, Err, OnOk, OnErr, IfOk, IfErr, length};
 ghost use Rattle.hub_rows.specs.Reads.{IsCounted};
 ghost use Rattle.hub.specs.Hub.{hub_view, setting, is_clean};
 ghost use Rattle.ws_server.specs.Lobbies.{waiting_count, with_room};
@@ -12,7 +12,7 @@ use crate::notes::{Happened, Note, Notes, Refusal};
 use hub::{Fault, Hub};
 use hub_rows::Store;
 use ocpp_types::{Mem, Moment};
-use ready_streams::Peek;
+use ready_streams::{Peek, Served};
 use station_calls::VendorHandler;
 use std::alloc::Global;
 use std::io::{ErrorKind, Read, Write};
@@ -25,8 +25,11 @@ const MAX_HEAD: usize = 8192;
 /// The seconds that a head may take to come.
 const PATIENCE: u64 = 2;
 
+/// The seconds that a head may take to come while others wait for a place.
+const GRACE: u64 = 1;
+
 /// The most connections that wait at once.
-const MAX_WAITING: usize = 1024;
+const MAX_WAITING: usize = 4096;
 
 /// A connection that was accepted.
 #[derive(Drop)]
@@ -58,7 +61,7 @@ enum Next {
 }
 
 #[tactic(auto, using(crate::proofs::StepLaws::nothing))]
-impl<T: Peek + Read + Write + Drop> Lobby<T> {
+impl<T: Peek + Read + Write + Served + Drop> Lobby<T> {
     ghost use Rattle.ws_server.specs.Admits.{WelcomesOne, WelcomesSome};
 
     /// No connection.
@@ -81,7 +84,19 @@ impl<T: Peek + Read + Write + Drop> Lobby<T> {
         self.waiting.len()
     }
 
-    /// Takes a connection that was accepted at that moment, from that address. Where 1,024 wait, the
+    /// Whether one more may be accepted: fewer than 4,096 wait, or the one that was accepted first has waited for
+    /// more than a second.
+    pub fn has_room(&self, moment: Moment) -> bool
+        ensures { length self.now.waiting.items < 4096 → result ≡ true }
+    {
+        self.waiting.len() < MAX_WAITING
+            || self
+                .waiting
+                .first()
+                .is_none_or(|first| first.is_late(moment, GRACE))
+    }
+
+    /// Takes a connection that was accepted at that moment, from that address. Where 4,096 wait, the
     /// one that was accepted first is dropped. Without memory for the new one, that is dropped too.
     pub fn enter(&mut self, stream: T, address: Option<SocketAddr>, moment: Moment) -> Mem<()>
         ensures entered { OnOk result (self.new.waiting.items ≡ with_room self.old.waiting.items ++ record { stream = stream; address = address; since = moment } ∷ []) }
@@ -189,7 +204,7 @@ impl<T: Peek + Read + Write + Drop> Lobby<T> {
         ensures { length self.new.waiting.items ≡ length self.old.waiting.items }
     {
         let one = &self.waiting[n];
-        let waits = if one.is_late(moment) {
+        let waits = if one.is_late(moment, PATIENCE) {
             Next::Drop(Refusal::Late)
         } else {
             Next::Wait
@@ -209,8 +224,8 @@ impl<T: Peek + Read + Write + Drop> Lobby<T> {
 }
 
 impl<T> Waiting<T> {
-    /// Whether it has waited for too long. Where the clock was set back, it counts as too long.
-    fn is_late(&self, moment: Moment) -> bool {
-        moment < self.since || moment.seconds() > self.since.seconds() + PATIENCE
+    /// Whether it has waited for longer than that. Where the clock was set back, it counts as longer.
+    fn is_late(&self, moment: Moment, seconds: u64) -> bool {
+        moment < self.since || moment.seconds() > self.since.seconds().saturating_add(seconds)
     }
 }

@@ -18,6 +18,8 @@ pub enum Refusal {
     Crowded,
     /// The path leads to no station and no operator that is known here. It was answered 404.
     Unknown,
+    /// The operator has as many connections as it may have. It was answered 503.
+    TooMany,
     /// The request is no WebSocket handshake, or the stream failed.
     NoHandshake,
     /// A station doesn't offer the subprotocol `ocpp1.6`.

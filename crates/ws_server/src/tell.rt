@@ -1,17 +1,19 @@
 //! Sending outputs to the peers.
-ghost use Rattle.std.specs.Prelude.{◌≡◌, [], length};
+ghost use Rattle.std.specs.Prelude.{◌≡◌, ◌<◌, ◌≤◌, false, [], length, slice_index_or};
 
 use crate::gateway::Gateway;
 use crate::notes::{Note, Notes};
 use event_plans::{Out, Said};
 use lines::print_out;
+use ready_streams::Served;
 use std::alloc::Global;
 use std::io::{Read, Write};
-use ws_peers::Peers;
+use ws_peers::{Peer, Peers};
 
-impl<T: Read + Write + Drop> Gateway<T> {
+impl<T: Read + Write + Served + Drop> Gateway<T> {
     ghost use Rattle.lines.specs.OutputLines.{line_of};
     ghost use Rattle.ws_peers.specs.Lists.{ToOperator};
+    ghost use Rattle.ws_peers.specs.Peers.{is_operator_peer};
     ghost use Rattle.ws_server.specs.Tells.{peers_of, Tells, TellsAll};
 
     /// No peer. It takes no memory yet.
@@ -44,6 +46,14 @@ impl<T: Read + Write + Drop> Gateway<T> {
         ensures { result ≡ length (peers_of self.now) }
     {
         self.peers.count()
+    }
+
+    /// Whether there is a peer at that place that is an operator.
+    pub fn is_operator(&self, place: usize) -> bool
+        ensures there { (other : Peer T) → place < length (peers_of self.now) → result ≡ is_operator_peer (slice_index_or (peers_of self.now) place other) }
+        ensures missing { length (peers_of self.now) ≤ place → result ≡ false }
+    {
+        place < self.count() && self.peers.peer(place).route().is_operator()
     }
 
     /// Sends one output: a text to its station's open connection, if there is one, and all else as a

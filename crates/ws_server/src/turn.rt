@@ -11,13 +11,14 @@ use crate::notes::{Happened, Notes};
 use hub::{Event, Fault, Hub};
 use hub_rows::Store;
 use ocpp_types::Moment;
+use ready_streams::Served;
 use station_calls::VendorHandler;
 use std::io::{Read, Write};
 use ws_peers::{Cause, Peers, Stage};
 
 #[tactic(auto, using(crate::proofs::StepLaws::handed, crate::proofs::StepLaws::nothing))]
-impl<T: Read + Write + Drop> Gateway<T> {
-    ghost use Rattle.ws_server.specs.Turns.{Hands, HandsText, Serves, Parts, Each, SweepsAndTicks, PartsAndTicks, Turns};
+impl<T: Read + Write + Served + Drop> Gateway<T> {
+    ghost use Rattle.ws_server.specs.Turns.{Hands, HandsText, Serves, Parts, AtPlace, Each, EachOf, SweepsAndTicks, PartsAndTicks, Turns};
 
     /// Hands an event to the hub, and sends its outputs. After a fault nothing has changed.
     pub(crate) fn hand<S: Store + Drop, V: VendorHandler>(
@@ -122,21 +123,41 @@ impl<T: Read + Write + Drop> Gateway<T> {
         }
     }
 
-    /// Serves each peer in order of admission, up to the first fault.
+    /// Serves the peers at those places, in that order, up to the first fault.
     fn serve_each<S: Store + Drop, V: VendorHandler>(
         &mut self,
         hub: &mut Hub<S, V>,
         moment: Moment,
+        places: &[usize],
     ) -> Result<(), Fault>
         ensures takes { Takes S.view V.view hub.old hub.new
-            (λ steps. Each (Serves T.remaining T.contents (setting V.view hub.old).is_hosted moment) (peers_of self.old) (peers_of self.new) steps result) }
+            (λ steps. EachOf (Serves T.remaining T.contents (setting V.view hub.old).is_hosted moment) places.now (peers_of self.old) (peers_of self.new) steps result) }
         ensures counted { IsCounted (hub_view S.view) hub.old hub.new (result ≡ Err Fault.Store) }
         ensures setting { setting V.view hub.new ≡ setting V.view hub.old }
     {
-        for n in 0..self.count() {
-            self.serve(hub, n, moment)?;
+        for place in places {
+            self.serve_at(hub, moment, *place)?;
         }
         Ok(())
+    }
+
+    /// Serves the peer at that place, if there is one.
+    fn serve_at<S: Store + Drop, V: VendorHandler>(
+        &mut self,
+        hub: &mut Hub<S, V>,
+        moment: Moment,
+        place: usize,
+    ) -> Result<(), Fault>
+        ensures takes { Takes S.view V.view hub.old hub.new
+            (λ steps. AtPlace (Serves T.remaining T.contents (setting V.view hub.old).is_hosted moment) place (peers_of self.old) (peers_of self.new) steps result) }
+        ensures counted { IsCounted (hub_view S.view) hub.old hub.new (result ≡ Err Fault.Store) }
+        ensures setting { setting V.view hub.new ≡ setting V.view hub.old }
+    {
+        if place < self.count() {
+            self.serve(hub, place, moment)
+        } else {
+            Ok(())
+        }
     }
 
     /// Hands the disconnects of those that are to leave now to the hub, up to the first fault.
@@ -150,26 +171,31 @@ impl<T: Read + Write + Drop> Gateway<T> {
         ensures counted { IsCounted (hub_view S.view) hub.old hub.new (result ≡ Err Fault.Store) }
         ensures setting { setting V.view hub.new ≡ setting V.view hub.old }
     {
+        if !self.peers.has_ended() {
+            return Ok(());
+        }
         for n in 0..self.count() {
             self.part(hub, n, moment)?;
         }
         Ok(())
     }
 
-    /// One turn: serves each peer, in order of admission; hands the disconnects of those that have
-    /// ended to the hub, in that order; and then a tick. It stops at the first fault. A disconnect
-    /// that met one is handed to the hub again in the next turn.
+    /// One turn: serves the peers at those places, in that order, where a place is that in the order of admission,
+    /// from 0, and one at which there is no peer is passed over; hands the disconnects of those that have ended to
+    /// the hub, in order of admission; and then a tick. It stops at the first fault. A disconnect that met one is
+    /// handed to the hub again in the next turn.
     pub fn turn<S: Store + Drop, V: VendorHandler>(
         &mut self,
         hub: &mut Hub<S, V>,
         moment: Moment,
+        places: &[usize],
     ) -> Result<(), Fault>
         ensures takes { Takes S.view V.view hub.old hub.new
-            (λ steps. Turns T.remaining T.contents (setting V.view hub.old).is_hosted moment (peers_of self.old) (peers_of self.new) steps result) }
+            (λ steps. Turns T.remaining T.contents (setting V.view hub.old).is_hosted moment places.now (peers_of self.old) (peers_of self.new) steps result) }
         ensures counted { IsCounted (hub_view S.view) hub.old hub.new (result ≡ Err Fault.Store) }
         ensures setting { setting V.view hub.new ≡ setting V.view hub.old }
     {
-        self.serve_each(hub, moment)?;
+        self.serve_each(hub, moment, places)?;
         self.part_and_tick(hub, moment)
     }
 
@@ -208,6 +234,9 @@ impl<T: Read + Write + Drop> Gateway<T> {
 
 /// Notes the connections that have ended.
 fn note_ended<T: Read + Write + Drop>(peers: &Peers<T>, notes: &mut Notes) {
+    if !peers.has_ended() {
+        return;
+    }
     for n in 0..peers.count() {
         let peer = peers.peer(n);
         if let Stage::Ended(cause) = peer.stage() {

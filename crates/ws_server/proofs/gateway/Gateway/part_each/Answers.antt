@@ -1,10 +1,10 @@
-use Rattle.std.proofs.Common.{Ok, subst, ◌∙◌, ◌+◌, ℕ}
+use Rattle.std.proofs.Common.{Ok, arith, length, refl, subst, ◌∙◌, ◌+◌, ℕ}
 use Rattle.hub.specs.Hub.{setting}
 use Rattle.hub.specs.World.{Setting}
 use Rattle.ws_peers.specs.declared.peer.Peer.{Peer}
 use Rattle.ws_server.specs.Tells.{peers_of}
-use Rattle.ws_server.specs.Turns.{Change, FirstPlaces, Parts}
-use Rattle.ws_server.proofs.StepLaws.{counted_more, taken_on, place_more}
+use Rattle.ws_server.specs.Turns.{Change, Each, FirstPlaces, Parts}
+use Rattle.ws_server.proofs.StepLaws.{counted_more, taken_on, place_more, nothing, none-parts}
 use Rattle.ws_server.proofs.gateway.Gateway.part_each.Goals as goal
 
 pub loop-n-preserved : goal.loop-n-preserved
@@ -21,3 +21,10 @@ loop-n-preserved g c =
       count = e.count ∙ inv.count;
       end = inv.end;
     }
+
+pub returns-then-not-has_ended-clause-takes : goal.returns-then-not-has_ended-clause-takes
+returns-then-not-has_ended-clause-takes g c =
+    let old = peers_of c.args.self.now in
+    let hosts = (setting g.V.VendorHandler.view c.args.hub.now).is_hosted in
+    nothing _ _ _ _ (λ steps. Each (Parts g.T.Write.contents hosts c.args.moment) old old steps (Ok tt))
+    (none-parts g.T.Write.contents hosts c.args.moment (length old) old (grind (arith)) (c.has_ended.ensures c.if-not-has_ended.true)) (λ _. refl)

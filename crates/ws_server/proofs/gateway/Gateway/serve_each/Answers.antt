@@ -1,23 +1,54 @@
-use Rattle.std.proofs.Common.{Ok, subst, ◌∙◌, ◌+◌, ℕ}
+use Rattle.std.proofs.Common.{Ok, Err, get_or, ◌∙◌, ◌+◌, ℕ, sym, subst, arith}
+use Rattle.std.proofs.Math.Seq.{drop-length}
+use Rattle.std.proofs.lemmas.List.{drop_more, drop_all}
 use Rattle.hub.specs.Hub.{setting}
 use Rattle.hub.specs.World.{Setting}
 use Rattle.ws_peers.specs.declared.peer.Peer.{Peer}
 use Rattle.ws_server.specs.Tells.{peers_of}
-use Rattle.ws_server.specs.Turns.{Change, FirstPlaces, Serves}
-use Rattle.ws_server.proofs.StepLaws.{counted_more, taken_on, place_more}
+use Rattle.ws_server.specs.Turns.{Change, AtPlace, EachOf, Serves}
+use Rattle.ws_server.proofs.StepLaws.{counted_more, taken_on, changed, Rest, place-on, place-end, place-fails}
 use Rattle.ws_server.proofs.gateway.Gateway.serve_each.Goals as goal
 
-pub loop-n-preserved : goal.loop-n-preserved
-loop-n-preserved g c =
-    let inv = c.loop-n.invariant in
-    let e = c.in_ok-serve.ensures in
+pub loop-place-preserved : goal.loop-place-preserved
+loop-place-preserved g c =
+    let inv = c.loop-place.invariant in
+    let e = c.in_ok-serve_at.ensures in
     let Under : Setting → ℕ → Change (Peer _) = λ st. Serves g.T.Read.remaining g.T.Write.contents st.is_hosted c.args.moment in
     let C = Under (setting g.V.VendorHandler.view c.args.hub.now) in
+    let all = c.args.places.now in
+    let i = c.loop-place.place-index in
+    let n = get_or all i 0 in
+    let next = drop_more all i 0 (grind (arith, c.loop-place.auto, c.loop-place-test.true)) in
     record {
-      takes = taken_on _ _ _ _ _ _ _ (λ steps. FirstPlaces C (c.loop-n.n + 1) (peers_of c.args.self.now) (peers_of c.serve.new.self) steps)
-          (λ before after first more. place_more C c.loop-n.n _ (peers_of c.loop-n.self) (peers_of c.serve.new.self) before after first (subst (λ st. Under st c.loop-n.n (peers_of c.loop-n.self) (peers_of c.serve.new.self) after (Ok tt)) inv.setting more)) inv.setting e.counted.was_clean inv.takes e.takes;
+      takes = taken_on _ _ _ _ _ _ _ (λ before. Rest C all (peers_of c.args.self.now) (i + 1) (peers_of c.serve_at.new.self) before)
+          (λ before more on at. place-on C all (peers_of c.args.self.now) i n (peers_of c.loop-place.self) (peers_of c.serve_at.new.self) before more next on (subst (λ st. AtPlace (Under st) n (peers_of c.loop-place.self) (peers_of c.serve_at.new.self) more (Ok tt)) inv.setting at)) inv.setting e.counted.was_clean inv.takes e.takes;
       counted = counted_more g.S.Store.view g.V.VendorHandler.view _ _ _ _ _ inv.counted e.counted;
       setting = e.setting ∙ inv.setting;
-      count = e.count ∙ inv.count;
-      end = inv.end;
     }
+
+pub returns-in_err-serve_at-clause-takes : goal.returns-in_err-serve_at-clause-takes
+returns-in_err-serve_at-clause-takes g c =
+    let inv = c.loop-place.invariant in
+    let e = c.in_err-serve_at.ensures in
+    let Under : Setting → ℕ → Change (Peer _) = λ st. Serves g.T.Read.remaining g.T.Write.contents st.is_hosted c.args.moment in
+    let C = Under (setting g.V.VendorHandler.view c.args.hub.now) in
+    let all = c.args.places.now in
+    let i = c.loop-place.place-index in
+    let n = get_or all i 0 in
+    let next = drop_more all i 0 (grind (arith, c.loop-place.auto, c.loop-place-test.true)) in
+    let old = peers_of c.args.self.now in
+    let mid = peers_of c.loop-place.self in
+    let new = peers_of c.serve_at.new.self in
+    let r = c.from_residual.result in
+    taken_on _ _ _ _ _ _ _ (λ steps. EachOf C all old new steps r)
+    (λ before more on at. place-fails C all old i n mid new before more c.in_err-serve_at.field-0.0 r next on c.from_residual.ensures.0 c.from_residual.ensures.1 (subst (λ st. AtPlace (Under st) n mid new more (Err c.in_err-serve_at.field-0.0)) inv.setting at))
+    inv.setting e.counted.was_clean inv.takes e.takes
+
+pub returns-clause-takes : goal.returns-clause-takes
+returns-clause-takes g c =
+    let C : ℕ → Change (Peer _) = Serves g.T.Read.remaining g.T.Write.contents (setting g.V.VendorHandler.view c.args.hub.now).is_hosted c.args.moment in
+    let all = c.args.places.now in
+    let i = c.loop-place.place-index in
+    let old = peers_of c.args.self.now in
+    let now = peers_of c.loop-place.self in
+    changed _ _ _ _ _ (λ steps. EachOf C all old now steps (Ok tt)) (λ before on. place-end C all old i now before (drop_all i all (grind (arith, c.loop-place.auto, c.loop-place-test.false))) on) c.loop-place.invariant.takes

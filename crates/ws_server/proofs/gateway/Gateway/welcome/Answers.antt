@@ -22,6 +22,6 @@ returns-in-Ok-shake-clause-takes g c =
 
 pub returns-in-Ok-shake-clause-hosted : goal.returns-in-Ok-shake-clause-hosted
 returns-in-Ok-shake-clause-hosted g c = λ clean.
-    let known = sym (c.in-Ok.ensures.known (c.admit.ensures.counted.was_clean clean)) ∙ c.in-Ok-shake.ensures.known in
+    let known = sym (c.in-Ok.ensures.known (c.admit.ensures.counted.was_clean clean)) ∙ c.door-door.ensures.known c.in-Ok-shake.ensures.open in
     let hosted = subst (λ st. is_route_of_hosted st.is_hosted c.args.route ≡ true) (sym c.in-Ok.ensures.setting) (known_hosted _ (world g.S.Store.view c.args.hub.now).rows c.args.route known) in
     no_cause _ c.admit.result hosted c.admit.ensures.not_hosted
