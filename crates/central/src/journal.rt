@@ -127,6 +127,7 @@ fn reason(refusal: Refusal) -> &'static str {
         Refusal::NoRequest => "no request",
         Refusal::Crowded => "too many wait",
         Refusal::Unknown => "unknown (404)",
+        Refusal::TooMany => "too many of this operator (503)",
         Refusal::NoHandshake => "handshake failed",
         Refusal::NoSubprotocol => "no subprotocol ocpp1.6",
         Refusal::Gone => "no longer on record",

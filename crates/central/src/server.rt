@@ -18,10 +18,16 @@ use std::alloc::Global;
 use std::io;
 use std::time::{Duration, Instant};
 use store_sql::SqlStore;
-use ws_server::{Gateway, Lobby, listen};
+use ws_server::{Gateway, Lobby};
 
 /// The most seconds between two turns. Calls that stations leave unanswered end in such turns.
 const MAX_WAIT: u64 = 1;
+
+/// The milliseconds after a turn that ended in a fault, if nothing is reported meanwhile.
+const PAUSE: u64 = 10;
+
+/// The most connections that a turn accepts.
+const MAX_ACCEPTS: usize = 64;
 
 /// A server as it runs.
 #[derive(Drop)]
@@ -31,8 +37,18 @@ struct Server<S, V> {
     gateway: Gateway<ReadyStream>,
     lobby: Lobby<ReadyStream>,
     streams: Streams,
-    /// The second in which accepting a connection failed. It isn't tried again in that second.
-    failed_accept: Option<Moment>,
+    /// What the clock showed last.
+    second: Moment,
+    /// The moment of the last turn.
+    moment: Moment,
+    /// The places of the peers that are served in a turn.
+    places: Vec<usize>,
+    /// The place of the operator's connection that was served last.
+    last_operator: usize,
+    /// Accepting a connection failed in this second. It isn't tried again in it.
+    failed_accept: bool,
+    /// The last turn ended in a fault.
+    has_faulted: bool,
 }
 
 /// Serves, by the records of a file and by those handlers of vendors' messages. A fault of a turn is written to
@@ -108,17 +124,22 @@ impl<S: Store + Drop, V: VendorHandler> Server<S, V> {
         vendors: Vec<V>,
     ) -> Result<Server<S, V>, RunFault> {
         let alloc = rt.alloc();
+        let second = now(rt).ok_or(RunFault::Clock)?;
         let Ok(hub) = Hub::new(alloc, store, options.operators, vendors) else {
             return Err(RunFault::BadOperators);
         };
-        let listener = listen(rt, options.port)?;
         Ok(Server {
             alloc,
             hub,
             gateway: Gateway::new(alloc),
             lobby: Lobby::new(alloc)?,
-            streams: Streams::new(alloc, rt, listener)?,
-            failed_accept: None,
+            streams: Streams::listen(alloc, rt, options.port)?,
+            second,
+            moment: second,
+            places: Vec::new(alloc),
+            last_operator: 0,
+            failed_accept: false,
+            has_faulted: false,
         })
     }
 
@@ -131,51 +152,116 @@ impl<S: Store + Drop, V: VendorHandler> Server<S, V> {
     ) -> Result<(), RunFault> {
         for _ in 0..turns.map_or(u64::MAX, u64::from) {
             self.wait(turns.is_none())?;
-            let moment = now(rt).ok_or(RunFault::Clock)?;
-            self.turn(rt, moment);
-            self.write_log(log, moment);
+            self.tick(rt)?;
+            self.turn(rt);
+            self.write_log(log);
         }
         Ok(())
     }
 
     /// Takes the system's reports on streams. It waits for one where nothing can be done without.
     fn wait(&mut self, may_wait: bool) -> io::Result<()> {
-        let is_idle = may_wait && !self.streams.is_pending(self.failed_accept.is_none());
-        self.streams
-            .wait(Duration::from_secs(if is_idle { MAX_WAIT } else { 0 }))
+        let accepts = !self.failed_accept && self.lobby.has_room(self.moment);
+        let time = if may_wait && !self.streams.is_pending(accepts) {
+            Duration::from_secs(MAX_WAIT)
+        } else if may_wait && self.has_faulted {
+            Duration::from_millis(PAUSE)
+        } else {
+            Duration::from_secs(0)
+        };
+        self.streams.wait(time)
     }
 
-    /// One turn: accepts at most one connection, polls those that wait, and serves each peer.
-    fn turn(&mut self, rt: &HostRuntime, moment: Moment) {
-        if let Err(fault) = self.accept(moment) {
-            self.failed_accept = Some(moment);
+    /// Reads the clock. A moment is never before that of the turn before, so that a clock that is set back ends no
+    /// call before its time. In a new second the streams that are gone are closed.
+    fn tick(&mut self, rt: &HostRuntime) -> Result<(), RunFault> {
+        let second = now(rt).ok_or(RunFault::Clock)?;
+        if second != self.second {
+            self.second = second;
+            self.failed_accept = false;
+            self.streams.release_all();
+        }
+        if second > self.moment {
+            self.moment = second;
+        }
+        Ok(())
+    }
+
+    /// One turn: accepts connections, polls those that wait, and serves each peer whose stream may be read. What was
+    /// written is then given to the system.
+    fn turn(&mut self, rt: &HostRuntime) {
+        if let Err(fault) = self.accept() {
+            self.failed_accept = true;
             let _ = eprintln!(rt; "fault {fault}");
         }
         let welcomed = self
             .lobby
-            .serve(self.alloc, &mut self.gateway, &mut self.hub, moment);
+            .serve(self.alloc, &mut self.gateway, &mut self.hub, self.moment);
+        self.has_faulted = welcomed.is_err();
         report(rt, welcomed);
-        report(rt, self.gateway.turn(&mut self.hub, moment));
+        self.choose();
+        let served = self
+            .gateway
+            .turn(&mut self.hub, self.moment, self.places.as_slice());
+        self.has_faulted |= served.is_err();
+        report(rt, served);
+        self.streams.settle();
+    }
+
+    /// Chooses whom to serve in this turn: each station whose stream may be read, and one such connection of an
+    /// operator, in turn, since its order may take long. One for which there is no memory is served later.
+    fn choose(&mut self) {
+        let ready = self.streams.ready();
+        let operator = next_operator(&self.gateway, ready, self.last_operator);
+        self.places.clear();
+        for place in ready {
+            if operator == Some(*place) || !self.gateway.is_operator(*place) {
+                let _later = self.places.push(*place);
+            }
+        }
+        if let Some(place) = operator {
+            self.last_operator = place;
+        }
     }
 
     /// Writes the notes of a turn to the log.
-    fn write_log<L: Log>(&mut self, log: &L, moment: Moment) {
+    fn write_log<L: Log>(&mut self, log: &L) {
         let notes = self.lobby.take_notes();
-        write_notes(log, self.alloc, moment, notes.as_slice());
+        write_notes(log, self.alloc, self.moment, notes.as_slice());
         let notes = self.gateway.take_notes();
-        write_notes(log, self.alloc, moment, notes.as_slice());
+        write_notes(log, self.alloc, self.moment, notes.as_slice());
     }
 
-    fn accept(&mut self, moment: Moment) -> Result<(), RunFault> {
-        if self.failed_accept == Some(moment) {
+    /// Accepts connections until none waits, up to a bound.
+    fn accept(&mut self) -> Result<(), RunFault> {
+        if self.failed_accept {
             return Ok(());
         }
-        self.failed_accept = None;
-        if let Some((stream, address)) = self.streams.accept()? {
-            self.lobby.enter(stream, Some(address), moment)?;
+        for _ in 0..MAX_ACCEPTS {
+            if !self.lobby.has_room(self.moment) {
+                break;
+            }
+            let Some((stream, address)) = self.streams.accept()? else {
+                break;
+            };
+            self.lobby.enter(stream, Some(address), self.moment)?;
         }
         Ok(())
     }
+}
+
+/// The first place of an operator's connection after the last one, or else the first of all.
+fn next_operator(gateway: &Gateway<ReadyStream>, places: &[usize], last: usize) -> Option<usize> {
+    let mut first = None;
+    for place in places {
+        if gateway.is_operator(*place) {
+            if *place > last {
+                return Some(*place);
+            }
+            first = first.or(Some(*place));
+        }
+    }
+    first
 }
 
 /// Writes a fault to standard error. If that fails too the fault is lost.
