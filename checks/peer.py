@@ -11,19 +11,23 @@ HEAD = (
 )
 
 
-def frame(text):
-    """A text as a client sends it, with 0 as its masking key (RFC 6455, section 5.3)."""
+def frame(text, first=0x81):
+    """A text as a client sends it, with 0 as its masking key (RFC 6455, sections 5.2 and 5.3). Another first byte makes
+    a part of a text or a ping of it."""
     payload = text.encode()
     size = len(payload)
-    length = bytes([0x80 | size]) if size < 126 else b"\xfe" + size.to_bytes(2, "big")
-    return b"\x81" + length + b"\0\0\0\0" + payload
+    if size < 126:
+        length = bytes([0x80 | size])
+    else:
+        length = b"\xfe" + size.to_bytes(2, "big") if size < 65536 else b"\xff" + size.to_bytes(8, "big")
+    return bytes([first]) + length + b"\0\0\0\0" + payload
 
 
 class Peer:
-    """One connection. Its texts are read whole."""
+    """One connection. Its texts are read whole. A read in which nothing comes for the seconds of its patience fails."""
 
-    def __init__(self, port, path):
-        self.stream = socket.create_connection(("127.0.0.1", port), timeout=10)
+    def __init__(self, port, path, patience=10):
+        self.stream = socket.create_connection(("127.0.0.1", port), timeout=patience)
         self.stream.setsockopt(socket.IPPROTO_TCP, socket.TCP_NODELAY, 1)
         self.stream.sendall(HEAD.format(path).encode())
         self.data = b""
@@ -48,8 +52,9 @@ class Peer:
         if len(self.data) < 2:
             return None
         size, start = self.data[1] & 127, 2
-        if size == 126:
-            size, start = int.from_bytes(self.data[2:4], "big"), 4
+        if size > 125:
+            start = 4 if size == 126 else 10
+            size = int.from_bytes(self.data[2:start], "big")
         if len(self.data) < start + size:
             return None
         text, self.data = self.data[start : start + size], self.data[start + size :]

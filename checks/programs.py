@@ -23,6 +23,7 @@ from peer import HEAD, Peer, frame
 SCRIPTS = Path(__file__).resolve().parent.parent / "crates" / "worked" / "data"
 
 PORT = 9281
+MOST = 1 << 20
 TIME = re.compile(r"\d{4}-\d\d-\d\dT\d\d:\d\d:\d\dZ")
 BOOT = '[2,"1","BootNotification",{"chargePointVendor":"V","chargePointModel":"M"}]'
 HEARTBEAT = '[2,"2","Heartbeat",{}]'
@@ -280,14 +281,17 @@ def log_of(checks, level, talk):
 
 
 def raw(head, rest=b""):
-    """Sends a head, and the rest once it is answered; then reads up to the end of the stream."""
+    """Sends a head, and the rest once it is answered; then reads up to the end of the stream. The answer to the head."""
+    answer = b""
     with socket.create_connection(("127.0.0.1", PORT), timeout=5) as stream:
         stream.sendall(head.encode())
         with contextlib.suppress(OSError):
-            if stream.recv(4096) and rest:
+            answer = stream.recv(4096)
+            if answer and rest:
                 stream.sendall(rest)
             while stream.recv(4096):
                 pass
+    return answer
 
 
 def check_log(checks):
@@ -358,14 +362,65 @@ def check_session(checks):
 
 def check_handshakes(checks):
     """Heads that come at once are answered without a wait."""
-    with checks.serve("--operators", "ACME"):
+    with checks.serve("--operators", "ACME,BETA"):
         streams = [socket.create_connection(("127.0.0.1", PORT), timeout=10) for _ in range(64)]
         began = time.monotonic()
-        for stream in streams:
-            stream.sendall(HEAD.format("/operator/ACME").encode())
+        for n, stream in enumerate(streams):
+            stream.sendall(HEAD.format(("/operator/ACME", "/operator/BETA")[n % 2]).encode())
         answered = [b" 101 " in stream.recv(4096) for stream in streams]
         checks.check("64 handshakes", answered, [True] * 64)
         checks.check("64 handshakes in less than a second", time.monotonic() - began < 1, True)
+
+
+def check_operators(checks):
+    """An operator has 32 connections, and one more when one of these has ended. Another operator is let in."""
+    with checks.serve("--operators", "ACME,BETA"):
+        acme = [Peer(PORT, "/operator/ACME") for _ in range(32)]
+        refused = raw(HEAD.format("/operator/ACME"))
+        checks.check("connection 33", refused.startswith(b"HTTP/1.1 503 "), True)
+        checks.check("another operator", Peer(PORT, "/operator/BETA").ask("list stations"), "BETA ok")
+        acme.pop().stream.close()
+        time.sleep(0.2)
+        acme.append(Peer(PORT, "/operator/ACME"))
+        checks.check("one more when one has ended", acme[-1].ask("list stations"), "ACME ok")
+        checks.check("each hears each line", [peer.next() for peer in acme[:-1]], ["ACME ok"] * 31)
+
+
+def check_listings(checks):
+    """What a peer doesn't read at once waits for it, up to a bound. Beyond that its connection ends, and no other."""
+    with checks.serve("--operators", "ACME,BETA"):
+        acme = Peer(PORT, "/operator/ACME")
+        for tag in range(2000):
+            acme.ask(f"tag put {tag:020} - 0 -")
+        late, deaf = Peer(PORT, "/operator/ACME"), Peer(PORT, "/operator/ACME")
+        checks.check("60 listings", listings(acme, 60, ask=True), (120_000, 60))
+        checks.check("60 listings, read late", listings(late, 60), (120_000, 60))
+        late.stream.close()
+        checks.check("240 listings", listings(acme, 240, ask=True), (480_000, 240))
+        checks.check("one that never reads has ended", ends(deaf), True)
+        checks.check("another operator", Peer(PORT, "/operator/BETA").ask("list stations"), "BETA ok")
+
+
+def listings(peer, count, ask=False):
+    """Reads so many listings of tags, and asks for each before if it is to. How many rows and ends there are."""
+    rows = found = 0
+    for _ in range(count):
+        if ask:
+            peer.send("list tags")
+        while (end := peer.data.find(b"ACME ok")) < 0:
+            peer.data += peer.stream.recv(MOST)
+        rows += peer.data.count(b"ACME row tag ", 0, end)
+        found += 1
+        peer.data = peer.data[end + 7 :]
+    return rows, found
+
+
+def ends(peer):
+    """Whether the stream of a peer ends once all is read."""
+    with contextlib.suppress(ConnectionResetError):
+        while peer.stream.recv(MOST):
+            pass
+    return True
 
 
 def check_clock(checks):
@@ -535,6 +590,8 @@ def check_all(checks):
     check_turns(checks)
     check_session(checks)
     check_handshakes(checks)
+    check_operators(checks)
+    check_listings(checks)
     check_clock(checks)
     check_arrivals(checks)
     check_floods(checks)
