@@ -1,0 +1,121 @@
+-- What the head of a request asks for.
+use Rattle.std.specs.Prelude.{◌≡◌, ◌⊎◌, ℕ, Bool, true, false, not, ◌&&◌, ◌||◌, ◌==◌, List, length, map, codes, bytes_eq, Option, Some, None, if◌then◌else◌}
+use Rattle.std.specs.List.{filter, list_any, slice_split}
+use Rattle.httparse.specs.Grammar.{RequestHead, ReadsRequest, print_request}
+use Rattle.httparse.specs.Spans.{name_and_value}
+use Rattle.http.specs.Uri.{Spells, SpellsNone, uri_path}
+use Rattle.websocket.specs.Headers.{Fields, eq_ignore_case, header_value}
+use Rattle.websocket.specs.Handshake.{IsValidKey, accept_key_of}
+use Rattle.ws_peers.specs.Paths.{route_of}
+use Rattle.ws_peers.specs.declared.routes.Route.{Route}
+use Rattle.ws_peers.specs.declared.routes.Route.TheVariants.{Station, Operator, Nothing}
+use Rattle.ws_handshake.specs.declared.answer.Answer.{Answer}
+use Rattle.ws_handshake.specs.declared.answer.Answer.TheVariants as answer
+use Rattle.ws_handshake.specs.declared.head.Asked.{Asked}
+use Rattle.ws_handshake.specs.declared.head.Asked.TheVariants.{More, Plain, Upgraded}
+
+-- a comma, a space or a tab
+abbrev pub is_between : ℕ → Bool
+is_between b = b == 44 || b == 32 || b == 9
+
+-- a list has the item, in any case; items are cut at commas and white space
+abbrev pub has_item : List ℕ → List ℕ → Bool
+has_item item value = list_any (λ i. eq_ignore_case i item) (slice_split is_between value)
+
+-- a list has exactly the item
+abbrev pub has_exactly : List ℕ → List ℕ → Bool
+has_exactly item value = list_any (λ i. bytes_eq i item) (slice_split is_between value)
+
+-- how many fields have that name
+abbrev pub count_of : List ℕ → Fields → ℕ
+count_of name fields = length (filter (λ f. eq_ignore_case f.0 name) fields)
+
+-- a field of that name lists the item; several fields are one list (RFC 9110, section 5.3)
+abbrev pub lists : List ℕ → List ℕ → Fields → Bool
+lists name item fields = list_any (λ f. eq_ignore_case f.0 name && has_item item f.1) fields
+
+-- a field of that name lists exactly the item
+abbrev pub lists_exactly : List ℕ → List ℕ → Fields → Bool
+lists_exactly name item fields = list_any (λ f. eq_ignore_case f.0 name && has_exactly item f.1) fields
+
+-- a request offers the subprotocol of OCPP 1.6 (RFC 6455, section 11.3.4)
+abbrev pub offers_ocpp : Fields → Bool
+offers_ocpp fields = lists_exactly (codes "Sec-WebSocket-Protocol") (codes "ocpp1.6") fields
+
+-- the value of the field of that name, if there is exactly one
+abbrev pub only_value : List ℕ → Fields → Option (List ℕ)
+only_value name fields = if count_of name fields == 1 then header_value fields name else None
+
+-- a request of HTTP/1.1 names its host once (RFC 9112, section 3.2)
+abbrev pub lacks_host : ℕ → Fields → Bool
+lacks_host minor fields = minor == 1 && not (count_of (codes "Host") fields == 1)
+
+-- a request asks for an upgrade to WebSocket (RFC 9110, section 7.8; RFC 6455, section 4.2.1)
+abbrev pub asks_upgrade : List ℕ → ℕ → Fields → Bool
+asks_upgrade method minor fields =
+    bytes_eq method (codes "GET") && minor == 1 && lists (codes "Connection") (codes "upgrade") fields && lists (codes "Upgrade") (codes "websocket") fields
+
+-- it is a GET or a HEAD
+abbrev pub is_read : List ℕ → Bool
+is_read method = bytes_eq method (codes "GET") || bytes_eq method (codes "HEAD")
+
+-- the one statement or the other
+abbrev pub Either : Bool → Type 0 → Type 0 → Type 0
+Either true A B = A
+Either false A B = B
+
+-- the answer to a request that asks for no upgrade, by its path
+abbrev pub plain_answer : List ℕ → List ℕ → Route → Answer
+plain_answer method path Nothing =
+    if bytes_eq path (codes "/health") then (if is_read method then answer.Healthy else answer.NotAllowed) else answer.NotFound
+plain_answer method path route = if is_read method then answer.UpgradeRequired else answer.NotAllowed
+
+-- the version is 13 (RFC 6455, section 4.2.2)
+abbrev pub is_version : Option (List ℕ) → Bool
+is_version None = false
+is_version (Some value) = bytes_eq value (codes "13")
+
+-- an upgrade to that route is answered by its key, if that is the base64 of 16 bytes
+abbrev pub KeyJudged : Route → Fields → ℕ → Option (List ℕ) → Asked → Type 0
+KeyJudged route fields len None asked = asked ≡ Plain answer.BadRequest
+KeyJudged route fields len (Some key) asked =
+    (IsValidKey key × (asked ≡ Upgraded record { route = route; offers_ocpp = offers_ocpp fields; accept = accept_key_of key; len = len }))
+    ⊎ (¬ (IsValidKey key) × (asked ≡ Plain answer.BadRequest))
+
+-- a path of another form than those of stations and operators leads to nothing
+abbrev pub is_nothing : Route → Bool
+is_nothing (Station op station) = false
+is_nothing (Operator op) = false
+is_nothing Nothing = true
+
+-- an upgrade to a route
+abbrev pub UpgradeJudged : Route → Fields → ℕ → Asked → Type 0
+UpgradeJudged route fields len asked =
+    Either (is_nothing route) (asked ≡ Plain answer.NotFound)
+    (Either (is_version (only_value (codes "Sec-WebSocket-Version") fields))
+    (KeyJudged route fields len (only_value (codes "Sec-WebSocket-Key") fields) asked)
+    (asked ≡ Plain answer.UpgradeRequired))
+
+-- a request of a path, with a head of so many bytes
+abbrev pub PathJudged : List ℕ → List ℕ → ℕ → Fields → ℕ → Asked → Type 0
+PathJudged path method minor fields len asked =
+    Either (asks_upgrade method minor fields) (UpgradeJudged (route_of path) fields len asked) (asked ≡ Plain (plain_answer method path (route_of path)))
+
+-- a request: one without a host, and one whose target spells no URI, is a bad one
+abbrev pub Judged : List ℕ → List ℕ → ℕ → Fields → ℕ → Asked → Type 0
+Judged target method minor fields len asked =
+    Either (lacks_host minor fields) (asked ≡ Plain answer.BadRequest)
+    ((SpellsNone target × (asked ≡ Plain answer.BadRequest)) ⊎ ((uri : _) × Spells target uri × PathJudged (uri_path uri) method minor fields len asked))
+
+-- what a head asks for
+abbrev pub HeadJudged : RequestHead → Asked → Type 0
+HeadJudged h asked = Judged h.target h.method h.minor (map name_and_value h.fields) (length (print_request h)) asked
+
+-- the bytes begin with a head that asks for that
+abbrev pub Asks : List ℕ → Asked → Type 0
+Asks bytes asked = (h : RequestHead) × (rest : List ℕ) × ReadsRequest bytes h rest × HeadJudged h asked
+
+abbrev pub is_upgrade : Asked → Bool
+is_upgrade More = false
+is_upgrade (Plain answer) = false
+is_upgrade (Upgraded upgrade) = true
