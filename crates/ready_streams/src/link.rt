@@ -71,8 +71,12 @@ impl Link {
         let Some(right) = self.right(turn) else {
             return Err(Error::from(ErrorKind::WouldBlock));
         };
-        let got = (&self.stream).read(buf);
-        self.readiness.learn(&got, buf.len());
+        let room = match right {
+            Right::First => buf.len(),
+            Right::Further => buf.len().min(turn.left()),
+        };
+        let got = (&self.stream).read(&mut buf[..room]);
+        self.readiness.learn(&got, room);
         if let Ok(len) = &got {
             self.unanswered
                 .set(self.unanswered.get().saturating_add(*len));

@@ -82,7 +82,7 @@ impl Readiness {
         if self.read_in.replace(turn.number()) != turn.number() {
             return Some(Right::First);
         }
-        turn.allows_further().then_some(Right::Further)
+        (turn.left() > 0).then_some(Right::Further)
     }
 
     /// Keeps what a read into that much room tells. One that leaves room has taken all bytes that were there,

@@ -26,7 +26,8 @@ impl ReadyStream {
 
 impl Read for ReadyStream {
     /// The first read of a stream in a turn takes what its buffer holds. All later ones of a turn, by all streams
-    /// together, take 65,536 bytes. The others find nothing, so that a peer that sends without a pause holds no reader.
+    /// together, take 65,536 bytes at most. The others find nothing, so that a peer that sends without a pause holds no
+    /// reader.
     /// Of the streams that have sent more than 8,192 bytes since they were last written to, one is read in a turn.
     fn read(&mut self, buf: &mut [u8]) -> io::Result<usize> {
         self.link.read(&self.turn, buf)

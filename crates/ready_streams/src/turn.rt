@@ -61,9 +61,9 @@ impl Turn {
         self.number.get()
     }
 
-    /// Whether a further read may be made.
-    pub fn allows_further(&self) -> bool {
-        self.further.get() > 0
+    /// The bytes that further reads may still take in this turn.
+    pub fn left(&self) -> usize {
+        self.further.get()
     }
 
     /// A further read took so many bytes.
