@@ -7,6 +7,7 @@ mod peek;
 mod readiness;
 mod ready_stream;
 mod served;
+mod silence;
 mod streams;
 mod turn;
 mod unsent;

@@ -2,6 +2,7 @@
 ghost use Rattle.std.specs.Io.{ReadsAtMost, WritesAtMost};
 
 use crate::readiness::{Readiness, Right};
+use crate::silence::{Due, Silence};
 use crate::turn::Turn;
 use crate::unsent::Unsent;
 use mio::net::TcpStream;
@@ -30,6 +31,7 @@ pub struct Link {
     room: Cell<usize>,
     /// The bytes that were read since it was last written to.
     unanswered: Cell<usize>,
+    silence: Silence,
     /// The place of its peer, or `NOWHERE`.
     pub place: Cell<usize>,
     /// It is on the list of those that may be read.
@@ -47,6 +49,7 @@ impl Link {
             unsent: RefCell::new(Unsent::new(turn.alloc)),
             room: Cell::new(ROOM),
             unanswered: Cell::new(0),
+            silence: Silence::new(turn.second()),
             place: Cell::new(NOWHERE),
             is_listed: Cell::new(true),
             is_noted: Cell::new(false),
@@ -78,6 +81,7 @@ impl Link {
         let got = (&self.stream).read(&mut buf[..room]);
         self.readiness.learn(&got, room);
         if let Ok(len) = &got {
+            self.hear(turn, *len);
             self.unanswered
                 .set(self.unanswered.get().saturating_add(*len));
             if right == Right::Further {
@@ -85,6 +89,21 @@ impl Link {
             }
         }
         got
+    }
+
+    /// So many bytes of the peer were read, or looked at.
+    fn hear(&self, turn: &Turn, bytes: usize) {
+        if bytes > 0 {
+            self.silence.hear(turn.second());
+        }
+    }
+
+    /// What is due to its peer in this second, if that is silent (`Streams::find_silent`).
+    pub fn due(&self, turn: &Turn, ping_after: u64, answer_within: u64) -> Option<Due> {
+        if self.place.get() == NOWHERE || self.readiness.has_bytes() {
+            return None;
+        }
+        self.silence.due(turn.second(), ping_after, answer_within)
     }
 
     /// By which right the next read asks the system, if it does.
@@ -104,7 +123,11 @@ impl Link {
             return Err(Error::from(ErrorKind::WouldBlock));
         }
         self.note(turn);
-        self.stream.peek(buf)
+        let got = self.stream.peek(buf);
+        if let Ok(len) = &got {
+            self.hear(turn, *len);
+        }
+        got
     }
 
     /// Takes all of the bytes, or none.

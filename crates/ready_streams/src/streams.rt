@@ -2,6 +2,7 @@
 
 use crate::link::{Link, NOWHERE};
 use crate::ready_stream::ReadyStream;
+use crate::silence::Due;
 use crate::turn::Turn;
 use mio::net::{TcpListener, TcpStream};
 use mio::{Events, Interest, Poll, Token};
@@ -36,6 +37,10 @@ pub struct Streams {
     readable: Vec<usize>,
     /// The places of their peers, as `ready` found them. It has room for all.
     places: Vec<usize>,
+    /// The places of the peers to whom a ping is due, as `find_silent` found them. It has room for all.
+    to_ping: Vec<usize>,
+    /// The places of the peers whose end is due. It has room for all.
+    to_end: Vec<usize>,
 }
 
 impl Streams {
@@ -58,6 +63,8 @@ impl Streams {
             free: Vec::new(alloc),
             readable: Vec::new(alloc),
             places: Vec::new(alloc),
+            to_ping: Vec::new(alloc),
+            to_end: Vec::new(alloc),
         })
     }
 
@@ -108,6 +115,8 @@ impl Streams {
         reserve(&mut self.free, places)?;
         reserve(&mut self.readable, places)?;
         reserve(&mut self.places, places)?;
+        reserve(&mut self.to_ping, places)?;
+        reserve(&mut self.to_end, places)?;
         self.links.push(None)?;
         self.free.push(token)?;
         Ok(token)
@@ -167,6 +176,49 @@ impl Streams {
         }
         self.places.sort_unstable();
         self.places.as_slice()
+    }
+
+    /// It is that second now, by a clock that never goes back. It is 0 before the first call.
+    pub fn set_second(&mut self, second: u64) {
+        self.turn.set_second(second);
+    }
+
+    /// Finds the peers that are silent in this second, by a walk over all streams. `to_ping` then gives those of which
+    /// no byte was read for at least `ping_after` seconds, each once in a silence. `to_end` then gives those of which
+    /// no byte was read for at least `answer_within` seconds after `to_ping` gave them, in each call. A peer whose
+    /// bytes wait for a read isn't silent. The silence of a new peer begins as its stream is accepted.
+    pub fn find_silent(&mut self, ping_after: u64, answer_within: u64) {
+        self.to_ping.clear();
+        self.to_end.clear();
+        for link in &self.links {
+            let Some(link) = link else {
+                continue;
+            };
+            if is_gone(link) {
+                continue;
+            }
+            match link.due(&self.turn, ping_after, answer_within) {
+                Some(Due::Ping) => {
+                    let _listed = self.to_ping.push(link.place.get());
+                }
+                Some(Due::End) => {
+                    let _listed = self.to_end.push(link.place.get());
+                }
+                None => {}
+            }
+        }
+        self.to_ping.sort_unstable();
+        self.to_end.sort_unstable();
+    }
+
+    /// The places of the peers to whom a ping is due, in ascending order, as `find_silent` found them last.
+    pub fn to_ping(&self) -> &[usize] {
+        self.to_ping.as_slice()
+    }
+
+    /// The places of the peers whose end is due, in ascending order, as `find_silent` found them last.
+    pub fn to_end(&self) -> &[usize] {
+        self.to_end.as_slice()
     }
 
     /// Ends a turn: what was written is given to the system, and the streams that are gone are closed.

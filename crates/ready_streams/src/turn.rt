@@ -10,6 +10,8 @@ const FURTHER_BYTES: usize = 65_536;
 #[derive(Drop)]
 pub struct Turn {
     pub alloc: Global,
+    /// Which second it is.
+    second: Cell<u64>,
     /// Which turn it is, from 1.
     number: Cell<u64>,
     /// The bytes that further reads may still take.
@@ -26,6 +28,7 @@ impl Turn {
     pub fn new(alloc: Global) -> Turn {
         Turn {
             alloc,
+            second: Cell::new(0),
             number: Cell::new(1),
             further: Cell::new(FURTHER_BYTES),
             long: Cell::new(None),
@@ -55,6 +58,14 @@ impl Turn {
                 true
             }
         }
+    }
+
+    pub fn set_second(&self, second: u64) {
+        self.second.set(second);
+    }
+
+    pub fn second(&self) -> u64 {
+        self.second.get()
     }
 
     pub fn number(&self) -> u64 {
