@@ -4,7 +4,7 @@ use Rattle.websocket.specs.Connection.{Effect}
 use Rattle.websocket.specs.declared.error.Error.{Error as FrameError}
 use Rattle.tungstenite.specs.Socket.{Socket, Writes}
 use Rattle.tungstenite.specs.Connection.{write_step, close_step}
-use Rattle.tungstenite.specs.Content.{text as text_content}
+use Rattle.tungstenite.specs.Content.{Content, ping, text as text_content}
 use Rattle.tungstenite.specs.Failure.{WriteFails, IsIo}
 use Rattle.websocket.specs.declared.protocol.frame.coding.CloseCode.{CloseCode}
 use Rattle.websocket.specs.declared.protocol.frame.coding.CloseCode.TheVariants.{Policy}
@@ -24,13 +24,22 @@ module _ {T : Type 0} where
     pub stream_failed : IfErr r (λ e. IsIo e → Writes contents old new step)
     pub memory : IfErr r (λ e. e ≡ OutOfMemory → new ≡ old)
 
-  -- one `send` of a text to a peer, whose connection ends where that isn't Ok; a text that finds no memory
+  -- one `send` of a message to a peer, whose connection ends where that isn't Ok; a message that finds no memory
   -- is a send that gave that
-  pub record Sent (contents : T → Option (List ℕ)) (t : List ℕ) (old new : Peer T) : Type 0 where
+  pub record SentMessage (contents : T → Option (List ℕ)) (content : Content) (old new : Peer T) : Type 0 where
     pub gave : Result (Unit {0}) Error
-    pub sends : SendGives contents (write_step old.socket.conn (text_content t)) old.socket new.socket gave
+    pub sends : SendGives contents (write_step old.socket.conn content) old.socket new.socket gave
     pub full : IfErr gave (λ e. e ≡ WriteBufferFull → new.socket ≡ old.socket)
     pub rest : new ≡ record old { socket = new.socket; stage = stage_after gave old.stage }
+
+  -- one send of a text
+  abbrev pub Sent : (T → Option (List ℕ)) → List ℕ → Peer T → Peer T → Type 0
+  Sent contents t = SentMessage contents (text_content t)
+
+  -- one send of a Ping without a payload, and none to a connection that has ended
+  pub record Pinged (contents : T → Option (List ℕ)) (old new : Peer T) : Type 0 where
+    pub while_open : is_open old.stage ≡ true → SentMessage contents (ping []) old new
+    pub once_ended : is_open old.stage ≡ false → new ≡ old
 
   -- one `close` of a peer's socket with that code, whatever it gave; the connection comes to that stage.
   -- Of the socket after a close whose output was full `tungstenite` says nothing.

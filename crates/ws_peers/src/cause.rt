@@ -20,6 +20,8 @@ pub enum Cause {
     NoMemory,
     /// The event of a text ended in a fault.
     Fault,
+    /// The peer has sent nothing for too long, not even the answer to a ping.
+    Silent,
 }
 
 impl Cause {

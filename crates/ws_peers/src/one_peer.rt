@@ -14,7 +14,7 @@ impl<T: Read + Write + Drop> Peers<T> {
     ghost use Rattle.ws_peers.specs.Lists.{peers, At, is_open_for};
     ghost use Rattle.ws_peers.specs.Peers.{ends, finishes, is_open_peer};
     ghost use Rattle.ws_peers.specs.Reads.{Took};
-    ghost use Rattle.ws_peers.specs.Sends.{Sent};
+    ghost use Rattle.ws_peers.specs.Sends.{Sent, Pinged};
 
     /// No peer. It takes no memory yet.
     pub fn new(alloc: Global) -> Peers<T>
@@ -81,6 +81,17 @@ impl<T: Read + Write + Drop> Peers<T> {
     {
         let peer = &mut self.items[n];
         peer.send(self.alloc, text);
+        self.has_ended |= !peer.stage().is_open();
+    }
+
+    /// Sends a Ping without a payload to a peer, if its connection is open.
+    pub fn ping(&mut self, n: usize)
+        requires { n < length (peers self.old) }
+        ensures pinged { At (Pinged T.contents) n (peers self.old) (peers self.new) }
+        ensures count { length (peers self.new) ≡ length (peers self.old) }
+    {
+        let peer = &mut self.items[n];
+        peer.ping();
         self.has_ended |= !peer.stage().is_open();
     }
 

@@ -8,7 +8,7 @@ use crate::stage::Stage;
 use ready_streams::Served;
 use std::alloc::Global;
 use std::io::{Read, Write};
-use tungstenite::{CloseCode, CloseFrame, Message, NoMask, Utf8Bytes, WebSocket};
+use tungstenite::{Bytes, CloseCode, CloseFrame, Message, NoMask, Utf8Bytes, WebSocket};
 
 /// The bytes that may wait in the stream of an operator.
 const OPERATOR_ROOM: usize = 16_777_216;
@@ -30,11 +30,11 @@ pub struct Peer<T> {
 #[tactic(auto, using(crate::proofs::PeerLaws::unsent, crate::proofs::PeerLaws::took, crate::proofs::PeerLaws::took_none))]
 impl<T: Read + Write + Drop> Peer<T> {
     ghost use Rattle.std.specs.Prelude.{Some};
-    ghost use Rattle.tungstenite.specs.Socket.{close_of};
+    ghost use Rattle.tungstenite.specs.Socket.{close_of, content_of};
     ghost use Rattle.ws_peers.specs.Peers.{route_of, stage_of, open_peer, ends, leaves, finishes, Kept};
     ghost use Rattle.ws_peers.specs.Lists.{is_open_at, is_open_for, ForText, Hears, GivesWay};
     ghost use Rattle.ws_peers.specs.Reads.{Took};
-    ghost use Rattle.ws_peers.specs.Sends.{Sent, Closed, Replaced};
+    ghost use Rattle.ws_peers.specs.Sends.{Sent, SentMessage, Pinged, Closed, Replaced};
     ghost use Rattle.ws_peers.specs.Stages.{is_open};
 
     /// A peer whose handshake is done.
@@ -68,12 +68,27 @@ impl<T: Read + Write + Drop> Peer<T> {
         ensures kept { Kept self.old self.new }
     {
         match Message::text(alloc, text) {
-            Ok(message) => {
-                let gave = self.socket.send(message);
-                self.stage = self.stage.after_send(gave);
-            }
+            Ok(message) => self.send_message(message),
             Err(_) => self.stage = self.stage.ended(Cause::NoMemory),
         }
+    }
+
+    /// Sends a Ping without a payload (RFC 6455, section 5.5.2), if the connection is open. It ends where that isn't Ok.
+    pub fn ping(&mut self)
+        ensures pinged { Pinged T.contents self.old self.new }
+        ensures kept { Kept self.old self.new }
+    {
+        if self.stage.is_open() {
+            self.send_message(Message::Ping(Bytes::new()));
+        }
+    }
+
+    fn send_message(&mut self, message: Message)
+        ensures sent { SentMessage T.contents (content_of message) self.old self.new }
+        ensures kept { Kept self.old self.new }
+    {
+        let gave = self.socket.send(message);
+        self.stage = self.stage.after_send(gave);
     }
 
     /// Reads once, if the connection is open: a text within the limit, or nothing. A longer text, one that isn't UTF-8
