@@ -1,12 +1,16 @@
 -- All peers, in order of admission.
-use Rattle.std.specs.Prelude.{ℕ, zero, suc, List, [], ◌∷◌, ◌≡◌, ◌+◌, ◌≤◌, ◌⊎◌, Bool, true, false, ◌&&◌, Option, None, Some, ⊤, vec_len, vec_capacity}
+use Rattle.std.specs.Prelude.{ℕ, zero, suc, List, [], ◌∷◌, ◌++◌, ◌≡◌, ◌+◌, ◌≤◌, ◌⊎◌, Bool, true, false, ◌&&◌, Option, None, Some, ⊤, vec_len, vec_capacity}
 use Rattle.std.specs.List.{AllZip, list_any}
+use Rattle.tungstenite.specs.Socket.{Socket}
+use Rattle.websocket.specs.declared.protocol.frame.coding.CloseCode.TheVariants.{Policy}
 use Rattle.ws_peers.specs.declared.peer.Peer.{Peer}
 use Rattle.ws_peers.specs.declared.peers.Peers.{Peers}
 use Rattle.ws_peers.specs.declared.routes.Route.{Route}
 use Rattle.ws_peers.specs.declared.routes.Route.TheVariants.{Station, Operator, Nothing}
 use Rattle.ws_peers.specs.Routes.{is_station, is_operator_of}
-use Rattle.ws_peers.specs.Sends.{Sent, Replaced}
+use Rattle.ws_peers.specs.Peers.{open_peer}
+use Rattle.ws_peers.specs.Sends.{Sent, Closed, Replaced}
+use Rattle.ws_peers.specs.declared.stage.Stage.TheVariants.{Gone}
 use Rattle.ws_peers.specs.Stages.{is_open}
 
 -- R holds of the items at place n, and the others stay
@@ -62,6 +66,10 @@ module _ {T : Type 0} where
   GiveWay contents (Station op station) = AllZip (GivesWay contents op station)
   GiveWay contents (Operator op) = λ old new. new ≡ old
   GiveWay contents Nothing = λ old new. new ≡ old
+
+  -- a connection that isn't admitted: its socket is closed with the code 1008 and a reason, and it is gone
+  abbrev pub Shut : (T → Option (List ℕ)) → List ℕ → Socket T → Route → List (Peer T) → List (Peer T) → Type 0
+  Shut contents reason socket route old new = (p : Peer T) × Closed contents (Some (Policy, reason)) Gone (open_peer socket route) p × (new ≡ old ++ p ∷ [])
 
 -- what holds of a text, or of any text where there was no memory for it
 abbrev pub ForText : Option (List ℕ) → (List ℕ → Type 0) → Type 0

@@ -17,7 +17,7 @@ use tungstenite::{NoMask, WebSocket};
 
 #[tactic(auto, using(crate::proofs::ListLaws::sent_at, crate::proofs::ListLaws::to_nobody, crate::proofs::ListLaws::position_within, crate::proofs::ListLaws::position_found, crate::proofs::ListLaws::position_missing))]
 impl<T: Read + Write + Served + Drop> Peers<T> {
-    ghost use Rattle.ws_peers.specs.Lists.{peers, has_room, is_connected, ForText, ToStation, ToOperator, GivesWay, GiveWay};
+    ghost use Rattle.ws_peers.specs.Lists.{peers, has_room, is_connected, ForText, ToStation, ToOperator, GivesWay, GiveWay, Shut};
     ghost use Rattle.ws_peers.specs.Peers.{stage_of, open_peer, leaves};
     ghost use Rattle.ws_peers.specs.Stages.{is_held};
 
@@ -123,6 +123,20 @@ impl<T: Read + Write + Served + Drop> Peers<T> {
         peer.set_place(self.items.len());
         peer.set_room();
         push_ready(&mut self.items, peer);
+    }
+
+    /// Adds a peer that isn't admitted, for which there is room: its socket is closed with the code 1008 and that
+    /// reason, and it is gone.
+    pub fn push_closed(&mut self, socket: WebSocket<T, NoMask>, route: Route, reason: &'static str)
+        requires { has_room self.old }
+        ensures { Shut T.contents reason.now socket route (peers self.old) (peers self.new) }
+    {
+        list_place(&mut self.operators, self.items.len(), route.is_operator());
+        push_ready(&mut self.keys, route.key());
+        let mut peer = Peer::new(socket, route);
+        peer.shut(reason);
+        push_ready(&mut self.items, peer);
+        self.has_ended = true;
     }
 
     fn make_way(&mut self, route: &Route)

@@ -152,6 +152,13 @@ impl<T: Read + Write + Drop> Peer<T> {
         }
     }
 
+    /// It isn't admitted: its socket is closed with the code 1008 and a reason, and it is gone.
+    pub(crate) fn shut(&mut self, reason: &'static str)
+        ensures { Closed T.contents (Some (CloseCode.Policy, reason.now)) Stage.Gone self.old self.new }
+    {
+        self.close(CloseCode::Policy, reason, Stage::Gone);
+    }
+
     /// A connection that has ended leaves: a station is to disconnect from the hub, and an operator
     /// is gone.
     pub fn leave(&mut self)

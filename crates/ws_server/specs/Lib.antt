@@ -4,3 +4,4 @@ pub mod Steps
 pub mod Turns
 pub mod Admits
 pub mod Lobbies
+pub mod Probes

@@ -1,5 +1,5 @@
 -- Connections whose handshake is not done.
-use Rattle.std.specs.Prelude.{ℕ, List, drop, if◌then◌else◌, length, nat_lt}
+use Rattle.std.specs.Prelude.{ℕ, ◌+◌, Bool, ◌||◌, List, drop, if◌then◌else◌, length, nat_lt}
 use Rattle.ws_server.specs.declared.lobby.Lobby.{Lobby}
 
 -- how many wait
@@ -9,3 +9,8 @@ waiting_count l = length l.waiting.items
 -- those that wait as one more comes: of 4,096 or more the first is dropped
 abbrev pub with_room : {A : Type 0} → List A → List A
 with_room waiting = if nat_lt (length waiting) 4096 then waiting else drop 1 waiting
+
+-- one that was accepted at moment since has waited at moment m for more than so many seconds; where the clock was set
+-- back, it counts as longer
+abbrev pub is_late : ℕ → ℕ → ℕ → Bool
+is_late m since seconds = nat_lt m since || nat_lt (since + seconds) m

@@ -1,5 +1,5 @@
 //! Admitting a connection.
-ghost use Rattle.std.specs.Prelude.{◌≡◌, true, false, Err, IfErr, OnOk};
+ghost use Rattle.std.specs.Prelude.{◌≡◌, true, false, [], Err, IfErr, OnOk};
 ghost use Rattle.hub_rows.specs.Reads.{IsCounted};
 ghost use Rattle.hub.specs.Hub.{hub_view, setting, is_taken};
 ghost use Rattle.ws_peers.specs.Lists.{peers, has_room};
@@ -7,6 +7,7 @@ ghost use Rattle.ws_server.specs.Admits.{Enters};
 ghost use Rattle.ws_server.specs.Steps.{Takes};
 ghost use Rattle.ws_server.specs.Tells.{peers_of};
 
+use crate::arrival::Arrival;
 use crate::events::{connect_of, turns_away};
 use crate::gateway::Gateway;
 use crate::notes::{Happened, Notes, Refusal};
@@ -16,64 +17,90 @@ use ocpp_types::Moment;
 use ready_streams::Served;
 use station_calls::VendorHandler;
 use std::io::{Read, Write};
-use std::net::SocketAddr;
 use tungstenite::{NoMask, WebSocket};
 use ws_peers::{Peers, Route};
 
+/// Why a station is closed that doesn't offer the subprotocol.
+const NO_SUBPROTOCOL: &str = "subprotocol ocpp1.6 is missing";
+
+/// Why a station is closed that is no longer on record.
+const NO_STATION: &str = "no such station";
+
+/// Why a connection is closed whose path leads to nothing.
+const NO_PATH: &str = "no such path";
+
 impl<T: Read + Write + Served + Drop> Gateway<T> {
-    ghost use Rattle.ws_server.specs.Admits.{Admits, Connects};
+    ghost use Rattle.ws_server.specs.Admits.{Admits, Closes, Connects, is_served};
     ghost use Rattle.ws_server.specs.Events.{is_route_of_hosted};
 
-    /// Admits a connection whose handshake is done. A station connects to the hub, and the outputs
-    /// are sent. If it is turned away its socket is closed; else older connections of it are
-    /// replaced. An operator that isn't hosted is the fault `NoSuchOperator`. A route to nothing
-    /// closes the socket. After a fault nothing was admitted, and the socket is dropped.
+    /// Admits a connection whose handshake is done. A station connects to the hub, and the outputs are sent; older
+    /// connections of it are replaced. One that the hub turns away, one that doesn't offer the subprotocol `ocpp1.6`
+    /// (OCPP-J 1.6, section 3.1.2), and a path to nothing are closed with the code 1008 and a reason. An operator that
+    /// isn't hosted is the fault `NoSuchOperator`. After a fault nothing was admitted, and the socket is dropped.
     pub fn admit<S: Store + Drop, V: VendorHandler>(
         &mut self,
         hub: &mut Hub<S, V>,
         socket: WebSocket<T, NoMask>,
-        address: Option<SocketAddr>,
-        route: Route,
+        arrival: Arrival,
         moment: Moment,
     ) -> Result<(), Fault>
         ensures takes { Takes S.view V.view hub.old hub.new
-            (λ steps. Admits T.contents socket moment route (peers_of self.old) (peers_of self.new) steps result) }
-        ensures hosted { OnOk result (is_route_of_hosted (setting V.view hub.old).is_hosted route ≡ true) }
-        ensures not_hosted { IfErr result (λ f. f ≡ Fault.NoSuchOperator → is_route_of_hosted (setting V.view hub.old).is_hosted route ≡ false) }
+            (λ steps. Admits T.contents socket moment arrival.route arrival.offers_ocpp (peers_of self.old) (peers_of self.new) steps result) }
+        ensures hosted { OnOk result (is_served (setting V.view hub.old).is_hosted arrival.route arrival.offers_ocpp ≡ true) }
+        ensures not_hosted { IfErr result (λ f. f ≡ Fault.NoSuchOperator → is_route_of_hosted (setting V.view hub.old).is_hosted arrival.route ≡ false) }
         ensures counted { IsCounted (hub_view S.view) hub.old hub.new (result ≡ Err Fault.Store) }
         ensures setting { setting V.view hub.new ≡ setting V.view hub.old }
     {
-        match &route {
-            Route::Station(op, station) => {
+        match &arrival.route {
+            Route::Station(op, station) if arrival.offers_ocpp => {
                 let event = connect_of(op, station, moment)?;
-                self.connect(hub, socket, address, route, &event)
+                self.connect(hub, socket, arrival, &event)
             }
+            Route::Station(_, _) => self.shut(socket, arrival, Refusal::NoSubprotocol, NO_SUBPROTOCOL),
             Route::Operator(op) => {
                 if !hub.hosts(op.as_str()) {
                     return Err(Fault::NoSuchOperator);
                 }
                 self.peers.reserve()?;
-                self.notes.add(&route, address, Happened::Connected);
-                self.peers.push(socket, route);
+                self.notes
+                    .add(&arrival.route, arrival.address, Happened::Connected);
+                self.peers.push(socket, arrival.route);
                 Ok(())
             }
-            Route::Nothing => {
-                close(socket);
-                Ok(())
-            }
+            Route::Nothing => self.shut(socket, arrival, Refusal::NoPath, NO_PATH),
         }
+    }
+
+    /// Closes a connection that isn't admitted.
+    fn shut(
+        &mut self,
+        socket: WebSocket<T, NoMask>,
+        arrival: Arrival,
+        refusal: Refusal,
+        reason: &'static str,
+    ) -> Result<(), Fault>
+        ensures { Closes T.contents socket reason.now arrival.route (peers_of self.old) (peers_of self.new) [] result }
+        ensures cause { IfErr result (λ f. f ≡ Fault.NoMemory) }
+    {
+        self.peers.reserve()?;
+        self.notes.add(
+            &arrival.route,
+            arrival.address,
+            Happened::Refused(refusal),
+        );
+        self.peers.push_closed(socket, arrival.route, reason);
+        Ok(())
     }
 
     fn connect<S: Store + Drop, V: VendorHandler>(
         &mut self,
         hub: &mut Hub<S, V>,
         socket: WebSocket<T, NoMask>,
-        address: Option<SocketAddr>,
-        route: Route,
+        arrival: Arrival,
         event: &Event,
     ) -> Result<(), Fault>
         ensures takes { Takes S.view V.view hub.old hub.new
-            (λ steps. Connects T.contents socket event.now route (peers_of self.old) (peers_of self.new) steps result) }
+            (λ steps. Connects T.contents socket event.now arrival.route (peers_of self.old) (peers_of self.new) steps result) }
         ensures taken { OnOk result (is_taken (setting V.view hub.old) event.now ≡ true) }
         ensures not_taken { IfErr result (λ f. f ≡ Fault.NoSuchOperator → is_taken (setting V.view hub.old) event.now ≡ false) }
         ensures counted { IsCounted (hub_view S.view) hub.old hub.new (result ≡ Err Fault.Store) }
@@ -83,20 +110,15 @@ impl<T: Read + Write + Served + Drop> Gateway<T> {
         let outs = match hub.handle(event) {
             Ok(outs) => outs,
             Err(fault) => {
-                self.notes.add(&route, address, Happened::Failed(fault));
+                self.notes
+                    .add(&arrival.route, arrival.address, Happened::Failed(fault));
                 return Err(fault);
             }
         };
         let place = self.peers.count();
         let is_turned_away = turns_away(&outs);
-        note_connect(
-            &mut self.notes,
-            &self.peers,
-            address,
-            &route,
-            is_turned_away,
-        );
-        enter(&mut self.peers, is_turned_away, socket, route);
+        note_connect(&mut self.notes, &self.peers, &arrival, is_turned_away);
+        enter(&mut self.peers, is_turned_away, socket, arrival.route);
         self.tell_all(place, &outs);
         Ok(())
     }
@@ -106,18 +128,18 @@ impl<T: Read + Write + Served + Drop> Gateway<T> {
 fn note_connect<T: Read + Write + Served + Drop>(
     notes: &mut Notes,
     peers: &Peers<T>,
-    address: Option<SocketAddr>,
-    route: &Route,
+    arrival: &Arrival,
     is_turned_away: bool,
 ) {
+    let route = &arrival.route;
     if is_turned_away {
-        notes.add(route, address, Happened::Refused(Refusal::Gone));
+        notes.add(route, arrival.address, Happened::Refused(Refusal::Gone));
         return;
     }
     if peers.is_connected(route) {
         notes.add(route, None, Happened::Replaced);
     }
-    notes.add(route, address, Happened::Connected);
+    notes.add(route, arrival.address, Happened::Connected);
 }
 
 /// Adds a station, or closes the socket of one that is turned away.
@@ -131,13 +153,8 @@ fn enter<T: Read + Write + Served + Drop>(
     ensures { Enters T.contents socket is_turned_away route (peers all.old) (peers all.new) }
 {
     if is_turned_away {
-        close(socket);
+        all.push_closed(socket, route, NO_STATION);
     } else {
         all.push(socket, route);
     }
-}
-
-fn close<T: Read + Write + Drop>(socket: WebSocket<T, NoMask>) {
-    let mut socket = socket;
-    let _closed = socket.close(None);
 }

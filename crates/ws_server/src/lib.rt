@@ -3,18 +3,17 @@
 #![tactic(auto)]
 
 mod admit;
+mod arrival;
 mod events;
 mod gateway;
-mod handshake;
-mod head;
-mod listener;
 mod lobby;
 mod notes;
+mod probe;
 mod tell;
 mod turn;
 mod welcome;
 
+pub use arrival::Arrival;
 pub use gateway::Gateway;
-pub use listener::listen;
 pub use lobby::Lobby;
 pub use notes::{Happened, Note, Refusal};

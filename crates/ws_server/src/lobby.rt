@@ -1,13 +1,12 @@
 //! Connections whose handshake is not done.
-ghost use Rattle.std.specs.Prelude.{◌≡◌, ◌≢◌, ◌++◌, ◌∷◌, ◌<◌, ◌≤◌, [], true, Err, OnOk, OnErr, IfOk, IfErr, length};
+ghost use Rattle.std.specs.Prelude.{◌≡◌, ◌≢◌, ◌++◌, ◌∷◌, ◌<◌, ◌≤◌, List, [], true, slice_index_or, Err, OnOk, OnErr, IfOk, IfErr, length};
 ghost use Rattle.hub_rows.specs.Reads.{IsCounted};
 ghost use Rattle.hub.specs.Hub.{hub_view, setting, is_clean};
-ghost use Rattle.ws_server.specs.Lobbies.{waiting_count, with_room};
+ghost use Rattle.ws_server.specs.Lobbies.{waiting_count, with_room, is_late};
 ghost use Rattle.ws_server.specs.Steps.{Takes};
 ghost use Rattle.ws_server.specs.Tells.{peers_of};
 
 use crate::gateway::Gateway;
-use crate::head::{Asked, read_head};
 use crate::notes::{Happened, Note, Notes, Refusal};
 use hub::{Fault, Hub};
 use hub_rows::Store;
@@ -17,10 +16,8 @@ use station_calls::VendorHandler;
 use std::alloc::Global;
 use std::io::{ErrorKind, Read, Write};
 use std::net::SocketAddr;
+use ws_handshake::{Answer, Asked, MAX_HEAD, Upgrade, judge, refuse};
 use ws_peers::Route;
-
-/// The most bytes of the head of a request.
-const MAX_HEAD: usize = 8192;
 
 /// The seconds that a head may take to come.
 const PATIENCE: u64 = 2;
@@ -56,13 +53,17 @@ enum Next {
     Wait,
     /// It is dropped, for that reason.
     Drop(Refusal),
-    /// Its head is complete, and its path leads there.
-    Welcome(Route),
+    /// So many bytes have come, and they make no connection: they are answered so.
+    Refuse(usize, Answer),
+    /// Its head is complete, and asks for that.
+    Welcome(Upgrade),
 }
 
 #[tactic(auto, using(crate::proofs::StepLaws::nothing))]
 impl<T: Peek + Read + Write + Served + Drop> Lobby<T> {
-    ghost use Rattle.ws_server.specs.Admits.{WelcomesOne, WelcomesSome};
+    ghost use Rattle.ws_server.specs.Admits.{AsksFor, WelcomesOne, WelcomesSome};
+    ghost use Rattle.ws_server.specs.declared.lobby.Waiting.{Waiting};
+    ghost use Rattle.ws_handshake.specs.declared.head.Upgrade.{Upgrade};
 
     /// No connection.
     pub fn new(alloc: Global) -> Mem<Lobby<T>>
@@ -87,7 +88,9 @@ impl<T: Peek + Read + Write + Served + Drop> Lobby<T> {
     /// Whether one more may be accepted: fewer than 4,096 wait, or the one that was accepted first has waited for
     /// more than a second.
     pub fn has_room(&self, moment: Moment) -> bool
-        ensures { length self.now.waiting.items < 4096 → result ≡ true }
+        ensures few { length self.now.waiting.items < 4096 → result ≡ true }
+        ensures many { (first : Waiting T) (others : List (Waiting T)) → self.now.waiting.items ≡ first ∷ others
+            → 4096 ≤ length self.now.waiting.items → result ≡ is_late moment first.since 1 }
     {
         self.waiting.len() < MAX_WAITING
             || self
@@ -136,8 +139,8 @@ impl<T: Peek + Read + Write + Served + Drop> Lobby<T> {
             .add(&Route::Nothing, address, Happened::Refused(refusal));
     }
 
-    /// Polls each that waits once. One whose head is complete is welcomed by the gateway; after a
-    /// fault it is dropped, and the others wait for the next turn.
+    /// Polls each that waits once. One whose head asks for a handshake is welcomed by the gateway, and one that asks for
+    /// anything else is answered and dropped; after a fault it is dropped, and the others wait for the next turn.
     pub fn serve<S: Store + Drop, V: VendorHandler>(
         &mut self,
         alloc: Global,
@@ -146,7 +149,7 @@ impl<T: Peek + Read + Write + Served + Drop> Lobby<T> {
         moment: Moment,
     ) -> Result<(), Fault>
         ensures takes { Takes S.view V.view hub.old hub.new
-            (λ steps. WelcomesSome T.contents moment (peers_of gateway.old) (peers_of gateway.new) steps result) }
+            (λ steps. WelcomesSome T.remaining T.contents moment (peers_of gateway.old) (peers_of gateway.new) steps result) }
         ensures counted { IsCounted (hub_view S.view) hub.old hub.new (result ≡ Err Fault.Store) }
         ensures hosted { is_clean S.view hub.new → IfErr result (λ f. f ≢ Fault.NoSuchOperator) }
         ensures setting { setting V.view hub.new ≡ setting V.view hub.old }
@@ -169,7 +172,7 @@ impl<T: Peek + Read + Write + Served + Drop> Lobby<T> {
         moment: Moment,
     ) -> Result<(), Fault>
         ensures takes { Takes S.view V.view hub.old hub.new
-            (λ steps. WelcomesOne T.contents moment (peers_of gateway.old) (peers_of gateway.new) steps result) }
+            (λ steps. WelcomesOne T.remaining T.contents moment (peers_of gateway.old) (peers_of gateway.new) steps result) }
         ensures counted { IsCounted (hub_view S.view) hub.old hub.new (result ≡ Err Fault.Store) }
         ensures hosted { is_clean S.view hub.new → IfErr result (λ f. f ≢ Fault.NoSuchOperator) }
         ensures setting { setting V.view hub.new ≡ setting V.view hub.old }
@@ -188,9 +191,17 @@ impl<T: Peek + Read + Write + Served + Drop> Lobby<T> {
                 self.refuse(dropped.address, refusal);
                 Ok(())
             }
-            Ok(Next::Welcome(route)) => {
+            Ok(Next::Refuse(seen, answer)) => {
                 let one = self.waiting.remove(*n);
-                gateway.welcome(hub, one.stream, one.address, route, moment)
+                if let Some(refusal) = Refusal::of(answer) {
+                    self.refuse(one.address, refusal);
+                }
+                let _closed = refuse(one.stream, seen, answer);
+                Ok(())
+            }
+            Ok(Next::Welcome(upgrade)) => {
+                let one = self.waiting.remove(*n);
+                gateway.welcome(hub, one.stream, one.address, upgrade, moment)
             }
             Err(fault) => {
                 let _dropped = self.waiting.remove(*n);
@@ -201,7 +212,9 @@ impl<T: Peek + Read + Write + Served + Drop> Lobby<T> {
 
     fn next(&mut self, alloc: Global, n: usize, moment: Moment) -> Mem<Next>
         requires { n < length self.old.waiting.items }
-        ensures { length self.new.waiting.items ≡ length self.old.waiting.items }
+        ensures waiting { self.new.waiting.items ≡ self.old.waiting.items }
+        ensures asks { IfOk result (λ next. (upgrade : Upgrade) → next ≡ Next.Welcome upgrade → (other : Waiting T)
+            → AsksFor T.remaining (slice_index_or self.old.waiting.items n other).stream upgrade) }
     {
         let one = &self.waiting[n];
         let waits = if one.is_late(moment, PATIENCE) {
@@ -211,11 +224,10 @@ impl<T: Peek + Read + Write + Served + Drop> Lobby<T> {
         };
         match one.stream.peek(self.head.as_mut_slice()) {
             Ok(0) => Ok(Next::Drop(Refusal::Lost)),
-            Ok(len) => match read_head(alloc, &self.head[..len])? {
-                Asked::Unknown if len == MAX_HEAD => Ok(Next::Drop(Refusal::NoRequest)),
-                Asked::Unknown => Ok(waits),
-                Asked::Nothing => Ok(Next::Drop(Refusal::NoRequest)),
-                Asked::Path(route) => Ok(Next::Welcome(route)),
+            Ok(len) => match judge(alloc, &self.head[..len])? {
+                Asked::More => Ok(waits),
+                Asked::Plain(answer) => Ok(Next::Refuse(len, answer)),
+                Asked::Upgraded(upgrade) => Ok(Next::Welcome(upgrade)),
             },
             Err(error) if error.kind() == ErrorKind::WouldBlock => Ok(waits),
             Err(_) => Ok(Next::Drop(Refusal::Lost)),
@@ -225,7 +237,9 @@ impl<T: Peek + Read + Write + Served + Drop> Lobby<T> {
 
 impl<T> Waiting<T> {
     /// Whether it has waited for longer than that. Where the clock was set back, it counts as longer.
-    fn is_late(&self, moment: Moment, seconds: u64) -> bool {
+    fn is_late(&self, moment: Moment, seconds: u64) -> bool
+        ensures { result ≡ is_late moment self.now.since seconds }
+    {
         moment < self.since || moment.seconds() > self.since.seconds().saturating_add(seconds)
     }
 }

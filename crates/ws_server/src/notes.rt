@@ -3,29 +3,48 @@
 use hub::Fault;
 use std::alloc::Global;
 use std::net::SocketAddr;
+use ws_handshake::Answer;
 use ws_peers::{Cause, Route};
 
 /// Why a connection wasn't admitted.
 #[derive(Clone, Copy, Debug, PartialEq, Eq, Drop)]
 pub enum Refusal {
-    /// The stream ended or failed before the head of a request was whole.
+    /// The stream ended or failed before the handshake was done.
     Lost,
     /// The head wasn't whole in time.
     Late,
-    /// The first bytes are no head of a request, or one of more than 8,192 bytes.
+    /// The first bytes are no request of HTTP/1.1, or no handshake of RFC 6455. It was answered 400.
     NoRequest,
+    /// The head of the request has more than 8,192 bytes, or more than 64 fields. It was answered 431.
+    TooLarge,
     /// Others waited in front, and another came.
     Crowded,
     /// The path leads to no station and no operator that is known here. It was answered 404.
     Unknown,
     /// The operator has as many connections as it may have. It was answered 503.
     TooMany,
-    /// The request is no WebSocket handshake, or the stream failed.
+    /// The request is no handshake of WebSocket 13. It was answered 405 or 426.
     NoHandshake,
-    /// A station doesn't offer the subprotocol `ocpp1.6`.
+    /// The path leads to nothing.
+    NoPath,
+    /// A station doesn't offer the subprotocol `ocpp1.6`. It was closed with 1008.
     NoSubprotocol,
-    /// A station that is no longer on record.
+    /// A station that is no longer on record. It was closed with 1008.
     Gone,
+}
+
+impl Refusal {
+    /// Why a request is so answered. A health check isn't refused.
+    pub(crate) fn of(answer: Answer) -> Option<Refusal> {
+        match answer {
+            Answer::Healthy => None,
+            Answer::BadRequest => Some(Refusal::NoRequest),
+            Answer::NotFound => Some(Refusal::Unknown),
+            Answer::NotAllowed | Answer::UpgradeRequired => Some(Refusal::NoHandshake),
+            Answer::TooLarge => Some(Refusal::TooLarge),
+            Answer::Unavailable => Some(Refusal::TooMany),
+        }
+    }
 }
 
 /// What became of a connection.

@@ -4,6 +4,7 @@ ghost use Rattle.hub_rows.specs.Reads.{IsCounted};
 ghost use Rattle.hub.specs.Hub.{hub_view, setting};
 ghost use Rattle.ws_server.specs.Steps.{Takes};
 ghost use Rattle.ws_server.specs.Tells.{peers_of};
+ghost use Rattle.ws_server.specs.Turns.{is_above};
 
 use crate::events::{event_of, parting};
 use crate::gateway::Gateway;
@@ -18,7 +19,7 @@ use ws_peers::{Cause, Peers, Stage};
 
 #[tactic(auto, using(crate::proofs::StepLaws::handed, crate::proofs::StepLaws::nothing))]
 impl<T: Read + Write + Served + Drop> Gateway<T> {
-    ghost use Rattle.ws_server.specs.Turns.{Hands, HandsText, Serves, Parts, AtPlace, Each, EachOf, SweepsAndTicks, PartsAndTicks, Turns};
+    ghost use Rattle.ws_server.specs.Turns.{Hands, HandsText, Serves, Parts, AtPlace, Each, EachAbove, SweepsAndTicks, PartsAndTicks, Turns};
 
     /// Hands an event to the hub, and sends its outputs. After a fault nothing has changed.
     pub(crate) fn hand<S: Store + Drop, V: VendorHandler>(
@@ -123,7 +124,8 @@ impl<T: Read + Write + Served + Drop> Gateway<T> {
         }
     }
 
-    /// Serves the peers at those places, in that order, up to the first fault.
+    /// Serves the peers at those places, in that order, up to the first fault. A place that isn't above all before it is
+    /// passed over.
     fn serve_each<S: Store + Drop, V: VendorHandler>(
         &mut self,
         hub: &mut Hub<S, V>,
@@ -131,12 +133,16 @@ impl<T: Read + Write + Served + Drop> Gateway<T> {
         places: &[usize],
     ) -> Result<(), Fault>
         ensures takes { Takes S.view V.view hub.old hub.new
-            (λ steps. EachOf (Serves T.remaining T.contents (setting V.view hub.old).is_hosted moment) places.now (peers_of self.old) (peers_of self.new) steps result) }
+            (λ steps. EachAbove (Serves T.remaining T.contents (setting V.view hub.old).is_hosted moment) places.now (peers_of self.old) (peers_of self.new) steps result) }
         ensures counted { IsCounted (hub_view S.view) hub.old hub.new (result ≡ Err Fault.Store) }
         ensures setting { setting V.view hub.new ≡ setting V.view hub.old }
     {
+        let mut last = None;
         for place in places {
-            self.serve_at(hub, moment, *place)?;
+            if is_above(last, *place) {
+                self.serve_at(hub, moment, *place)?;
+                last = Some(*place);
+            }
         }
         Ok(())
     }
@@ -181,7 +187,8 @@ impl<T: Read + Write + Served + Drop> Gateway<T> {
     }
 
     /// One turn: serves the peers at those places, in that order, where a place is that in the order of admission,
-    /// from 0, and one at which there is no peer is passed over; hands the disconnects of those that have ended to
+    /// from 0. One at which there is no peer, or that isn't above all before it, is passed over, so that each peer is
+    /// served once at most, in order of admission. Then the turn hands the disconnects of those that have ended to
     /// the hub, in order of admission; and then a tick. It stops at the first fault. A disconnect that met one is
     /// handed to the hub again in the next turn.
     pub fn turn<S: Store + Drop, V: VendorHandler>(
@@ -230,6 +237,13 @@ impl<T: Read + Write + Served + Drop> Gateway<T> {
         self.peers.sweep();
         self.hand(hub, 0, &Event::Tick { moment })
     }
+}
+
+/// Whether a place is above the last one, if there was one.
+fn is_above(last: Option<usize>, place: usize) -> bool
+    ensures { result ≡ is_above last place }
+{
+    last.is_none_or(|last| last < place)
 }
 
 /// Notes the connections that have ended.

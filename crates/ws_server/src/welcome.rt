@@ -1,15 +1,14 @@
 //! A connection, from its head to its admission.
-ghost use Rattle.std.specs.Prelude.{◌≡◌, ◌≢◌, IfOk, IfErr, Err, true, false};
+ghost use Rattle.std.specs.Prelude.{◌≡◌, ◌≢◌, IfOk, IfErr, Err, None, true, false};
 ghost use Rattle.hub_rows.specs.Reads.{IsCounted};
 ghost use Rattle.hub.specs.Hub.{hub_view, world, setting, is_clean};
 ghost use Rattle.ws_server.specs.Admits.{is_known, is_full};
-ghost use Rattle.ws_server.specs.declared.handshake.Door.TheVariants as door;
 ghost use Rattle.ws_server.specs.Steps.{Takes};
 ghost use Rattle.ws_server.specs.Tells.{peers_of};
 
+use crate::arrival::Arrival;
 use crate::gateway::Gateway;
-use crate::handshake::{Door, shake};
-use crate::notes::Happened;
+use crate::notes::{Happened, Refusal};
 use hub::{Fault, Hub};
 use hub_rows::Store;
 use ocpp_types::Moment;
@@ -17,6 +16,7 @@ use ready_streams::Served;
 use station_calls::VendorHandler;
 use std::io::{Read, Write};
 use std::net::SocketAddr;
+use ws_handshake::{Answer, Upgrade, refuse, shake};
 use ws_peers::Route;
 
 /// The most open connections that an operator has. One more is answered 503.
@@ -25,57 +25,84 @@ const MAX_CONNECTIONS: usize = 32;
 impl<T: Read + Write + Served + Drop> Gateway<T> {
     ghost use Rattle.ws_server.specs.Admits.{Welcomes};
 
-    /// Makes the handshake of a stream whose whole head has come, and whose path leads to that
-    /// route; then admits it. An unknown path, one of a station that the hub doesn't know, and one
-    /// of an operator that it doesn't host are answered 404; one of an operator that has 32 open
-    /// connections is answered 503. The address is that from which the connection came, for the notes.
+    /// Makes the handshake that the head of a stream asks for, and admits it. A station that the hub doesn't know and an
+    /// operator that it doesn't host are answered 404; an operator that has 32 open connections is answered 503. The
+    /// address is that from which the connection came, for the notes.
     pub fn welcome<S: Store + Drop, V: VendorHandler>(
         &mut self,
         hub: &mut Hub<S, V>,
         stream: T,
         address: Option<SocketAddr>,
-        route: Route,
+        upgrade: Upgrade,
         moment: Moment,
     ) -> Result<(), Fault>
         ensures takes { Takes S.view V.view hub.old hub.new
-            (λ steps. Welcomes T.contents moment route (peers_of self.old) (peers_of self.new) steps result) }
-        ensures known { is_clean S.view hub.new → is_known (setting V.view hub.old).is_hosted (world S.view hub.old).rows route ≡ false
+            (λ steps. Welcomes T.remaining T.contents moment stream upgrade (peers_of self.old) (peers_of self.new) steps result) }
+        ensures known { is_clean S.view hub.new → is_known (setting V.view hub.old).is_hosted (world S.view hub.old).rows upgrade.route ≡ false
             → peers_of self.new ≡ peers_of self.old }
-        ensures full { is_full route (peers_of self.old) ≡ true → peers_of self.new ≡ peers_of self.old }
+        ensures full { is_full upgrade.route (peers_of self.old) ≡ true → peers_of self.new ≡ peers_of self.old }
         ensures hosted { is_clean S.view hub.new → IfErr result (λ f. f ≢ Fault.NoSuchOperator) }
         ensures counted { IsCounted (hub_view S.view) hub.old hub.new (result ≡ Err Fault.Store) }
         ensures setting { setting V.view hub.new ≡ setting V.view hub.old }
     {
-        let is_known = match is_known(hub, &route) {
+        let is_known = match is_known(hub, &upgrade.route) {
             Ok(is_known) => is_known,
             Err(fault) => {
-                self.notes.add(&route, address, Happened::Failed(fault));
+                self.notes
+                    .add(&upgrade.route, address, Happened::Failed(fault));
                 return Err(fault);
             }
         };
-        let is_station = matches!(route, Route::Station(_, _));
-        let door = self.door(&route, is_known);
-        match shake(self.alloc, stream, door, is_station) {
-            Ok(socket) => self.admit(hub, socket, address, route, moment),
-            Err(refusal) => {
-                self.notes.add(&route, address, Happened::Refused(refusal));
+        if let Some(answer) = self.refusal(&upgrade.route, is_known) {
+            self.refuse(stream, address, &upgrade, answer);
+            return Ok(());
+        }
+        match shake(self.alloc, stream, &upgrade) {
+            Ok(socket) => {
+                let arrival = Arrival {
+                    route: upgrade.route,
+                    offers_ocpp: upgrade.offers_ocpp,
+                    address,
+                };
+                self.admit(hub, socket, arrival, moment)
+            }
+            Err(_) => {
+                let lost = Happened::Refused(Refusal::Lost);
+                self.notes.add(&upgrade.route, address, lost);
                 Ok(())
             }
         }
     }
 
-    /// How a request for that route is answered.
-    fn door(&self, route: &Route, is_known: bool) -> Door
-        ensures known { result ≡ door.Open → is_known ≡ true }
-        ensures room { result ≡ door.Open → is_full route.now (peers_of self.now) ≡ false }
+    /// How a handshake for that route is refused, if it is.
+    fn refusal(&self, route: &Route, is_known: bool) -> Option<Answer>
+        ensures known { result ≡ None → is_known ≡ true }
+        ensures room { result ≡ None → is_full route.now (peers_of self.now) ≡ false }
     {
         if !is_known {
-            return Door::Unknown;
+            return Some(Answer::NotFound);
         }
         match route {
             Route::Operator(op) if self.peers.count_of(op.as_str()) >= MAX_CONNECTIONS =>
-                Door::Full,
-            Route::Operator(_) | Route::Station(_, _) | Route::Nothing => Door::Open,
+                Some(Answer::Unavailable),
+            Route::Operator(_) | Route::Station(_, _) | Route::Nothing => None,
+        }
+    }
+
+    /// Answers a handshake that is refused, and closes its stream.
+    fn refuse(
+        &mut self,
+        stream: T,
+        address: Option<SocketAddr>,
+        upgrade: &Upgrade,
+        answer: Answer,
+    )
+        ensures { peers_of self.new ≡ peers_of self.old }
+    {
+        let _closed = refuse(stream, upgrade.len, answer);
+        if let Some(refusal) = Refusal::of(answer) {
+            let refused = Happened::Refused(refusal);
+            self.notes.add(&upgrade.route, address, refused);
         }
     }
 }

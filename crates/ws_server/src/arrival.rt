@@ -1,0 +1,15 @@
+//! Connections that ask to be admitted.
+
+use std::net::SocketAddr;
+use ws_peers::Route;
+
+/// A connection whose handshake is done.
+#[derive(Drop)]
+pub struct Arrival {
+    /// Where its path leads.
+    pub route: Route,
+    /// Its head offers the subprotocol `ocpp1.6`.
+    pub offers_ocpp: bool,
+    /// Where it comes from, for the notes.
+    pub address: Option<SocketAddr>,
+}

@@ -1,0 +1,34 @@
+//! Peers that are silent.
+ghost use Rattle.std.specs.Prelude.{length};
+
+use crate::gateway::Gateway;
+use std::io::{Read, Write};
+use ws_peers::Cause;
+
+impl<T: Read + Write + Drop> Gateway<T> {
+    ghost use Rattle.ws_server.specs.Probes.{PingsAt, EndsAt, Visits};
+    ghost use Rattle.ws_server.specs.Tells.{peers_of};
+
+    /// Sends a Ping to the peers at those places, where there is an open connection (RFC 6455, section 5.5.2).
+    pub fn ping(&mut self, places: &[usize])
+        ensures { Visits (PingsAt T.contents) places.now (peers_of self.old) (peers_of self.new) }
+    {
+        for place in places {
+            if *place < self.peers.count() {
+                self.peers.ping(*place);
+            }
+        }
+    }
+
+    /// Ends the connections at those places, since their peers are silent. The next turn hands their disconnects to the
+    /// hub.
+    pub fn end_silent(&mut self, places: &[usize])
+        ensures { Visits EndsAt places.now (peers_of self.old) (peers_of self.new) }
+    {
+        for place in places {
+            if *place < self.peers.count() {
+                self.peers.end(*place, Cause::Silent);
+            }
+        }
+    }
+}
