@@ -2,14 +2,17 @@
 other; ACME loads the server meanwhile, with many connections, listings, floods and storms of connects. A figure is V's
 longest wait, the 99th percentile and the median of its waits, whether all lines arrive, the time of a storm, the
 processor time of idle connections, or the memory of the server. Some figures have a bound, and some only tell.
+`BOUNDS` has the bounds: those of a small run are wide, since `.ci/run` makes it beside other work.
 
     python3 checks/load.py crates/central/out/central [--small] [--only lines,deaf]
 
 It prints a line for each figure, then `N passed, M failed`. Its status is 1 where one is over its bound. Each scenario
-has a server of its own over a new file, in the folder for temporary files (the variable TMPDIR names another).
+has a server of its own over a new file, in the folder for temporary files (the variable TMPDIR names another). In a
+small run the file is in memory, where a sync doesn't wait for a disk.
 
-V and the load are processes of their own, and the load has a lower priority. Beside V's longest wait is for how much
-of it the server and V itself waited for a processor: that part is the machine's, not the server's.
+V and the load are processes of their own, and the load has a lower priority. The time for which the server and V
+itself wait for a processor is the machine's, not the server's. So the bound is of V's longest wait without that time,
+and the longest with it stands beside.
 """
 
 import argparse
@@ -43,6 +46,22 @@ from loads import (
 )
 from peer import Peer
 from programs import BOOT, HEARTBEAT, memory, spent
+
+# The most that a figure may be: what the design promises, on a machine without other work, and what is wanted of a small
+# run on any machine, where a server that serves nobody for a second fails. V's waits are in ms and without those for a
+# processor, a storm is in s, and idle connections take that part of a processor. One text of 1 MiB of readings takes
+# 1.7 s, and the server does nothing else meanwhile.
+BOUNDS = {
+    "wait": (50, 500),
+    "wait in a flood": (20, 500),
+    "readings of 1 MiB": (20, 5000),
+    "median in a crowd": (0.2, 10),
+    "storm": (10, None),
+    "idle": (0.02, 0.2),
+}
+
+# The folder of files in memory, if there is one.
+MEMORY = "/dev/shm" if os.path.isdir("/dev/shm") else None
 
 # The station that waits.
 
@@ -129,6 +148,9 @@ class Run:
     def size(self, large, small):
         return small if self.is_small else large
 
+    def most(self, what):
+        return self.size(*BOUNDS[what])
+
     def allows(self, name, count):
         """Whether so many connections may be open in one process."""
         most = resource.getrlimit(resource.RLIMIT_NOFILE)[0]
@@ -154,9 +176,9 @@ class Run:
         waits = watch.during(window) or [(math.inf, 0.0, 0.0)]
         longest, server, own = waits[0]
         for_processors = f"(for a processor: server {server:.1f}, V {own:.1f})"
-        longest = math.inf if watch.is_lost else longest
-        self.tell(name, f"{what}: V's longest wait {for_processors}", longest, "ms", most)
-        self.tell(name, f"{what}: the longest without those for a processor", max(map(without_lags, waits)), "ms")
+        without = math.inf if watch.is_lost else max(map(without_lags, waits))
+        self.tell(name, f"{what}: V's longest wait without those for a processor", without, "ms", most)
+        self.tell(name, f"{what}: the longest with them {for_processors}", longest, "ms")
         self.tell(name, f"{what}: 99th percentile", waits[len(waits) // 100][0], "ms")
         self.tell(name, f"{what}: median of {len(waits):,} waits", waits[len(waits) // 2][0], "ms")
 
@@ -164,7 +186,7 @@ class Run:
         """A database with the records that these lines put. It is made in memory, where a sync is free."""
         self.files += 1
         name = f"load-{os.getpid()}-{self.files}.db"
-        draft = os.path.join("/dev/shm" if os.path.isdir("/dev/shm") else self.folder, "draft-" + name)
+        draft = os.path.join(MEMORY or self.folder, "draft-" + name)
         script = "\n".join(["1 BETA station add V Accepted 300", *lines]).encode()
         words = [self.program, "replay", "--operators", "ACME,BETA", "--db", draft]
         ran = subprocess.run(words, input=script, capture_output=True)
@@ -260,8 +282,8 @@ def measure_lines(run):
         (got, _, _), listing = load.phase()
     for answer, number in sorted(answers.items()):
         run.tell("lines", f"connections of {count:,} that are answered {answer}", number)
-    run.tell_waits("lines", "while they connect", v, connecting, 50)
-    run.tell_waits("lines", "while one lists", v, listing, 50)
+    run.tell_waits("lines", "while they connect", v, connecting, run.most("wait"))
+    run.tell_waits("lines", "while one lists", v, listing, run.most("wait"))
     run.tell("lines", "rows at the one that asked", got, exactly=rows)
 
 
@@ -277,7 +299,7 @@ def measure_listing(run):
         (got, ends, _), listing = load.phase()
     run.tell("listing", "stations connected", known, exactly=count)
     run.tell_waits("listing", "while stations connect", v, connecting)
-    run.tell_waits("listing", "while it is listed", v, listing, 50)
+    run.tell_waits("listing", "while it is listed", v, listing, run.most("wait"))
     run.tell("listing", "rows that arrive", got, exactly=rows)
     run.tell("listing", "ends of the listing that arrive", ends, exactly=1)
     run.tell("listing", "the time until all have arrived", listing[1] - listing[0], "s")
@@ -290,7 +312,7 @@ def measure_consoles(run):
     with run.serve(tags(rows)) as server, run.watch(server) as v, Load(load_listings, *words) as load:
         load.phase()
         (got, ends, ended), listing = load.phase()
-    run.tell_waits("consoles", "while they list", v, listing, 50)
+    run.tell_waits("consoles", "while they list", v, listing, run.most("wait"))
     run.tell("consoles", "rows that arrive at each, the fewest", got, exactly=count * rows)
     run.tell("consoles", "ends of listings that arrive at each, the fewest", ends, exactly=count)
     run.tell("consoles", "connections that ended", ended, exactly=0)
@@ -358,7 +380,7 @@ def measure_hostile(run):
             load.phase()
             ended, window = load.phase()
             held, lives = resident(server), server.poll() is None
-        run.tell_waits("hostile", kind, v, window, 20)
+        run.tell_waits("hostile", kind, v, window, run.most(kind if kind in BOUNDS else "wait in a flood"))
         run.tell("hostile", f"{kind}: connections that ended", ended)
         run.tell("hostile", f"{kind}: the server's memory", held, "MiB")
         run.tell("hostile", f"{kind}: the server lives", int(lives), exactly=1)
@@ -377,9 +399,9 @@ def measure_storm(run):
             wanted = count if answer == "101" else None
             run.tell("storm", f"{what}: answered {answer}", answers[answer], exactly=wanted)
         took.append(seconds if answers["101"] == count else math.inf)
-        run.tell("storm", f"{what}: the time until all are answered 101", took[-1], "s", 10)
+        run.tell("storm", f"{what}: the time until all are answered 101", took[-1], "s", run.most("storm"))
     # a connect that finds the system's queue full is tried again after a second
-    most = min(10, 1 + 3 * took[0])
+    most = run.size(min(10, 1 + 3 * took[0]), None)
     run.tell("storm", f"{whole:,} stations: 1 s and 3 times the time of half as many", took[1], "s", most)
 
 
@@ -396,10 +418,11 @@ def measure_crowd(run):
         time.sleep(seconds)
         idle = spent(server) - before
     waits = one.during((0, math.inf)) or [(math.inf, 0.0, 0.0)]
+    median, most_idle = waits[len(waits) // 2][0], run.most("idle") * seconds
     run.tell("crowd", "other stations connected", answers["101"], exactly=count - 1)
-    run.tell("crowd", f"median of {len(waits):,} waits of the one that sends", waits[len(waits) // 2][0], "ms", 0.2)
+    run.tell("crowd", f"median of {len(waits):,} waits of the one that sends", median, "ms", run.most("median in a crowd"))
     run.tell("crowd", "its longest wait", waits[0][0], "ms")
-    run.tell("crowd", f"processor time of {seconds} s in which nothing is sent", idle, "s", 0.02 * seconds)
+    run.tell("crowd", f"processor time of {seconds} s in which nothing is sent", idle, "s", most_idle)
 
 
 def measure_memory(run):
@@ -444,12 +467,12 @@ SCENARIOS = {
 def main():
     parser = argparse.ArgumentParser(description=__doc__.split("\n\n")[0])
     parser.add_argument("program")
-    parser.add_argument("--small", action="store_true", help="smaller sizes, in under 100 seconds")
+    parser.add_argument("--small", action="store_true", help="smaller sizes and wider bounds, in under two minutes")
     parser.add_argument("--only", default=",".join(SCENARIOS), help="these scenarios alone, parted by commas")
     words = parser.parse_args()
     files = resource.getrlimit(resource.RLIMIT_NOFILE)[1]
     resource.setrlimit(resource.RLIMIT_NOFILE, (files, files))
-    with tempfile.TemporaryDirectory() as folder:
+    with tempfile.TemporaryDirectory(dir=MEMORY if words.small else None) as folder:
         run = Run(os.path.abspath(words.program), folder, words.small)
         for name in words.only.split(","):
             try:
