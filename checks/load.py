@@ -44,8 +44,8 @@ from loads import (
     load_nothing,
     load_readings,
 )
-from peer import Peer
-from programs import BOOT, HEARTBEAT, memory, spent
+from peer import BOOT, HEARTBEAT, Peer
+from programs import memory, spent
 
 # The most that a figure may be: what the design promises, on a machine without other work, and what is wanted of a small
 # run on any machine, where a server that serves nobody for a second fails. V's waits are in ms and without those for a

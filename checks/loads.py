@@ -10,8 +10,7 @@ import socket
 import struct
 import time
 
-from peer import HEAD, Peer, frame
-from programs import HEARTBEAT
+from peer import HEAD, HEARTBEAT, Peer, frame
 
 PORT = 9283
 READ, WRITE = selectors.EVENT_READ, selectors.EVENT_WRITE
@@ -304,8 +303,9 @@ def load_readings(count):
 
 
 def drive(pipe, load, words):
-    """The process of a load."""
-    os.nice(10)
+    """The process of a load. It lets V go first, except where it is alone with the server."""
+    if load is not load_connects:
+        os.nice(10)
     phases = load(*words)
     while pipe.recv():
         pipe.send(next(phases))

@@ -10,6 +10,10 @@ HEAD = (
     "Sec-WebSocket-Protocol: ocpp1.6\r\n\r\n"
 )
 
+# What a station sends.
+BOOT = '[2,"1","BootNotification",{"chargePointVendor":"V","chargePointModel":"M"}]'
+HEARTBEAT = '[2,"2","Heartbeat",{}]'
+
 
 def frame(text, first=0x81):
     """A text as a client sends it, with 0 as its masking key (RFC 6455, sections 5.2 and 5.3). Another first byte makes

@@ -18,15 +18,14 @@ import threading
 import time
 from pathlib import Path
 
-from peer import HEAD, Peer, frame
+from heads import check_heads
+from peer import BOOT, HEAD, HEARTBEAT, Peer, frame
 
 SCRIPTS = Path(__file__).resolve().parent.parent / "crates" / "worked" / "data"
 
 PORT = 9281
 MOST = 1 << 20
 TIME = re.compile(r"\d{4}-\d\d-\d\dT\d\d:\d\d:\d\dZ")
-BOOT = '[2,"1","BootNotification",{"chargePointVendor":"V","chargePointModel":"M"}]'
-HEARTBEAT = '[2,"2","Heartbeat",{}]'
 
 # What the simulated station prints, with T for each time.
 SESSION = """\
@@ -48,6 +47,8 @@ SESSION = """\
 
 
 class Checks:
+    port = PORT
+
     def __init__(self, program, folder):
         self.program = program
         self.folder = folder
@@ -590,6 +591,7 @@ def check_all(checks):
     check_turns(checks)
     check_session(checks)
     check_handshakes(checks)
+    check_heads(checks)
     check_operators(checks)
     check_listings(checks)
     check_clock(checks)
