@@ -223,14 +223,14 @@ def exchange(port, *parts, until=None):
                 data += b"no end"
     head, _, rest = data.partition(b"\r\n\r\n")
     status, *fields = head.decode("latin-1").split("\r\n")
-    words = status.split(" ")
+    words, named = status.split(" "), [field.partition(": ") for field in fields]
     code = int(words[1]) if words[0] == "HTTP/1.1" and len(words) > 2 else status
-    return code, sorted((name.lower(), value) for name, _, value in (field.partition(": ") for field in fields)), rest
+    return code, sorted((name.lower(), value) for name, _, value in named), rest
 
 
-def answer(status, rest=b"", **_):
-    """The answer that makes no connection."""
-    return status, sorted((SHORT | OWN_FIELDS.get(status, {})).items()), rest
+def answer(status):
+    """The answer that makes no connection. Nothing comes after it."""
+    return status, sorted((SHORT | OWN_FIELDS.get(status, {})).items()), b""
 
 
 def close_code(rest):
@@ -245,9 +245,14 @@ def check_plain(checks):
         checks.check(text, exchange(checks.port, head_of(text.split("\n"))), answer(status))
     for first in NO_HEADS:
         checks.check(f"first bytes {first[:12]}", exchange(checks.port, first), answer(400))
-    sizes = {"8,192 bytes": (200, padded(8192)), "8,193 bytes": (431, padded(8193)), "20,000 bytes": (431, padded(20_000))}
-    sizes |= {"64 fields": (200, of_fields(64)), "65 fields": (431, of_fields(65))}
-    sizes |= {"a path without an end": (431, b"GET /" + b"a" * 20_000)}
+    sizes = {
+        "8,192 bytes": (200, padded(8192)),
+        "8,193 bytes": (431, padded(8193)),
+        "20,000 bytes": (431, padded(20_000)),
+        "a path without an end": (431, b"GET /" + b"a" * 20_000),
+        "64 fields": (200, of_fields(64)),
+        "65 fields": (431, of_fields(65)),
+    }
     for what, (status, head) in sizes.items():
         checks.check(f"a head of {what}", exchange(checks.port, head), answer(status))
 
@@ -308,7 +313,22 @@ def check_breaches(checks):
         checks.check(what, (status, close_code(rest)), (101, code))
 
 
+def check_at_once(checks):
+    """Heads that come at once are answered without a wait."""
+    paths = "/operator/ACME", "/operator/BETA"
+    heads = [changed({STATION: f"GET {path} HTTP/1.1"}) for path in paths * 32]
+    with checks.serve("--operators", "ACME,BETA"):
+        streams = [socket.create_connection(("127.0.0.1", checks.port), timeout=10) for _ in heads]
+        began = time.monotonic()
+        for stream, head in zip(streams, heads):
+            stream.sendall(head)
+        answered = [b" 101 " in stream.recv(4096) for stream in streams]
+        checks.check("64 handshakes", answered, [True] * 64)
+        checks.check("64 handshakes in less than a second", time.monotonic() - began < 1, True)
+
+
 def check_heads(checks):
+    check_at_once(checks)
     with checks.serve("--operators", "ACME,BETA"):
         Peer(checks.port, "/operator/ACME").ask("station add CP01 Accepted 300")
         beta = [Peer(checks.port, "/operator/BETA") for _ in range(32)]

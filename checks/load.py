@@ -47,15 +47,15 @@ from loads import (
 from peer import BOOT, HEARTBEAT, Peer
 from programs import memory, spent
 
-# The most that a figure may be: what the design promises, on a machine without other work, and what is wanted of a small
-# run on any machine, where a server that serves nobody for a second fails. V's waits are in ms and without those for a
-# processor, a storm is in s, and idle connections take that part of a processor. One text of 1 MiB of readings takes
-# 1.7 s, and the server does nothing else meanwhile.
+# The most that a figure may be: what the design promises, on a machine without other work, and what is wanted of a
+# small run on any machine, where a server that serves nobody for a second fails. Waits are in ms, and V's are without
+# those for a processor. A storm is in s, and idle connections take that part of a processor. A text of 1 MiB of
+# readings takes 1.7 s, in which the server serves nobody else.
 BOUNDS = {
     "wait": (50, 500),
     "wait in a flood": (20, 500),
     "readings of 1 MiB": (20, 5000),
-    "median in a crowd": (0.2, 10),
+    "median": (0.2, 10),
     "storm": (10, None),
     "idle": (0.02, 0.2),
 }
@@ -418,11 +418,11 @@ def measure_crowd(run):
         time.sleep(seconds)
         idle = spent(server) - before
     waits = one.during((0, math.inf)) or [(math.inf, 0.0, 0.0)]
-    median, most_idle = waits[len(waits) // 2][0], run.most("idle") * seconds
+    middle = waits[len(waits) // 2][0]
     run.tell("crowd", "other stations connected", answers["101"], exactly=count - 1)
-    run.tell("crowd", f"median of {len(waits):,} waits of the one that sends", median, "ms", run.most("median in a crowd"))
+    run.tell("crowd", f"median of {len(waits):,} waits of the one that sends", middle, "ms", run.most("median"))
     run.tell("crowd", "its longest wait", waits[0][0], "ms")
-    run.tell("crowd", f"processor time of {seconds} s in which nothing is sent", idle, "s", most_idle)
+    run.tell("crowd", f"processor time of {seconds} s in which nothing is sent", idle, "s", run.most("idle") * seconds)
 
 
 def measure_memory(run):

@@ -361,18 +361,6 @@ def check_session(checks):
         checks.check("another operator's list", beta.ask("list stations"), "BETA ok")
 
 
-def check_handshakes(checks):
-    """Heads that come at once are answered without a wait."""
-    with checks.serve("--operators", "ACME,BETA"):
-        streams = [socket.create_connection(("127.0.0.1", PORT), timeout=10) for _ in range(64)]
-        began = time.monotonic()
-        for n, stream in enumerate(streams):
-            stream.sendall(HEAD.format(("/operator/ACME", "/operator/BETA")[n % 2]).encode())
-        answered = [b" 101 " in stream.recv(4096) for stream in streams]
-        checks.check("64 handshakes", answered, [True] * 64)
-        checks.check("64 handshakes in less than a second", time.monotonic() - began < 1, True)
-
-
 def check_operators(checks):
     """An operator has 32 connections, and one more when one of these has ended. Another operator is let in."""
     with checks.serve("--operators", "ACME,BETA"):
@@ -590,7 +578,6 @@ def check_all(checks):
     check_log(checks)
     check_turns(checks)
     check_session(checks)
-    check_handshakes(checks)
     check_heads(checks)
     check_operators(checks)
     check_listings(checks)
