@@ -142,7 +142,7 @@ class Run:
         self.program = program
         self.folder = folder
         self.is_small = is_small
-        self.patience = self.size(20, 10)
+        self.patience = 20
         self.files = self.passed = self.failed = 0
 
     def size(self, large, small):
