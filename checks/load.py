@@ -54,7 +54,7 @@ from programs import memory, spent
 BOUNDS = {
     "wait": (50, 500),
     "wait in a flood": (20, 500),
-    "readings of 1 MiB": (20, 5000),
+    "readings of 1 MiB": (20, 8000),
     "median": (0.2, 10),
     "storm": (10, None),
     "idle": (0.02, 0.2),
@@ -427,7 +427,7 @@ def measure_crowd(run):
 
 def measure_memory(run):
     """A station that sends many readings, also to a server that has little memory."""
-    count = run.size(50, 5)
+    count = run.size(50, 3)
     with run.serve(stations(1)) as server, run.watch(server) as v, Load(load_readings, count) as load:
         before = resident(server)
         taken, window = load.phase()
