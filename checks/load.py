@@ -60,8 +60,8 @@ BOUNDS = {
     "idle": (0.02, 0.2),
 }
 
-# The folder of files in memory, if there is one.
-MEMORY = "/dev/shm" if os.path.isdir("/dev/shm") else None
+# The folder of files in memory, if there is one that has room.
+MEMORY = "/dev/shm" if os.path.isdir("/dev/shm") and shutil.disk_usage("/dev/shm").free >= 1 << 30 else None
 
 # The station that waits.
 
