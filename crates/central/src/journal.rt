@@ -117,18 +117,21 @@ fn end(cause: Cause) -> &'static str {
         Cause::Full => "stream full",
         Cause::NoMemory => "no memory",
         Cause::Fault => "fault",
+        Cause::Silent => "silent for too long",
     }
 }
 
 fn reason(refusal: Refusal) -> &'static str {
     match refusal {
-        Refusal::Lost => "the stream ended before a request",
+        Refusal::Lost => "the stream ended before the handshake",
         Refusal::Late => "no request in time",
-        Refusal::NoRequest => "no request",
+        Refusal::NoRequest => "no request (400)",
+        Refusal::TooLarge => "head too large (431)",
         Refusal::Crowded => "too many wait",
         Refusal::Unknown => "unknown (404)",
         Refusal::TooMany => "too many of this operator (503)",
-        Refusal::NoHandshake => "handshake failed",
+        Refusal::NoHandshake => "no handshake (405 or 426)",
+        Refusal::NoPath => "no path",
         Refusal::NoSubprotocol => "no subprotocol ocpp1.6",
         Refusal::Gone => "no longer on record",
     }

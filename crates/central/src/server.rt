@@ -26,6 +26,12 @@ const MAX_WAIT: u64 = 1;
 /// The milliseconds after a turn that ended in a fault, if nothing is reported meanwhile.
 const PAUSE: u64 = 10;
 
+/// The seconds of silence after which a peer is sent a Ping.
+const PING_AFTER: u64 = 120;
+
+/// The seconds after a Ping in which a peer that stays silent loses its connection.
+const ANSWER_WITHIN: u64 = 120;
+
 /// The most connections that a turn accepts.
 const MAX_ACCEPTS: usize = 64;
 
@@ -159,7 +165,8 @@ impl<S: Store + Drop, V: VendorHandler> Server<S, V> {
         Ok(())
     }
 
-    /// Takes the system's reports on streams. It waits for one where nothing can be done without.
+    /// Takes the system's reports on streams. It waits for one where nothing can be done without, and at most 10 ms after
+    /// a turn that ended in a fault, so that a fault that stays doesn't take a whole processor.
     fn wait(&mut self, may_wait: bool) -> io::Result<()> {
         let accepts = !self.failed_accept && self.lobby.has_room(self.moment);
         let time = if may_wait && !self.streams.is_pending(accepts) {
@@ -183,8 +190,18 @@ impl<S: Store + Drop, V: VendorHandler> Server<S, V> {
         }
         if second > self.moment {
             self.moment = second;
+            self.probe();
         }
         Ok(())
+    }
+
+    /// Sends a Ping to the peers that are silent, and ends the connections of those that stay silent after one: their
+    /// system or the way to it may be gone without a word. What is read of a peer ends its silence.
+    fn probe(&mut self) {
+        self.streams.set_second(self.moment.seconds());
+        self.streams.find_silent(PING_AFTER, ANSWER_WITHIN);
+        self.gateway.ping(self.streams.to_ping());
+        self.gateway.end_silent(self.streams.to_end());
     }
 
     /// One turn: accepts connections, polls those that wait, and serves each peer whose stream may be read. What was

@@ -8,7 +8,7 @@ use station_calls::Echo;
 use std::alloc::Global;
 use std::net::{TcpListener, TcpStream};
 use store_mem::MemStore;
-use ws_server::{Gateway, Lobby, listen};
+use ws_server::{Gateway, Lobby};
 
 /// A hub of the operators ACME and BETA, its gateway and its listener.
 #[derive(Drop)]
@@ -27,7 +27,8 @@ impl Server {
     pub fn new(rt: &HostRuntime) -> Result<Server> {
         let alloc = rt.alloc();
         let moment = moment_at(alloc, 0)?;
-        let listener = listen(rt, 0)?;
+        let listener = TcpListener::bind(rt, ("127.0.0.1", 0_u16))?;
+        listener.set_nonblocking(true)?;
         let operators = operators(alloc)?;
         let lobby = Lobby::new(alloc)?;
         Ok(Server {

@@ -14,7 +14,7 @@ use std::test::Fail;
 use store_mem::{Failing, MemStore};
 use tungstenite::{NoMask, Role, WebSocket};
 use ws_peers::Route;
-use ws_server::Gateway;
+use ws_server::{Arrival, Gateway};
 
 /// What one client sends, and nothing more: a read past it would block.
 #[derive(Drop)]
@@ -117,10 +117,14 @@ fn nothing_sent(alloc: Global) -> Result<Sent, Fail> {
     Ok(Rc::new(alloc, RefCell::new(Vec::new(alloc)))?)
 }
 
-fn station(alloc: Global, name: &str) -> Result<Route, Fail> {
+fn station(alloc: Global, name: &str) -> Result<Arrival, Fail> {
     let op = Text::copy_of(alloc, "ACME")?;
     let name = Text::copy_of(alloc, name)?;
-    Ok(Route::Station(op, name))
+    Ok(Arrival {
+        route: Route::Station(op, name),
+        offers_ocpp: true,
+        address: None,
+    })
 }
 
 fn moment(seconds: u64) -> Result<Moment, Fail> {
@@ -139,10 +143,10 @@ fn served(alloc: Global, before: u64) -> Result<(String, Sent), Fail> {
     let at = moment(1704067200)?;
     let mut gateway = Gateway::new(alloc);
     let first = socket(alloc, before, nothing_sent(alloc)?);
-    gateway.admit(&mut hub, first, None, station(alloc, "CP01")?, at)?;
+    gateway.admit(&mut hub, first, station(alloc, "CP01")?, at)?;
     let sent = nothing_sent(alloc)?;
     let second = socket(alloc, u64::MAX, Rc::clone(&sent)?);
-    gateway.admit(&mut hub, second, None, station(alloc, "CP02")?, at)?;
+    gateway.admit(&mut hub, second, station(alloc, "CP02")?, at)?;
     for _ in 0..4 {
         gateway.turn(&mut hub, at, &[0, 1])?;
     }
@@ -182,7 +186,7 @@ fn answered(alloc: Global, before: u64) -> Result<String, Fail> {
     let at = moment(1704067200)?;
     let mut gateway = Gateway::new(alloc);
     let socket = socket(alloc, u64::MAX, nothing_sent(alloc)?);
-    gateway.admit(&mut hub, socket, None, station(alloc, "CP01")?, at)?;
+    gateway.admit(&mut hub, socket, station(alloc, "CP01")?, at)?;
     let is_fault = matches!(gateway.turn(&mut hub, at, &[0, 1]), Err(Fault::Store));
     gateway.turn(&mut hub, at, &[0, 1])?;
     if !is_fault || gateway.count() != 0 {
