@@ -34,7 +34,7 @@ use Rattle.ws_peers.specs.declared.routes.Route.TheVariants.{Station, Operator, 
 use Rattle.tungstenite.specs.Socket.{Socket}
 use Rattle.ws_server.specs.Admits.{Connects, WelcomesOne, WelcomesSome}
 use Rattle.ws_server.specs.Events.{event_of, parting, parting_at, is_route_of_hosted}
-use Rattle.ws_server.specs.Turns.{Change, Then, Becomes, AtPlace, EachOf, FirstPlaces, Hands, HandsText, Means, Parts, PartsAs}
+use Rattle.ws_server.specs.Turns.{Change, Then, Becomes, AtPlace, EachOf, ascending, is_above, FirstPlaces, Hands, HandsText, Means, Parts, PartsAs}
 use Rattle.ws_server.specs.Steps.{Step, Runs, Takes}
 
 -- ---- what a fault says of an operator
@@ -183,31 +183,39 @@ none-parts contents hosts m (suc k) ps small all =
 
 -- ---- the places of a list, one after the other
 module _ {P : Type 0} (C : ℕ → Change P) (all : List ℕ) (old : List P) where
-  -- what is done at the places from i on is done at all, after those steps
-  abbrev pub Rest : ℕ → List P → List Step → Type 0
-  Rest i now before = (end : List P) (after : List Step) (r : Result (Unit {0}) Fault) → EachOf C (drop i all) now end after r → EachOf C all old end (before ++ after) r
+  -- what is done at the places that are left is done at all, after those steps
+  abbrev pub Rest : List ℕ → List P → List Step → Type 0
+  Rest left now before = (end : List P) (after : List Step) (r : Result (Unit {0}) Fault) → EachOf C left now end after r → EachOf C all old end (before ++ after) r
 
   -- one place more
-  pub place-on : (i n : ℕ) (mid new : List P) (before more : List Step) → drop i all ≡ n ∷ drop (i + 1) all → Rest i mid before → AtPlace C n mid new more (Ok tt) → Rest (i + 1) new (before ++ more)
-  place-on i n mid new before more next on at = λ end after r rest. subst (λ steps. EachOf C all old end steps r) (sym (append_assoc before more after))
-      (on end (more ++ after) r (subst (λ ns. EachOf C ns mid end (more ++ after) r) (sym next) (follows (AtPlace C n) (EachOf C (drop (i + 1) all)) mid new end more after r at rest)))
+  pub place-on : (n : ℕ) (left : List ℕ) (mid new : List P) (before more : List Step) → Rest (n ∷ left) mid before → AtPlace C n mid new more (Ok tt) → Rest left new (before ++ more)
+  place-on n left mid new before more on at = λ end after r rest. subst (λ steps. EachOf C all old end steps r) (sym (append_assoc before more after))
+      (on end (more ++ after) r (follows (AtPlace C n) (EachOf C left) mid new end more after r at rest))
 
   -- no place is left
-  pub place-end : (i : ℕ) (now : List P) (before : List Step) → drop i all ≡ [] → Rest i now before → EachOf C all old now before (Ok tt)
-  place-end i now before none on = subst (λ steps. EachOf C all old now steps (Ok tt)) (append-nil before) (on now [] (Ok tt) (subst (λ ns. EachOf C ns now now [] (Ok tt)) (sym none) (refl, refl, refl)))
+  pub place-end : (now : List P) (before : List Step) → Rest [] now before → EachOf C all old now before (Ok tt)
+  place-end now before on = subst (λ steps. EachOf C all old now steps (Ok tt)) (append-nil before) (on now [] (Ok tt) (refl, refl, refl))
 
   -- a place that ends in a fault is the last
-  pub place-fails : (i n : ℕ) (mid new : List P) (before more : List Step) (fault : Fault) (r : Result (Unit {0}) Fault) → drop i all ≡ n ∷ drop (i + 1) all → Rest i mid before → IsErr r → IsErrAnd r (λ e. e ≡ fault)
+  pub place-fails : (n : ℕ) (left : List ℕ) (mid new : List P) (before more : List Step) (fault : Fault) (r : Result (Unit {0}) Fault) → Rest (n ∷ left) mid before → IsErr r → IsErrAnd r (λ e. e ≡ fault)
       → AtPlace C n mid new more (Err fault) → EachOf C all old new (before ++ more) r
-  place-fails i n mid new before more fault r next on err same at = on new more r (subst (λ ns. EachOf C ns mid new more r) (sym next) (fails (AtPlace C n) (EachOf C (drop (i + 1) all)) mid new more fault r err same at))
+  place-fails n left mid new before more fault r on err same at = on new more r (fails (AtPlace C n) (EachOf C left) mid new more fault r err same at)
 
-module _ {T : Type 0} (contents : T → Option (List ℕ)) (m : ℕ) where
+-- a place above those before it is the next
+pub above-on : (last : Option ℕ) (n : ℕ) (xs ys : List ℕ) → xs ≡ n ∷ ys → is_above last n ≡ true → ascending last xs ≡ n ∷ ascending (Some n) ys
+above-on last n xs ys is above = ap (ascending last) is ∙ ap (λ b. if b then n ∷ ascending (Some n) ys else ascending last ys) above
+
+-- another is passed over
+pub above-over : (last : Option ℕ) (n : ℕ) (xs ys : List ℕ) → xs ≡ n ∷ ys → is_above last n ≡ false → ascending last xs ≡ ascending last ys
+above-over last n xs ys is below = ap (ascending last) is ∙ ap (λ b. if b then n ∷ ascending (Some n) ys else ascending last ys) below
+
+module _ {T : Type 0} (remaining contents : T → Option (List ℕ)) (m : ℕ) where
   -- one more connection is welcomed
-  pub welcomes-more : (old mid new : List (Peer T)) (before after : List Step) → WelcomesSome contents m old mid before (Ok tt) → WelcomesOne contents m mid new after (Ok tt) → WelcomesSome contents m old new (before ++ after) (Ok tt)
-  welcomes-more old mid new before after first more = (first.0 + 1, place_more (λ _. WelcomesOne contents m) first.0 old mid new before after first.1 more)
+  pub welcomes-more : (old mid new : List (Peer T)) (before after : List Step) → WelcomesSome remaining contents m old mid before (Ok tt) → WelcomesOne remaining contents m mid new after (Ok tt) → WelcomesSome remaining contents m old new (before ++ after) (Ok tt)
+  welcomes-more old mid new before after first more = (first.0 + 1, place_more (λ _. WelcomesOne remaining contents m) first.0 old mid new before after first.1 more)
 
   -- one that ends in a fault is the last
   pub welcomes-fails : (old mid new : List (Peer T)) (before after : List Step) (f : Fault) (r : Result (Unit {0}) Fault) → IsErr r → IsErrAnd r (λ e. e ≡ f)
-      → WelcomesSome contents m old mid before (Ok tt) → WelcomesOne contents m mid new after (Err f) → WelcomesSome contents m old new (before ++ after) r
+      → WelcomesSome remaining contents m old mid before (Ok tt) → WelcomesOne remaining contents m mid new after (Err f) → WelcomesSome remaining contents m old new (before ++ after) r
   welcomes-fails old mid new before after f (Ok u) err same first more = absurd (true≢false (sym err))
-  welcomes-fails old mid new before after f (Err e) err same first more = subst (λ x. WelcomesSome contents m old new (before ++ after) (Err x)) (sym same) (first.0, mid, before, after, first.1, more, refl)
+  welcomes-fails old mid new before after f (Err e) err same first more = subst (λ x. WelcomesSome remaining contents m old new (before ++ after) (Err x)) (sym same) (first.0, mid, before, after, first.1, more, refl)

@@ -1,5 +1,5 @@
 -- What admitting a connection does.
-use Rattle.std.specs.Prelude.{ℕ, List, [], ◌∷◌, ◌++◌, Option, Some, Bool, true, false, not, ◌||◌, ◌≡◌, Ok, Err, ◌&&◌, ◌⊎◌, is_some, nat_le, length, take, codes, ⊤}
+use Rattle.std.specs.Prelude.{ℕ, List, [], ◌∷◌, ◌++◌, Option, Some, None, Bool, true, false, not, ◌||◌, ◌≡◌, Ok, Err, ◌&&◌, ◌⊎◌, is_some, nat_le, length, take, codes, ⊤}
 use Rattle.std.specs.List.{filter}
 use Rattle.tungstenite.specs.Socket.{Socket}
 use Rattle.event_plans.specs.declared.event.Event.{Event}
@@ -71,11 +71,11 @@ abbrev pub ComeNext : Option (List ℕ) → List ℕ → Type 0
 ComeNext None bytes = ⊤
 ComeNext (Some all) bytes = take (length bytes) all ≡ bytes
 
-module _ {T : Type 0} (remaining contents : T → Option (List ℕ)) (m : ℕ) where
-  -- the next bytes of a stream are a head that asks for that upgrade
-  abbrev pub AsksFor : T → Upgrade → Type 0
-  AsksFor stream upgrade = (bytes : List ℕ) × ComeNext (remaining stream) bytes × Asks bytes (Upgraded upgrade)
+-- the next bytes of a stream are a head that asks for that upgrade
+abbrev pub AsksFor : {T : Type 0} → (T → Option (List ℕ)) → T → Upgrade → Type 0
+AsksFor remaining stream upgrade = (bytes : List ℕ) × ComeNext (remaining stream) bytes × Asks bytes (Upgraded upgrade)
 
+module _ {T : Type 0} (remaining contents : T → Option (List ℕ)) (m : ℕ) where
   -- a connection is welcomed: its handshake is done and it is admitted, or nothing changes
   abbrev pub Welcomes : T → Upgrade → Change (Peer T)
   Welcomes stream upgrade old new steps r =
@@ -84,7 +84,7 @@ module _ {T : Type 0} (remaining contents : T → Option (List ℕ)) (m : ℕ) w
   -- one is welcomed, by the upgrade that its own head asks for, or nothing changes
   abbrev pub WelcomesOne : Change (Peer T)
   WelcomesOne old new steps r =
-      ((new ≡ old) × (steps ≡ [])) ⊎ ((stream : T) × (upgrade : Upgrade) × AsksFor stream upgrade × Welcomes stream upgrade old new steps r)
+      ((new ≡ old) × (steps ≡ [])) ⊎ ((stream : T) × (upgrade : Upgrade) × AsksFor remaining stream upgrade × Welcomes stream upgrade old new steps r)
 
   -- some are welcomed, one after the other, up to the first fault
   abbrev pub WelcomesSome : Change (Peer T)

@@ -1,10 +1,9 @@
 -- Peers that are silent.
-use Rattle.std.specs.Prelude.{ℕ, List, [], ◌∷◌, length, Option, ◌≡◌, ◌<◌, ◌≤◌}
+use Rattle.std.specs.Prelude.{ℕ, List, [], ◌∷◌, length, ◌≡◌, ◌<◌, ◌≤◌}
 use Rattle.ws_peers.specs.declared.cause.Cause.TheVariants.{Silent}
 use Rattle.ws_peers.specs.declared.peer.Peer.{Peer}
 use Rattle.ws_peers.specs.Lists as lists
 use Rattle.ws_peers.specs.Peers.{ends}
-use Rattle.ws_peers.specs.Sends.{Pinged}
 
 module _ {P : Type 0} (R : P → P → Type 0) where
   -- the item at place n changes so, if there is one
@@ -18,10 +17,6 @@ module _ {P : Type 0} (R : P → P → Type 0) where
   Visits (n ∷ places) old new = (mid : List P) × Visit n old mid × Visits places mid new
 
 module _ {T : Type 0} where
-  -- a Ping is sent, on an open connection
-  abbrev pub PingsAt : (T → Option (List ℕ)) → Peer T → Peer T → Type 0
-  PingsAt contents = Pinged contents
-
   -- an open connection ends, since its peer is silent
-  abbrev pub EndsAt : Peer T → Peer T → Type 0
-  EndsAt old new = new ≡ ends Silent old
+  abbrev pub Silences : Peer T → Peer T → Type 0
+  Silences old new = new ≡ ends Silent old

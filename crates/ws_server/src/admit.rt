@@ -29,6 +29,7 @@ const NO_STATION: &str = "no such station";
 /// Why a connection is closed whose path leads to nothing.
 const NO_PATH: &str = "no such path";
 
+#[tactic(auto, using(crate::proofs::StepLaws::nothing))]
 impl<T: Read + Write + Served + Drop> Gateway<T> {
     ghost use Rattle.ws_server.specs.Admits.{Admits, Closes, Connects, is_served};
     ghost use Rattle.ws_server.specs.Events.{is_route_of_hosted};
@@ -79,7 +80,7 @@ impl<T: Read + Write + Served + Drop> Gateway<T> {
         refusal: Refusal,
         reason: &'static str,
     ) -> Result<(), Fault>
-        ensures { Closes T.contents socket reason.now arrival.route (peers_of self.old) (peers_of self.new) [] result }
+        ensures closed { Closes T.contents socket reason.now arrival.route (peers_of self.old) (peers_of self.new) [] result }
         ensures cause { IfErr result (λ f. f ≡ Fault.NoMemory) }
     {
         self.peers.reserve()?;

@@ -6,12 +6,13 @@ use std::io::{Read, Write};
 use ws_peers::Cause;
 
 impl<T: Read + Write + Drop> Gateway<T> {
-    ghost use Rattle.ws_server.specs.Probes.{PingsAt, EndsAt, Visits};
+    ghost use Rattle.ws_peers.specs.Sends.{Pinged};
+    ghost use Rattle.ws_server.specs.Probes.{Silences, Visits};
     ghost use Rattle.ws_server.specs.Tells.{peers_of};
 
     /// Sends a Ping to the peers at those places, where there is an open connection (RFC 6455, section 5.5.2).
     pub fn ping(&mut self, places: &[usize])
-        ensures { Visits (PingsAt T.contents) places.now (peers_of self.old) (peers_of self.new) }
+        ensures { Visits (Pinged T.contents) places.now (peers_of self.old) (peers_of self.new) }
     {
         for place in places {
             if *place < self.peers.count() {
@@ -23,7 +24,7 @@ impl<T: Read + Write + Drop> Gateway<T> {
     /// Ends the connections at those places, since their peers are silent. The next turn hands their disconnects to the
     /// hub.
     pub fn end_silent(&mut self, places: &[usize])
-        ensures { Visits EndsAt places.now (peers_of self.old) (peers_of self.new) }
+        ensures { Visits Silences places.now (peers_of self.old) (peers_of self.new) }
     {
         for place in places {
             if *place < self.peers.count() {

@@ -139,10 +139,11 @@ impl<T: Read + Write + Served + Drop> Gateway<T> {
     {
         let mut last = None;
         for place in places {
-            if is_above(last, *place) {
-                self.serve_at(hub, moment, *place)?;
-                last = Some(*place);
+            if !is_above(last, *place) {
+                continue;
             }
+            self.serve_at(hub, moment, *place)?;
+            last = Some(*place);
         }
         Ok(())
     }

@@ -1,12 +1,12 @@
-use Rattle.std.proofs.Common.{Ok, Err, get_or, ◌∙◌, ◌+◌, ℕ, sym, subst, arith}
-use Rattle.std.proofs.Math.Seq.{drop-length}
+use Rattle.std.proofs.Common.{List, None, Ok, Err, Some, ap, get_or, drop, true, rules, ◌≡◌, ◌∙◌, ◌+◌, ◌∷◌, ℕ, sym, subst, arith}
 use Rattle.std.proofs.lemmas.List.{drop_more, drop_all}
 use Rattle.hub.specs.Hub.{setting}
 use Rattle.hub.specs.World.{Setting}
 use Rattle.ws_peers.specs.declared.peer.Peer.{Peer}
+use Rattle.ws_server.specs.Steps.{Step}
 use Rattle.ws_server.specs.Tells.{peers_of}
-use Rattle.ws_server.specs.Turns.{Change, AtPlace, EachOf, Serves}
-use Rattle.ws_server.proofs.StepLaws.{counted_more, taken_on, changed, Rest, place-on, place-end, place-fails}
+use Rattle.ws_server.specs.Turns.{Change, AtPlace, EachOf, Serves, ascending, is_above}
+use Rattle.ws_server.proofs.StepLaws.{counted_more, taken_on, changed, Rest, place-on, place-end, place-fails, above-on}
 use Rattle.ws_server.proofs.gateway.Gateway.serve_each.Goals as goal
 
 pub loop-place-preserved : goal.loop-place-preserved
@@ -15,13 +15,20 @@ loop-place-preserved g c =
     let e = c.in_ok-serve_at.ensures in
     let Under : Setting → ℕ → Change (Peer _) = λ st. Serves g.T.Read.remaining g.T.Write.contents st.is_hosted c.args.moment in
     let C = Under (setting g.V.VendorHandler.view c.args.hub.now) in
-    let all = c.args.places.now in
+    let places = c.args.places.now in
+    let all = ascending None places in
     let i = c.loop-place.place-index in
-    let n = get_or all i 0 in
-    let next = drop_more all i 0 (grind (arith, c.loop-place.auto, c.loop-place-test.true)) in
+    let n = get_or places i 0 in
+    let last = c.loop-place.last in
+    let left = ascending (Some n) (drop (i + 1) places) in
+    let old = peers_of c.args.self.now in
+    let mid = peers_of c.loop-place.self in
+    let new = peers_of c.serve_at.new.self in
+    let above : is_above last n ≡ true = search rules in
+    let next : ascending last (drop i places) ≡ n ∷ left = above-on last n (drop i places) (drop (i + 1) places) (drop_more places i 0 (grind (arith, c.loop-place.auto, c.loop-place-test.true))) above in
     record {
-      takes = taken_on _ _ _ _ _ _ _ (λ before. Rest C all (peers_of c.args.self.now) (i + 1) (peers_of c.serve_at.new.self) before)
-          (λ before more on at. place-on C all (peers_of c.args.self.now) i n (peers_of c.loop-place.self) (peers_of c.serve_at.new.self) before more next on (subst (λ st. AtPlace (Under st) n (peers_of c.loop-place.self) (peers_of c.serve_at.new.self) more (Ok tt)) inv.setting at)) inv.setting e.counted.was_clean inv.takes e.takes;
+      takes = taken_on _ _ _ _ _ _ _ (λ before. Rest C all old left new before)
+          (λ before more on at. place-on C all old n left mid new before more (subst (λ ns. Rest C all old ns mid before) next on) (subst (λ st. AtPlace (Under st) n mid new more (Ok tt)) inv.setting at)) inv.setting e.counted.was_clean inv.takes e.takes;
       counted = counted_more g.S.Store.view g.V.VendorHandler.view _ _ _ _ _ inv.counted e.counted;
       setting = e.setting ∙ inv.setting;
     }
@@ -32,23 +39,30 @@ returns-in_err-serve_at-clause-takes g c =
     let e = c.in_err-serve_at.ensures in
     let Under : Setting → ℕ → Change (Peer _) = λ st. Serves g.T.Read.remaining g.T.Write.contents st.is_hosted c.args.moment in
     let C = Under (setting g.V.VendorHandler.view c.args.hub.now) in
-    let all = c.args.places.now in
+    let places = c.args.places.now in
+    let all = ascending None places in
     let i = c.loop-place.place-index in
-    let n = get_or all i 0 in
-    let next = drop_more all i 0 (grind (arith, c.loop-place.auto, c.loop-place-test.true)) in
+    let n = get_or places i 0 in
+    let last = c.loop-place.last in
+    let left = ascending (Some n) (drop (i + 1) places) in
     let old = peers_of c.args.self.now in
     let mid = peers_of c.loop-place.self in
     let new = peers_of c.serve_at.new.self in
     let r = c.from_residual.result in
+    let above : is_above last n ≡ true = search rules in
+    let next : ascending last (drop i places) ≡ n ∷ left = above-on last n (drop i places) (drop (i + 1) places) (drop_more places i 0 (grind (arith, c.loop-place.auto, c.loop-place-test.true))) above in
     taken_on _ _ _ _ _ _ _ (λ steps. EachOf C all old new steps r)
-    (λ before more on at. place-fails C all old i n mid new before more c.in_err-serve_at.field-0.0 r next on c.from_residual.ensures.0 c.from_residual.ensures.1 (subst (λ st. AtPlace (Under st) n mid new more (Err c.in_err-serve_at.field-0.0)) inv.setting at))
+    (λ before more on at. place-fails C all old n left mid new before more c.in_err-serve_at.field-0.0 r (subst (λ ns. Rest C all old ns mid before) next on) c.from_residual.ensures.0 c.from_residual.ensures.1 (subst (λ st. AtPlace (Under st) n mid new more (Err c.in_err-serve_at.field-0.0)) inv.setting at))
     inv.setting e.counted.was_clean inv.takes e.takes
 
 pub returns-clause-takes : goal.returns-clause-takes
 returns-clause-takes g c =
     let C : ℕ → Change (Peer _) = Serves g.T.Read.remaining g.T.Write.contents (setting g.V.VendorHandler.view c.args.hub.now).is_hosted c.args.moment in
-    let all = c.args.places.now in
+    let places = c.args.places.now in
+    let all = ascending None places in
     let i = c.loop-place.place-index in
+    let last = c.loop-place.last in
     let old = peers_of c.args.self.now in
     let now = peers_of c.loop-place.self in
-    changed _ _ _ _ _ (λ steps. EachOf C all old now steps (Ok tt)) (λ before on. place-end C all old i now before (drop_all i all (grind (arith, c.loop-place.auto, c.loop-place-test.false))) on) c.loop-place.invariant.takes
+    let none = ap (ascending last) (drop_all i places (grind (arith, c.loop-place.auto, c.loop-place-test.false))) in
+    changed _ _ _ _ _ (λ steps. EachOf C all old now steps (Ok tt)) (λ before on. place-end C all old now before (subst (λ ns. Rest C all old ns now before) none on)) c.loop-place.invariant.takes

@@ -3,7 +3,7 @@ use Rattle.hub.specs.Hub.{setting}
 use Rattle.hub.specs.World.{Setting}
 use Rattle.ws_peers.specs.declared.peer.Peer.{Peer}
 use Rattle.ws_server.specs.Tells.{peers_of}
-use Rattle.ws_server.specs.Turns.{Change, EachOf, Serves, PartsAndTicks, Turns}
+use Rattle.ws_server.specs.Turns.{Change, EachAbove, Serves, PartsAndTicks, Turns}
 use Rattle.ws_server.proofs.StepLaws.{taken_on, follows}
 use Rattle.ws_server.proofs.gateway.Gateway.turn.Goals as goal
 
@@ -14,7 +14,7 @@ returns-clause-takes g c =
     let new = peers_of c.part_and_tick.new.self in
     let r = c.part_and_tick.result in
     let now = setting g.V.VendorHandler.view c.args.hub.now in
-    let Served = EachOf (Serves g.T.Read.remaining g.T.Write.contents now.is_hosted c.args.moment) c.args.places.now in
+    let Served = EachAbove (Serves g.T.Read.remaining g.T.Write.contents now.is_hosted c.args.moment) c.args.places.now in
     let Under : Setting → Change (Peer _) = λ st. PartsAndTicks g.T.Write.contents st.is_hosted c.args.moment in
     let same = c.in_ok-serve_each.ensures.setting in
     taken_on _ _ _ _ _ _ _ (λ steps. Turns g.T.Read.remaining g.T.Write.contents now.is_hosted c.args.moment c.args.places.now old new steps r)

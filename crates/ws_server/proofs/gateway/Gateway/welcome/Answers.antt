@@ -1,10 +1,7 @@
-use Rattle.std.proofs.Common.{◌≡◌, ◌∙◌, List, [], ◌++◌, refl, subst, sym, true, inr}
-use Rattle.hub.specs.Hub.{world}
+use Rattle.std.proofs.Common.{◌≡◌, List, [], ◌++◌, refl, subst, sym, inr}
 use Rattle.ws_server.specs.Admits.{Welcomes}
 use Rattle.ws_server.specs.Steps.{Step}
 use Rattle.ws_server.specs.Tells.{peers_of}
-use Rattle.ws_server.specs.Events.{is_route_of_hosted}
-use Rattle.ws_server.proofs.HandshakeLaws.{known_hosted, no_cause}
 use Rattle.ws_server.proofs.StepLaws.{taken_on, nothing}
 use Rattle.ws_server.proofs.gateway.Gateway.welcome.Goals as goal
 
@@ -14,14 +11,8 @@ returns-in-Ok-shake-clause-takes g c =
     let new = peers_of c.admit.new.self in
     let r = c.admit.result in
     let None : List Step → Type 0 = λ steps. steps ≡ [] in
-    let Welcomed : List Step → Type 0 = λ steps. Welcomes g.T.Write.contents c.args.moment c.args.route old new steps r in
+    let Welcomed : List Step → Type 0 = λ steps. Welcomes g.T.Read.remaining g.T.Write.contents c.args.moment c.args.stream c.args.upgrade old new steps r in
     taken_on _ _ _ _ _ None _ Welcomed
-    (λ before after none change. subst (λ steps. Welcomed (steps ++ after)) (sym none) (inr (c.in-Ok-shake.socket, c.in-Ok-shake.ensures.socket, change)))
+    (λ before after none change. subst (λ steps. Welcomed (steps ++ after)) (sym none) (inr (c.in-Ok-shake.socket, c.in-Ok-shake.ensures, change)))
     c.in-Ok.ensures.setting c.admit.ensures.counted.was_clean
     (nothing _ _ _ _ None refl c.in-Ok.ensures.world) c.admit.ensures.takes
-
-pub returns-in-Ok-shake-clause-hosted : goal.returns-in-Ok-shake-clause-hosted
-returns-in-Ok-shake-clause-hosted g c = λ clean.
-    let known = sym (c.in-Ok.ensures.known (c.admit.ensures.counted.was_clean clean)) ∙ c.door-door.ensures.known c.in-Ok-shake.ensures.open in
-    let hosted = subst (λ st. is_route_of_hosted st.is_hosted c.args.route ≡ true) (sym c.in-Ok.ensures.setting) (known_hosted _ (world g.S.Store.view c.args.hub.now).rows c.args.route known) in
-    no_cause _ c.admit.result hosted c.admit.ensures.not_hosted

@@ -9,7 +9,7 @@ use Rattle.ws_server.proofs.lobby.Lobby.serve.Given as goal
 
 abbrev pub invariant-loop : goal.invariant-loop
 invariant-loop g l = record {
-  takes : Takes g.S.Store.view g.V.VendorHandler.view l.fn.hub l.hub (λ steps. WelcomesSome g.T.Write.contents l.moment (peers_of l.fn.gateway) (peers_of l.gateway) steps (Ok tt));
+  takes : Takes g.S.Store.view g.V.VendorHandler.view l.fn.hub l.hub (λ steps. WelcomesSome g.T.Read.remaining g.T.Write.contents l.moment (peers_of l.fn.gateway) (peers_of l.gateway) steps (Ok tt));
   counted : IsCounted (hub_view g.S.Store.view) l.fn.hub l.hub ⊥;
   setting : setting g.V.VendorHandler.view l.hub ≡ setting g.V.VendorHandler.view l.fn.hub;
   fewer : waiting_count l.self ≤ waiting_count l.fn.self;
