@@ -1,6 +1,9 @@
 -- Connections whose handshake is not done.
-use Rattle.std.specs.Prelude.{ℕ, ◌+◌, Bool, ◌||◌, List, drop, if◌then◌else◌, length, nat_lt}
+use Rattle.std.specs.Prelude.{ℕ, ◌+◌, Bool, ◌||◌, List, drop, if◌then◌else◌, length, nat_lt, ⊤}
+use Rattle.ws_handshake.specs.declared.head.Upgrade.{Upgrade}
 use Rattle.ws_server.specs.declared.lobby.Lobby.{Lobby}
+use Rattle.ws_server.specs.declared.lobby.Next.{Next}
+use Rattle.ws_server.specs.declared.lobby.Next.TheVariants.{Wait, Drop, Refuse, Welcome}
 
 -- how many wait
 abbrev pub waiting_count : {T : Type 0} → Lobby T → ℕ
@@ -14,3 +17,10 @@ with_room waiting = if nat_lt (length waiting) 4096 then waiting else drop 1 wai
 -- back, it counts as longer
 abbrev pub is_late : ℕ → ℕ → ℕ → Bool
 is_late m since seconds = nat_lt m since || nat_lt (since + seconds) m
+
+-- P of the upgrade of one that is to be welcomed
+abbrev pub IfWelcome : Next → (Upgrade → Type 0) → Type 0
+IfWelcome Wait P = ⊤
+IfWelcome (Drop refusal) P = ⊤
+IfWelcome (Refuse seen answer) P = ⊤
+IfWelcome (Welcome upgrade) P = P upgrade

@@ -2,7 +2,8 @@
 ghost use Rattle.std.specs.Prelude.{◌≡◌, ◌≢◌, ◌++◌, ◌∷◌, ◌<◌, ◌≤◌, List, [], true, slice_index_or, Err, OnOk, OnErr, IfOk, IfErr, length};
 ghost use Rattle.hub_rows.specs.Reads.{IsCounted};
 ghost use Rattle.hub.specs.Hub.{hub_view, setting, is_clean};
-ghost use Rattle.ws_server.specs.Lobbies.{waiting_count, with_room, is_late};
+ghost use Rattle.ws_server.specs.Admits.{AsksFor};
+ghost use Rattle.ws_server.specs.Lobbies.{waiting_count, with_room, is_late, IfWelcome};
 ghost use Rattle.ws_server.specs.Steps.{Takes};
 ghost use Rattle.ws_server.specs.Tells.{peers_of};
 
@@ -61,9 +62,8 @@ enum Next {
 
 #[tactic(auto, using(crate::proofs::StepLaws::nothing))]
 impl<T: Peek + Read + Write + Served + Drop> Lobby<T> {
-    ghost use Rattle.ws_server.specs.Admits.{AsksFor, WelcomesOne, WelcomesSome};
+    ghost use Rattle.ws_server.specs.Admits.{WelcomesOne, WelcomesSome};
     ghost use Rattle.ws_server.specs.declared.lobby.Waiting.{Waiting};
-    ghost use Rattle.ws_handshake.specs.declared.head.Upgrade.{Upgrade};
 
     /// No connection.
     pub fn new(alloc: Global) -> Mem<Lobby<T>>
@@ -213,25 +213,39 @@ impl<T: Peek + Read + Write + Served + Drop> Lobby<T> {
     fn next(&mut self, alloc: Global, n: usize, moment: Moment) -> Mem<Next>
         requires { n < length self.old.waiting.items }
         ensures waiting { self.new.waiting.items ≡ self.old.waiting.items }
-        ensures asks { IfOk result (λ next. (upgrade : Upgrade) → next ≡ Next.Welcome upgrade → (other : Waiting T)
-            → AsksFor T.remaining (slice_index_or self.old.waiting.items n other).stream upgrade) }
+        ensures asks { IfOk result (λ next. IfWelcome next (λ upgrade. (other : Waiting T)
+            → AsksFor T.remaining (slice_index_or self.old.waiting.items n other).stream upgrade)) }
     {
         let one = &self.waiting[n];
-        let waits = if one.is_late(moment, PATIENCE) {
-            Next::Drop(Refusal::Late)
-        } else {
-            Next::Wait
-        };
-        match one.stream.peek(self.head.as_mut_slice()) {
-            Ok(0) => Ok(Next::Drop(Refusal::Lost)),
-            Ok(len) => match judge(alloc, &self.head[..len])? {
-                Asked::More => Ok(waits),
-                Asked::Plain(answer) => Ok(Next::Refuse(len, answer)),
-                Asked::Upgraded(upgrade) => Ok(Next::Welcome(upgrade)),
-            },
-            Err(error) if error.kind() == ErrorKind::WouldBlock => Ok(waits),
-            Err(_) => Ok(Next::Drop(Refusal::Lost)),
-        }
+        let is_late = one.is_late(moment, PATIENCE);
+        next_of(alloc, &one.stream, self.head.as_mut_slice(), is_late)
+    }
+}
+
+/// What is to be done with a connection, by the next bytes of its stream, for which there is room.
+fn next_of<T: Peek>(alloc: Global, stream: &T, room: &mut [u8], is_late: bool) -> Mem<Next>
+    ensures { IfOk result (λ next. IfWelcome next (AsksFor T.remaining stream.now)) }
+{
+    match stream.peek(room) {
+        Ok(0) => Ok(Next::Drop(Refusal::Lost)),
+        Ok(len) => match judge(alloc, &room[..len])? {
+            Asked::More => Ok(waits(is_late)),
+            Asked::Plain(answer) => Ok(Next::Refuse(len, answer)),
+            Asked::Upgraded(upgrade) => Ok(Next::Welcome(upgrade)),
+        },
+        Err(error) if error.kind() == ErrorKind::WouldBlock => Ok(waits(is_late)),
+        Err(_) => Ok(Next::Drop(Refusal::Lost)),
+    }
+}
+
+/// What is to be done with a connection whose head isn't whole.
+fn waits(is_late: bool) -> Next
+    ensures { IfWelcome result (λ upgrade. ⊥) }
+{
+    if is_late {
+        Next::Drop(Refusal::Late)
+    } else {
+        Next::Wait
     }
 }
 
