@@ -134,12 +134,14 @@ impl<S: Store + Drop, V: VendorHandler> Server<S, V> {
         let Ok(hub) = Hub::new(alloc, store, options.operators, vendors) else {
             return Err(RunFault::BadOperators);
         };
+        let mut streams = Streams::listen(alloc, rt, options.port)?;
+        streams.set_second(second.seconds());
         Ok(Server {
             alloc,
             hub,
             gateway: Gateway::new(alloc),
             lobby: Lobby::new(alloc)?,
-            streams: Streams::listen(alloc, rt, options.port)?,
+            streams,
             second,
             moment: second,
             places: Vec::new(alloc),

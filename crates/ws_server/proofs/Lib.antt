@@ -1,3 +1,4 @@
 pub mod StepLaws
 pub mod HandshakeLaws
 pub mod AdmitLaws
+pub mod ProbeLaws

@@ -18,5 +18,5 @@ module _ {P : Type 0} (R : P → P → Type 0) where
 
 module _ {T : Type 0} where
   -- an open connection ends, since its peer is silent
-  abbrev pub Silences : Peer T → Peer T → Type 0
-  Silences old new = new ≡ ends Silent old
+  abbrev pub Silenced : Peer T → Peer T → Type 0
+  Silenced old new = new ≡ ends Silent old

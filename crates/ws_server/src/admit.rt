@@ -57,7 +57,12 @@ impl<T: Read + Write + Served + Drop> Gateway<T> {
                 let event = connect_of(op, station, moment)?;
                 self.connect(hub, socket, arrival, &event)
             }
-            Route::Station(_, _) => self.shut(socket, arrival, Refusal::NoSubprotocol, NO_SUBPROTOCOL),
+            Route::Station(_, _) => self.shut(
+                socket,
+                arrival,
+                Refusal::NoSubprotocol,
+                NO_SUBPROTOCOL,
+            ),
             Route::Operator(op) => {
                 if !hub.hosts(op.as_str()) {
                     return Err(Fault::NoSuchOperator);
@@ -84,11 +89,7 @@ impl<T: Read + Write + Served + Drop> Gateway<T> {
         ensures cause { IfErr result (λ f. f ≡ Fault.NoMemory) }
     {
         self.peers.reserve()?;
-        self.notes.add(
-            &arrival.route,
-            arrival.address,
-            Happened::Refused(refusal),
-        );
+        self.notes.add(&arrival.route, arrival.address, Happened::Refused(refusal));
         self.peers.push_closed(socket, arrival.route, reason);
         Ok(())
     }

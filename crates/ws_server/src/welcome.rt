@@ -83,20 +83,15 @@ impl<T: Read + Write + Served + Drop> Gateway<T> {
             return Some(Answer::NotFound);
         }
         match route {
-            Route::Operator(op) if self.peers.count_of(op.as_str()) >= MAX_CONNECTIONS =>
-                Some(Answer::Unavailable),
+            Route::Operator(op) if self.peers.count_of(op.as_str()) >= MAX_CONNECTIONS => Some(
+                Answer::Unavailable,
+            ),
             Route::Operator(_) | Route::Station(_, _) | Route::Nothing => None,
         }
     }
 
     /// Answers a handshake that is refused, and closes its stream.
-    fn refuse(
-        &mut self,
-        stream: T,
-        address: Option<SocketAddr>,
-        upgrade: &Upgrade,
-        answer: Answer,
-    )
+    fn refuse(&mut self, stream: T, address: Option<SocketAddr>, upgrade: &Upgrade, answer: Answer)
         ensures { peers_of self.new ≡ peers_of self.old }
     {
         let _closed = refuse(stream, upgrade.len, answer);
