@@ -10,7 +10,7 @@ use hub::{Fault, Hub};
 use hub_rows::Store;
 use log::sink::Console;
 use log::{LevelFilter, Log, Logged};
-use ocpp_types::{Moment, Text};
+use ocpp_types::{Mem, Moment, Text};
 use ready_streams::{ReadyStream, Streams};
 use sqlite::Alter;
 use station_calls::VendorHandler;
@@ -31,6 +31,9 @@ const PING_AFTER: u64 = 120;
 
 /// The seconds after a Ping in which a peer that stays silent loses its connection.
 const ANSWER_WITHIN: u64 = 120;
+
+/// The bytes that are set aside for the case that memory runs out.
+const RESERVE: usize = 4_194_304;
 
 /// The most connections that a turn accepts.
 const MAX_ACCEPTS: usize = 64;
@@ -55,6 +58,9 @@ struct Server<S, V> {
     failed_accept: bool,
     /// The last turn ended in a fault.
     has_faulted: bool,
+    /// Memory that is set aside. It is given up after an event that found none, so that connections can end, and no
+    /// connection is accepted until it is set aside again.
+    reserve: Option<Vec<u8>>,
 }
 
 /// Serves, by the records of a file and by those handlers of vendors' messages. A fault of a turn is written to
@@ -148,6 +154,7 @@ impl<S: Store + Drop, V: VendorHandler> Server<S, V> {
             last_operator: 0,
             failed_accept: false,
             has_faulted: false,
+            reserve: set_aside(alloc).ok(),
         })
     }
 
@@ -170,7 +177,7 @@ impl<S: Store + Drop, V: VendorHandler> Server<S, V> {
     /// Takes the system's reports on streams. It waits for one where nothing can be done without, and at most 10 ms after
     /// a turn that ended in a fault, so that a fault that stays doesn't take a whole processor.
     fn wait(&mut self, may_wait: bool) -> io::Result<()> {
-        let accepts = !self.failed_accept && self.lobby.has_room(self.moment);
+        let accepts = self.may_accept() && self.lobby.has_room(self.moment);
         let time = if may_wait && !self.streams.is_pending(accepts) {
             Duration::from_secs(MAX_WAIT)
         } else if may_wait && self.has_faulted {
@@ -189,6 +196,9 @@ impl<S: Store + Drop, V: VendorHandler> Server<S, V> {
             self.second = second;
             self.failed_accept = false;
             self.streams.release_all();
+            if self.reserve.is_none() {
+                self.reserve = set_aside(self.alloc).ok();
+            }
         }
         if second > self.moment {
             self.moment = second;
@@ -216,15 +226,25 @@ impl<S: Store + Drop, V: VendorHandler> Server<S, V> {
         let welcomed = self
             .lobby
             .serve(self.alloc, &mut self.gateway, &mut self.hub, self.moment);
-        self.has_faulted = welcomed.is_err();
-        report(rt, welcomed);
+        self.has_faulted = false;
+        self.report(rt, welcomed);
         self.choose();
         let served = self
             .gateway
             .turn(&mut self.hub, self.moment, self.places.as_slice());
-        self.has_faulted |= served.is_err();
-        report(rt, served);
+        self.report(rt, served);
         self.streams.settle();
+    }
+
+    /// Writes a fault to standard error. If that fails too the fault is lost.
+    fn report(&mut self, rt: &HostRuntime, answer: Result<(), Fault>) {
+        if let Err(fault) = answer {
+            self.has_faulted = true;
+            if matches!(fault, Fault::NoMemory) {
+                self.reserve = None;
+            }
+            let _ = eprintln!(rt; "fault {fault}");
+        }
     }
 
     /// Chooses whom to serve in this turn: each station whose stream may be read, and one such connection of an
@@ -251,9 +271,14 @@ impl<S: Store + Drop, V: VendorHandler> Server<S, V> {
         write_notes(log, self.alloc, self.moment, notes.as_slice());
     }
 
+    /// Whether connections are accepted in this second.
+    fn may_accept(&self) -> bool {
+        !self.failed_accept && self.reserve.is_some()
+    }
+
     /// Accepts connections until none waits, up to a bound.
     fn accept(&mut self) -> Result<(), RunFault> {
-        if self.failed_accept {
+        if !self.may_accept() {
             return Ok(());
         }
         for _ in 0..MAX_ACCEPTS {
@@ -283,9 +308,9 @@ fn next_operator(gateway: &Gateway<ReadyStream>, places: &[usize], last: usize) 
     first
 }
 
-/// Writes a fault to standard error. If that fails too the fault is lost.
-fn report(rt: &HostRuntime, answer: Result<(), Fault>) {
-    if let Err(fault) = answer {
-        let _ = eprintln!(rt; "fault {fault}");
-    }
+/// Sets memory aside.
+fn set_aside(alloc: Global) -> Mem<Vec<u8>> {
+    let mut bytes = Vec::new(alloc);
+    bytes.reserve(RESERVE)?;
+    Ok(bytes)
 }
