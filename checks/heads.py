@@ -274,7 +274,7 @@ def check_admitted(checks):
             checks.check(f"admitted: {other}", got, agreed)
     for other in OTHERS:
         *got, rest = exchange(checks.port, changed({OCPP: other}) + frame(BOOT))
-        checks.check(f"a station offers {other!r}", (*got, close_code(rest)), (101, sorted(SWITCHED.items()), 0))
+        checks.check(f"a station offers {other!r}", (*got, close_code(rest)), (101, sorted(SWITCHED.items()), 1008))
         got = exchange(checks.port, changed({STATION: OPERATOR, OCPP: other}), until=b"\r\n\r\n")
         checks.check(f"an operator offers {other!r}", got, (101, sorted(SWITCHED.items()), b""))
 

@@ -317,8 +317,8 @@ def check_log(checks):
     wrong = [
         "[WARN  central::journal] T station ACME/CP09\\nfault from P refused: unknown (404)",
         "[WARN  central::journal] T station ACME/CP01 from P refused: no subprotocol ocpp1.6",
-        "[WARN  central::journal] T operator ACME from P refused: handshake failed",
-        "[WARN  central::journal] T connection from P refused: no request",
+        "[WARN  central::journal] T connection from P refused: no handshake (405 or 426)",
+        "[WARN  central::journal] T connection from P refused: no request (400)",
         "[WARN  central::journal] T operator ACME ended: not UTF-8 (1007)",
     ]
     lines = log_of(checks, "connections", talk)
