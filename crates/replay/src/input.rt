@@ -1,5 +1,5 @@
 //! A replay: each line of an input is handed to the hub and answered.
-ghost use Rattle.std.specs.Prelude.{◌≡◌, ◌≢◌, ◌+◌, ◌*◌, ◌++◌, ◌<◌, ◌≤◌, ◌-◌, ◌^◌, List, [], ◌∷◌, ℕ, length, false, Option, Err, OnOk, OnErr, IfOk, IfErr, IfSome, vec_len};
+ghost use Rattle.std.specs.Prelude.{◌≡◌, ◌≢◌, ◌+◌, ◌*◌, ◌++◌, ◌<◌, ◌≤◌, ◌-◌, ◌^◌, List, [], ◌∷◌, ℕ, length, min, false, Option, Err, OnOk, OnErr, IfOk, IfErr, IfSome, vec_len};
 ghost use Rattle.std.specs.Io.KnownBytes.{Appends, IsAtEnd};
 ghost use Rattle.hub_rows.specs.Reads.{IsCounted};
 ghost use Rattle.hub.specs.Hub.{hub_view, world, setting, is_clean};
@@ -67,6 +67,51 @@ fn pass<S: Store + Drop, V: VendorHandler, R: Read, W: Write>(
 /// hub is left as the machine leaves it. After a fault what was written is a prefix of that, and
 /// the hub is left as after a number of whole lines. A line whose event ended in a fault has
 /// changed nothing. An event whose output found no memory, or was not written, has happened.
+///
+/// An input of `most` bytes or more is the fault TooLong, and so is one of 1,073,741,824.
+pub fn replay_within<S: Store + Drop, V: VendorHandler, R: Read, W: Write>(
+    alloc: Global,
+    hub: &mut Hub<S, V>,
+    reader: &mut R,
+    writer: &mut W,
+    most: u64,
+) -> Result<(), ReplayFault>
+    ensures setting { setting V.view hub.new ≡ setting V.view hub.old }
+    ensures ok { is_clean S.view hub.new → OnOk result (IfSome (R.remaining reader.old) (λ input.
+        Appends (W.contents writer.old) (W.contents writer.new) (output_of (setting V.view hub.old) (world S.view hub.old) input))) }
+    ensures world { is_clean S.view hub.new → OnOk result (IfSome (R.remaining reader.old) (λ input.
+        world S.view hub.new ≡ world_of (setting V.view hub.old) (world S.view hub.old) input)) }
+    ensures fault { is_clean S.view hub.new → OnErr result (IfSome (R.remaining reader.old) (λ input.
+        AppendsFront (W.contents writer.old) (W.contents writer.new) (output_of (setting V.view hub.old) (world S.view hub.old) input))) }
+    ensures fault_world { is_clean S.view hub.new → OnErr result (IfSome (R.remaining reader.old) (λ input.
+        IsReached (setting V.view hub.old) (world S.view hub.old) (lines_of input) (world S.view hub.new))) }
+    ensures short { OnOk result (IfSome (R.remaining reader.old) (λ input. length input < min most 1073741824)) }
+    ensures long { IfErr result (λ e. e ≡ replay_fault.TooLong → IfSome (R.remaining reader.old) (λ input. min most 1073741824 ≤ length input)) }
+    ensures operators { IfErr result (λ e. e ≢ replay_fault.BadOperators) }
+    ensures counted { IsCounted (hub_view S.view) hub.old hub.new (result ≡ Err replay_fault.Store) }
+{
+    let mut lines = Lines::new(alloc, bound(most));
+    let mut answers = Answers {
+        number: 1,
+        text: Vec::new(alloc),
+    };
+    match pass(&mut lines, &mut answers, alloc, hub, reader, writer) {
+        Ok(()) => Ok(()),
+        Err(fault) => {
+            write_last(&mut answers.text, writer);
+            Err(fault)
+        }
+    }
+}
+
+/// The lesser of a bound and that of all inputs.
+fn bound(most: u64) -> u64
+    ensures { result ≡ min most 1073741824 }
+{
+    if most < MAX_INPUT { most } else { MAX_INPUT }
+}
+
+/// `replay_within` 1,073,741,824 bytes.
 pub fn replay<S: Store + Drop, V: VendorHandler, R: Read, W: Write>(
     alloc: Global,
     hub: &mut Hub<S, V>,
@@ -87,16 +132,5 @@ pub fn replay<S: Store + Drop, V: VendorHandler, R: Read, W: Write>(
     ensures operators { IfErr result (λ e. e ≢ replay_fault.BadOperators) }
     ensures counted { IsCounted (hub_view S.view) hub.old hub.new (result ≡ Err replay_fault.Store) }
 {
-    let mut lines = Lines::new(alloc, MAX_INPUT);
-    let mut answers = Answers {
-        number: 1,
-        text: Vec::new(alloc),
-    };
-    match pass(&mut lines, &mut answers, alloc, hub, reader, writer) {
-        Ok(()) => Ok(()),
-        Err(fault) => {
-            write_last(&mut answers.text, writer);
-            Err(fault)
-        }
-    }
+    replay_within(alloc, hub, reader, writer, MAX_INPUT)
 }

@@ -10,4 +10,4 @@ mod written;
 
 pub use fault::{LineFault, ReplayFault};
 pub use in_memory::replay_in_memory;
-pub use input::{MAX_INPUT, replay};
+pub use input::{MAX_INPUT, replay, replay_within};

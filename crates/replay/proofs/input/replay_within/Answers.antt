@@ -3,7 +3,7 @@ use Rattle.hub.specs.Hub.{world, setting}
 use Rattle.hub.specs.World.{Setting, World}
 use Rattle.replay.specs.Lines.{unread}
 use Rattle.replay.proofs.Progress.{all_to_come, appends_all, appends_front}
-use Rattle.replay.proofs.input.replay.Goals as goal
+use Rattle.replay.proofs.input.replay_within.Goals as goal
 
 pub returns-in-Ok-clause-ok : goal.returns-in-Ok-clause-ok
 returns-in-Ok-clause-ok g c = λ clean.
