@@ -5,7 +5,7 @@ use crate::faulty::{Failure, FaultyReader, FaultyWriter};
 use crate::handlers::{Fixed, MESSAGES, handlers};
 use crate::scripts::{BOOTED, BOOTED_OUTPUT, hub_of, operators};
 use hub::Hub;
-use replay::{ReplayFault, replay, replay_in_memory};
+use replay::{ReplayFault, replay, replay_in_memory, replay_within};
 use station_calls::Echo;
 use std::alloc::Global;
 use std::io::{ErrorKind, Read, Write};
@@ -94,6 +94,17 @@ fn faults_have_names(rt: HostRuntime) -> Result<(), Fail> {
     ] {
         assert_eq!(rt; named(rt.alloc(), Err(fault))?.as_str(), name);
     }
+    Ok(())
+}
+
+#[test]
+fn an_input_past_its_bound_is_too_long(rt: HostRuntime) -> Result<(), Fail> {
+    let alloc = rt.alloc();
+    let mut hub = hub_of(alloc, MemStore::new(alloc), handlers(alloc, true)?)?;
+    let mut written = Vec::new(alloc);
+    let answer = replay_within(alloc, &mut hub, &mut BOOTED.as_bytes(), &mut written, 10);
+    assert_eq!(rt; named(alloc, answer)?.as_str(), "TooLong");
+    assert!(rt; written.is_empty());
     Ok(())
 }
 
