@@ -1,0 +1,426 @@
+"""Checks that a refused allocation costs no more than the event that met it. Each allocation of replays and of a
+session at the server is refused once, by refusing_malloc.c under the built program. Prints a line for each scenario,
+then `N passed, M failed`. With --small it refuses fewer.
+
+    python3 checks/allocations.py crates/central/out/central [--small]
+
+What is refused are the calls of the C library's allocator, so the program has to be linked to that dynamically.
+"""
+
+import collections
+import contextlib
+import mmap
+import os
+import re
+import shutil
+import sqlite3
+import struct
+import subprocess
+import sys
+import tempfile
+import time
+from pathlib import Path
+
+from peer import BOOT, Peer
+from programs import SCRIPTS, TIME, listening
+
+PORT = 9287
+SOURCE = Path(__file__).with_name("refusing_malloc.c")
+REPLAYED = ("boot_and_heartbeat", "start_repeated", "calls_of_a_station", "reservations", "local_list_of_a_station")
+NEVER, ALWAYS = 0, (1 << 64) - 1
+ANSWER = re.compile(r'(.* frame \S+ \[3,")(\d+)(".*)', re.DOTALL)
+FAULT = re.compile(r"fault \w[^\n]*\n")
+# Before the command line is read no fault has a name.
+NO_COMMAND = re.compile(r"[Ee]rror: (out of memory|memory allocation failed)\n")
+SERVED_LINE = re.compile(r"\[(INFO |WARN |ERROR) .*|fault (NoMemory|Stream)")
+
+# What is on record before the session, and what each of its stations sends.
+RECORDED = """\
+1704067200 ACME station add CP01 Accepted 300
+1704067200 ACME tag put SIM1 - 0 -
+1704067200 BETA station add CP02 Accepted 300
+1704067200 BETA tag put SIM1 - 0 -
+"""
+PATHS = {"ACME": "/ocpp/ACME/CP01", "BETA": "/ocpp/BETA/CP02"}
+LISTED = {"ACME": "list transactions CP01", "BETA": "list transactions CP02"}
+AT = '"timestamp":"2024-01-01T00:00:00Z"'
+TEXTS = (
+    BOOT,
+    '[2,"2","Authorize",{"idTag":"SIM1"}]',
+    f'[2,"3","StartTransaction",{{"connectorId":1,"idTag":"SIM1","meterStart":0,{AT}}}]',
+    f'[2,"4","MeterValues",{{"connectorId":1,"meterValue":[{{"sampledValue":[{{"value":"5"}}],{AT}}}],"transactionId":1}}]',
+    f'[2,"5","StopTransaction",{{"idTag":"SIM1","meterStop":9,{AT},"transactionId":1}}]',
+)
+
+
+class Allocator:
+    """The library under the program, and the numbers that it shares with this check."""
+
+    def __init__(self, folder):
+        self.library = os.path.join(folder, "refusing_malloc.so")
+        subprocess.run(["gcc", "-O2", "-shared", "-fPIC", "-o", self.library, SOURCE], check=True)
+        self.path = os.path.join(folder, "numbers")
+        Path(self.path).write_bytes(bytes(32))
+        with open(self.path, "r+b") as file:
+            self.numbers = mmap.mmap(file.fileno(), 32)
+        self.environment = {**os.environ, "LD_PRELOAD": self.library, "REFUSING_MALLOC": self.path}
+
+    def refuse(self, first, last):
+        self.numbers[:] = struct.pack("4Q", 0, first, last, 0)
+
+    @property
+    def count(self):
+        return struct.unpack_from("Q", self.numbers, 0)[0]
+
+    @property
+    def refused(self):
+        return struct.unpack_from("Q", self.numbers, 24)[0]
+
+
+class Checks:
+    def __init__(self, program, folder, small):
+        self.program = program
+        self.folder = folder
+        self.small = small
+        self.allocator = Allocator(folder)
+        self.files = 0
+        self.passed = self.failed = 0
+
+    def new_file(self):
+        """The path of a database that isn't there yet."""
+        self.files += 1
+        return os.path.join(self.folder, f"{self.files}.db")
+
+    def check(self, what, fault, seen=""):
+        """Counts a check, in which no fault is a pass."""
+        if not fault:
+            self.passed += 1
+        else:
+            self.failed += 1
+            print(f"{what}: {fault}\n  {seen}")
+
+    def replay(self, lines, db=None, first=NEVER, last=NEVER):
+        """The status of a replay, its output and its errors. The allocations from the first to the last are refused."""
+        words = [self.program, "replay", "--operators", "ACME,BETA", *(["--db", db] if db else [])]
+        self.allocator.refuse(first, last)
+        ran = subprocess.run(
+            words, input=lines.encode(), capture_output=True, timeout=60, env=self.allocator.environment
+        )
+        return ran.returncode, ran.stdout.decode(errors="replace"), ran.stderr.decode(errors="replace")
+
+
+def spread(first, last, count):
+    """So many numbers from the first to the last, evenly spread, or all where they are fewer."""
+    span = last - first + 1
+    return [first + n * span // count for n in range(count)] if span > count else list(range(first, last + 1))
+
+
+def remove(db):
+    for path in (db, f"{db}-wal", f"{db}-shm", f"{db}.new"):
+        Path(path).unlink(missing_ok=True)
+
+
+def steps_of(script):
+    """The lines of a script in steps. The answer of a station is of the step of the line before it."""
+    steps = []
+    for line in script.splitlines(keepends=True):
+        if ANSWER.match(line):
+            steps[-1].append(line)
+        else:
+            steps.append([line])
+    return steps
+
+
+def joined(steps):
+    return "".join(line for step in steps for line in step)
+
+
+def rest_of(steps, done):
+    """The lines after so many steps, for a new process: stations connect again, and calls are counted from 1."""
+    before = [line for step in steps[:done] for line in step]
+    calls = sum(" call " in line for line in before)
+    connects = [line for line in before if " connect " in line]
+    return "".join(connects) + "".join(
+        ANSWER.sub(lambda found: f"{found[1]}{int(found[2]) - calls}{found[3]}", line)
+        for step in steps[done:]
+        for line in step
+    )
+
+
+def records(db):
+    """All rows of a database, and whether SQLite finds it whole."""
+    with contextlib.closing(sqlite3.connect(db)) as database:
+        tables = database.execute("SELECT name FROM sqlite_master WHERE type = 'table' ORDER BY name").fetchall()
+        rows = {table: sorted(database.execute(f"SELECT * FROM {table}"), key=repr) for (table,) in tables}
+        return rows, database.execute("PRAGMA integrity_check").fetchall()
+
+
+def ending(ran, whole):
+    """How a replay ended whose whole output would be that, or None where it may not end so."""
+    status, text, errors = ran
+    if (status, errors) == (0, ""):
+        return "whole" if text == whole else None
+    if not text:
+        return start_fault(status, errors)
+    is_front = whole.startswith(text) and text.endswith("\n")
+    return "fault NoMemory after lines" if (status, errors, is_front) == (2, "fault NoMemory\n", True) else None
+
+
+def start_fault(status, errors):
+    """How a run ended that printed nothing, or None where it may not end so."""
+    named = (FAULT if status == 2 else NO_COMMAND).fullmatch(errors) if status in (1, 2) else None
+    return f"status {status} and {errors.strip()!r}, nothing printed" if named else None
+
+
+class Script:
+    """A script of events, and what it gives where nothing is refused."""
+
+    def __init__(self, checks, name):
+        self.name = name
+        self.steps = steps_of((SCRIPTS / f"{name}.script").read_text())
+        self.lines = joined(self.steps)
+        self.whole = (SCRIPTS / f"{name}.expected").read_text()
+        parts = [checks.replay(joined(self.steps[:done]))[1] for done in range(len(self.steps) + 1)]
+        self.ends = [part.count("\n") for part in parts]
+
+    def done(self, text):
+        """How many steps have all their lines in an output."""
+        count = text.count("\n")
+        return max(done for done, end in enumerate(self.ends) if end <= count)
+
+
+def numbers_of(checks, first, count):
+    """The allocations that are refused, from the first to the last of them."""
+    if not checks.small:
+        return list(range(first, count + 1))
+    return [*range(first, min(first + 50, count + 1)), *spread(first + 50, count, 150)]
+
+
+def told(scenario, count, endings):
+    """Prints how the runs of a scenario ended."""
+    seen = ", ".join(f"{times} {how}" for how, times in endings.most_common())
+    print(f"{scenario}: {count} allocations, {endings.total()} refused runs: {seen}", flush=True)
+
+
+def check_in_memory(checks, script, last_of, what):
+    """Replays in memory, of which each refuses the allocations from one number on, up to the last."""
+    scenario = f"{script.name} in memory, {what}"
+    wanted = (0, script.whole, "")
+    checks.check(scenario, checks.replay(script.lines) != wanted and "a run that isn't refused")
+    count = checks.allocator.count
+    endings = collections.Counter()
+    for number in numbers_of(checks, 1, count):
+        ran = checks.replay(script.lines, first=number, last=last_of(number))
+        how = ending(ran, script.whole)
+        endings[how or "OTHERWISE"] += 1
+        checks.check(f"{scenario}, allocation {number}", not how and "another end", ran)
+        checks.check(f"{scenario}, allocation {number}", not checks.allocator.refused and "nothing was refused")
+    told(scenario, count, endings)
+
+
+def check_over_a_file(checks, script, start):
+    """Replays over a file, of which each refuses one allocation after so many. After a fault another goes on, and leaves
+    the records of a whole run."""
+    scenario = f"{script.name} over a file, one refused"
+    db = checks.new_file()
+    checks.check(scenario, checks.replay(script.lines, db) != (0, script.whole, "") and "a run that isn't refused")
+    count, wanted = checks.allocator.count, records(db)
+    endings = collections.Counter()
+    for number in numbers_of(checks, start + 1, count):
+        db = checks.new_file()
+        ran = checks.replay(script.lines, db, number, number)
+        how = ending(ran, script.whole)
+        endings[how or "OTHERWISE"] += 1
+        checks.check(f"{scenario}, allocation {number}", not how and "another end", ran)
+        rest = checks.replay(rest_of(script.steps, script.done(ran[1])), db)
+        checks.check(f"{scenario}, allocation {number}", (rest[0], rest[2]) != (0, "") and "the rest", rest)
+        kept = records(db)
+        checks.check(f"{scenario}, allocation {number}", kept != wanted and "other records", (ran, rest, kept))
+        remove(db)
+    told(scenario, count, endings)
+
+
+def check_replays(checks):
+    """All scripts. The start over a file is the same for each, so its allocations are refused with the first alone."""
+    start = 0
+    for name in REPLAYED:
+        script = Script(checks, name)
+        check_in_memory(checks, script, lambda number: number, "one refused")
+        check_in_memory(checks, script, lambda _: ALWAYS, "all refused from one on")
+        check_over_a_file(checks, script, start)
+        checks.replay("", checks.new_file())
+        start = checks.allocator.count
+
+
+class Server:
+    """A server over a copy of the recorded file. It listens, or has ended, once it is made."""
+
+    def __init__(self, checks, recorded, first):
+        self.allocator = checks.allocator
+        self.db = checks.new_file()
+        for end in ("", "-wal"):
+            if os.path.exists(recorded + end):
+                shutil.copy(recorded + end, self.db + end)
+        self.allocator.refuse(first, first)
+        self.log = tempfile.TemporaryFile("w+")
+        words = [checks.program, "serve", "--port", str(PORT), "--db", self.db, "--operators", "ACME,BETA"]
+        self.process = subprocess.Popen(
+            words, stdout=self.log, stderr=self.log, stdin=subprocess.DEVNULL, env=self.allocator.environment
+        )
+        while self.lives() and not list(listening(PORT)):
+            time.sleep(0.005)
+        self.rest()
+
+    def lives(self):
+        return self.process.poll() is None
+
+    def rest(self):
+        """Waits until the server waits, so that all that it does for an event is done."""
+        while self.lives():
+            with contextlib.suppress(FileNotFoundError), open(f"/proc/{self.process.pid}/stat") as stat:
+                if stat.read().rsplit(")", 1)[1].split()[0] == "S":
+                    return
+            time.sleep(0.001)
+
+    def errors(self):
+        self.log.seek(0)
+        return self.log.read()
+
+    def close(self):
+        self.process.kill()
+        self.process.wait()
+        self.log.close()
+        remove(self.db)
+
+
+class Session:
+    """Two stations in turns: what each is told, and whose event met the refused allocation."""
+
+    def __init__(self, server):
+        self.server = server
+        self.peers = {}
+        self.told = {who: [] for who in PATHS}
+        self.met = None
+        for text in (None, *TEXTS):
+            for who in PATHS:
+                if text is None or who in self.peers:
+                    self.act(who, text)
+
+    def act(self, who, text):
+        """A station connects, or sends a text and reads what it is told."""
+        before = self.server.allocator.refused
+        said = self.said(who, text)
+        self.server.rest()
+        self.told[who].append(said)
+        if said.startswith("ended"):
+            self.peers.pop(who, None)
+        if self.server.allocator.refused > before:
+            self.met = who
+
+    def said(self, who, text):
+        try:
+            if text is None:
+                self.peers[who] = Peer(PORT, PATHS[who], patience=5)
+                return "connected"
+            return TIME.sub("T", self.peers[who].ask(text))
+        except (SystemExit, ConnectionError) as end:
+            return f"ended: {end}"
+        except TimeoutError:
+            return "ended: NO ANSWER"
+
+    def fault(self, usual):
+        """What is wrong with a session, if anything is."""
+        for who, said in self.told.items():
+            ended = said[-1].startswith("ended")
+            if "NO ANSWER" in said[-1]:
+                return f"{who} waits in vain"
+            if who != self.met and said != usual.told[who]:
+                return f"{who} is told otherwise, and its event met nothing"
+            if said[: -1 if ended else None] != usual.told[who][: len(said) - ended]:
+                return f"{who} is told otherwise"
+        return None
+
+
+def listed(who):
+    """The transactions of an operator's station, on a new connection, without the times of their starts and stops."""
+    peer = Peer(PORT, f"/operator/{who}", patience=5)
+    return [peer.ask(LISTED[who]), peer.next()]
+
+
+def afterwards(server, session, usual):
+    """What is wrong after a session, if anything is: those that ended go through it anew, and new peers are served."""
+    if not server.lives():
+        return f"the server ended with {server.process.returncode}"
+    for who in PATHS:
+        if who not in session.peers:
+            again = [session.said(who, text) for text in (None, *TEXTS)]
+            if again != usual.told[who]:
+                return f"{who} is told otherwise when it is back: {again}"
+    for who in PATHS:
+        try:
+            rows = listed(who)
+        except (SystemExit, OSError) as end:
+            return f"a new connection of {who}: {end}"
+        if rows != usual.rows[who]:
+            return f"{who} has other transactions: {rows}"
+    wrong = [line for line in server.errors().splitlines() if not SERVED_LINE.fullmatch(line)]
+    return f"the log has {wrong}" if wrong else None
+
+
+def usual_session(checks, recorded):
+    """A session without a refusal: the session, its allocations at the start and in all."""
+    server = Server(checks, recorded, NEVER)
+    with contextlib.closing(server):
+        started = checks.allocator.count
+        usual = Session(server)
+        count = checks.allocator.count
+        usual.rows = {who: listed(who) for who in PATHS}
+        whole = all(len(said) == 1 + len(TEXTS) and "ended" not in said[-1] for said in usual.told.values())
+        checks.check("a session that isn't refused", not whole and "it ended", usual.told)
+    return usual, started, count
+
+
+def served(checks, recorded, number, usual):
+    """How a session with that allocation refused went, and what was wrong, if anything was."""
+    server = Server(checks, recorded, number)
+    with contextlib.closing(server):
+        if not server.lives():
+            status, errors = server.process.returncode, server.errors()
+            how = start_fault(status, errors)
+            return how, None if how else (f"status {status} at the start", errors)
+        session = Session(server)
+        ends = "a connection ended" if len(session.peers) < len(PATHS) else "no connection ended"
+        fault = session.fault(usual) or afterwards(server, session, usual)
+        faults = re.findall(r"^fault .*", server.errors(), re.MULTILINE)
+        seen = (session.told, server.errors())
+        return f"{ends}, {faults[0] if faults else 'no fault'}", fault and (fault, session.met, seen)
+
+
+def check_serve(checks):
+    """Sessions at the server, of which each refuses one allocation."""
+    recorded = checks.new_file()
+    checks.check("records", checks.replay(RECORDED, recorded) != (0, "ACME ok\nACME ok\nBETA ok\nBETA ok\n", "") and "none")
+    usual, started, count = usual_session(checks, recorded)
+    start, session = (3, 12) if checks.small else (20, 80)
+    endings = collections.Counter()
+    for number in spread(1, started, start) + spread(started + 1, count, session):
+        how, fault = served(checks, recorded, number, usual)
+        endings["OTHERWISE" if fault else how] += 1
+        checks.check(f"a session, allocation {number}", fault and fault[0], fault)
+    told(f"a session, of which {started} at the start", count, endings)
+
+
+def main():
+    with tempfile.TemporaryDirectory() as folder:
+        checks = Checks(sys.argv[1], folder, "--small" in sys.argv[2:])
+        checks.replay("")
+        if not checks.allocator.count:
+            sys.exit("the program's allocations aren't those of the C library, so none can be refused")
+        check_replays(checks)
+        check_serve(checks)
+    print(f"{checks.passed} passed, {checks.failed} failed")
+    sys.exit(1 if checks.failed else 0)
+
+
+if __name__ == "__main__":
+    main()
