@@ -219,8 +219,8 @@ def check_in_memory(checks, script, last_of, what):
 
 
 def check_over_a_file(checks, script, start):
-    """Replays over a file, of which each refuses one allocation after so many. After a fault another goes on, and leaves
-    the records of a whole run."""
+    """Replays over a file, of which each refuses one allocation after so many. After a fault another replay goes on, and
+    leaves the records of a whole run."""
     scenario = f"{script.name} over a file, one refused"
     db = checks.new_file()
     checks.check(scenario, checks.replay(script.lines, db) != (0, script.whole, "") and "a run that isn't refused")
@@ -342,7 +342,7 @@ class Session:
 
 
 def listed(who):
-    """The transactions of an operator's station, on a new connection, without the times of their starts and stops."""
+    """The transactions of an operator's station, on a new connection."""
     peer = Peer(PORT, f"/operator/{who}", patience=5)
     return [peer.ask(LISTED[who]), peer.next()]
 
@@ -399,7 +399,8 @@ def served(checks, recorded, number, usual):
 def check_serve(checks):
     """Sessions at the server, of which each refuses one allocation."""
     recorded = checks.new_file()
-    checks.check("records", checks.replay(RECORDED, recorded) != (0, "ACME ok\nACME ok\nBETA ok\nBETA ok\n", "") and "none")
+    made = checks.replay(RECORDED, recorded)
+    checks.check("records", made != (0, "ACME ok\n" * 2 + "BETA ok\n" * 2, "") and "not made", made)
     usual, started, count = usual_session(checks, recorded)
     start, session = (3, 12) if checks.small else (20, 80)
     endings = collections.Counter()
