@@ -70,8 +70,11 @@ impl From<AllocError> for RunFault {
 }
 
 impl From<io::Error> for RunFault {
-    fn from(_fault: io::Error) -> RunFault {
-        RunFault::Stream
+    fn from(fault: io::Error) -> RunFault {
+        match fault.kind() {
+            io::ErrorKind::OutOfMemory => RunFault::NoMemory,
+            _ => RunFault::Stream,
+        }
     }
 }
 

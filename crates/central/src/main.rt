@@ -16,50 +16,52 @@ mod simulation;
 mod status;
 
 use asking::ask;
+use clap::error::ErrorKind;
 use command::Plan;
 use fault::RunFault;
+use ocpp_types::Mem;
 use replaying::replay_lines;
 use server::serve;
 use simulation::simulate;
 use station_calls::{Echo, VendorHandler};
+use std::alloc::Global;
 use std::env;
 use std::process::ExitCode;
 
 /// Statuses: 0 done, 1 usage, 2 a fault, which is named on standard error, 3 a line of an operator that was refused.
 fn main(rt: HostRuntime) -> anyhow::Result<ExitCode> {
-    let alloc = rt.alloc();
-    let words: Vec<String> = env::args(&rt)?.collect(alloc)?;
-    let plan = match command::read(alloc, words.as_slice()) {
-        Ok(plan) => plan,
-        Err(error) => {
-            error.print(&rt)?;
-            return Ok(ExitCode::from(status::of_usage(error.use_stderr())));
-        }
-    };
-    let mut vendors: Vec<Box<dyn VendorHandler>> = Vec::new(alloc);
-    vendors.push(Box::new(alloc, Echo { alloc })?)?;
-    match plan {
-        Plan::Replay(options) => ended(&rt, replay_lines(&rt, options, vendors)),
-        Plan::Serve(options) => ended(&rt, serve(&rt, options, vendors)),
-        Plan::Sim(options) => ended(&rt, simulate(&rt, &options)),
-        Plan::Ask(options) => {
-            let answer = ask(&rt, &options);
-            told(&rt, &answer)?;
-            Ok(ExitCode::from(status::of_ask(&answer)))
-        }
-    }
-}
-
-/// Names a fault on standard error.
-fn told<T: Drop>(rt: &HostRuntime, answer: &Result<T, RunFault>) -> anyhow::Result<()> {
-    if let Err(fault) = answer {
+    let answer = run(&rt);
+    if let Err(fault) = &answer {
         eprintln!(rt; "fault {fault}")?;
     }
-    Ok(())
+    Ok(ExitCode::from(status::of_run(&answer)))
 }
 
-/// The status of what has ended. A fault is named on standard error.
-fn ended(rt: &HostRuntime, answer: Result<(), RunFault>) -> anyhow::Result<ExitCode> {
-    told(rt, &answer)?;
-    Ok(ExitCode::from(status::of_run(&answer)))
+/// Does what the command line asks for, and gives the program's status.
+fn run(rt: &HostRuntime) -> Result<u8, RunFault> {
+    let alloc = rt.alloc();
+    let words: Vec<String> = env::args(rt)?.collect(alloc)?;
+    let plan = match command::read(alloc, words.as_slice()) {
+        Ok(plan) => plan,
+        Err(error) if error.kind() == ErrorKind::OutOfMemory => return Err(RunFault::NoMemory),
+        Err(error) => {
+            error.print(rt)?;
+            return Ok(status::of_usage(error.use_stderr()));
+        }
+    };
+    let vendors = vendors(alloc)?;
+    let all_taken = match plan {
+        Plan::Replay(options) => replay_lines(rt, options, vendors).map(|()| true),
+        Plan::Serve(options) => serve(rt, options, vendors).map(|()| true),
+        Plan::Sim(options) => simulate(rt, &options).map(|()| true),
+        Plan::Ask(options) => ask(rt, &options),
+    };
+    Ok(status::of_lines(all_taken?))
+}
+
+/// The handlers of vendors' messages.
+fn vendors(alloc: Global) -> Mem<Vec<Box<dyn VendorHandler>>> {
+    let mut vendors: Vec<Box<dyn VendorHandler>> = Vec::new(alloc);
+    vendors.push(Box::new(alloc, Echo { alloc })?)?;
+    Ok(vendors)
 }

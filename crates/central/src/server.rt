@@ -15,6 +15,7 @@ use ready_streams::{ReadyStream, Streams};
 use sqlite::Alter;
 use station_calls::VendorHandler;
 use std::alloc::Global;
+use std::fmt::Display;
 use std::io;
 use std::time::{Duration, Instant};
 use store_sql::SqlStore;
@@ -33,7 +34,7 @@ const PING_AFTER: u64 = 120;
 const ANSWER_WITHIN: u64 = 120;
 
 /// The bytes that are set aside for the case that memory runs out.
-const RESERVE: usize = 4_194_304;
+const RESERVE: usize = 262_144;
 
 /// The most connections that a turn accepts.
 const MAX_ACCEPTS: usize = 64;
@@ -221,7 +222,7 @@ impl<S: Store + Drop, V: VendorHandler> Server<S, V> {
     fn turn(&mut self, rt: &HostRuntime) {
         if let Err(fault) = self.accept() {
             self.failed_accept = true;
-            let _ = eprintln!(rt; "fault {fault}");
+            self.tell_fault(rt, &fault, matches!(fault, RunFault::NoMemory));
         }
         let welcomed = self
             .lobby
@@ -236,15 +237,21 @@ impl<S: Store + Drop, V: VendorHandler> Server<S, V> {
         self.streams.settle();
     }
 
-    /// Writes a fault to standard error. If that fails too the fault is lost.
+    /// Tells the fault of a turn, if it ended in one.
     fn report(&mut self, rt: &HostRuntime, answer: Result<(), Fault>) {
         if let Err(fault) = answer {
             self.has_faulted = true;
-            if matches!(fault, Fault::NoMemory) {
-                self.reserve = None;
-            }
-            let _ = eprintln!(rt; "fault {fault}");
+            self.tell_fault(rt, &fault, matches!(fault, Fault::NoMemory));
         }
+    }
+
+    /// Writes a fault to standard error, and gives up the memory that is set aside where none was found. If the fault
+    /// can't be written it is lost.
+    fn tell_fault<F: Display>(&mut self, rt: &HostRuntime, fault: &F, found_no_memory: bool) {
+        if found_no_memory {
+            self.reserve = None;
+        }
+        let _ = eprintln!(rt; "fault {fault}");
     }
 
     /// Chooses whom to serve in this turn: each station whose stream may be read, and one such connection of an

@@ -1,13 +1,13 @@
 //! The statuses of the program.
-ghost use Rattle.std.specs.Prelude.{◌≡◌, IfOk, OnOk, OnErr, if◌then◌else◌};
+ghost use Rattle.std.specs.Prelude.{◌≡◌, IfOk, OnErr, if◌then◌else◌};
 
-/// 0 for what came to its end, 2 after a fault.
-pub fn of_run<E: Drop>(answer: &Result<(), E>) -> u8
-    ensures ok { OnOk answer.now (result ≡ 0) }
+/// The status that a run gives, and 2 after a fault.
+pub fn of_run<E: Drop>(answer: &Result<u8, E>) -> u8
+    ensures ok { IfOk answer.now (λ status. result ≡ status) }
     ensures fault { OnErr answer.now (result ≡ 2) }
 {
     match answer {
-        Ok(()) => 0,
+        Ok(status) => *status,
         Err(_) => 2,
     }
 }
@@ -19,14 +19,9 @@ pub fn of_usage(is_error: bool) -> u8
     if is_error { 1 } else { 0 }
 }
 
-/// 0 where all lines were taken, 3 where one was refused, 2 after a fault.
-pub fn of_ask<E: Drop>(answer: &Result<bool, E>) -> u8
-    ensures ok { IfOk answer.now (λ all_taken. result ≡ (if all_taken then 0 else 3)) }
-    ensures fault { OnErr answer.now (result ≡ 2) }
+/// 0 where all lines of an operator were taken, and 3 where one was refused.
+pub fn of_lines(all_taken: bool) -> u8
+    ensures { result ≡ (if all_taken then 0 else 3) }
 {
-    match answer {
-        Ok(true) => 0,
-        Ok(false) => 3,
-        Err(_fault) => 2,
-    }
+    if all_taken { 0 } else { 3 }
 }

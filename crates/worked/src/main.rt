@@ -5,12 +5,18 @@
 //! `fault NAME`. Each script is replayed over a new store of each kind.
 //!
 //! `data/` has databases too, `NAME.db`, which are opened.
+//!
+//! Some of the scripts are tried over stores of which each call fails in turn. `worked memory NAME` and `worked cache
+//! NAME` print what one script is answered over a store in memory, and over a cache before a database. An event that
+//! ends in a fault is handed once more. checks/allocations.py runs them with allocations refused.
 #![tactic(auto)]
 
 mod caches;
 mod checked;
 mod databases;
 mod difference;
+mod failures;
+mod handed_again;
 mod kept;
 mod replayed;
 mod script;
@@ -19,7 +25,9 @@ mod stores;
 use caches::try_caches;
 use checked::{Tally, check_all};
 use databases::open_all;
+use failures::{Kind, Met, answered, try_failures};
 use kept::fill;
+use std::env;
 use std::process::ExitCode;
 use stores::{InCache, InCachedDatabase, InDatabase, InFile, InMemory, Replays};
 
@@ -48,26 +56,51 @@ fn check_caches(rt: &HostRuntime) -> anyhow::Result<bool> {
     Ok(all)
 }
 
+/// Prints how many events met a call of a store that failed. Whether all scripts were answered as without one.
+fn check_failures(rt: &HostRuntime, store: &str, kind: Kind) -> anyhow::Result<bool> {
+    let Met { events, otherwise } = try_failures(rt, kind)?;
+    println!(rt;
+        "{store}, a call fails: {events} events handed again, {otherwise} scripts answered otherwise"
+    )?;
+    Ok(otherwise == 0)
+}
+
+/// Prints what the script of that name is answered, and to standard error that its events begin and how many ended in a
+/// fault.
+fn hand_again(rt: &HostRuntime, kind: Kind, name: &str) -> anyhow::Result<()> {
+    let answers = answered(rt, kind, name, u64::MAX)?;
+    print!(rt; "{}", answers.text)?;
+    eprintln!(rt; "faults: {}", answers.faults)?;
+    Ok(())
+}
+
+/// Checks all. Whether all is as it is to be.
+fn check(rt: &HostRuntime) -> anyhow::Result<bool> {
+    let alloc = rt.alloc();
+    open_all(rt)?;
+    let in_memory = checks(rt, "in memory", &InMemory { alloc })?;
+    let in_database = checks(rt, "in a database in memory", &InDatabase { alloc })?;
+    let in_cache = check_caches(rt)?;
+    let in_file = checks(rt, "in a file", &InFile { rt, path: PATH })?;
+    fill(rt, PATH)?;
+    try_caches(rt)?;
+    let memory = check_failures(rt, "in memory", Kind::Memory)?;
+    let small = check_failures(rt, "in a cache of 1 of a database", Kind::Cache(1))?;
+    let large = check_failures(rt, "in a cache of a database", Kind::Cache(1024))?;
+    Ok(in_memory && in_database && in_cache && in_file && memory && small && large)
+}
+
 /// Statuses: 0 where each script is answered as it is to be over each kind of store, 1 otherwise.
 fn main(rt: HostRuntime) -> anyhow::Result<ExitCode> {
-    let alloc = rt.alloc();
-    open_all(&rt)?;
-    let in_memory = checks(&rt, "in memory", &InMemory { alloc })?;
-    let in_database = checks(&rt, "in a database in memory", &InDatabase { alloc })?;
-    let in_cache = check_caches(&rt)?;
-    let in_file = checks(
-        &rt,
-        "in a file",
-        &InFile {
-            rt: &rt,
-            path: PATH,
-        },
-    )?;
-    fill(&rt, PATH)?;
-    try_caches(&rt)?;
-    if in_memory && in_database && in_cache && in_file {
-        Ok(ExitCode::from(0))
-    } else {
-        Ok(ExitCode::from(1))
-    }
+    let words: Vec<String> = env::args(&rt)?.collect(rt.alloc())?;
+    let all = match words.as_slice() {
+        [_, kind, name] if kind.as_str() == "memory" => {
+            hand_again(&rt, Kind::Memory, name.as_str()).map(|()| true)
+        }
+        [_, kind, name] if kind.as_str() == "cache" => {
+            hand_again(&rt, Kind::Cache(1024), name.as_str()).map(|()| true)
+        }
+        _ => check(&rt),
+    };
+    Ok(ExitCode::from(if all? { 0 } else { 1 }))
 }

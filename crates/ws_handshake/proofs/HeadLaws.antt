@@ -1,5 +1,5 @@
 -- Heads.
-use Rattle.std.proofs.Common.{ℕ, List, Result, Ok, Err, Bool, Option, true, false, codes, length, map, take, drop, subst, sym, inr, ◌≡◌, ◌≤◌}
+use Rattle.std.proofs.Common.{ℕ, List, Result, Ok, Err, Bool, Option, true, false, codes, length, map, take, drop, subst, sym, inl, inr, ◌≡◌, ◌≤◌}
 use Rattle.std.specs.Prelude.{IfOk}
 use Rattle.http.specs.Uri.{Spells, uri_path}
 use Rattle.httparse.specs.Grammar.{RequestHead, ReadsRequest, print_request}
@@ -11,7 +11,7 @@ use Rattle.httparse.specs.declared.Status.TheVariants.{Complete}
 use Rattle.httparse.specs.declared.spans.HeaderSpan.{HeaderSpan}
 use Rattle.httparse.specs.declared.spans.RequestSpans.{RequestSpans}
 use Rattle.websocket.specs.Headers.{Fields, fields_of}
-use Rattle.ws_handshake.specs.Heads.{Asks, Either, Judged, PathJudged, UpgradeJudged, KeyJudged, HeadJudged, is_nothing, is_upgrade, is_version, lacks_host, only_value}
+use Rattle.ws_handshake.specs.Heads.{BytesJudged, Either, Judged, PathJudged, UpgradeJudged, KeyJudged, HeadJudged, is_nothing, is_version, lacks_host, only_value}
 use Rattle.ws_handshake.specs.declared.head.Asked.{Asked}
 use Rattle.ws_peers.specs.declared.routes.Route.{Route}
 
@@ -60,8 +60,8 @@ each_head buf headers found status (Err e) same finds is = tt
 pub some_head : {E : Type 0} (buf : List ℕ) (headers : List HeaderSpan) (found : RequestSpans) (status : Status RequestSpans) (r : Result Asked E)
     → status ≡ Complete found → IfComplete {E = Error} (Ok status) (IsRequestOf buf headers)
     → IfOk r (Judged (span_bytes buf found.path) (span_bytes buf found.method) found.version (fields_of buf (take found.headers headers)) found.len)
-    → IfOk r (λ a. is_upgrade a ≡ true → Asks buf a)
+    → IfOk r (BytesJudged buf)
 some_head buf headers found status (Ok asked) same of is =
     let at = subst (λ s. IfComplete {E = Error} (Ok s) (IsRequestOf buf headers)) same of in
-    λ _. (at.0, drop found.len buf, at.1.reads, at_head buf headers found at.0 asked at.1 is)
+    inl (at.0, drop found.len buf, at.1.reads, at_head buf headers found at.0 asked at.1 is)
 some_head buf headers found status (Err e) same of is = tt

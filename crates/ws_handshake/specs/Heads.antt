@@ -1,8 +1,8 @@
 -- What the head of a request asks for.
-use Rattle.std.specs.Prelude.{◌≡◌, ◌⊎◌, ℕ, Bool, true, false, not, ◌&&◌, ◌||◌, ◌==◌, List, length, map, codes, bytes_eq, Option, Some, None, if◌then◌else◌}
+use Rattle.std.specs.Prelude.{◌≡◌, ◌⊎◌, ◌≤◌, ◌<◌, ℕ, Bool, true, false, not, ◌&&◌, ◌||◌, ◌==◌, List, length, map, codes, bytes_eq, Option, Some, None, if◌then◌else◌}
 use Rattle.std.specs.List.{filter, list_any, slice_split}
-use Rattle.httparse.specs.Grammar.{RequestHead, ReadsRequest, print_request}
-use Rattle.httparse.specs.Spans.{name_and_value}
+use Rattle.httparse.specs.Grammar.{RequestHead, ReadsRequest, HasNoRequest, NeverHasRequest, MayBecomeRequest, print_request}
+use Rattle.httparse.specs.Spans.{name_and_value, RequestExceeds}
 use Rattle.http.specs.Uri.{Spells, SpellsNone, uri_path}
 use Rattle.websocket.specs.Headers.{Fields, eq_ignore_case, header_value}
 use Rattle.websocket.specs.Handshake.{IsValidKey, accept_key_of}
@@ -115,7 +115,16 @@ HeadJudged h asked = Judged h.target h.method h.minor (map name_and_value h.fiel
 abbrev pub Asks : List ℕ → Asked → Type 0
 Asks bytes asked = (h : RequestHead) × (rest : List ℕ) × ReadsRequest bytes h rest × HeadJudged h asked
 
-abbrev pub is_upgrade : Asked → Bool
-is_upgrade More = false
-is_upgrade (Plain answer) = false
-is_upgrade (Upgraded upgrade) = true
+-- what bytes ask for that begin with no head of at most 64 fields. More is to come while they can become a request and
+-- are fewer than a head may have. They are answered where no bytes can follow that make a request of them, where they
+-- have more than 64 fields, or where they are as many as a head may have and no request yet
+abbrev pub NoHeadJudged : List ℕ → Asked → Type 0
+NoHeadJudged bytes More = (length bytes < 8192) × HasNoRequest bytes × MayBecomeRequest bytes
+NoHeadJudged bytes (Plain a) =
+    ((a ≡ answer.BadRequest) × NeverHasRequest bytes)
+    ⊎ ((a ≡ answer.TooLarge) × (RequestExceeds 64 bytes ⊎ ((8192 ≤ length bytes) × HasNoRequest bytes)))
+NoHeadJudged bytes (Upgraded upgrade) = ⊥
+
+-- what the first bytes of a connection ask for
+abbrev pub BytesJudged : List ℕ → Asked → Type 0
+BytesJudged bytes asked = Asks bytes asked ⊎ NoHeadJudged bytes asked

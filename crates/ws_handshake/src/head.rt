@@ -1,9 +1,9 @@
 //! The head of a request.
 ghost use Rattle.std.specs.Prelude.{◌≡◌, ℕ, List, ◌≤◌, true, length, All, IfOk, Some, option_map};
-ghost use Rattle.httparse.specs.Grammar.{RequestHead, ReadsRequest, HasNoRequest};
+ghost use Rattle.httparse.specs.Grammar.{RequestHead, ReadsRequest};
 ghost use Rattle.httparse.specs.Spans.{IsHeaderWithin};
 ghost use Rattle.websocket.specs.Headers.{fields_of};
-ghost use Rattle.ws_handshake.specs.Heads.{Asks, HeadJudged, Judged, PathJudged, UpgradeJudged, KeyJudged, is_upgrade, asks_upgrade, lacks_host, is_nothing, is_version, plain_answer};
+ghost use Rattle.ws_handshake.specs.Heads.{BytesJudged, HeadJudged, Judged, PathJudged, UpgradeJudged, KeyJudged, asks_upgrade, lacks_host, is_nothing, is_version, plain_answer};
 
 use crate::answer::Answer;
 use crate::fields::{count_of, lists, offers_ocpp, only_value};
@@ -51,8 +51,7 @@ pub struct Upgrade {
 pub fn judge(alloc: Global, bytes: &[u8]) -> Mem<Asked>
     ensures judged { IfOk result (λ a. (h : RequestHead) (rest : List ℕ) → ReadsRequest bytes.now h rest
         → length h.fields ≤ 64 → HeadJudged h a) }
-    ensures asks { IfOk result (λ a. is_upgrade a ≡ true → Asks bytes.now a) }
-    ensures more { IfOk result (λ a. a ≡ Asked.More → HasNoRequest bytes.now) }
+    ensures bytes { IfOk result (BytesJudged bytes.now) }
 {
     let mut fields = [EMPTY_HEADER_SPAN; MAX_FIELDS];
     match parse_request(bytes, &mut fields) {

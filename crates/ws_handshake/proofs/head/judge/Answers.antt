@@ -6,6 +6,6 @@ pub returns-in-Ok-Complete-clause-judged : goal.returns-in-Ok-Complete-clause-ju
 returns-in-Ok-Complete-clause-judged c =
     each_head c.args.bytes.now c.parse_request.new.headers c.in-Ok-Complete.found c.in-Ok-Complete.field-0 c.judge_request.result c.in-Ok-Complete.field-0-is c.in-Ok-Complete.ensures.found (search rules)
 
-pub returns-in-Ok-Complete-clause-asks : goal.returns-in-Ok-Complete-clause-asks
-returns-in-Ok-Complete-clause-asks c =
+pub returns-in-Ok-Complete-clause-bytes : goal.returns-in-Ok-Complete-clause-bytes
+returns-in-Ok-Complete-clause-bytes c =
     some_head c.args.bytes.now c.parse_request.new.headers c.in-Ok-Complete.found c.in-Ok-Complete.field-0 c.judge_request.result c.in-Ok-Complete.field-0-is c.in-Ok-Complete.ensures.complete (search rules)

@@ -1,0 +1,209 @@
+"""Checks the server over a disk that is full: reads are answered, each change ends the connection that asked for it and
+is acknowledged to nobody, and once there is room changes are taken again. The system refuses all writes to files that
+go past a limit (RLIMIT_FSIZE), which is moved while the server runs. Prints `N passed, M failed`.
+
+    python3 checks/full_disk.py crates/central/out/central
+"""
+
+import os
+import re
+import resource
+import subprocess
+import sys
+import tempfile
+import time
+
+from peer import BOOT, HEARTBEAT, Peer
+from programs import TIME, listening
+
+PORT = 9288
+AT = '"timestamp":"2024-01-01T00:00:00Z"'
+AUTHORIZE = '[2,"3","Authorize",{"idTag":"T1"}]'
+STATUS = '[2,"6","StatusNotification",{"connectorId":1,"errorCode":"NoError","status":"Available"}]'
+LISTS = "list transactions CP01", "list tags", "list readings CP01", "list connectors CP01", "list stations"
+MOST_TAGS = 5000
+ANSWERS = {
+    HEARTBEAT: '[3,"2",{"currentTime":"T"}]',
+    AUTHORIZE: '[3,"3",{"idTagInfo":{"status":"Accepted"}}]',
+    STATUS: '[3,"6",{}]',
+}
+
+
+def start(number):
+    return f'[2,"4","StartTransaction",{{"connectorId":1,"idTag":"T1","meterStart":{number},{AT}}}]'
+
+
+def stop(number):
+    return f'[2,"5","StopTransaction",{{"meterStop":{number + 1},{AT},"transactionId":{number}}}]'
+
+
+def meter(number):
+    return (
+        f'[2,"7","MeterValues",{{"connectorId":1,"meterValue":[{{"sampledValue":[{{"value":"{number}"}}],{AT}}}],'
+        f'"transactionId":{number}}}]'
+    )
+
+
+class Checks:
+    def __init__(self):
+        self.passed = self.failed = 0
+
+    def check(self, what, got, wanted):
+        if got == wanted:
+            self.passed += 1
+        else:
+            self.failed += 1
+            print(f"{what}\n  wanted {wanted!r}\n  got    {got!r}")
+
+
+class Server:
+    def __init__(self, program, folder):
+        self.db = os.path.join(folder, "hub.db")
+        self.log = os.path.join(folder, "log")
+        read, write = os.pipe()
+        words = [program, "serve", "--port", str(PORT), "--db", self.db, "--operators", "ACME,BETA", "--log", "none"]
+        # SIGXFSZ stays ignored, as Python has it, so that a write past the limit is refused and ends nothing
+        self.process = subprocess.Popen(words, stderr=write, restore_signals=False)
+        os.close(write)
+        os.set_blocking(read, False)
+        self.read = read
+        while self.process.poll() is None and not list(listening(PORT)):
+            time.sleep(0.01)
+
+    def limit(self, size):
+        """From now on no write to a file goes past that size."""
+        most = resource.prlimit(self.process.pid, resource.RLIMIT_FSIZE)[1]
+        resource.prlimit(self.process.pid, resource.RLIMIT_FSIZE, (most if size is None else size, most))
+
+    def size(self):
+        """The size of the larger one of the database's file and its log."""
+        return max(os.path.getsize(path) for path in (self.db, f"{self.db}-wal") if os.path.exists(path))
+
+    def errors(self):
+        """The lines on standard error since they were last read."""
+        try:
+            return os.read(self.read, 1 << 20).decode().splitlines()
+        except BlockingIOError:
+            return []
+
+
+def answer(peer, text):
+    """What a peer is answered, with T for each time, or how its connection ended."""
+    try:
+        return TIME.sub("T", peer.ask(text))
+    except (SystemExit, ConnectionError):
+        return "ended"
+    except TimeoutError:
+        return "no answer"
+
+
+def station(name="CP01"):
+    return Peer(PORT, f"/ocpp/ACME/{name}", patience=5)
+
+
+def operator(name="ACME"):
+    return Peer(PORT, f"/operator/{name}", patience=5)
+
+
+def lines(peer, line):
+    """The lines of a listing."""
+    peer.send(line)
+    rows = [peer.next()]
+    while not re.fullmatch(r"\S+ ok", rows[-1]):
+        rows.append(peer.next())
+    return rows[:-1]
+
+
+def refused(checks, server, what, peer, text):
+    """A change ends its connection, and a fault is named."""
+    server.errors()
+    checks.check(f"{what} while the disk is full", answer(peer, text), "ended")
+    checks.check(f"{what}: the fault", set(server.errors()), {"fault Store"})
+
+
+def check_full(checks, server, size):
+    """While no write goes past that size, which is too small for any change."""
+    before = [lines(operator(), line) for line in LISTS]
+    server.limit(size)
+    for text, wanted in ANSWERS.items():
+        if text != STATUS:
+            checks.check("a read while the disk is full", answer(station(), text), wanted)
+    checks.check("listings while the disk is full", [lines(operator(), line) for line in LISTS], before)
+    number = len(before[0]) + 1
+    refused(checks, server, "a start", station(), start(number))
+    refused(checks, server, "a report", station(), STATUS)
+    refused(checks, server, "a boot", station(), BOOT)
+    refused(checks, server, "a tag", operator(), "tag put T2 - 0 -")
+    refused(checks, server, "a station", operator(), "station add CP09 Accepted 300")
+    checks.check("a refusal", answer(operator(), "tag drop T9"), "ACME refused 3 NoSuchTag")
+    checks.check("another operator", answer(operator("BETA"), "list tags"), "BETA ok")
+    checks.check("no connection is left", answer(operator(), "call CP01 ClearCache {}"), "ACME refused 7 NotConnected")
+    checks.check("listings after what was refused", [lines(operator(), line) for line in LISTS], before)
+    return number
+
+
+def check_filling(checks, server, more):
+    """While files may grow by so many bytes, tags are put until one isn't acknowledged. Those on record are those that
+    were acknowledged."""
+    before = len(lines(operator(), "list tags"))
+    server.limit(server.size() + more)
+    server.errors()
+    peer, count = operator(), 0
+    while count < MOST_TAGS and answer(peer, f"tag put F{more}_{count} - 0 -") == "ACME ok":
+        count += 1
+    checks.check(f"after {count} tags the disk is full", set(server.errors()), {"fault Store"})
+    checks.check(f"tags on record after {count}", len(lines(operator(), "list tags")), before + count)
+    return len(lines(operator(), "list transactions CP01")) + 1
+
+
+def check_room(checks, server, number):
+    """Once there is room, changes are taken, and their numbers follow those on record."""
+    server.limit(None)
+    server.errors()
+    peer = station()
+    for text, wanted in ANSWERS.items():
+        checks.check("with room", answer(peer, text), wanted)
+    started = f'[3,"4",{{"idTagInfo":{{"status":"Accepted"}},"transactionId":{number}}}]'
+    checks.check("a start with room", answer(peer, start(number)), started)
+    checks.check("a reading with room", answer(peer, meter(number)), '[3,"7",{}]')
+    checks.check("a stop with room", answer(peer, stop(number)), '[3,"5",{}]')
+    checks.check("a tag with room", answer(operator(), f"tag put N{number} - 0 -"), "ACME ok")
+    transactions = lines(operator(), "list transactions CP01")
+    checks.check("transactions on record", len(transactions), number)
+    checks.check("no fault", server.errors(), [])
+
+
+def check_all(checks, program, folder):
+    server = Server(program, folder)
+    try:
+        for line in ("station add CP01 Accepted 300", "tag put T1 - 0 -"):
+            checks.check(line, answer(operator(), line), "ACME ok")
+        booted = '[3,"1",{"currentTime":"T","interval":300,"status":"Accepted"}]'
+        checks.check("a boot", answer(station(), BOOT), booted)
+        for size in (0, 1024, 4096):
+            check_room(checks, server, check_full(checks, server, size))
+        for more in (0, 300, 600, 1500):
+            check_room(checks, server, check_filling(checks, server, more))
+        checks.check("the server goes on", server.process.poll(), None)
+        listed = [lines(operator(), line) for line in LISTS]
+    finally:
+        server.process.kill()
+        server.process.wait()
+    again = Server(program, folder)
+    try:
+        checks.check("after a restart", [lines(operator(), line) for line in LISTS], listed)
+    finally:
+        again.process.kill()
+        again.process.wait()
+
+
+def main():
+    checks = Checks()
+    with tempfile.TemporaryDirectory() as folder:
+        check_all(checks, os.path.abspath(sys.argv[1]), folder)
+    print(f"{checks.passed} passed, {checks.failed} failed")
+    sys.exit(checks.failed > 0)
+
+
+if __name__ == "__main__":
+    main()

@@ -1,0 +1,306 @@
+"""Kills the server at random moments under a load of eight stations and two operators, opens its file again each time,
+and checks that all that was acknowledged is on record, that what was in flight is there whole or not at all, and that
+numbers go on. Prints how many of the changes in flight were found made, then `N passed, M failed`.
+
+    python3 checks/kills.py crates/central/out/central [KILLS] [SEED]
+"""
+
+import contextlib
+import json
+import os
+import random
+import shutil
+import sqlite3
+import subprocess
+import sys
+import tempfile
+import threading
+import time
+
+from peer import BOOT, Peer
+from programs import listening
+
+PORT = 9289
+OPERATORS = {"ACME": "BETA", "BETA": "ACME"}
+STATIONS = {op: [f"CP{n}" for n in range(1, 5)] for op in OPERATORS}
+AT = '"timestamp":"2024-01-01T00:00:00Z"'
+MS = 1704067200000
+EXPIRY = 4070908800
+GONE = (SystemExit, OSError)
+
+
+class Load:
+    """What one peer does: each step has the request, the lists that it changes and their rows after it."""
+
+    def __init__(self, owner, lists, seed):
+        self.owner = owner
+        self.random = random.Random(seed)
+        # rows by listing, as they are acknowledged
+        self.rows = {name: [] for name in lists}
+        # the rows of the lists that a request in flight changes, once it is made
+        self.flight = {}
+        self.steps = 0
+
+    def run(self, server, turn):
+        """Steps until the server is gone."""
+        self.flight = {}
+        with contextlib.suppress(*GONE):
+            self.peer = Peer(PORT, self.path, patience=10)
+            self.begin()
+            while not turn.is_set():
+                self.flight = self.step()
+                self.rows.update(self.flight)
+                self.flight = {}
+                self.steps += 1
+
+    def found(self, listed):
+        """Whether the lists are as acknowledged (0), or with the change in flight (1), or neither (None)."""
+        if all(listed[name] == rows for name, rows in self.rows.items()):
+            return 0
+        made = {**self.rows, **self.flight}
+        return 1 if self.flight and all(listed[name] == rows for name, rows in made.items()) else None
+
+
+class Station(Load):
+    """Starts and stops transactions, and sends readings. A stop has a reading too."""
+
+    def __init__(self, op, name, seed):
+        super().__init__(op, [f"transactions {name}", f"readings {name}", f"connectors {name}"], seed)
+        self.op, self.name, self.path = op, name, f"/ocpp/{op}/{name}"
+        self.transactions, self.readings, self.connectors = self.rows
+
+    def begin(self):
+        self.ask(BOOT)
+
+    def ask(self, text):
+        """The answer to a text. Calls of the server that come before it are accepted."""
+        self.peer.send(text)
+        while True:
+            message = json.loads(self.peer.next())
+            if message[0] != 2:
+                return message
+            self.peer.send(f'[3,"{message[1]}",{{"status":"Accepted"}}]')
+
+    def reading(self, value, transaction, after=0):
+        number = len(self.rows[self.readings]) + 1 + after
+        return (
+            f"{self.op} row reading {self.name} {number} 1 {transaction} {MS} Sample.Periodic Raw "
+            f'Energy.Active.Import.Register - Outlet - {value * 1_000_000} "{value}"'
+        )
+
+    def step(self):
+        rows = self.rows[self.transactions]
+        number = len(rows)
+        is_open = bool(rows) and rows[-1].endswith(" - - - -")
+        what = self.random.choice(("turn", "turn", "meter", "status"))
+        if what == "status":
+            status = self.random.choice(("Available", "Charging", "Faulted"))
+            flight = {self.connectors: [f"{self.op} row connector {self.name} 1 {status} NoError {MS} - - -"]}
+            text = f'[2,"n","StatusNotification",{{"connectorId":1,"errorCode":"NoError","status":"{status}",{AT}}}]'
+        elif what == "meter":
+            value, count = self.steps, self.random.randint(1, 3)
+            added = [self.reading(value, "-", n) for n in range(count)]
+            flight = {self.readings: self.rows[self.readings] + added}
+            values = ",".join([f'{{"value":"{value}"}}'] * count)
+            text = (
+                f'[2,"m","MeterValues",{{"connectorId":1,"meterValue":[{{"sampledValue":[{values}],{AT}}}]}}]'
+            )
+        elif is_open:
+            head = rows[-1].removesuffix(" - - - -")
+            value = self.steps
+            flight = {
+                self.transactions: rows[:-1] + [f"{head} {value} {MS} Local -"],
+                self.readings: self.rows[self.readings] + [self.reading(value, number)],
+            }
+            data = f'"transactionData":[{{"sampledValue":[{{"value":"{value}"}}],{AT}}}]'
+            text = f'[2,"e","StopTransaction",{{"meterStop":{value},{AT},"transactionId":{number},{data}}}]'
+        else:
+            meter = self.steps
+            row = f'{self.op} row transaction {self.name} {number + 1} 1 "OWN{self.name}" Accepted {meter} {MS} - - - - -'
+            flight = {self.transactions: rows + [row]}
+            text = f'[2,"s","StartTransaction",{{"connectorId":1,"idTag":"OWN{self.name}","meterStart":{meter},{AT}}}]'
+        self.flight = flight
+        answer = self.ask(text)
+        if answer[0] != 3:
+            raise AssertionError(f"{self.name}: {answer}")
+        return flight
+
+
+class Operator(Load):
+    """Puts and drops tags, grants them and takes them back, reserves connectors and sends local lists."""
+
+    def __init__(self, op, seed):
+        lists = ["tags", "grants", *(f"{what} {name}" for name in STATIONS[op] for what in ("reservations", "locallist"))]
+        super().__init__(op, lists, seed)
+        self.op, self.path = op, f"/operator/{op}"
+        self.rows["tags"] = [f'{op} row tag "OWN{name}" - 0 -' for name in STATIONS[op]]
+        self.rows.update({f"locallist {name}": [f"{op} row locallist {name} 0"] for name in STATIONS[op]})
+        self.version = 0
+
+    def begin(self):
+        pass
+
+    def answer(self, text):
+        """The answer to an order, or the end of the call that it makes."""
+        self.peer.send(text)
+        while True:
+            line = self.peer.next().split(" ")
+            if line[1] == "refused":
+                return "refused " + line[3]
+            if line[1] == "ok" and len(line) == 2 or line[2:3] == ["done"]:
+                return "ok" if line[1] == "ok" else " ".join(line[4:])
+
+    def step(self):
+        name = f"T{self.random.randint(1, 6)}"
+        station = self.random.choice(STATIONS[self.op])
+        tags, grants = self.rows["tags"], self.rows["grants"]
+        tag = f'{self.op} row tag "{name}" - 0 -'
+        grant = f'{self.op} row grant "{name.lower()}" {OPERATORS[self.op]} -'
+        what = self.random.choice(("put", "drop", "grant", "revoke", "reserve", "cancel", "list"))
+        if what == "put":
+            flight, text = {"tags": sorted({*tags, tag})}, f"tag put {name} - 0 -"
+        elif what == "drop":
+            flight = {"tags": [row for row in tags if row != tag], "grants": [row for row in grants if row != grant]}
+            text = f"tag drop {name}"
+        elif what == "grant":
+            made = sorted({*grants, grant}) if tag in tags else grants
+            flight, text = {"grants": made}, f"grant {name} {OPERATORS[self.op]} -"
+        elif what == "revoke":
+            flight = {"grants": [row for row in grants if row != grant]}
+            text = f"revoke {name} {OPERATORS[self.op]}"
+        elif what == "list":
+            self.version += 1
+            entry = f'{{"idTag":"{name}","idTagInfo":{{"status":"Accepted"}}}}'
+            rows = [f"{self.op} row locallist {station} {self.version}", f"{self.op} row localtag {station} {entry}"]
+            flight = {f"locallist {station}": rows}
+            text = (
+                f'call {station} SendLocalList {{"listVersion":{self.version},"localAuthorizationList":[{entry}],'
+                '"updateType":"Full"}'
+            )
+        else:
+            flight, text = self.reservation(what, station)
+        self.flight = flight
+        answer = self.answer(text)
+        # one that is refused, and a call whose station isn't connected yet, changes nothing
+        return flight if answer == "ok" or answer == 'Answer {"status":"Accepted"}' else {}
+
+    def reservation(self, what, station):
+        name = f"reservations {station}"
+        row = f'{self.op} row reservation {station} 1 1 "OWN{station}" - {EXPIRY}'
+        if what == "reserve":
+            text = (
+                f'call {station} ReserveNow {{"connectorId":1,"expiryDate":"2099-01-01T00:00:00Z","idTag":"OWN{station}",'
+                '"reservationId":1}'
+            )
+            return {name: [row]}, text
+        return {name: []}, f'call {station} CancelReservation {{"reservationId":1}}'
+
+
+class Server:
+    def __init__(self, program, db):
+        words = [program, "serve", "--port", str(PORT), "--db", db, "--operators", "ACME,BETA", "--log", "none"]
+        self.process = subprocess.Popen(words)
+        while self.process.poll() is None and not list(listening(PORT)):
+            time.sleep(0.002)
+        if self.process.poll() is not None:
+            sys.exit(f"the server ended with {self.process.returncode}")
+
+    def kill(self):
+        self.process.kill()
+        self.process.wait()
+
+
+def listing(peer, name):
+    """The rows of a listing."""
+    peer.send(f"list {name}")
+    rows = []
+    while not (line := peer.next()).endswith(" ok"):
+        rows.append(line)
+    return rows
+
+
+def whole(db, folder):
+    """What SQLite finds wrong in a copy of the database, if anything."""
+    copy = os.path.join(folder, "copy.db")
+    for end in ("", "-wal"):
+        if os.path.exists(db + end):
+            shutil.copy(db + end, copy + end)
+    with contextlib.closing(sqlite3.connect(copy)) as database:
+        found = database.execute("PRAGMA integrity_check").fetchall()
+    for end in ("", "-wal", "-shm"):
+        with contextlib.suppress(FileNotFoundError):
+            os.remove(copy + end)
+    return found
+
+
+class Checks:
+    def __init__(self, program, folder, seed):
+        self.program, self.folder = program, folder
+        self.db = os.path.join(folder, "hub.db")
+        self.random = random.Random(seed)
+        self.loads = [Operator(op, f"{seed}{op}") for op in OPERATORS]
+        self.loads += [Station(op, name, f"{seed}{op}{name}") for op in OPERATORS for name in STATIONS[op]]
+        self.passed = self.failed = self.in_flight = self.made = 0
+
+    def check(self, what, passes, seen=""):
+        if passes:
+            self.passed += 1
+        else:
+            self.failed += 1
+            print(f"{what}\n  {seen}", flush=True)
+
+    def begin(self):
+        """The stations are added, and each has a tag that stays."""
+        server = Server(self.program, self.db)
+        for op in OPERATORS:
+            peer = Peer(PORT, f"/operator/{op}")
+            for name in STATIONS[op]:
+                peer.ask(f"station add {name} Accepted 300")
+                peer.ask(f"tag put OWN{name} - 0 -")
+        server.kill()
+
+    def one_kill(self, number):
+        server = Server(self.program, self.db)
+        turn = threading.Event()
+        threads = [threading.Thread(target=load.run, args=(server, turn)) for load in self.loads]
+        for thread in threads:
+            thread.start()
+        time.sleep(self.random.uniform(0.02, 0.4))
+        server.kill()
+        turn.set()
+        for thread in threads:
+            thread.join()
+        self.look(number)
+
+    def look(self, number):
+        """What is on record after a kill."""
+        self.check(f"kill {number}: the database", whole(self.db, self.folder) == [("ok",)])
+        server = Server(self.program, self.db)
+        peers = {op: Peer(PORT, f"/operator/{op}") for op in OPERATORS}
+        for load in self.loads:
+            listed = {name: listing(peers[load.owner], name) for name in load.rows}
+            found = load.found(listed)
+            differ = {name: (listed[name], rows) for name, rows in load.rows.items() if listed[name] != rows}
+            self.check(f"kill {number}: {load.path}", found is not None, (differ, load.flight))
+            self.in_flight += bool(load.flight)
+            self.made += found == 1
+            load.rows.update(listed)
+        server.kill()
+
+
+def main():
+    kills = int(sys.argv[2]) if len(sys.argv) > 2 else 200
+    seed = sys.argv[3] if len(sys.argv) > 3 else "1"
+    with tempfile.TemporaryDirectory() as folder:
+        checks = Checks(os.path.abspath(sys.argv[1]), folder, seed)
+        checks.begin()
+        for number in range(1, kills + 1):
+            checks.one_kill(number)
+        steps = sum(load.steps for load in checks.loads)
+        print(f"{kills} kills, {steps} changes acknowledged, {checks.made} of {checks.in_flight} in flight found made")
+    print(f"{checks.passed} passed, {checks.failed} failed")
+    sys.exit(checks.failed > 0)
+
+
+if __name__ == "__main__":
+    main()

@@ -1,0 +1,95 @@
+//! Scripts over stores of which one call fails.
+
+use crate::handed_again::{Answers, answers};
+use crate::script::{lines_of, operators_of, wanted_of};
+use anyhow::{Context, Result};
+use cached::Cached;
+use sqlite::Alter;
+use std::alloc::Global;
+use std::rt::Files;
+use store_mem::{Failing, MemStore};
+use store_sql::SqlStore;
+
+/// The scripts that are tried.
+const SCRIPTS: &[&str] = &[
+    "boot_and_heartbeat",
+    "start_repeated",
+    "calls_of_a_station",
+    "reservations",
+    "local_list_of_a_station",
+    "reservations_follow_the_answer",
+    "day_of_two_operators",
+];
+
+/// How many calls of a script fail at most, one at a time.
+const MAX_CALLS: u64 = 100_000;
+
+/// What a call that fails is a call of.
+#[derive(Clone, Copy, Drop)]
+pub enum Kind {
+    /// A store in memory.
+    Memory,
+    /// A database before which is a cache of so many answers.
+    Cache(usize),
+}
+
+/// How many events met a call that failed, and how many of those scripts were answered otherwise than without one.
+#[derive(Drop)]
+pub struct Met {
+    pub events: u64,
+    pub otherwise: u64,
+}
+
+/// Lets each call that the scripts make of a store fail in turn. The event that met it is handed once more.
+pub fn try_failures<R: Files + AllocGlobal>(rt: &R, kind: Kind) -> Result<Met> {
+    let mut met = Met {
+        events: 0,
+        otherwise: 0,
+    };
+    for name in SCRIPTS {
+        try_script(rt, kind, name, &mut met).context(format_args!("script {name}"))?;
+    }
+    Ok(met)
+}
+
+fn try_script<R: Files + AllocGlobal>(rt: &R, kind: Kind, name: &str, met: &mut Met) -> Result<()> {
+    let wanted = wanted_of(rt, name)?;
+    for before in 0..MAX_CALLS {
+        let answers = answered(rt, kind, name, before)?;
+        if answers.text != wanted || answers.faults > 1 {
+            met.otherwise = met.otherwise.saturating_add(1);
+        }
+        if answers.faults == 0 {
+            break;
+        }
+        met.events = met.events.saturating_add(1);
+    }
+    Ok(())
+}
+
+/// What the script of that name is answered, where the call after so many fails.
+pub fn answered<R: Files + AllocGlobal>(
+    rt: &R,
+    kind: Kind,
+    name: &str,
+    before: u64,
+) -> Result<Answers> {
+    let alloc = rt.alloc();
+    let operators = operators_of(rt, name)?;
+    let lines = lines_of(rt, name)?;
+    match kind {
+        Kind::Memory => {
+            let store = Failing::new(MemStore::new(alloc), before);
+            answers(alloc, store, operators, lines.as_slice())
+        }
+        Kind::Cache(capacity) => {
+            let store = failing(SqlStore::open_in_memory(alloc)?, before);
+            let store = Cached::new(alloc, store, capacity)?;
+            answers(alloc, store, operators, lines.as_slice())
+        }
+    }
+}
+
+fn failing<A: Alter + Drop>(store: SqlStore<A>, before: u64) -> Failing<SqlStore<A>> {
+    Failing::new(store, before)
+}
