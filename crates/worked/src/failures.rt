@@ -1,6 +1,6 @@
 //! Scripts over stores of which one call fails.
 
-use crate::handed_again::{Answers, answers};
+use crate::handed_again::{Answers, hand_all};
 use crate::script::{lines_of, operators_of, wanted_of};
 use anyhow::{Context, Result};
 use cached::Cached;
@@ -80,12 +80,12 @@ pub fn answered<R: Files + AllocGlobal>(
     match kind {
         Kind::Memory => {
             let store = Failing::new(MemStore::new(alloc), before);
-            answers(alloc, store, operators, lines.as_slice())
+            hand_all(alloc, store, operators, lines.as_slice())
         }
         Kind::Cache(capacity) => {
             let store = failing(SqlStore::open_in_memory(alloc)?, before);
             let store = Cached::new(alloc, store, capacity)?;
-            answers(alloc, store, operators, lines.as_slice())
+            hand_all(alloc, store, operators, lines.as_slice())
         }
     }
 }

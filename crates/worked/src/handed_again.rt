@@ -20,7 +20,7 @@ pub struct Answers {
 
 /// What the lines of a script are answered over the store, where each event that ends in a fault is handed once more.
 /// So is all else that finds no memory. Messages of vendors aren't answered.
-pub fn answers<S: Store + Drop>(
+pub fn hand_all<S: Store + Drop>(
     alloc: Global,
     store: S,
     operators: Vec<Text>,
