@@ -1,6 +1,6 @@
 -- Handshakes.
 use Rattle.std.proofs.lemmas.List.{length-take}
-use Rattle.std.proofs.Common.{length, take, inl, inr, absurd, None, ◌≤◌, List, Ok, Option, Some, arith, subst, sym, ℕ, ◌≡◌}
+use Rattle.std.proofs.Common.{length, take, inl, inr, None, ◌≤◌, List, Ok, Option, Some, arith, subst, sym, ℕ, ◌≡◌}
 use Rattle.ready_streams.specs.Peeks.{PeekShows}
 use Rattle.ws_handshake.specs.Heads.{Asks, BytesJudged}
 use Rattle.ws_handshake.specs.declared.head.Asked.TheVariants.{Upgraded}
