@@ -4,7 +4,7 @@ use cached::CacheFault;
 use ocpp_types::NoMemory;
 use replay::ReplayFault;
 use station_sim::SimFault;
-use std::alloc::AllocError;
+use std::alloc::{AllocError, AllocFailed};
 use std::io;
 use store_sql::PrepareFault;
 use thiserror::Error;
@@ -65,6 +65,12 @@ impl From<NoMemory> for RunFault {
 
 impl From<AllocError> for RunFault {
     fn from(_fault: AllocError) -> RunFault {
+        RunFault::NoMemory
+    }
+}
+
+impl<T: Drop> From<AllocFailed<T>> for RunFault {
+    fn from(_fault: AllocFailed<T>) -> RunFault {
         RunFault::NoMemory
     }
 }

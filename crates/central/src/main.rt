@@ -19,12 +19,10 @@ use asking::ask;
 use clap::error::ErrorKind;
 use command::Plan;
 use fault::RunFault;
-use ocpp_types::Mem;
 use replaying::replay_lines;
 use server::serve;
 use simulation::simulate;
 use station_calls::{Echo, VendorHandler};
-use std::alloc::Global;
 use std::env;
 use std::process::ExitCode;
 
@@ -49,7 +47,8 @@ fn run(rt: &HostRuntime) -> Result<u8, RunFault> {
             return Ok(status::of_usage(error.use_stderr()));
         }
     };
-    let vendors = vendors(alloc)?;
+    let mut vendors: Vec<Box<dyn VendorHandler>> = Vec::new(alloc);
+    vendors.push(Box::new(alloc, Echo { alloc })?)?;
     let all_taken = match plan {
         Plan::Replay(options) => replay_lines(rt, options, vendors).map(|()| true),
         Plan::Serve(options) => serve(rt, options, vendors).map(|()| true),
@@ -57,11 +56,4 @@ fn run(rt: &HostRuntime) -> Result<u8, RunFault> {
         Plan::Ask(options) => ask(rt, &options),
     };
     Ok(status::of_lines(all_taken?))
-}
-
-/// The handlers of vendors' messages.
-fn vendors(alloc: Global) -> Mem<Vec<Box<dyn VendorHandler>>> {
-    let mut vendors: Vec<Box<dyn VendorHandler>> = Vec::new(alloc);
-    vendors.push(Box::new(alloc, Echo { alloc })?)?;
-    Ok(vendors)
 }
