@@ -30,10 +30,7 @@ SOURCE = Path(__file__).with_name("refusing_malloc.c")
 REPLAYED = ("boot_and_heartbeat", "start_repeated", "calls_of_a_station", "reservations", "local_list_of_a_station")
 NEVER, ALWAYS = 0, (1 << 64) - 1
 ANSWER = re.compile(r'(.* frame \S+ \[3,")(\d+)(".*)', re.DOTALL)
-FAULT = re.compile(r"fault \w[^\n]*\n")
-# Before the command line is read no fault has a name.
-NO_COMMAND = re.compile(r"[Ee]rror: (out of memory|memory allocation failed)\n")
-SERVED_LINE = re.compile(r"\[(INFO |WARN |ERROR) .*|fault (NoMemory|Stream)")
+SERVED_LINE = re.compile(r"\[(INFO |WARN |ERROR) .*|fault NoMemory")
 
 # What is on record before the session, and what each of its stations sends.
 RECORDED = """\
@@ -170,8 +167,7 @@ def ending(ran, whole):
 
 def start_fault(status, errors):
     """How a run ended that printed nothing, or None where it may not end so."""
-    named = (FAULT if status == 2 else NO_COMMAND).fullmatch(errors) if status in (1, 2) else None
-    return f"status {status} and {errors.strip()!r}, nothing printed" if named else None
+    return "fault NoMemory, nothing printed" if (status, errors) == (2, "fault NoMemory\n") else None
 
 
 class Script:
@@ -275,10 +271,12 @@ def check_handed_again(checks, kind, name):
     """Each allocation is refused that the start and then the events of a script come to. Once one was refused to an
     event, no later one is refused to the start."""
     scenario = f"{name}, {kind}, events handed again"
+    handed_again(checks, kind, "no_lines", NEVER)
+    start = checks.allocator.count
     checks.check(scenario, handed_again(checks, kind, name, NEVER) != "no event met it" and "a run that isn't refused")
     count = checks.allocator.count
     endings = collections.Counter()
-    for number in numbers_of(checks, 1, count):
+    for number in spread(1, start, 20) + numbers_of(checks, start + 1, count):
         how = handed_again(checks, kind, name, number)
         endings[how or "OTHERWISE"] += 1
         fault = not how and "another end" or how == "the start met it" and endings["handed again"] and "no start"
