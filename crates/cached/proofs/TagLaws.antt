@@ -10,6 +10,7 @@ use Rattle.ocpp_types.specs.TagKey.{key_of}
 use Rattle.hub_rows.specs.declared.change.Edit.{Edit}
 use Rattle.hub_rows.specs.declared.change.Edit.TheVariants.{StationAdded, BootSeen, PolicySet, ConnectorSeen, TagPut, TagDropped, GrantPut, GrantDropped, TxStarted, TxStopped, ReadingsAdded, ReservationPut, ReservationDropped, ListSet}
 use Rattle.hub_rows.specs.declared.grant_row.GrantRow.{GrantRow}
+use Rattle.hub_rows.specs.declared.info.Info.{Info}
 use Rattle.hub_rows.specs.declared.tag_row.Tag.{Tag}
 use Rattle.hub_rows.specs.declared.tag_row.TagRow.{TagRow}
 use Rattle.hub_rows.specs.Changes.{edit, tag_row, grant_row}
@@ -182,3 +183,7 @@ unseen_right b (ListSet station list) rows answer none right = right
 -- what is right of an answer about a look-up
 pub about_right : (rows : Rows) (answer : TagAnswer) (how : LookUp) (a k : List ℕ) → IsAbout how a k answer → looked_up answer.look_up answer.op answer.key rows ≡ looked_up how a k rows
 about_right rows answer how a k about = λ i. looked_up (about.look_up i) (about.op i) (about.key i) rows
+
+-- an answer about a look-up is right that has what the rows give
+pub right_answer : (how : LookUp) (a k : List ℕ) (rows : Rows) (answer : TagAnswer) (info : Option Info) → IsAbout how a k answer → answer.info ≡ info → info ≡ looked_up how a k rows → IsRight rows answer
+right_answer how a k rows answer info about is found = is ∙ found ∙ (λ i. looked_up (sym about.look_up i) (sym about.op i) (sym about.key i) rows)

@@ -75,6 +75,22 @@ impl<S: Store + Drop> Cached<S> {
     }
 }
 
+/// The tag of that look-up, as a store answers.
+fn ask<S: Store>(
+    store: &mut S,
+    look_up: LookUp,
+    op: &str,
+    key: &TagKey,
+) -> Result<Option<Info>, StoreFault>
+    ensures reads { OnlyReads S.view store.old store.new result }
+    ensures found { (S.view store.new).clean → IfOk result (λ t. t ≡ looked_up look_up op.now key.now (S.view store.old).rows) }
+{
+    match look_up {
+        LookUp::Own => store.own_tag(op, key),
+        LookUp::Granted => store.granted_tag(op, key),
+    }
+}
+
 impl<S: Store> Cached<S> {
     /// The tag of that look-up, from the cache if it is there.
     fn look_up(
@@ -94,10 +110,7 @@ impl<S: Store> Cached<S> {
                 return Ok(info);
             }
         }
-        let info = match look_up {
-            LookUp::Own => self.store.own_tag(op, key)?,
-            LookUp::Granted => self.store.granted_tag(op, key)?,
-        };
+        let info = ask(&mut self.store, look_up, op, key)?;
         if let Ok(answer) = TagAnswer::of(self.alloc, look_up, op, key, &info) {
             self.tags.keep(digest, answer);
         }

@@ -34,7 +34,7 @@ const PING_AFTER: u64 = 120;
 const ANSWER_WITHIN: u64 = 120;
 
 /// The bytes that are set aside for the case that memory runs out.
-const RESERVE: usize = 262_144;
+const RESERVE: usize = 65_536;
 
 /// The most connections that a turn accepts.
 const MAX_ACCEPTS: usize = 64;

@@ -11,6 +11,10 @@ use Rattle.pending_calls.specs.Slots.{all_slots, first_number}
 use Rattle.hub.specs.World.{Setting, World}
 
 -- its store
+abbrev pub store_of : {S V : Type 0} → Hub S V → S
+store_of h = h.book.store
+
+-- its store, as contracts see it
 abbrev pub hub_view : {S V : Type 0} → (S → StoreView) → Hub S V → StoreView
 hub_view view h = book_view view h.book
 

@@ -3,6 +3,7 @@ ghost use Rattle.std.specs.Prelude.{◌≡◌, Some, Err, ◌≢◌, ◌+◌, �
 ghost use Rattle.std.specs.Option.{ForSome};
 ghost use Rattle.hub_rows.specs.Changes.{EditFits};
 ghost use Rattle.hub_rows.specs.Reads.{IsCounted};
+ghost use Rattle.hub_rows.specs.Stops.{IsKept, FindsOldOr};
 ghost use Rattle.pending_calls.specs.Slots.{all_slots, first_number, slot_at};
 ghost use Rattle.event_plans.specs.Effects.{IsReady};
 ghost use Rattle.hub.specs.Effects.{edit_of, slots_after, effect_outputs, room_of};
@@ -52,6 +53,8 @@ pub fn commit<S: Store>(
     ensures err_told { OnErr result (told.new.items ≡ told.old.items) }
     ensures first { first_number slots.new ≡ first_number slots.old }
     ensures hosted { IfErr result (λ f. f ≢ Fault.NoSuchOperator) }
+    ensures stopped { FindsOldOr (rows_after op.now (edit_of plan.effect) (S.view store.old).rows) (S.view store.old) (S.view store.new) }
+    ensures kept { IsKept (S.view store.old) → OnOk result (IsKept (S.view store.new)) }
 {
     let begun = told.len();
     let carried = carry_out(store, slots, op, moment, plan, told);
@@ -86,6 +89,8 @@ fn carry_out<S: Store>(
     ensures err_told { OnErr result (take (length told.old.items) told.new.items ≡ told.old.items) }
     ensures first { first_number slots.new ≡ first_number slots.old }
     ensures hosted { IfErr result (λ f. f ≢ Fault.NoSuchOperator) }
+    ensures stopped { FindsOldOr (rows_after op.now (edit_of plan.effect) (S.view store.old).rows) (S.view store.old) (S.view store.new) }
+    ensures kept { IsKept (S.view store.old) → OnOk result (IsKept (S.view store.new)) }
 {
     let room = room_of(&plan.effect);
     let Plan { said, effect } = plan;
@@ -119,6 +124,8 @@ fn apply<S: Store>(
     ensures err_slots { OnErr result (all_slots slots.new ≡ all_slots slots.old) }
     ensures first { first_number slots.new ≡ first_number slots.old }
     ensures hosted { IfErr result (λ f. f ≢ Fault.NoSuchOperator) }
+    ensures stopped { FindsOldOr (rows_after op.now (edit_of effect) (S.view store.old).rows) (S.view store.old) (S.view store.new) }
+    ensures kept { IsKept (S.view store.old) → OnOk result (IsKept (S.view store.new)) }
 {
     match effect {
         Effect::Nothing => {}
@@ -164,6 +171,8 @@ fn edit_if_some<S: Store>(store: &mut S, op: &Text, edit: Option<Boxed<Edit>>) -
         → OnOk result ((S.view store.new).rows ≡ rows_after op.now edit (S.view store.old).rows) }
     ensures err_rows { (S.view store.new).clean → OnErr result ((S.view store.new).rows ≡ (S.view store.old).rows) }
     ensures hosted { IfErr result (λ f. f ≢ Fault.NoSuchOperator) }
+    ensures stopped { FindsOldOr (rows_after op.now edit (S.view store.old).rows) (S.view store.old) (S.view store.new) }
+    ensures kept { IsKept (S.view store.old) → OnOk result (IsKept (S.view store.new)) }
 {
     match edit {
         Some(edit) => edit_records(store, op, edit),
@@ -179,6 +188,8 @@ fn edit_records<S: Store>(store: &mut S, op: &Text, edit: Boxed<Edit>) -> Result
         → OnOk result ((S.view store.new).rows ≡ rows_after op.now (Some edit) (S.view store.old).rows) }
     ensures err_rows { (S.view store.new).clean → OnErr result ((S.view store.new).rows ≡ (S.view store.old).rows) }
     ensures hosted { IfErr result (λ f. f ≢ Fault.NoSuchOperator) }
+    ensures stopped { FindsOldOr (rows_after op.now (Some edit) (S.view store.old).rows) (S.view store.old) (S.view store.new) }
+    ensures kept { IsKept (S.view store.old) → OnOk result (IsKept (S.view store.new)) }
 {
     let change = change_of(op, edit)?;
     store.apply(&change)?;

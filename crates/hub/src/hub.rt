@@ -1,5 +1,5 @@
 //! The hub: one event is one step.
-ghost use Rattle.std.specs.Prelude.{◌≡◌, ◌≢◌, ◌&&◌, is_some, Some, Err, ◌↔◌, ◌<◌, ◌++◌, ℕ, List, [], ◌∷◌, length, take, slice_index_or, true, false, IsOk, IfOk, IfErr, IfNone, IfSome, OnOk, OnErr};
+ghost use Rattle.std.specs.Prelude.{◌≡◌, ◌≢◌, ◌&&◌, ◌⊎◌, ◌+◌, is_some, IsSome, Some, Err, ◌↔◌, ◌<◌, ◌++◌, ℕ, List, [], ◌∷◌, length, take, slice_index_or, true, false, IsOk, IfOk, IfErr, IfNone, IfSome, OnOk, OnErr};
 ghost use Rattle.std.specs.List.{AllWithin};
 ghost use Rattle.hub_rows.specs.Reads.{IsCounted};
 ghost use Rattle.hub_rows.specs.Operators.{are_operators};
@@ -37,7 +37,8 @@ pub struct BadOperators;
 
 impl<S: Store + Drop, V: VendorHandler> Hub<S, V> {
     ghost use Rattle.hub_rows.specs.Rows.{Rows};
-    ghost use Rattle.hub.specs.Hub.{hub_view, world, setting, setting_of, is_taken, is_clean, failures_of};
+    ghost use Rattle.hub_rows.specs.Stops.{IsKept, FindsOldOr};
+    ghost use Rattle.hub.specs.Hub.{hub_view, store_of, world, setting, setting_of, is_taken, is_clean, failures_of};
     ghost use Rattle.hub_rows.specs.Operators.{is_hosted};
     ghost use Rattle.hub.specs.World.{outputs_of, world_outputs, world_step, run_outputs, world_run};
     ghost use Rattle.hub.specs.Others.{IsOfAnother, LeavesAlone};
@@ -61,6 +62,8 @@ impl<S: Store + Drop, V: VendorHandler> Hub<S, V> {
         ensures clean { IfOk result (λ h. is_clean S.view h ↔ (S.view store).clean) }
         ensures failures { IfOk result (λ h. failures_of S.view h ≡ (S.view store).failures) }
         ensures stations { IfOk result (λ h. SlotsHaveStations (world S.view h)) }
+        ensures found { IfOk result (λ h. (r : Rows) → (hub_view S.view h).may_find r ↔ (S.view store).may_find r) }
+        ensures kept { IsKept (S.view store) → IfOk result (λ h. IsKept (hub_view S.view h)) }
     {
         if !are_operators(&operators) {
             return Err(BadOperators);
@@ -71,6 +74,13 @@ impl<S: Store + Drop, V: VendorHandler> Hub<S, V> {
             hosted: operators,
             slots: Slots::new(alloc, 1),
         })
+    }
+
+    /// Its store. The connections and calls of its stations are gone.
+    pub fn into_store(self) -> S
+        ensures { result ≡ store_of self }
+    {
+        self.book.store
     }
 
     /// The hosted operators.
@@ -114,6 +124,9 @@ impl<S: Store + Drop, V: VendorHandler> Hub<S, V> {
     /// what it has afterwards are what its own machine gives for what it was shown. The clause
     /// `others` says the same of an event of another operator in plain words: it tells the operator
     /// nothing, and can change nothing of it but the list of the tags that are granted to it.
+    ///
+    /// Where the work stops during the call and the store of a kept hub is opened again, its records are those before the
+    /// event or those after it, whole (`stopped`); once the call is Ok, those after it alone (`done`).
     pub fn handle(&mut self, event: &Event) -> Result<Vec<Out>, Fault>
         ensures counted { IsCounted (hub_view S.view) self.old self.new (result ≡ Err Fault.Store) }
         ensures outputs { is_clean S.view self.new → IfOk result (λ outs. outs.items
@@ -133,6 +146,11 @@ impl<S: Store + Drop, V: VendorHandler> Hub<S, V> {
         ensures fault_slots { OnErr result ((world S.view self.new).slots ≡ (world S.view self.old).slots) }
         ensures stations { is_clean S.view self.new
             → SlotsHaveStations (world S.view self.old) → SlotsHaveStations (world S.view self.new) }
+        ensures stopped { FindsOldOr (world_step (setting V.view self.old) (world S.view self.old) event.now).rows
+            (hub_view S.view self.old) (hub_view S.view self.new) }
+        ensures kept { IsKept (hub_view S.view self.old) → OnOk result (IsKept (hub_view S.view self.new)) }
+        ensures done { IsKept (hub_view S.view self.old) → OnOk result ((r : Rows) → (hub_view S.view self.new).may_find r
+            → r ≡ (world_step (setting V.view self.old) (world S.view self.old) event.now).rows) }
         ensures setting { setting V.view self.new ≡ setting V.view self.old }
         ensures taken { OnOk result (is_taken (setting V.view self.old) event.now ≡ true) }
         ensures not_hosted { IfErr result (λ f. f ≡ Fault.NoSuchOperator
@@ -163,6 +181,10 @@ impl<S: Store + Drop, V: VendorHandler> Hub<S, V> {
             (view a (world S.view self.old)) (seen (setting V.view self.old) a (world S.view self.old) (take result.1 events.now)) }
         ensures stations { is_clean S.view self.new
             → SlotsHaveStations (world S.view self.old) → SlotsHaveStations (world S.view self.new) }
+        ensures stopped { IsKept (hub_view S.view self.old) → (r : Rows) → (hub_view S.view self.new).may_find r
+            → (r ≡ (world_run (setting V.view self.old) (world S.view self.old) (take result.1 events.now)).rows)
+            ⊎ (IsSome result.2 × (r ≡ (world_run (setting V.view self.old) (world S.view self.old) (take (result.1 + 1) events.now)).rows)) }
+        ensures kept { IsKept (hub_view S.view self.old) → IfNone result.2 (IsKept (hub_view S.view self.new)) }
         ensures setting { setting V.view self.new ≡ setting V.view self.old }
         ensures taken { AllWithin (λ e. is_taken (setting V.view self.old) e ≡ true) events.now 0 result.1 }
         ensures all { IfNone result.2 (result.1 ≡ length events.now) }
@@ -194,6 +216,9 @@ impl<S: Store + Drop, V: VendorHandler> Hub<S, V> {
         ensures err_world { is_clean S.view self.new
             → OnErr result (world S.view self.new ≡ world S.view self.old) }
         ensures err_slots { OnErr result ((world S.view self.new).slots ≡ (world S.view self.old).slots) }
+        ensures stopped { FindsOldOr (world_step (setting V.view self.old) (world S.view self.old) event.now).rows
+            (hub_view S.view self.old) (hub_view S.view self.new) }
+        ensures kept { IsKept (hub_view S.view self.old) → OnOk result (IsKept (hub_view S.view self.new)) }
         ensures setting { setting V.view self.new ≡ setting V.view self.old }
         ensures taken { OnOk result (is_taken (setting V.view self.old) event.now ≡ true) }
         ensures not_taken { IfErr result (λ f. f ≡ Fault.NoSuchOperator
@@ -227,6 +252,9 @@ impl<S: Store + Drop, V: VendorHandler> Hub<S, V> {
         ensures err_world { is_clean S.view self.new
             → OnErr result (world S.view self.new ≡ world S.view self.old) }
         ensures err_slots { OnErr result ((world S.view self.new).slots ≡ (world S.view self.old).slots) }
+        ensures stopped { FindsOldOr (world_step (setting V.view self.old) (world S.view self.old) (event.At op.now moment what.now)).rows
+            (hub_view S.view self.old) (hub_view S.view self.new) }
+        ensures kept { IsKept (hub_view S.view self.old) → OnOk result (IsKept (hub_view S.view self.new)) }
         ensures setting { setting V.view self.new ≡ setting V.view self.old }
         ensures taken { OnOk result ((setting V.view self.old).is_hosted op.now ≡ true) }
         ensures not_taken { IfErr result (λ f. f ≡ Fault.NoSuchOperator

@@ -15,3 +15,4 @@ pub mod Own
 pub mod Lookups
 pub mod OwnLookups
 pub mod StoreView
+pub mod Stops

@@ -1,8 +1,9 @@
 -- What every call says of a store, by the store before the call and after it, and by its answer.
-use Rattle.std.specs.Prelude.{◌≡◌, ◌≤◌, Result, Err}
+use Rattle.std.specs.Prelude.{◌≡◌, ◌≤◌, Result, Err, OnOk}
 use Rattle.hub_rows.specs.declared.store.StoreFault.{StoreFault}
 use Rattle.hub_rows.specs.declared.store.StoreFault.TheVariants.{Failed}
 use Rattle.hub_rows.specs.Failures.{Rose}
+use Rattle.hub_rows.specs.Stops.{IsKept, FindsOld}
 use Rattle.hub_rows.specs.StoreView.{StoreView}
 
 -- what a call says that may change the rows, where `DidFail` says that it answers a failure of the store
@@ -19,3 +20,6 @@ pub record OnlyReads {S T : Type 0} (view : S → StoreView) (old new : S) (resu
   pub kept : (view new).clean → (view new).rows ≡ (view old).rows
   pub failed : result ≡ Err Failed → Rose (view old).failures (view new).failures
   pub count : (view old).failures ≤ (view new).failures
+  -- a stop during the call leaves the rows, and an Ok keeps a kept store
+  pub stopped : FindsOld (view old) (view new)
+  pub stays : IsKept (view old) → OnOk result (IsKept (view new))

@@ -9,3 +9,5 @@ pub record StoreView : Type 1 where
   pub failures : ℕ
   -- its rows were written by this project alone, and are read as they were written
   pub clean : Type 0
+  -- the rows that a reopening may find, were the work to stop now
+  pub may_find : Rows → Type 0

@@ -10,6 +10,7 @@ ghost use Rattle.hub_rows.specs.Grants.{granted_in, granted_tag_in, grants_in, h
 ghost use Rattle.hub_rows.specs.LocalLists.{local_list_in};
 ghost use Rattle.hub_rows.specs.Reservations.{reservations_in, reserved_until_in};
 ghost use Rattle.hub_rows.specs.Reads.{OnlyReads, IsCounted};
+ghost use Rattle.hub_rows.specs.Stops.{IsKept, FindsOldOr};
 ghost use Rattle.hub_rows.specs.declared.store.StoreFault.TheVariants as store_fault;
 
 use crate::change::Change;
@@ -65,10 +66,16 @@ impl<T: Drop> From<AllocFailed<T>> for StoreFault {
 /// What is said of its rows holds where it is clean as the call ends, and it then was clean
 /// before. A read leaves the rows. A fault changes nothing, and Failed comes only where the count
 /// of failures rose.
+///
+/// The work may stop in the middle of any call, and the store be opened again. A store is kept where
+/// a reopening finds its rows and no others. In a kept store a stop during a read leaves the rows,
+/// and one during a change leaves those before it or those after it, whole. A call that is Ok leaves
+/// the store kept.
 pub trait Store {
     ghost use Rattle.hub_rows.specs.StoreView.{StoreView};
 
-    /// The store as contracts see it: its rows, how often it has failed, and whether it is clean.
+    /// The store as contracts see it: its rows, how often it has failed, whether it is clean, and which rows a reopening
+    /// may find.
     ghost view: { Self → StoreView };
 
     /// How a station of an operator is registered, `None` where it has no such station.
@@ -217,7 +224,9 @@ pub trait Store {
         requires { (view self.old).clean → Fits change.now (view self.old).rows }
         ensures counted { IsCounted view self.old self.new (result ≡ Err store_fault.Failed) }
         ensures ok { (view self.new).clean → OnOk result ((view self.new).rows ≡ after_change change.now (view self.old).rows) }
-        ensures err { (view self.new).clean → OnErr result ((view self.new).rows ≡ (view self.old).rows) };
+        ensures err { (view self.new).clean → OnErr result ((view self.new).rows ≡ (view self.old).rows) }
+        ensures stopped { FindsOldOr (after_change change.now (view self.old).rows) (view self.old) (view self.new) }
+        ensures kept { IsKept (view self.old) → OnOk result (IsKept (view self.new)) };
 
     /// The rows of a clean store are well formed.
     ghost well_formed: { (s : Self) → (view s).clean → WellFormedRows (view s).rows };

@@ -1,13 +1,14 @@
 -- How far the lines of an input have been answered.
-use Rattle.std.proofs.Common.{subst, ◌≡◌, ◌∙◌, sym, ap, ◌+◌, ◌++◌, inl, inr, List, ℕ, [], ◌∷◌, length, take, refl, Bool, false, append_assoc}
+use Rattle.std.proofs.Common.{subst, ◌≡◌, ◌∙◌, sym, ap, ◌+◌, ◌++◌, ◌⊎◌, inl, inr, List, ℕ, [], ◌∷◌, length, take, refl, Bool, false, append_assoc}
 use Rattle.std.specs.Prelude.{Option, Some, None, IfSome}
 use Rattle.std.specs.Io.KnownBytes.{Appends, Keeps}
 use Rattle.std.proofs.Math.Seq.{take-append_seam}
+use Rattle.hub_rows.specs.Rows.{Rows}
 use Rattle.hub.specs.World.{Setting, World}
 use Rattle.lines.specs.InputLines.{spelled}
 use Rattle.replay.specs.Held.{lines_of}
 use Rattle.replay.specs.Lines.{HandsOut, IsDone, lines_from}
-use Rattle.replay.specs.Run.{Begins, IsStep, IsReached, Stands, Falls, AppendsFront, answer, answers_to, after, world_after, output_of}
+use Rattle.replay.specs.Run.{Begins, IsStep, IsReached, AreReached, Stands, Falls, AppendsFront, answer, answers_to, after, world_after, output_of}
 use Rattle.replay.proofs.Facts.{stands_start, stands_all, stands_begins, stands_kept}
 
 -- from world w and line k on, all was to come; lines of it were answered up to world v and line n, and what is ahead is to come; their answers have been written, but for text'
@@ -116,6 +117,28 @@ progress_line_world clean clean' st mine w v v' k n begin now text text' (Some a
 progress_line_world clean clean' st mine w v v' k n begin now text text' (Some all) (Some ahead) None P p h back c alike f = absurd h
 progress_line_world clean clean' st mine w v v' k n begin now text text' (Some all) (Some ahead) (Some rest) P p h back c alike f =
     line_reached st mine w v v' all p.done rest h.0 (p.lines ∙ ap (λ ls. p.done ++ ls) h.1) (p.world (back c)) alike (f h.0 h.2)
+
+-- a stop finds the rows of a world that is reached
+rows_reached : (st : Setting) (w v : World) (lines : List (List ℕ)) (r : Rows) → IsReached st w lines v → r ≡ v.rows → AreReached st w lines r
+rows_reached st w v lines r at is = record { taken = at.taken; is = is ∙ ap (λ (u : World). u.rows) at.is }
+
+pub progress_stop_rows : (st : Setting) (w v : World) (all : Option (List (List ℕ))) (r : Rows) → IfSome all (λ ls. IsReached st w ls v) → r ≡ v.rows → IfSome all (λ ls. AreReached st w ls r)
+progress_stop_rows st w v None r at is = tt
+progress_stop_rows st w v (Some all) r at is = rows_reached st w v all r at is
+
+-- in a line it finds those before it or those after it
+pub progress_line_rows : (clean : Type 0) (st mine : Setting) (w v : World) (k n : ℕ) (begin now : Option (List ℕ)) (text text' : List ℕ) (all ahead rest : Option (List (List ℕ))) (P : List ℕ → Type 0) (r : Rows) →
+    ProgressOf clean st w v k n begin now text text' all ahead → HandsOut ahead rest P → mine ≡ st → ((l : List ℕ) → P l → clean × ((r ≡ v.rows) ⊎ (r ≡ (after mine v (spelled mine.is_hosted l)).rows))) → IfSome all (λ ls. AreReached st w ls r)
+progress_line_rows clean st mine w v k n begin now text text' None ahead rest P r p h alike f = tt
+progress_line_rows clean st mine w v k n begin now text text' (Some all) None rest P r p h alike f = absurd p
+progress_line_rows clean st mine w v k n begin now text text' (Some all) (Some ahead) None P r p h alike f = absurd h
+progress_line_rows clean st mine w v k n begin now text text' (Some all) (Some ahead) (Some rest) P r p h alike f =
+    let one = f h.0 h.2 in
+    let lines = p.lines ∙ ap (λ ls. p.done ++ ls) h.1 in
+    elim one.1 [
+      | inl before ↦ rows_reached st w v all r (line_reached st mine w v v all p.done rest h.0 lines (p.world one.0) alike (inl refl)) before
+      | inr made ↦ rows_reached st w (after mine v (spelled mine.is_hosted h.0)) all r (line_reached st mine w v (after mine v (spelled mine.is_hosted h.0)) all p.done rest h.0 lines (p.world one.0) alike (inr refl)) made
+    ]
 
 begins_more : (text front more : List ℕ) → Begins text front → Begins text (front ++ more)
 begins_more text front more b = record { more = b.more ++ more; is = sym (append_assoc text b.more more) ∙ ap (λ t. t ++ more) b.is }

@@ -3,6 +3,7 @@ use Rattle.std.specs.Prelude.{◌≡◌, ℕ, Bool, ◌+◌, List, [], ◌∷◌
 use Rattle.std.specs.Fmt.{decimal}
 use Rattle.std.specs.Io.KnownBytes.{Appends}
 use Rattle.event_plans.specs.declared.out.Out.{Out}
+use Rattle.hub_rows.specs.Rows.{Rows}
 use Rattle.hub.specs.Hub.{is_of_hosted}
 use Rattle.hub.specs.World.{Setting, World, world_outputs, world_step}
 use Rattle.lines.specs.declared.input_line.Line.{Line}
@@ -72,6 +73,11 @@ world_of st w input = world_after st w (lines_of input)
 pub record IsReached (st : Setting) (w : World) (lines : List (List ℕ)) (v : World) : Type 0 where
   pub taken : ℕ
   pub is : v ≡ world_after st w (take taken lines)
+
+-- the rows after a number of the lines, the last of them whole
+pub record AreReached (st : Setting) (w : World) (lines : List (List ℕ)) (r : Rows) : Type 0 where
+  pub taken : ℕ
+  pub is : r ≡ (world_after st w (take taken lines)).rows
 
 -- the bytes have grown by a prefix of `whole`, and `ahead` is the rest of it
 pub record Grown (xs ys ahead whole : List ℕ) : Type 0 where

@@ -2,6 +2,7 @@
 ghost use Rattle.std.specs.Prelude.{◌≡◌, ◌+◌, ◌++◌, ◌<◌, ◌≤◌, ◌-◌, ◌^◌, List, [], ◌∷◌, ℕ, true, Err, OnOk, OnErr, IfOk, IfErr};
 ghost use Rattle.hub_rows.specs.Operators.{is_hosted};
 ghost use Rattle.hub_rows.specs.Reads.{IsCounted};
+ghost use Rattle.hub_rows.specs.Stops.{IsKept, FindsOldOr};
 ghost use Rattle.hub.specs.Hub.{hub_view, world, setting, is_taken, is_clean};
 ghost use Rattle.hub.specs.World.{world_outputs, world_step};
 ghost use Rattle.lines.specs.declared.input_line.Line.TheVariants as line;
@@ -46,6 +47,9 @@ impl Answers {
         ensures fault_text { is_clean S.view hub.new → OnErr result ((line : List ℕ) → IsLine held.entry line
             → Begins self.new.text.items (self.old.text.items ++ answer (setting V.view hub.old) (world S.view hub.old) self.old.number (spelled (setting V.view hub.old).is_hosted line))) }
         ensures counted { IsCounted (hub_view S.view) hub.old hub.new (result ≡ Err line_fault.Store) }
+        ensures stopped { (line : List ℕ) → IsLine held.entry line
+            → FindsOldOr (after (setting V.view hub.old) (world S.view hub.old) (spelled (setting V.view hub.old).is_hosted line)).rows (hub_view S.view hub.old) (hub_view S.view hub.new) }
+        ensures kept { IsKept (hub_view S.view hub.old) → OnOk result (IsKept (hub_view S.view hub.new)) }
     {
         let said = read_held(alloc, hub.hosted(), held)?;
         self.said(alloc, hub, &said)?;
@@ -71,6 +75,8 @@ impl Answers {
         ensures fault_text { is_clean S.view hub.new → OnErr result (Begins self.new.text.items
             (self.old.text.items ++ answer (setting V.view hub.old) (world S.view hub.old) self.old.number said.now)) }
         ensures counted { IsCounted (hub_view S.view) hub.old hub.new (IsOfHosted (setting V.view hub.old).is_hosted said.now × (result ≡ Err line_fault.Store)) }
+        ensures stopped { FindsOldOr (after (setting V.view hub.old) (world S.view hub.old) said.now).rows (hub_view S.view hub.old) (hub_view S.view hub.new) }
+        ensures kept { IsKept (hub_view S.view hub.old) → OnOk result (IsKept (hub_view S.view hub.new)) }
     {
         match said {
             Line::Nothing => {}
@@ -98,6 +104,8 @@ impl Answers {
         ensures fault_text { is_clean S.view hub.new → OnErr result (Begins self.new.text.items (self.old.text.items
             ++ told_lines (world_outputs (setting V.view hub.old) (world S.view hub.old) event.now))) }
         ensures counted { IsCounted (hub_view S.view) hub.old hub.new ((is_taken (setting V.view hub.old) event.now ≡ true) × (result ≡ Err line_fault.Store)) }
+        ensures stopped { FindsOldOr (world_step (setting V.view hub.old) (world S.view hub.old) event.now).rows (hub_view S.view hub.old) (hub_view S.view hub.new) }
+        ensures kept { IsKept (hub_view S.view hub.old) → OnOk result (IsKept (hub_view S.view hub.new)) }
     {
         let outs = hub.handle(event)?;
         push_all(&mut self.text, alloc, outs.as_slice())?;

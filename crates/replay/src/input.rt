@@ -2,10 +2,12 @@
 ghost use Rattle.std.specs.Prelude.{◌≡◌, ◌≢◌, ◌+◌, ◌*◌, ◌++◌, ◌<◌, ◌≤◌, ◌-◌, ◌^◌, List, [], ◌∷◌, ℕ, length, min, false, Option, Err, OnOk, OnErr, IfOk, IfErr, IfSome, vec_len};
 ghost use Rattle.std.specs.Io.KnownBytes.{Appends, IsAtEnd};
 ghost use Rattle.hub_rows.specs.Reads.{IsCounted};
+ghost use Rattle.hub_rows.specs.Rows.{Rows};
+ghost use Rattle.hub_rows.specs.Stops.{IsKept};
 ghost use Rattle.hub.specs.Hub.{hub_view, world, setting, is_clean};
 ghost use Rattle.replay.specs.Held.{lines_of};
 ghost use Rattle.replay.specs.Lines.{to_come, most_turns};
-ghost use Rattle.replay.specs.Run.{Stands, Falls, AppendsFront, IsReached, answers_to, world_after, output_of, world_of};
+ghost use Rattle.replay.specs.Run.{Stands, Falls, AppendsFront, IsReached, AreReached, answers_to, world_after, output_of, world_of};
 ghost use Rattle.replay.specs.declared.fault.ReplayFault.TheVariants as replay_fault;
 
 use crate::answers::Answers;
@@ -48,6 +50,8 @@ fn pass<S: Store + Drop, V: VendorHandler, R: Read, W: Write>(
     ensures long { IfErr result (λ e. e ≡ replay_fault.TooLong → IfSome (R.remaining reader.old) (λ input. lines.old.left ≤ length input)) }
     ensures operators { IfErr result (λ e. e ≢ replay_fault.BadOperators) }
     ensures counted { IsCounted (hub_view S.view) hub.old hub.new (result ≡ Err replay_fault.Store) }
+    ensures stopped { IsKept (hub_view S.view hub.old) → (r : Rows) → (hub_view S.view hub.new).may_find r → IfSome (to_come lines.old (R.remaining reader.old)) (λ all.
+        AreReached (setting V.view hub.old) (world S.view hub.old) all r) }
 {
     while lines.next(reader)? {
         answers.line(alloc, hub, lines.held())?;
@@ -67,6 +71,9 @@ fn pass<S: Store + Drop, V: VendorHandler, R: Read, W: Write>(
 /// hub is left as the machine leaves it. After a fault what was written is a prefix of that, and
 /// the hub is left as after a number of whole lines. A line whose event ended in a fault has
 /// changed nothing. An event whose output found no memory, or was not written, has happened.
+///
+/// Where the work stops during the call and the store of a kept hub is opened again, its records are those after a
+/// number of whole lines (`stopped`).
 ///
 /// An input of `most` bytes or more is the fault TooLong, and so is one of 1,073,741,824.
 pub fn replay_within<S: Store + Drop, V: VendorHandler, R: Read, W: Write>(
@@ -89,6 +96,8 @@ pub fn replay_within<S: Store + Drop, V: VendorHandler, R: Read, W: Write>(
     ensures long { IfErr result (λ e. e ≡ replay_fault.TooLong → IfSome (R.remaining reader.old) (λ input. min most 1073741824 ≤ length input)) }
     ensures operators { IfErr result (λ e. e ≢ replay_fault.BadOperators) }
     ensures counted { IsCounted (hub_view S.view) hub.old hub.new (result ≡ Err replay_fault.Store) }
+    ensures stopped { IsKept (hub_view S.view hub.old) → (r : Rows) → (hub_view S.view hub.new).may_find r → IfSome (R.remaining reader.old) (λ input.
+        AreReached (setting V.view hub.old) (world S.view hub.old) (lines_of input) r) }
 {
     let mut lines = Lines::new(alloc, bound(most));
     let mut answers = Answers {
@@ -131,6 +140,8 @@ pub fn replay<S: Store + Drop, V: VendorHandler, R: Read, W: Write>(
     ensures long { IfErr result (λ e. e ≡ replay_fault.TooLong → IfSome (R.remaining reader.old) (λ input. 1073741824 ≤ length input)) }
     ensures operators { IfErr result (λ e. e ≢ replay_fault.BadOperators) }
     ensures counted { IsCounted (hub_view S.view) hub.old hub.new (result ≡ Err replay_fault.Store) }
+    ensures stopped { IsKept (hub_view S.view hub.old) → (r : Rows) → (hub_view S.view hub.new).may_find r → IfSome (R.remaining reader.old) (λ input.
+        AreReached (setting V.view hub.old) (world S.view hub.old) (lines_of input) r) }
 {
     replay_within(alloc, hub, reader, writer, MAX_INPUT)
 }

@@ -1,5 +1,5 @@
 -- The tables that CREATE makes, and a database that is looked at.
-use Rattle.std.proofs.Common.{codes, map, ◌≡◌, ◌⊎◌, ℕ, List, [], ◌∷◌, ◌++◌, true, false, Some, None, slice_get, Ok, Err, Result, IsTrue, IfErr, OnOk, OnErr, IsOk, IsErr, refl, sym, ap, ◌∙◌, subst, inl, inr, true≢false, arith}
+use Rattle.std.proofs.Common.{codes, map, ◌≡◌, ◌⊎◌, ℕ, List, [], ◌∷◌, ◌++◌, true, false, Some, None, slice_get, Ok, Err, Result, IsTrue, IfOk, IfErr, OnOk, OnErr, IsOk, IsErr, refl, sym, ap, ◌∙◌, subst, inl, inr, true≢false, arith}
 use Rattle.std.proofs.lemmas.Bool.{cases_Bool}
 use Rattle.std.specs.List.{AllByRecursion}
 use Rattle.sqlite_value.specs.Order.{Row}
@@ -15,7 +15,8 @@ use Rattle.sqlite.specs.declared.error.ErrorCode.TheVariants.{TransactionState}
 use Rattle.sqlite.specs.Effect.{Database, IsDatabase}
 use Rattle.sqlite.specs.Does.{Tally, AtPlace, MakesIndex, no_rows as no_tally}
 use Rattle.sqlite.specs.Rows.{Then, Gives}
-use Rattle.sqlite.specs.State.{State, HasCleanDisk, Survives, ExecutesInside, Writes, IsRolledBack, Shows, KeepsCounts}
+use Rattle.sqlite.proofs.StateLemmas.{survives_then}
+use Rattle.sqlite.specs.State.{State, HasCleanDisk, Survives, ExecutesInside, Writes, IsRolledBack, IsUnchanged, IsNotRun, Shows, KeepsCounts}
 use Rattle.sqlite.specs.Steps.{FailsToCommit}
 use Rattle.sqlite.proofs.Callers.{runs_as}
 use Rattle.sqlite.specs.Held.{Held, state}
@@ -247,6 +248,7 @@ module _ {S : Type 0} (g : Ghosts S) (old tx mid end : Held S) (begun : tx ≡ r
         let mid_clean = survives.clean in
         elim (survives.crash sure db may) [ inl was ↦ inl (crash_mid up (omega (arith, mid_clean, sure)) db was) | inr none ↦ absurd none ];
     durable = λ up. tt;
+    up = λ sure. tt;
   }
 
   pub commits_new : (r : Result (Unit {0}) Error) → (IsTrue (state g mid).is_open → HasTables (state g mid)) → (HasCleanDisk (state g mid) → IsTrue (state g mid).is_open)
@@ -270,6 +272,7 @@ module _ {S : Type 0} (g : Ghosts S) (old tx mid end : Held S) (begun : tx ≡ r
         refused = λ up. elim (err (clean up)) [ inl fails ↦ rolled up fails.3 | inr over ↦ absurd (true≢false (sym (has over.2.0.was_open).mode ∙ over.1)) ];
         crash = crashes;
         durable = λ up. tt;
+        up = λ sure. tt;
       }
       go (Ok x) ok err = record {
         serves = λ ours up.
@@ -289,6 +292,7 @@ module _ {S : Type 0} (g : Ghosts S) (old tx mid end : Held S) (begun : tx ≡ r
         refused = λ up. tt;
         crash = crashes;
         durable = λ up db may. let shows = (ok (clean up)).1 in after up db may ∙ ap (λ (d : Database). d.trees) (shows.committed_is ∙ sym shows.now_is);
+        up = λ sure. (ok sure).1.is_open;
       }
 
 pub committed_up : (mid end : State) (r : Result (Unit {0}) Error) → (HasCleanDisk end → OnOk r (IsTrue mid.in_transaction × Shows mid end mid.now mid.now false × KeepsCounts mid end × (end.marks ≡ []))) → HasCleanDisk end → OnOk r (IsTrue end.is_open)
@@ -302,10 +306,10 @@ module _ (old new : State) (rested : Rested old) (spared : IsSpared old new) (be
   spared_crash up sure db may = elim (spared.survives.crash sure db may) [ inl was ↦ inl (before up db was) | inr none ↦ absurd none ]
 
   pub spared_err : {A E : Type 0} (e : E) → Prepares {A = A} {E = E} old new (Err e)
-  spared_err e = record { serves = λ ours up. tt; taken = λ up. tt; refused = λ up. (spared.was_open up, spared.now up); crash = spared_crash; durable = λ up. tt }
+  spared_err e = record { serves = λ ours up. tt; taken = λ up. tt; refused = λ up. (spared.was_open up, spared.now up); crash = spared_crash; durable = λ up. tt; up = λ sure. tt }
 
-  pub spared_ok : {A E : Type 0} (x : A) → (IsTrue new.is_open → old.now.schema ≡ hub_schema) → (IsTrue new.is_open → (db : Trees) → new.may_leave db → db ≡ new.committed.trees) → Prepares {A = A} {E = E} old new (Ok x)
-  spared_ok x has after = record {
+  pub spared_ok : {A E : Type 0} (x : A) → (IsTrue new.is_open → old.now.schema ≡ hub_schema) → (IsTrue new.is_open → (db : Trees) → new.may_leave db → db ≡ new.committed.trees) → (HasCleanDisk new → IsTrue new.is_open) → Prepares {A = A} {E = E} old new (Ok x)
+  spared_ok x has after opens = record {
     serves = λ ours up.
         let it = ours (has up) in
         let was = spared.was_open up in
@@ -324,17 +328,46 @@ module _ (old new : State) (rested : Rested old) (spared : IsSpared old new) (be
     refused = λ up. tt;
     crash = spared_crash;
     durable = λ up db may. after up db may ∙ ap (λ (d : Database). d.trees) (spared.committed up ∙ rested.settled (spared.was_open up) ∙ sym (spared.now up));
+    up = opens;
   }
 
   -- what is said of it, if Ok is said of our schema alone
-  pub spared_result : {A E : Type 0} (r : Result A E) → OnOk r (new.now.schema ≡ hub_schema) → (IsTrue new.is_open → (db : Trees) → new.may_leave db → db ≡ new.committed.trees) → Prepares old new r
-  spared_result (Ok x) has after = spared_ok x (λ up. sym (ap (λ (d : Database). d.schema) (spared.now up)) ∙ has) after
-  spared_result (Err e) has after = spared_err e
+  pub spared_result : {A E : Type 0} (r : Result A E) → (IsTrue new.is_open → old.now.schema ≡ hub_schema) → (IsTrue new.is_open → (db : Trees) → new.may_leave db → db ≡ new.committed.trees) → (HasCleanDisk new → OnOk r (IsTrue new.is_open)) → Prepares old new r
+  spared_result (Ok x) has after opens = spared_ok x has after opens
+  spared_result (Err e) has after opens = spared_err e
+
+-- ---- a text is compiled
+
+not_run : (sql : List ℕ) (params : Row) (old new : State) (e : Error) → (IsTrue old.is_open → old.committed ≡ old.now) → IsNotRun old new sql params e → IsTrue new.is_open → IsTrue old.is_open × (new.now ≡ old.now) × (new.committed ≡ old.committed)
+unfolding IsNotRun
+not_run sql params old new e settled (inl refused) up = (refused.1.0.was_open, refused.1.0.now_is, refused.1.0.committed_is)
+not_run sql params old new e settled (inr failed) up = let was = failed.3.was_open up in let undone = failed.3.undone up in (was, undone.0 ∙ settled was, undone.1)
+
+-- nothing changes
+pub compiled_spared : {A : Type 0} (P : A → Type 0) (sql : List ℕ) (old new : State) (r : Result A Error) → (HasCleanDisk new → IfOk r (λ s. P s × IsUnchanged old new)) → (HasCleanDisk new → IfErr r (λ e. (params : Row) → IsNotRun old new sql params e))
+    → Survives old new (λ _. ⊥) → (IsTrue old.is_open → old.committed ≡ old.now) → old.in_transaction ≡ false → new.in_transaction ≡ false → (IsTrue new.is_open → HasCleanDisk new) → IsSpared old new
+compiled_spared {A} P sql old new r ok err survives settled before ended clean = record { was_open = λ up. (it up).0; now = λ up. (it up).1; committed = λ up. (it up).2; mode = ended ∙ sym before; survives = survives }
+  where
+    go : (r : Result A Error) → IfOk r (λ s. P s × IsUnchanged old new) → IfErr r (λ e. (params : Row) → IsNotRun old new sql params e) → IsTrue new.is_open → IsTrue old.is_open × (new.now ≡ old.now) × (new.committed ≡ old.committed)
+    go (Ok x) ok err up = (ok.1.0.was_open, ok.1.0.now_is, ok.1.0.committed_is)
+    go (Err e) ok err up = not_run sql [] old new e settled (err []) up
+
+    it : IsTrue new.is_open → IsTrue old.is_open × (new.now ≡ old.now) × (new.committed ≡ old.committed)
+    it up = go r (ok (clean up)) (err (clean up)) up
+
+pub spared_then : (a b c : State) → IsSpared a b → IsSpared b c → IsSpared a c
+spared_then a b c p q = record {
+  was_open = λ up. p.was_open (q.was_open up);
+  now = λ up. q.now up ∙ p.now (q.was_open up);
+  committed = λ up. q.committed up ∙ p.committed (q.was_open up);
+  mode = q.mode ∙ p.mode;
+  survives = survives_then a b c _ _ _ (λ _ db none. absurd none) (λ _ db none. absurd none) p.survives q.survives;
+}
 
 -- the same answer under another error
 pub prepares_as : {A B E F : Type 0} (old new : State) (r : Result A E) (q : Result B F) → Prepares old new r → OnOk q (IsOk r) → OnErr q (IsErr r) → Prepares old new q
-prepares_as old new (Ok a) (Ok b) p ok err = record { serves = p.serves; taken = p.taken; refused = p.refused; crash = p.crash; durable = p.durable }
-prepares_as old new (Err d) (Err e) p ok err = record { serves = p.serves; taken = p.taken; refused = p.refused; crash = p.crash; durable = p.durable }
+prepares_as old new (Ok a) (Ok b) p ok err = record { serves = p.serves; taken = p.taken; refused = p.refused; crash = p.crash; durable = p.durable; up = p.up }
+prepares_as old new (Err d) (Err e) p ok err = record { serves = p.serves; taken = p.taken; refused = p.refused; crash = p.crash; durable = p.durable; up = p.up }
 prepares_as old new (Ok a) (Err e) p ok err = absurd cc
 prepares_as old new (Err d) (Ok b) p ok err = absurd cc
 
@@ -342,10 +375,10 @@ prepares_as old new (Err d) (Ok b) p ok err = absurd cc
 pub unlimited : {S A E : Type 0} (g : Ghosts S) (old mid new : Held S) (r : Result A E) → mid ≡ record old { step_limit = None } → Prepares (state g mid) (state g new) r → Prepares (state g old) (state g new) r
 unlimited g old mid new r same p =
     let q = subst (λ h. Prepares (state g h) (state g new) r) same p in
-    record { serves = q.serves; taken = q.taken; refused = q.refused; crash = q.crash; durable = q.durable }
+    record { serves = q.serves; taken = q.taken; refused = q.refused; crash = q.crash; durable = q.durable; up = q.up }
 
 pub rested_as : {S : Type 0} (g : Ghosts S) (old mid : Held S) → mid ≡ record old { step_limit = None } → (IsTrue (state g old).is_open → IsDatabase (state g old).now) → (IsTrue (state g old).is_open → (state g old).committed ≡ (state g old).now) → old.in_transaction ≡ false → Rested (state g mid)
 rested_as g old mid same sound settled mode = subst (λ h. Rested (state g h)) (sym same) (record { sound = sound; settled = settled; mode = mode; limit = refl })
 
 pub nothing_done : {A E : Type 0} (s : State) (e : E) → (IsTrue s.is_open → (db : Trees) → s.may_leave db → db ≡ s.committed.trees) → Prepares {A = A} {E = E} s s (Err e)
-nothing_done s e before = record { serves = λ ours up. tt; taken = λ up. tt; refused = λ up. (up, refl); crash = λ up sure db may. inl (before up db may); durable = λ up. tt }
+nothing_done s e before = record { serves = λ ours up. tt; taken = λ up. tt; refused = λ up. (up, refl); crash = λ up sure db may. inl (before up db may); durable = λ up. tt; up = λ sure. tt }

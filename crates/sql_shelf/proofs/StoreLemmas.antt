@@ -1,5 +1,5 @@
 -- What any read and any write leave, whatever its text.
-use Rattle.std.proofs.Common.{◌≡◌, ℕ, List, Bool, true, false, Option, Some, None, Ok, IsTrue, refl, sym, ap, ◌∙◌, subst, inl, inr, true≢false}
+use Rattle.std.proofs.Common.{◌≡◌, ℕ, List, Bool, true, false, Option, Some, None, Ok, Err, Result, IsTrue, IsSome, IsOk, OnOk, refl, sym, ap, ◌∙◌, subst, inl, inr, true≢false, arith}
 use Rattle.sqlite_value.specs.Order.{Row}
 use Rattle.sqlite_trees.specs.Tree.{Trees}
 use Rattle.sqlite_trees.specs.View.{doubt}
@@ -11,13 +11,13 @@ use Rattle.sqlite.specs.declared.error.Error.{Error}
 use Rattle.sqlite.specs.Effect.{Database, IsDatabase}
 use Rattle.sqlite.specs.Does.{Tally, Does}
 use Rattle.sqlite.specs.Listing.{understood}
-use Rattle.sqlite.specs.State.{State, Runs, IsNotRun, Shown, ShowsRows, FailsToShow, FailsToQuery, IsRolledBack, IsUnchanged, Writes, mode_of}
+use Rattle.sqlite.specs.State.{State, HasCleanDisk, Runs, IsNotRun, Shown, ShowsRows, FailsToShow, FailsToQuery, CommitsShowing, IsRolledBack, IsUnchanged, Writes, mode_of}
 use Rattle.sqlite.specs.Clock.{timed}
 use Rattle.sqlite.proofs.Callers.{IsPlain, command_of}
 use Rattle.sql_tables.specs.Tables.{hub_schema}
 use Rattle.sql_shelf.specs.Shelves.{hub_good}
 use Rattle.sql_shelf.specs.Shelf.{AreShelved}
-use Rattle.sql_shelf.specs.Kept.{Serves, IsServing, IsAsBefore, Rests}
+use Rattle.sql_shelf.specs.Kept.{Serves, IsServing, IsAsBefore, Rests, IsUncommitted, StaysOpen, CommitsNothing}
 
 -- a store that is open is clean
 pub open_is_clean : (clean is_open : Bool) → (clean ≡ false → is_open ≡ false) → IsTrue is_open → doubt clean ≡ 0
@@ -72,6 +72,19 @@ module _ (sql : List ℕ) (params : Row) (old new : State) where
       go : (o : Option Returning) → ShowsRows old new sql h.0 (timed params h.0.formats h.1.now) rows o → IsTrue old.is_open
       go None it = it.3.0.was_open
       go (Some what) it = it.1.shown.was_open
+
+  pub shown_up : (rows : List Row) → Shown sql params old new rows → IsTrue new.is_open
+  unfolding Shown
+  shown_up rows h = go h.0.returning h.2
+    where
+      go : (o : Option Returning) → ShowsRows old new sql h.0 (timed params h.0.formats h.1.now) rows o → IsTrue new.is_open
+      go None it = it.3.0.is_open
+      go (Some what) it = it.1.shown.is_open
+
+  -- nor does it commit
+  pub commits_none : (db : Trees) → IsPlain (understood old.now.schema sql) → CommitsShowing sql params old db → ⊥
+  unfolding CommitsShowing
+  commits_none db plain h = let none = (subst IsPlain h.1.is plain).0 in let some = subst IsSome none h.2 in absurd cc
 
   pub failed_was : (e : Error) → IsTrue new.is_open → FailsToQuery sql params old new e → IsTrue old.is_open
   unfolding FailsToQuery IsNotRun
@@ -138,3 +151,43 @@ pub rests_before : (a b c : State) → Rests a b → Rests b c → IsServing a �
 rests_before a b c p q serves up =
     let mid : IsServing b = λ up. (p serves up).serves in
     (mid, (p serves (q mid up).was_open).now)
+
+-- the same answer as another type
+pub commits_as : {A B E F : Type 0} (a b : State) (r : Result A E) (q : Result B F) → OnOk q (IsOk r) → (IsServing a → CommitsNothing a b r) → CommitsNothing a b q
+commits_as a b (Ok x) (Ok y) ok h = λ serves. h serves serves
+commits_as a b (Ok x) (Err e) ok h = λ serves. (h serves serves).stops
+commits_as a b (Err x) (Ok y) ok h = absurd cc
+commits_as a b (Err x) (Err e) ok h = λ serves. h serves serves
+
+-- any answer after a call that answers Ok
+pub commits_after : {A E : Type 0} (a b : State) (r : Result A E) → (IsServing a → StaysOpen a b) → CommitsNothing a b r
+commits_after a b (Ok x) h = h
+commits_after a b (Err e) h = λ serves. (h serves).stops
+
+-- a call after one that answers Ok
+module _ (a b c : State) (rests : Rests a b) (first : IsServing a → StaysOpen a b) where
+  serving_then : IsServing a → IsServing b
+  serving_then serves up = (rests serves up).serves
+
+  pub uncommitted_then : (IsServing b → IsUncommitted b c) → IsServing a → IsUncommitted a c
+  uncommitted_then second serves =
+      let one = first serves in
+      let two = second (serving_then serves) in
+      let before = one.stops.clean in
+      let after = two.clean in
+      record {
+        clean = omega (arith, before, after);
+        leaves = λ up sure db left. let mid : HasCleanDisk b = omega (arith, after, sure) in one.stops.leaves up mid db (two.leaves (one.up up mid) sure db left);
+      }
+
+  pub stays_then : (IsServing b → StaysOpen b c) → IsServing a → StaysOpen a c
+  stays_then second serves =
+      let two = second (serving_then serves) in
+      record {
+        stops = uncommitted_then (λ serves. (second serves).stops) serves;
+        up = λ up sure. let after = two.stops.clean in let mid : HasCleanDisk b = omega (arith, after, sure) in two.up ((first serves).up up mid) sure;
+      }
+
+  pub commits_then : {A E : Type 0} (r : Result A E) → CommitsNothing b c r → CommitsNothing a c r
+  commits_then (Ok x) second = stays_then second
+  commits_then (Err e) second = uncommitted_then second

@@ -1,8 +1,9 @@
 -- Transactions of any number of statements.
-use Rattle.std.proofs.Common.{◌≡◌, ℕ, List, [], true, false, Ok, Err, Result, IsTrue, IsOk, IsErr, OnOk, OnErr, IfErr, refl, sym, ap, ◌∙◌, subst, inl, inr, true≢false, arith}
+use Rattle.std.proofs.Common.{◌≡◌, ◌≤◌, ℕ, List, [], true, false, Ok, Err, Result, IsTrue, IsOk, IsErr, OnOk, OnErr, IfErr, refl, sym, ap, ◌∙◌, subst, inl, inr, true≢false, arith}
 use Rattle.std.proofs.lemmas.Bool.{cases_Bool}
 use Rattle.sqlite_value.specs.Order.{Row}
 use Rattle.sqlite_trees.specs.Tree.{Trees}
+use Rattle.sqlite_trees.specs.View.{doubt}
 use Rattle.sqlite_schema.specs.Rules.{Obeys}
 use Rattle.sqlite.specs.declared.error.Error.{Error}
 use Rattle.sqlite.specs.declared.error.Error.TheVariants.{SqliteFailure}
@@ -139,6 +140,15 @@ module _ {S : Type 0} (g : Ghosts S) (old tx mid end : Held S) (begun : tx ≡ r
     | inr none ↦ absurd none
   ]
 
+  doubts : Leaves (state g begins) (state g mid) → doubt (state g mid).is_clean ≤ doubt (state g end).is_clean → doubt (state g old).is_clean ≤ doubt (state g end).is_clean
+  doubts leaves after = let before = leaves.survives.clean in omega (arith, before, after)
+
+  committed_open : (r : Result (Unit {0}) Error)
+      → (HasCleanDisk (state g end) → OnOk r (IsTrue (state g mid).in_transaction × Shows (state g mid) (state g end) (state g mid).now (state g mid).now false × KeepsCounts (state g mid) (state g end) × ((state g end).marks ≡ [])))
+      → HasCleanDisk (state g end) → OnOk r (IsTrue (state g end).is_open)
+  committed_open (Ok x) ok sure = (ok sure).1.is_open
+  committed_open (Err e) ok sure = tt
+
   -- a part failed, and the transaction is dropped
   pub drops_all : (Edit : Trees → Trees → Type 0) {A E : Type 0} (e : E) → Leaves (state g tx) (state g mid) → (HasCleanDisk (state g end) → IsRolledBack (state g mid) (state g end)) → Survives (state g mid) (state g end) (λ _. ⊥)
       → Changes {A = A} {E = E} Edit (state g old) (state g end) (Err e)
@@ -151,6 +161,8 @@ module _ {S : Type 0} (g : Ghosts S) (old tx mid end : Held S) (begun : tx ≡ r
             let mid_clean = survives.clean in
             elim (survives.crash sure db may) [ inl was ↦ inl (crash_before leaves up (omega (arith, mid_clean, sure)) db was) | inr none ↦ absurd none ];
         durable = λ up. tt;
+        clean = doubts leaves survives.clean;
+        up = λ sure. tt;
       }
 
   -- all parts are done, and the transaction is committed, or that fails
@@ -173,6 +185,8 @@ module _ {S : Type 0} (g : Ghosts S) (old tx mid end : Held S) (begun : tx ≡ r
               | inr committed ↦ inr (subst (Edit (state g old).now.trees) (sym committed) (inside.edit (inside.still up mid_sure)))
             ];
         durable = made.2;
+        clean = doubts inside.leaves survives.clean;
+        up = committed_open r ok;
       }
     where
       by_result : Inside Edit (state g begins) (state g mid) → (r : Result (Unit {0}) Error)
@@ -212,8 +226,8 @@ module _ {S : Type 0} (g : Ghosts S) (old tx mid end : Held S) (begun : tx ≡ r
 
 -- the same answer as another type
 pub changes_as : {A B E F : Type 0} (Edit : Trees → Trees → Type 0) (a b : State) (r : Result A E) (q : Result B F) → OnOk q (IsOk r) → OnErr q (IsErr r) → Changes Edit a b r → Changes Edit a b q
-changes_as Edit a b (Ok x) (Ok y) ok err h = record { ok = h.ok; err = h.err; crash = h.crash; durable = h.durable }
-changes_as Edit a b (Err x) (Err y) ok err h = record { ok = h.ok; err = h.err; crash = h.crash; durable = h.durable }
+changes_as Edit a b (Ok x) (Ok y) ok err h = record { ok = h.ok; err = h.err; crash = h.crash; durable = h.durable; clean = h.clean; up = h.up }
+changes_as Edit a b (Err x) (Err y) ok err h = record { ok = h.ok; err = h.err; crash = h.crash; durable = h.durable; clean = h.clean; up = h.up }
 changes_as Edit a b (Ok x) (Err y) ok err h = absurd cc
 changes_as Edit a b (Err x) (Ok y) ok err h = absurd cc
 
@@ -224,4 +238,6 @@ changes_nothing Edit s e h before = record {
   err = λ up. record { was_open = up; now = refl; serves = h up };
   crash = λ up sure db left. inl (before up db left ∙ ap (λ (d : Database). d.trees) (h up).committed);
   durable = λ up. tt;
+  clean = omega arith;
+  up = λ sure. tt;
 }

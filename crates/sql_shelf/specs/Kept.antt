@@ -1,9 +1,10 @@
 -- What a connection keeps, and what a call makes of it.
-use Rattle.std.specs.Prelude.{◌≡◌, ◌⊎◌, ℕ, false, true, not, None, List, [], map, filter, Bool, IsTrue, Result, OnOk, OnErr, IfOk}
+use Rattle.std.specs.Prelude.{◌≡◌, ◌⊎◌, ℕ, ◌≤◌, false, true, not, None, List, [], map, filter, Bool, IsTrue, Result, Ok, Err, OnOk, OnErr, IfOk}
 use Rattle.std.specs.declared.cmp.Ordering.TheVariants.{Equal}
 use Rattle.sqlite_rules.specs.Lists.{Has}
 use Rattle.sqlite_value.specs.Order.{Row}
 use Rattle.sqlite_trees.specs.Tree.{Trees}
+use Rattle.sqlite_trees.specs.View.{doubt}
 use Rattle.sqlite.specs.declared.error.Error.{Error}
 use Rattle.sqlite.specs.Effect.{IsDatabase}
 use Rattle.sqlite.specs.State.{State, HasCleanDisk, Survives}
@@ -36,6 +37,21 @@ pub record IsAsBefore (old new : State) : Type 0 where
 abbrev pub Rests : State → State → Type 0
 Rests old new = IsServing old → IsTrue new.is_open → IsAsBefore old new
 
+-- nothing is committed and no fault of the disk is forgotten: a stop leaves what it would have left before the call
+pub record IsUncommitted (old new : State) : Type 0 where
+  pub clean : doubt old.is_clean ≤ doubt new.is_clean
+  pub leaves : IsTrue old.is_open → HasCleanDisk new → (db : Trees) → new.may_leave db → old.may_leave db
+
+-- the same, and the connection is still open
+pub record StaysOpen (old new : State) : Type 0 where
+  pub stops : IsUncommitted old new
+  pub up : IsTrue old.is_open → HasCleanDisk new → IsTrue new.is_open
+
+-- what a read says of stops, by its answer
+abbrev pub CommitsNothing : {A E : Type 0} → State → State → Result A E → Type 0
+CommitsNothing old new (Ok x) = IsServing old → StaysOpen old new
+CommitsNothing old new (Err e) = IsServing old → IsUncommitted old new
+
 -- what a call answers, of the tables
 abbrev pub FindsIn : {A E : Type 0} → State → State → Result A E → (Trees → A → Type 0) → Type 0
 FindsIn old new r P = IsServing old → IsTrue new.is_open → IfOk r (P old.now.trees)
@@ -50,11 +66,13 @@ pub record Shows {V T : Type 0} (items : V → List Row) (s : Shelf T) (p : T �
   -- each key is shown once
   pub once : IsTrue new.is_open → IfOk r (λ v. (a b : T) → Has (map s.read (items v)) a → Has (map s.read (items v)) b → cmp s a b ≡ Equal → a ≡ b)
   pub same : IsTrue new.is_open → IsAsBefore old new
+  pub stops : CommitsNothing old new r
 
 -- the greatest number that is shown is that of the rows that pass, and nothing changes
 pub record ShowsLast {V T : Type 0} (items : V → List Row) (s : Shelf T) (number : T → ℕ) (p : T → Bool) (old new : State) (r : Result V Error) : Type 0 where
   pub ok : IsTrue new.is_open → IfOk r (λ v. greatest (map number (map s.read (items v))) ≡ greatest (map number (filter p (rows_in s old.now.trees))))
   pub same : IsTrue new.is_open → IsAsBefore old new
+  pub stops : CommitsNothing old new r
 
 -- ---- edits of the tables
 
@@ -91,6 +109,9 @@ pub record Changes {A E : Type 0} (Edit : Trees → Trees → Type 0) (old new :
   pub err : IsTrue new.is_open → OnErr r (IsAsBefore old new)
   pub crash : IsTrue old.is_open → HasCleanDisk new → (db : Trees) → new.may_leave db → (db ≡ old.now.trees) ⊎ Edit old.now.trees db
   pub durable : IsTrue new.is_open → OnOk r ((db : Trees) → new.may_leave db → db ≡ new.now.trees)
+  -- no fault of the disk is forgotten, and with none an Ok leaves the connection open
+  pub clean : doubt old.is_clean ≤ doubt new.is_clean
+  pub up : HasCleanDisk new → OnOk r (IsTrue new.is_open)
 
 -- ---- transactions of several statements
 

@@ -65,3 +65,4 @@ pub record Prepares {A E : Type 0} (old new : State) (r : Result A E) : Type 0 w
   pub refused : IsTrue new.is_open → OnErr r (IsTrue old.is_open × (new.now ≡ old.now))
   pub crash : IsTrue old.is_open → HasCleanDisk new → (db : Trees) → new.may_leave db → (db ≡ old.committed.trees) ⊎ ((old.now.schema ≡ no_schema) × AreNew db)
   pub durable : IsTrue new.is_open → OnOk r ((db : Trees) → new.may_leave db → db ≡ new.now.trees)
+  pub up : HasCleanDisk new → OnOk r (IsTrue new.is_open)

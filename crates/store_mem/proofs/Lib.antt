@@ -1,4 +1,5 @@
 pub mod Kept
+pub mod NeverKept
 pub mod RowLaws
 pub mod StationRowsLaws
 pub mod GroupLaws

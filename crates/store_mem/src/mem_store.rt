@@ -4,7 +4,7 @@ ghost use Rattle.std.proofs.Props.{props};
 ghost use Rattle.hub_rows.specs.Keyed.{changed};
 ghost use Rattle.hub_rows.specs.Rows.{no_rows};
 ghost use Rattle.hub_rows.specs.WellFormed.{WellFormedRows};
-ghost use Rattle.hub_rows.specs.Changes.{edit, with_stop, EditFits};
+ghost use Rattle.hub_rows.specs.Changes.{edit, with_stop, after_change, EditFits, Fits};
 ghost use Rattle.hub_rows.specs.Transactions.{counts, is_open, is_tx};
 ghost use Rattle.hub_rows.specs.declared.change.Edit.TheVariants.{StationAdded, BootSeen, PolicySet, ConnectorSeen, TagPut, TagDropped, GrantPut, GrantDropped, TxStarted, ReadingsAdded, ReservationPut, ReservationDropped, ListSet};
 ghost use Rattle.store_mem.specs.Lists.{rows_in, AreByStation, AreByOperator};
@@ -287,10 +287,74 @@ impl MemStore {
             readings,
         )
     }
+
+    /// Makes a change that fits.
+    fn make(&mut self, change: &Change) -> Mem<()>
+        requires { Fits change.now (rows_in self.old.lists) }
+        ensures ok { OnOk result (rows_in self.new.lists ≡ after_change change.now (rows_in self.old.lists)) }
+        ensures err { OnErr result (rows_in self.new.lists ≡ rows_in self.old.lists) }
+    {
+        let op = &change.op;
+        match change.edit.as_ref() {
+            Edit::StationAdded {
+                station,
+                policy,
+                interval,
+            } => self.add_station(op, station, *policy, *interval)?,
+            Edit::BootSeen {
+                station,
+                boot,
+                state,
+            } => self.see_boot(op, station, boot, *state)?,
+            Edit::PolicySet {
+                station,
+                policy,
+                interval,
+            } => self.set_policy(op, station, *policy, *interval),
+            Edit::ConnectorSeen {
+                station,
+                connector,
+                report,
+            } => self.put_connector(op, station, *connector, report)?,
+            Edit::TagPut { key, tag } => self.put_tag(op, key, tag)?,
+            Edit::TagDropped { key } => self.drop_tag(op, key),
+            Edit::GrantPut { key, to, until } => self.put_grant(op, key, to, *until)?,
+            Edit::GrantDropped { key, to } => self.drop_grant(op, key, to),
+            Edit::TxStarted {
+                station,
+                number,
+                start,
+            } => self.start_tx(op, station, *number, start)?,
+            Edit::TxStopped {
+                station,
+                number,
+                stop,
+                first,
+                readings,
+            } => {
+                let stop = stop.clone()?;
+                self.add_readings(op, station, *first, readings.as_slice())?;
+                self.stop_tx(op, station, *number, stop);
+            }
+            Edit::ReadingsAdded {
+                station,
+                first,
+                readings,
+            } => self.add_readings(op, station, *first, readings.as_slice())?,
+            Edit::ReservationPut {
+                station,
+                id,
+                reservation,
+            } => self.put_reservation(op, station, *id, reservation)?,
+            Edit::ReservationDropped { station, id } => self.drop_reservation(op, station, *id),
+            Edit::ListSet { station, list } => self.set_list(op, station, list)?,
+        }
+        Ok(())
+    }
 }
 
 impl Store for MemStore {
-    ghost view = { λ s. record { rows = rows_in s.lists; failures = 0; clean = Unit {0} } };
+    ghost view = { λ s. record { rows = rows_in s.lists; failures = 0; clean = Unit {0}; may_find = λ _. Unit {0} } };
 
     ghost well_formed = { λ s _. s.good };
 
@@ -402,61 +466,6 @@ impl Store for MemStore {
     }
 
     fn apply(&mut self, change: &Change) -> Result<(), StoreFault> {
-        let op = &change.op;
-        match change.edit.as_ref() {
-            Edit::StationAdded {
-                station,
-                policy,
-                interval,
-            } => self.add_station(op, station, *policy, *interval)?,
-            Edit::BootSeen {
-                station,
-                boot,
-                state,
-            } => self.see_boot(op, station, boot, *state)?,
-            Edit::PolicySet {
-                station,
-                policy,
-                interval,
-            } => self.set_policy(op, station, *policy, *interval),
-            Edit::ConnectorSeen {
-                station,
-                connector,
-                report,
-            } => self.put_connector(op, station, *connector, report)?,
-            Edit::TagPut { key, tag } => self.put_tag(op, key, tag)?,
-            Edit::TagDropped { key } => self.drop_tag(op, key),
-            Edit::GrantPut { key, to, until } => self.put_grant(op, key, to, *until)?,
-            Edit::GrantDropped { key, to } => self.drop_grant(op, key, to),
-            Edit::TxStarted {
-                station,
-                number,
-                start,
-            } => self.start_tx(op, station, *number, start)?,
-            Edit::TxStopped {
-                station,
-                number,
-                stop,
-                first,
-                readings,
-            } => {
-                let stop = stop.clone()?;
-                self.add_readings(op, station, *first, readings.as_slice())?;
-                self.stop_tx(op, station, *number, stop);
-            }
-            Edit::ReadingsAdded {
-                station,
-                first,
-                readings,
-            } => self.add_readings(op, station, *first, readings.as_slice())?,
-            Edit::ReservationPut {
-                station,
-                id,
-                reservation,
-            } => self.put_reservation(op, station, *id, reservation)?,
-            Edit::ReservationDropped { station, id } => self.drop_reservation(op, station, *id),
-            Edit::ListSet { station, list } => self.set_list(op, station, list)?,
-        }
-        Ok(())
+        Ok(self.make(change)?)
     }
 }

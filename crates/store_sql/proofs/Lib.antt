@@ -1,3 +1,4 @@
 pub mod GrantedLaws
+pub mod StopLaws
 pub mod StoreLaws
 pub mod Calls

@@ -1,5 +1,5 @@
 -- What the store says of a call, by what the connection says of it.
-use Rattle.std.proofs.Common.{◌≡◌, ◌≤◌, IsTrue, Result, Ok, Err, OnOk, OnErr, IfOk, sym, ap, ◌∙◌, subst}
+use Rattle.std.proofs.Common.{◌≡◌, ◌≤◌, IsTrue, Result, Ok, Err, OnOk, OnErr, IfOk, sym, ap, ◌∙◌, subst, subst₂}
 use Rattle.sqlite_trees.specs.declared.store.Store.{Ghosts}
 use Rattle.sqlite.specs.Effect.{Database}
 use Rattle.sqlite.specs.Held.{Held, state}
@@ -7,21 +7,23 @@ use Rattle.sqlite.specs.State.{State}
 use Rattle.hub_rows.specs.Changes.{Fits, after_change}
 use Rattle.hub_rows.specs.Failures.{Rose}
 use Rattle.hub_rows.specs.Reads.{OnlyReads, IsCounted}
+use Rattle.hub_rows.specs.Stops.{IsKept, FindsOldOr}
 use Rattle.hub_rows.specs.Rows.{Rows}
 use Rattle.hub_rows.specs.WellFormed.{WellFormedRows}
 use Rattle.hub_rows.specs.declared.change.Change.{Change}
 use Rattle.hub_rows.specs.declared.store.StoreFault.{StoreFault}
 use Rattle.hub_rows.specs.declared.store.StoreFault.TheVariants.{Failed}
 use Rattle.hub_rows.proofs.WellFormedLaws.{well_formed-edit}
-use Rattle.sql_shelf.specs.Kept.{Serves, IsServing, IsAsBefore, Rests, Finds, Changes, IsMade, Made}
+use Rattle.sql_shelf.specs.Kept.{Serves, IsServing, IsAsBefore, Rests, CommitsNothing, Finds, Changes, IsMade, Made}
 use Rattle.sql_shelf.specs.Opening.{IsOurs}
 use Rattle.sql_shelf.specs.Shelves.{rows_of}
-use Rattle.store_sql.specs.Store.{SqlView, IsKept, IsReady, sql_rows, sql_view, IsCleanSql}
+use Rattle.store_sql.specs.Store.{SqlView, ServesIfOurs, IsReady, sql_rows, sql_view, IsCleanSql}
+use Rattle.store_sql.proofs.StopLaws.{LeavesSome, LeavesLast, read_stopped, read_stays, change_stopped, change_stays}
 
-pub serving_if : (taken s : State) → IsKept taken s → IsOurs taken → IsServing s
+pub serving_if : (taken s : State) → ServesIfOurs taken s → IsOurs taken → IsServing s
 serving_if taken s kept ours = λ up. (kept ours up).0
 
-pub kept_still : (taken old new : State) → IsKept taken old → Rests old new → IsKept taken new
+pub kept_still : (taken old new : State) → ServesIfOurs taken old → Rests old new → ServesIfOurs taken new
 kept_still taken old new kept rests = λ ours up.
     let r = rests (serving_if taken old kept ours) up in
     (r.serves, subst (λ (d : Database). WellFormedRows (rows_of d.trees)) (sym r.now) (kept ours r.was_open).1)
@@ -29,7 +31,7 @@ kept_still taken old new kept rests = λ ours up.
 -- ---- a read
 
 -- `inside` is the store by its fields, whose connection becomes that of the new store
-module _ {S : Type 0} (g : Ghosts S) (inside old new : SqlView S) (view_is : inside ≡ old) (kept : IsKept (state g inside.taken) (state g inside.conn)) (conn : Held S) (same_taken : new.taken ≡ inside.taken) (same_conn : new.conn ≡ conn)
+module _ {S : Type 0} (g : Ghosts S) (inside old new : SqlView S) (view_is : inside ≡ old) (kept : ServesIfOurs (state g inside.taken) (state g inside.conn)) (conn : Held S) (same_taken : new.taken ≡ inside.taken) (same_conn : new.conn ≡ conn)
     (rests : Rests (state g inside.conn) (state g conn)) where
   rests_new : Rests (state g inside.conn) (state g new.conn)
   rests_new = subst (λ h. Rests (state g inside.conn) (state g h)) (sym same_conn) rests
@@ -46,13 +48,19 @@ module _ {S : Type 0} (g : Ghosts S) (inside old new : SqlView S) (view_is : ins
       let up = (rests_new (serving_before clean) clean.up).was_open in
       record { ours = ours; up = up; good = (kept ours up).1 }
 
-  pub only_reads : {T : Type 0} (done result : Result T StoreFault) → result ≡ done → (done ≡ Err Failed → Rose inside.failures new.failures) → inside.failures ≤ new.failures → OnlyReads (sql_view g) old new result
-  only_reads done result same failed count = subst (λ o. OnlyReads (sql_view g) o new result) view_is (record {
-    was_clean = clean_before;
-    kept = λ clean. ap (λ (d : Database). rows_of d.trees) (rests_new (serving_before clean) clean.up).now;
-    failed = λ e. failed (sym same ∙ e);
-    count = count;
-  })
+  pub only_reads : {T : Type 0} (done result : Result T StoreFault) → result ≡ done → (done ≡ Err Failed → Rose inside.failures new.failures) → inside.failures ≤ new.failures → CommitsNothing (state g inside.conn) (state g conn) done → LeavesSome g inside.conn → LeavesLast g conn
+      → OnlyReads (sql_view g) old new result
+  only_reads done result same failed count stops some last =
+      let stops_new = subst₂ (λ h r. CommitsNothing (state g inside.conn) (state g h) r) (sym same_conn) (sym same) stops in
+      let last_new = subst (LeavesLast g) (sym same_conn) last in
+      subst (λ o. OnlyReads (sql_view g) o new result) view_is (record {
+        was_clean = clean_before;
+        kept = λ clean. ap (λ (d : Database). rows_of d.trees) (rests_new (serving_before clean) clean.up).now;
+        failed = λ e. failed (sym same ∙ e);
+        count = count;
+        stopped = read_stopped g inside new kept same_taken some last_new result rests_new stops_new;
+        stays = read_stays g inside new kept same_taken some last_new result rests_new stops_new;
+      })
 
   -- what the call answers of the rows of the connection, it answers of the rows of the store
   pub found_in : {T : Type 0} (done result : Result T StoreFault) → result ≡ done → (P : Rows → T → Type 0) → Finds (state g inside.conn) (state g conn) done P
@@ -63,7 +71,7 @@ module _ {S : Type 0} (g : Ghosts S) (inside old new : SqlView S) (view_is : ins
 
 -- ---- a change
 
-module _ {S : Type 0} (g : Ghosts S) (inside : SqlView S) (conn : Held S) (kept : IsKept (state g inside.taken) (state g inside.conn)) (change : Change) (fits : IsCleanSql g inside → Fits change (sql_rows g inside)) (r : Result (Unit {0}) StoreFault)
+module _ {S : Type 0} (g : Ghosts S) (inside : SqlView S) (conn : Held S) (kept : ServesIfOurs (state g inside.taken) (state g inside.conn)) (change : Change) (fits : IsCleanSql g inside → Fits change (sql_rows g inside)) (r : Result (Unit {0}) StoreFault)
     (made : IsReady change (state g inside.conn) → Changes (IsMade (after_change change)) (state g inside.conn) (state g conn) r) where
   ready : IsOurs (state g inside.taken) → IsReady change (state g inside.conn)
   ready ours up = let k = kept ours up in (k.0, k.1, fits (record { ours = ours; up = up; good = k.1 }))
@@ -83,7 +91,7 @@ module _ {S : Type 0} (g : Ghosts S) (inside : SqlView S) (conn : Held S) (kept 
   was_up (Ok x) m = m.was_open
   was_up (Err e) m = m.was_open
 
-  pub change_kept : IsKept (state g inside.taken) (state g conn)
+  pub change_kept : ServesIfOurs (state g inside.taken) (state g conn)
   change_kept ours up = go r (outcome ours up)
     where
       go : (r : Result (Unit {0}) StoreFault) → Outcome r → Serves (state g conn) × WellFormedRows (rows_of (state g conn).now.trees)
@@ -119,3 +127,19 @@ module _ {S : Type 0} (g : Ghosts S) (inside : SqlView S) (conn : Held S) (kept 
         go : (r : Result (Unit {0}) StoreFault) → Outcome r → OnErr r (sql_rows g new ≡ sql_rows g inside)
         go (Ok x) m = tt
         go (Err e) m = rows_at ∙ ap (λ (d : Database). rows_of d.trees) m.now
+
+    module _ (some : LeavesSome g inside.conn) (last : LeavesLast g conn) where
+      made_new : IsOurs (state g inside.taken) → Changes (IsMade (after_change change)) (state g inside.conn) (state g new.conn) result
+      made_new ours = subst₂ (λ h q. Changes (IsMade (after_change change)) (state g inside.conn) (state g h) q) (sym same_conn) (sym same) (made (ready ours))
+
+      kept_new : ServesIfOurs (state g new.taken) (state g new.conn)
+      kept_new = subst₂ (λ t h. ServesIfOurs (state g t) (state g h)) (sym same_taken) (sym same_conn) change_kept
+
+      last_new : LeavesLast g new.conn
+      last_new = subst (LeavesLast g) (sym same_conn) last
+
+      pub change_finds : FindsOldOr (after_change change (sql_rows g old)) (sql_view g old) (sql_view g new)
+      change_finds = subst (λ o. FindsOldOr (after_change change (sql_rows g o)) (sql_view g o) (sql_view g new)) view_is (change_stopped g inside new kept same_taken some last_new result (after_change change) made_new kept_new)
+
+      pub change_keeps : IsKept (sql_view g old) → OnOk result (IsKept (sql_view g new))
+      change_keeps was = change_stays g inside new kept same_taken some last_new result (after_change change) made_new kept_new

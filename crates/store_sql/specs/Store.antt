@@ -1,12 +1,13 @@
 -- The store: a connection, the count of its failures, and the connection that it took over.
-use Rattle.std.specs.Prelude.{ℕ, List, IsTrue, refl}
+use Rattle.std.specs.Prelude.{◌≡◌, ℕ, List, IsTrue, refl}
 use Rattle.std.specs.Coded.{Coded, code_by, coded×, coded_ℕ}
+use Rattle.sqlite_trees.specs.Tree.{Trees}
 use Rattle.sqlite_trees.specs.declared.store.Store.{Ghosts}
 use Rattle.sqlite.specs.declared.error.Error.{Error}
 use Rattle.sqlite.specs.declared.error.Error.TheVariants.{SqliteFailure}
 use Rattle.sqlite.specs.declared.error.ErrorCode.TheVariants.{OutOfMemory}
 use Rattle.sqlite.specs.Held.{Held, held_code, state}
-use Rattle.sqlite.specs.State.{State}
+use Rattle.sqlite.specs.State.{State, HasCleanDisk}
 use Rattle.hub_rows.specs.Changes.{Fits, EditFits}
 use Rattle.hub_rows.specs.Rows.{Rows}
 use Rattle.hub_rows.specs.StoreView.{StoreView}
@@ -29,8 +30,8 @@ sql_code {S} store =
     code_by (Held S × (ℕ × Held S)) (coded× (held_code store) (coded× coded_ℕ (held_code store))) (λ v. (v.conn, (v.failures, v.taken))) (λ p. record { conn = p.0; failures = p.1.0; taken = p.1.1 }) (λ _. refl)
 
 -- a connection that was taken over serves, if the rows that it had then were ours
-abbrev pub IsKept : State → State → Type 0
-IsKept taken s = IsOurs taken → IsTrue s.is_open → Serves s × WellFormedRows (rows_of s.now.trees)
+abbrev pub ServesIfOurs : State → State → Type 0
+ServesIfOurs taken s = IsOurs taken → IsTrue s.is_open → Serves s × WellFormedRows (rows_of s.now.trees)
 
 -- want of memory is told as such, and every other error of the database as a failure of the store
 abbrev pub told : Error → StoreFault
@@ -55,6 +56,10 @@ module _ {S : Type 0} (g : Ghosts S) where
     pub up : IsTrue (state g s.conn).is_open
     pub good : WellFormedRows (sql_rows s)
 
+  -- what it took over was ours, the disk has returned what was written, and a stop now leaves tables with these rows
+  abbrev pub sql_may_find : SqlView S → Rows → Type 0
+  sql_may_find s r = IsOurs (state g s.taken) × HasCleanDisk (state g s.conn) × (db : Trees) × (state g s.conn).may_leave db × (r ≡ rows_of db)
+
   -- the store, as the trait sees it
   abbrev pub sql_view : SqlView S → StoreView
-  sql_view s = record { rows = sql_rows s; failures = s.failures; clean = IsCleanSql s }
+  sql_view s = record { rows = sql_rows s; failures = s.failures; clean = IsCleanSql s; may_find = sql_may_find s }

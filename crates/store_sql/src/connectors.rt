@@ -3,7 +3,7 @@ ghost use Rattle.std.specs.Prelude.{◌≡◌, ◌&&◌};
 ghost use Rattle.std.specs.Str.{bytes_eq};
 ghost use Rattle.sqlite.specs.Held.{state};
 ghost use Rattle.hub_rows.specs.Lookups.{connectors_in};
-ghost use Rattle.sql_shelf.specs.Kept.{IsServing, Finds, Rests, Shows, IsInside, IsMade, Goes};
+ghost use Rattle.sql_shelf.specs.Kept.{IsServing, Finds, Rests, CommitsNothing, Shows, IsInside, IsMade, Goes};
 ghost use Rattle.sql_shelf.specs.Shelves.{connectors};
 ghost use Rattle.hub_rows.specs.Changes.{edit};
 ghost use Rattle.hub_rows.specs.declared.change.Edit.TheVariants.{ConnectorSeen};
@@ -59,6 +59,7 @@ pub(crate) fn connectors<S: Alter>(
 ) -> Result<Listed<ConnectorRow>, StoreFault>
     ensures found { Finds (state S.Store conn.old) (state S.Store conn.new) result (λ rows list. list ≡ connectors_in op.now station.now rows.connectors) }
     ensures same { Rests (state S.Store conn.old) (state S.Store conn.new) }
+    ensures stops { CommitsNothing (state S.Store conn.old) (state S.Store conn.new) result }
 {
     listed(alloc, list(conn, op, station))
 }

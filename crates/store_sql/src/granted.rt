@@ -4,7 +4,7 @@ ghost use Rattle.std.specs.List.{cons_option, filter_map};
 ghost use Rattle.sqlite.specs.Held.{state};
 ghost use Rattle.hub_rows.specs.Grants.{entry_by, granted_in, granted_tag_in, grants_to, info_by, received_key};
 ghost use Rattle.hub_rows.specs.Keyed.{by_key, first, in_order};
-ghost use Rattle.sql_shelf.specs.Kept.{Finds, Rests};
+ghost use Rattle.sql_shelf.specs.Kept.{Finds, Rests, CommitsNothing};
 
 use crate::grants::{list_received, received_of_key};
 use crate::stored::{Stored, listed};
@@ -73,6 +73,7 @@ fn grants_received<S: Alter>(
 ) -> Result<Listed<Received>, StoreFault>
     ensures found { Finds (state S.Store conn.old) (state S.Store conn.new) result (λ rows list. list ≡ in_order (by_key received_key) (grants_to to.now rows.grants)) }
     ensures same { Rests (state S.Store conn.old) (state S.Store conn.new) }
+    ensures stops { CommitsNothing (state S.Store conn.old) (state S.Store conn.new) result }
 {
     listed(alloc, list_received(conn, to))
 }
@@ -85,6 +86,7 @@ fn info_of<S: Alter>(
 ) -> Result<Option<Info>, StoreFault>
     ensures found { Finds (state S.Store conn.old) (state S.Store conn.new) result (λ rows info. info ≡ info_by rows.tags grant.now) }
     ensures same { Rests (state S.Store conn.old) (state S.Store conn.new) }
+    ensures stops { CommitsNothing (state S.Store conn.old) (state S.Store conn.new) result }
 {
     match own_tag(conn, alloc, grant.op.as_str(), grant.key.as_str())? {
         Some(info) => Ok(Some(info.until(grant.until))),
@@ -100,6 +102,7 @@ fn entry_of<S: Alter>(
 ) -> Result<Option<GrantedTag>, StoreFault>
     ensures found { Finds (state S.Store conn.old) (state S.Store conn.new) result (λ rows entry. entry ≡ entry_by rows.tags grant.now) }
     ensures same { Rests (state S.Store conn.old) (state S.Store conn.new) }
+    ensures stops { CommitsNothing (state S.Store conn.old) (state S.Store conn.new) result }
 {
     match info_of(conn, alloc, grant)? {
         Some(info) => Ok(Some(GrantedTag {
@@ -129,6 +132,7 @@ fn first_info<S: Alter>(
 ) -> Result<Option<Info>, StoreFault>
     ensures found { Finds (state S.Store conn.old) (state S.Store conn.new) result (λ rows info. info ≡ first (filter_map (info_by rows.tags) grants.now)) }
     ensures same { Rests (state S.Store conn.old) (state S.Store conn.new) }
+    ensures stops { CommitsNothing (state S.Store conn.old) (state S.Store conn.new) result }
 {
     'grants: for grant in grants {
         let info = info_of(conn, alloc, grant)?;
@@ -147,6 +151,7 @@ fn entries<S: Alter>(
 ) -> Result<Listed<GrantedTag>, StoreFault>
     ensures found { Finds (state S.Store conn.old) (state S.Store conn.new) result (λ rows list. list ≡ filter_map (entry_by rows.tags) grants.now) }
     ensures same { Rests (state S.Store conn.old) (state S.Store conn.new) }
+    ensures stops { CommitsNothing (state S.Store conn.old) (state S.Store conn.new) result }
 {
     let mut list = Listed::new(alloc);
     'grants: for grant in grants {
@@ -165,6 +170,7 @@ pub(crate) fn granted_tag<S: Alter>(
 ) -> Result<Option<Info>, StoreFault>
     ensures found { Finds (state S.Store conn.old) (state S.Store conn.new) result (λ rows info. info ≡ granted_tag_in op.now key.now rows.tags rows.grants) }
     ensures same { Rests (state S.Store conn.old) (state S.Store conn.new) }
+    ensures stops { CommitsNothing (state S.Store conn.old) (state S.Store conn.new) result }
 {
     let grants = received_of_key(conn, alloc, op, key)?;
     first_info(conn, alloc, grants.as_slice())
@@ -178,6 +184,7 @@ pub(crate) fn granted<S: Alter>(
 ) -> Result<Listed<GrantedTag>, StoreFault>
     ensures found { Finds (state S.Store conn.old) (state S.Store conn.new) result (λ rows list. list ≡ granted_in op.now rows.tags rows.grants) }
     ensures same { Rests (state S.Store conn.old) (state S.Store conn.new) }
+    ensures stops { CommitsNothing (state S.Store conn.old) (state S.Store conn.new) result }
 {
     let grants = grants_received(conn, alloc, op)?;
     entries(conn, alloc, grants.as_slice())

@@ -4,7 +4,7 @@ ghost use Rattle.std.specs.Str.{bytes_eq};
 ghost use Rattle.sqlite.specs.Held.{state};
 ghost use Rattle.hub_rows.specs.Grants.{grants_in, grants_of_key, has_grant_in, is_grant};
 ghost use Rattle.hub_rows.specs.Keyed.{found};
-ghost use Rattle.sql_shelf.specs.Kept.{IsServing, Finds, Rests, Shows, IsInside, IsMade, Goes};
+ghost use Rattle.sql_shelf.specs.Kept.{IsServing, Finds, Rests, CommitsNothing, Shows, IsInside, IsMade, Goes};
 ghost use Rattle.sql_shelf.specs.Shelves.{grants};
 ghost use Rattle.hub_rows.specs.Changes.{edit};
 ghost use Rattle.hub_rows.specs.declared.change.Edit.TheVariants.{GrantPut, GrantDropped};
@@ -86,6 +86,7 @@ fn find_grant<S: Alter>(
 ) -> Result<Option<GrantRow>, StoreFault>
     ensures found { Finds (state S.Store conn.old) (state S.Store conn.new) result (λ rows r. r ≡ found (λ g. g.op) op.now (is_grant key.now to.now) rows.grants) }
     ensures same { Rests (state S.Store conn.old) (state S.Store conn.new) }
+    ensures stops { CommitsNothing (state S.Store conn.old) (state S.Store conn.new) result }
 {
     first_row(alloc, find(conn, op, key, to))
 }
@@ -100,6 +101,7 @@ pub(crate) fn has_grant<S: Alter>(
 ) -> Result<bool, StoreFault>
     ensures found { Finds (state S.Store conn.old) (state S.Store conn.new) result (λ rows has. has ≡ has_grant_in op.now key.now to.now rows.grants) }
     ensures same { Rests (state S.Store conn.old) (state S.Store conn.new) }
+    ensures stops { CommitsNothing (state S.Store conn.old) (state S.Store conn.new) result }
 {
     is_found(find_grant(conn, alloc, op, key, to))
 }
@@ -112,6 +114,7 @@ pub(crate) fn grants_out<S: Alter>(
 ) -> Result<Listed<GrantRow>, StoreFault>
     ensures found { Finds (state S.Store conn.old) (state S.Store conn.new) result (λ rows list. list ≡ grants_in op.now rows.grants) }
     ensures same { Rests (state S.Store conn.old) (state S.Store conn.new) }
+    ensures stops { CommitsNothing (state S.Store conn.old) (state S.Store conn.new) result }
 {
     listed(alloc, list(conn, op))
 }
@@ -125,6 +128,7 @@ pub(crate) fn received_of_key<S: Alter>(
 ) -> Result<Listed<GrantRow>, StoreFault>
     ensures found { Finds (state S.Store conn.old) (state S.Store conn.new) result (λ rows list. list ≡ grants_of_key to.now key.now rows.grants) }
     ensures same { Rests (state S.Store conn.old) (state S.Store conn.new) }
+    ensures stops { CommitsNothing (state S.Store conn.old) (state S.Store conn.new) result }
 {
     listed(alloc, find_received(conn, to, key))
 }

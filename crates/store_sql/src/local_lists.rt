@@ -6,7 +6,7 @@ ghost use Rattle.ocpp_types.specs.TagKey.{key_of};
 ghost use Rattle.hub_rows.specs.Changes.{edit};
 ghost use Rattle.hub_rows.specs.declared.change.Edit.TheVariants.{ListSet};
 ghost use Rattle.hub_rows.specs.LocalLists.{AreEntries, local_list_in};
-ghost use Rattle.sql_shelf.specs.Kept.{ArePutIn, Finds, FindsIn, Goes, IsDropped, IsInside, IsMade, IsPutIn, IsServing, Rests, Shows};
+ghost use Rattle.sql_shelf.specs.Kept.{ArePutIn, Finds, FindsIn, Goes, IsDropped, IsInside, IsMade, IsPutIn, IsServing, Rests, CommitsNothing, Shows};
 ghost use Rattle.sql_shelf.specs.Shelf.{rows_in};
 ghost use Rattle.sql_shelf.specs.Shelves.{entries, entry_row, lists};
 
@@ -93,6 +93,7 @@ fn head<S: Alter>(
 ) -> Result<Option<ListHead>, StoreFault>
     ensures found { FindsIn (state S.Store conn.old) (state S.Store conn.new) result (λ db head. head ≡ find (λ l. bytes_eq l.op op.now && bytes_eq l.station station.now) (rows_in lists db)) }
     ensures same { Rests (state S.Store conn.old) (state S.Store conn.new) }
+    ensures stops { CommitsNothing (state S.Store conn.old) (state S.Store conn.new) result }
 {
     first_row(alloc, find_one(conn, op, station))
 }
@@ -106,6 +107,7 @@ fn entry_rows<S: Alter>(
 ) -> Result<Listed<EntryRow>, StoreFault>
     ensures found { FindsIn (state S.Store conn.old) (state S.Store conn.new) result (λ db rows. rows ≡ filter (λ e. bytes_eq e.op op.now && bytes_eq e.station station.now) (rows_in entries db)) }
     ensures same { Rests (state S.Store conn.old) (state S.Store conn.new) }
+    ensures stops { CommitsNothing (state S.Store conn.old) (state S.Store conn.new) result }
 {
     listed(alloc, find_entries(conn, op, station))
 }
@@ -131,6 +133,7 @@ pub(crate) fn local_list<S: Alter>(
 ) -> Result<Option<LocalList>, StoreFault>
     ensures found { Finds (state S.Store conn.old) (state S.Store conn.new) result (λ rows list. list ≡ local_list_in op.now station.now rows.local_lists) }
     ensures same { Rests (state S.Store conn.old) (state S.Store conn.new) }
+    ensures stops { CommitsNothing (state S.Store conn.old) (state S.Store conn.new) result }
 {
     match head(conn, alloc, op, station)? {
         None => Ok(None),

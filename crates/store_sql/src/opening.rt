@@ -296,13 +296,27 @@ fn verdict<S: Alter>(
     }
 }
 
+/// Whether the connection is open, as it is where it compiles a text. Nothing changes.
+fn still_open<S: Alter>(conn: &mut Connection<S>) -> Result<(), PrepareFault>
+    requires settled { IsTrue (state S.Store conn.old).is_open → (state S.Store conn.old).committed ≡ (state S.Store conn.old).now }
+    requires autocommit { conn.old.in_transaction ≡ false }
+    ensures spared { IsSpared (state S.Store conn.old) (state S.Store conn.new) }
+    ensures up { HasCleanDisk (state S.Store conn.new) → OnOk result (IsTrue (state S.Store conn.new).is_open) }
+{
+    match conn.prepare(LIST_META) {
+        Ok(_) => Ok(()),
+        Err(error) => Err(fault(error)),
+    }
+}
+
 fn look<S: Alter>(conn: &mut Connection<S>, alloc: Global) -> Result<(), PrepareFault>
     requires rested { Rested (state S.Store conn.old) }
     requires autocommit { conn.old.in_transaction ≡ false }
     ensures prepares { Prepares (state S.Store conn.old) (state S.Store conn.new) result }
 {
     let rows = meta_rows(conn);
-    verdict(conn, alloc, rows)
+    verdict(conn, alloc, rows)?;
+    still_open(conn)
 }
 
 fn make<S: Alter>(conn: &mut Connection<S>) -> Result<(), PrepareFault>

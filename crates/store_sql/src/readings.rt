@@ -4,7 +4,7 @@ ghost use Rattle.std.specs.Str.{bytes_eq};
 ghost use Rattle.sqlite.specs.Held.{state};
 ghost use Rattle.hub_rows.specs.Keyed.{greatest, by_key, put};
 ghost use Rattle.hub_rows.specs.Transactions.{is_reading, is_sent_with, numbers_of, readings_in};
-ghost use Rattle.sql_shelf.specs.Kept.{IsServing, Finds, Rests, Shows, ShowsLast, IsInside, IsMade, Goes, Inside};
+ghost use Rattle.sql_shelf.specs.Kept.{IsServing, Finds, Rests, CommitsNothing, Shows, ShowsLast, IsInside, IsMade, Goes, Inside};
 ghost use Rattle.sql_shelf.specs.Shelves.{readings};
 ghost use Rattle.hub_rows.specs.Rows.{reading_key};
 ghost use Rattle.hub_rows.specs.Changes.{edit, with_readings};
@@ -97,6 +97,7 @@ fn all_readings<S: Alter>(
 ) -> Result<Listed<ReadingRow>, StoreFault>
     ensures found { Finds (state S.Store conn.old) (state S.Store conn.new) result (λ rows list. list ≡ readings_in op.now station.now None rows.readings) }
     ensures same { Rests (state S.Store conn.old) (state S.Store conn.new) }
+    ensures stops { CommitsNothing (state S.Store conn.old) (state S.Store conn.new) result }
 {
     listed(alloc, list(conn, op, station))
 }
@@ -113,6 +114,7 @@ fn tx_readings<S: Alter>(
     requires { number ≡ pos transaction }
     ensures found { Finds (state S.Store conn.old) (state S.Store conn.new) result (λ rows list. list ≡ readings_in op.now station.now (Some transaction) rows.readings) }
     ensures same { Rests (state S.Store conn.old) (state S.Store conn.new) }
+    ensures stops { CommitsNothing (state S.Store conn.old) (state S.Store conn.new) result }
 {
     listed(alloc, list_of_tx(conn, op, station, transaction, number))
 }
@@ -153,6 +155,7 @@ pub(crate) fn readings<S: Alter>(
 ) -> Result<Listed<ReadingRow>, StoreFault>
     ensures found { Finds (state S.Store conn.old) (state S.Store conn.new) result (λ rows list. list ≡ readings_in op.now station.now transaction rows.readings) }
     ensures same { Rests (state S.Store conn.old) (state S.Store conn.new) }
+    ensures stops { CommitsNothing (state S.Store conn.old) (state S.Store conn.new) result }
 {
     let wanted = match transaction {
         None => return all_readings(conn, alloc, op, station),
@@ -173,6 +176,7 @@ pub(crate) fn last_number<S: Alter>(
 ) -> Result<u32, StoreFault>
     ensures found { Finds (state S.Store conn.old) (state S.Store conn.new) result (λ rows n. n ≡ greatest (numbers_of (λ r. r.number) (readings_in op.now station.now None rows.readings))) }
     ensures same { Rests (state S.Store conn.old) (state S.Store conn.new) }
+    ensures stops { CommitsNothing (state S.Store conn.old) (state S.Store conn.new) result }
 {
     only_number(find_last(conn, op, station))
 }

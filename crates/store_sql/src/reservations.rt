@@ -4,7 +4,7 @@ ghost use Rattle.std.specs.Str.{bytes_eq};
 ghost use Rattle.sqlite.specs.Held.{state};
 ghost use Rattle.hub_rows.specs.Keyed.{found};
 ghost use Rattle.hub_rows.specs.Reservations.{is_reservation, reservations_in, reserved_until_in, unshifted, without_named};
-ghost use Rattle.sql_shelf.specs.Kept.{IsServing, Finds, Rests, Shows, IsInside, IsMade, Goes};
+ghost use Rattle.sql_shelf.specs.Kept.{IsServing, Finds, Rests, CommitsNothing, Shows, IsInside, IsMade, Goes};
 ghost use Rattle.sql_shelf.specs.Shelves.{reservations};
 ghost use Rattle.hub_rows.specs.Changes.{edit};
 ghost use Rattle.hub_rows.specs.declared.change.Edit.TheVariants.{ReservationPut, ReservationDropped};
@@ -79,6 +79,7 @@ fn find_reservation<S: Alter>(
 ) -> Result<Option<ReservationRow>, StoreFault>
     ensures found { Finds (state S.Store conn.old) (state S.Store conn.new) result (λ rows r. r ≡ found (λ r. r.op) op.now (is_reservation station.now id) rows.reservations) }
     ensures same { Rests (state S.Store conn.old) (state S.Store conn.new) }
+    ensures stops { CommitsNothing (state S.Store conn.old) (state S.Store conn.new) result }
 {
     first_row(alloc, find_one(conn, op, station, id, id.get()))
 }
@@ -93,6 +94,7 @@ pub(crate) fn reserved_until<S: Alter>(
 ) -> Result<Option<Moment>, StoreFault>
     ensures found { Finds (state S.Store conn.old) (state S.Store conn.new) result (λ rows until. until ≡ reserved_until_in op.now station.now id rows.reservations) }
     ensures same { Rests (state S.Store conn.old) (state S.Store conn.new) }
+    ensures stops { CommitsNothing (state S.Store conn.old) (state S.Store conn.new) result }
 {
     let found = find_reservation(conn, alloc, op, station, id)?;
     match &found {
@@ -110,6 +112,7 @@ pub(crate) fn reservations<S: Alter>(
 ) -> Result<Listed<ReservationRow>, StoreFault>
     ensures found { Finds (state S.Store conn.old) (state S.Store conn.new) result (λ rows list. list ≡ reservations_in op.now station.now rows.reservations) }
     ensures same { Rests (state S.Store conn.old) (state S.Store conn.new) }
+    ensures stops { CommitsNothing (state S.Store conn.old) (state S.Store conn.new) result }
 {
     listed(alloc, find_all(conn, op, station))
 }

@@ -35,7 +35,7 @@ pub struct SqlStore<A: Alter> {
 
 impl<A: Alter> Model for SqlStore<A> {
     ghost use Rattle.sqlite.specs.Held.{state};
-    ghost use Rattle.store_sql.specs.Store.{SqlView, IsKept, sql_code};
+    ghost use Rattle.store_sql.specs.Store.{SqlView, ServesIfOurs, sql_code};
 
     ghost Value = { SqlView A };
 
@@ -43,11 +43,11 @@ impl<A: Alter> Model for SqlStore<A> {
 
     ghost view = { λ s. record { conn = s.conn; failures = s.failures; taken = s.taken.value } };
 
-    ghost invariant = { λ s. IsKept (state A.Store s.taken.value) (state A.Store s.conn) };
+    ghost invariant = { λ s. ServesIfOurs (state A.Store s.taken.value) (state A.Store s.conn) };
 }
 
 impl<A: Alter> SqlStore<A> {
-    ghost use Rattle.store_sql.specs.Store.{IsCleanSql, IsKept};
+    ghost use Rattle.store_sql.specs.Store.{IsCleanSql, ServesIfOurs};
     ghost use Rattle.sql_shelf.specs.Opening.{IsOurs};
     ghost use Rattle.sqlite.specs.Held.{state};
 
@@ -57,7 +57,7 @@ impl<A: Alter> SqlStore<A> {
         taken: Snapshot<Connection<A>>,
         conn: Connection<A>,
     ) -> SqlStore<A>
-        requires prepared { IsKept (state A.Store taken.value) (state A.Store conn) }
+        requires prepared { ServesIfOurs (state A.Store taken.value) (state A.Store conn) }
         ensures clean { IsOurs (state A.Store taken.value) → IsTrue (state A.Store conn).is_open → IsCleanSql A.Store result }
         ensures conn { result.conn ≡ conn }
         ensures taken { result.taken ≡ taken.value }
@@ -89,7 +89,8 @@ impl<A: Alter> SqlStore<A> {
 impl<A: Alter + Drop> SqlStore<A> {
     ghost use Rattle.std.specs.Prelude.{Ok, IfOk, IsTrue, ⊤};
     ghost use Rattle.store_sql.specs.declared.opening.PrepareFault.{PrepareFault as Unfit};
-    ghost use Rattle.store_sql.specs.Store.{IsCleanSql};
+    ghost use Rattle.hub_rows.specs.Stops.{IsKept};
+    ghost use Rattle.store_sql.specs.Store.{IsCleanSql, sql_view};
     ghost use Rattle.sql_shelf.specs.Opening.{IsOurs, Prepares};
     ghost use Rattle.sqlite.specs.Held.{state};
 
@@ -98,11 +99,19 @@ impl<A: Alter + Drop> SqlStore<A> {
         ensures clean { IfOk result (λ s. IsOurs (state A.Store conn) → IsTrue (state A.Store s.conn).is_open → IsCleanSql A.Store s) }
         ensures prepares { IfOk result (λ s. Prepares {A = ⊤} {E = Unfit} (state A.Store conn) (state A.Store s.conn) (Ok tt)) }
         ensures fresh { IfOk result (λ s. (s.taken ≡ conn) × (s.failures ≡ 0)) }
+        ensures kept { IfOk result (λ s. IsKept (sql_view A.Store s)) }
     {
         let taken = Snapshot::of(&conn);
         let mut conn = conn;
         prepare(&mut conn, alloc)?;
         Ok(SqlStore::over(alloc, taken, conn))
+    }
+
+    /// Its connection.
+    pub fn into_connection(self) -> Connection<A>
+        ensures { result ≡ self.conn }
+    {
+        self.conn
     }
 }
 
@@ -110,12 +119,14 @@ impl SqlStore<MemStore> {
     ghost use Rattle.std.specs.Prelude.{IfOk};
     ghost use Rattle.sqlite.specs.Steps.{over_memory};
     ghost use Rattle.hub_rows.specs.Rows.{no_rows};
-    ghost use Rattle.store_sql.specs.Store.{IsCleanSql, sql_rows};
+    ghost use Rattle.hub_rows.specs.Stops.{IsKept};
+    ghost use Rattle.store_sql.specs.Store.{IsCleanSql, sql_rows, sql_view};
 
     /// A store with no rows, in memory.
     pub fn open_in_memory(alloc: Global) -> Result<SqlStore<MemStore>, PrepareFault>
         ensures clean { IfOk result (IsCleanSql over_memory) }
         ensures empty { IfOk result (λ s. sql_rows over_memory s ≡ no_rows) }
+        ensures kept { IfOk result (λ s. IsKept (sql_view over_memory s)) }
     {
         let conn = Connection::open_in_memory(alloc)?;
         SqlStore::adopt(alloc, conn)
@@ -125,7 +136,8 @@ impl SqlStore<MemStore> {
 impl<S: Start> SqlStore<FileStore<FileFrom<S>>> {
     ghost use Rattle.std.specs.Prelude.{Ok, IfOk, IsTrue, ⊤};
     ghost use Rattle.store_sql.specs.declared.opening.PrepareFault.{PrepareFault as Unfit};
-    ghost use Rattle.store_sql.specs.Store.{IsCleanSql};
+    ghost use Rattle.hub_rows.specs.Stops.{IsKept};
+    ghost use Rattle.store_sql.specs.Store.{IsCleanSql, sql_view};
     ghost use Rattle.sql_shelf.specs.Opening.{IsOurs, Prepares};
     ghost use Rattle.sqlite.specs.Files.{file_state, over_files};
     ghost use Rattle.sqlite.specs.Start.{FindsIn};
@@ -143,6 +155,7 @@ impl<S: Start> SqlStore<FileStore<FileFrom<S>>> {
         ensures clean { IfOk result (λ s. IsOurs (file_state s.taken) → IsTrue (file_state s.conn).is_open → IsCleanSql over_files s) }
         ensures prepares { IfOk result (λ s. Prepares {A = ⊤} {E = Unfit} (file_state s.taken) (file_state s.conn) (Ok tt)) }
         ensures failures { IfOk result (λ s. s.failures ≡ 0) }
+        ensures kept { IfOk result (λ s. IsKept (sql_view over_files s)) }
     {
         match Connection::open_from(rt, path, false, start) {
             Ok(conn) => SqlStore::adopt(rt.alloc(), conn),

@@ -4,7 +4,7 @@ ghost use Rattle.std.specs.Str.{bytes_eq};
 ghost use Rattle.sqlite.specs.Held.{state};
 ghost use Rattle.hub_rows.specs.Lookups.{stations_in};
 ghost use Rattle.hub_rows.specs.Rows.{registration_in, station_in, station_key};
-ghost use Rattle.sql_shelf.specs.Kept.{IsServing, Finds, Rests, Shows, IsInside, IsMade, IsSame, Goes, ShowsInside};
+ghost use Rattle.sql_shelf.specs.Kept.{IsServing, Finds, Rests, CommitsNothing, Shows, IsInside, IsMade, IsSame, Goes, ShowsInside};
 ghost use Rattle.sql_shelf.specs.Shelves.{boot_in, stations, rows_of};
 ghost use Rattle.hub_rows.specs.Changes.{edit};
 ghost use Rattle.hub_rows.specs.declared.change.Edit.TheVariants.{StationAdded, BootSeen, PolicySet};
@@ -88,6 +88,7 @@ fn find_station<S: Alter>(
 ) -> Result<Option<StationRow>, StoreFault>
     ensures found { Finds (state S.Store conn.old) (state S.Store conn.new) result (λ rows r. r ≡ station_in op.now station.now rows.stations) }
     ensures same { Rests (state S.Store conn.old) (state S.Store conn.new) }
+    ensures stops { CommitsNothing (state S.Store conn.old) (state S.Store conn.new) result }
 {
     first_row(alloc, find_one(conn, op, station))
 }
@@ -101,6 +102,7 @@ pub(crate) fn registration<S: Alter>(
 ) -> Result<Option<Registration>, StoreFault>
     ensures found { Finds (state S.Store conn.old) (state S.Store conn.new) result (λ rows r. r ≡ registration_in op.now station.now rows.stations) }
     ensures same { Rests (state S.Store conn.old) (state S.Store conn.new) }
+    ensures stops { CommitsNothing (state S.Store conn.old) (state S.Store conn.new) result }
 {
     match find_station(conn, alloc, op, station)? {
         Some(row) => Ok(Some(row.registration())),
@@ -116,6 +118,7 @@ pub(crate) fn stations<S: Alter>(
 ) -> Result<Listed<StationRow>, StoreFault>
     ensures found { Finds (state S.Store conn.old) (state S.Store conn.new) result (λ rows list. list ≡ stations_in op.now rows.stations) }
     ensures same { Rests (state S.Store conn.old) (state S.Store conn.new) }
+    ensures stops { CommitsNothing (state S.Store conn.old) (state S.Store conn.new) result }
 {
     listed(alloc, find_all(conn, op))
 }

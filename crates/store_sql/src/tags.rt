@@ -4,7 +4,7 @@ ghost use Rattle.std.specs.Str.{bytes_eq};
 ghost use Rattle.sqlite.specs.Held.{state};
 ghost use Rattle.hub_rows.specs.Lookups.{tags_in};
 ghost use Rattle.hub_rows.specs.Tags.{tag_in, own_tag_in, is_blocked, is_parent_blocked};
-ghost use Rattle.sql_shelf.specs.Kept.{IsServing, Finds, Rests, Shows, IsInside, IsMade, Goes};
+ghost use Rattle.sql_shelf.specs.Kept.{IsServing, Finds, Rests, CommitsNothing, Shows, IsInside, IsMade, Goes};
 ghost use Rattle.sql_shelf.specs.Shelves.{tags};
 ghost use Rattle.hub_rows.specs.Changes.{edit};
 ghost use Rattle.hub_rows.specs.declared.change.Edit.TheVariants.{TagPut, TagDropped};
@@ -67,6 +67,7 @@ fn find_tag<S: Alter>(
 ) -> Result<Option<TagRow>, StoreFault>
     ensures found { Finds (state S.Store conn.old) (state S.Store conn.new) result (λ rows tag. tag ≡ tag_in op.now key.now rows.tags) }
     ensures same { Rests (state S.Store conn.old) (state S.Store conn.new) }
+    ensures stops { CommitsNothing (state S.Store conn.old) (state S.Store conn.new) result }
 {
     first_row(alloc, find_one(conn, op, key))
 }
@@ -79,6 +80,7 @@ pub(crate) fn tags<S: Alter>(
 ) -> Result<Listed<TagRow>, StoreFault>
     ensures found { Finds (state S.Store conn.old) (state S.Store conn.new) result (λ rows list. list ≡ tags_in op.now rows.tags) }
     ensures same { Rests (state S.Store conn.old) (state S.Store conn.new) }
+    ensures stops { CommitsNothing (state S.Store conn.old) (state S.Store conn.new) result }
 {
     listed(alloc, find_all(conn, op))
 }
@@ -92,6 +94,7 @@ fn is_parent_blocked<S: Alter>(
 ) -> Result<bool, StoreFault>
     ensures found { Finds (state S.Store conn.old) (state S.Store conn.new) result (λ rows blocked. blocked ≡ is_parent_blocked (λ k. is_blocked (tag_in op.now k rows.tags)) parent.now) }
     ensures same { Rests (state S.Store conn.old) (state S.Store conn.new) }
+    ensures stops { CommitsNothing (state S.Store conn.old) (state S.Store conn.new) result }
 {
     match parent {
         None => Ok(false),
@@ -114,6 +117,7 @@ pub(crate) fn own_tag<S: Alter>(
 ) -> Result<Option<Info>, StoreFault>
     ensures found { Finds (state S.Store conn.old) (state S.Store conn.new) result (λ rows info. info ≡ own_tag_in op.now key.now rows.tags) }
     ensures same { Rests (state S.Store conn.old) (state S.Store conn.new) }
+    ensures stops { CommitsNothing (state S.Store conn.old) (state S.Store conn.new) result }
 {
     match find_tag(conn, alloc, op, key)? {
         None => Ok(None),

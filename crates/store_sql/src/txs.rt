@@ -6,7 +6,7 @@ ghost use Rattle.sqlite.specs.Held.{state};
 ghost use Rattle.sqlite_value.specs.Order.{column};
 ghost use Rattle.hub_rows.specs.Keyed.{found, greatest};
 ghost use Rattle.hub_rows.specs.Transactions.{counts, has_open_in, is_left_out, is_open, is_started, is_tx, is_used_in, numbers_of, same_start_in, tx_in, txs_in};
-ghost use Rattle.sql_shelf.specs.Kept.{IsServing, Finds, Rests, Shows, ShowsLast};
+ghost use Rattle.sql_shelf.specs.Kept.{IsServing, Finds, Rests, CommitsNothing, Shows, ShowsLast};
 ghost use Rattle.sql_shelf.specs.Shelves.{stop_in, txs};
 ghost use Rattle.sql_shelf.specs.Values.{count_in};
 
@@ -152,6 +152,7 @@ fn find_tx<S: Alter>(
 ) -> Result<Option<TxRow>, StoreFault>
     ensures found { Finds (state S.Store conn.old) (state S.Store conn.new) result (λ rows r. r ≡ found (λ r. r.op) op.now (is_tx station.now number) rows.transactions) }
     ensures same { Rests (state S.Store conn.old) (state S.Store conn.new) }
+    ensures stops { CommitsNothing (state S.Store conn.old) (state S.Store conn.new) result }
 {
     first_row(alloc, find_one(conn, op, station, number))
 }
@@ -166,6 +167,7 @@ pub(crate) fn tx<S: Alter>(
 ) -> Result<Option<TxState>, StoreFault>
     ensures found { Finds (state S.Store conn.old) (state S.Store conn.new) result (λ rows r. r ≡ tx_in op.now station.now number rows.transactions) }
     ensures same { Rests (state S.Store conn.old) (state S.Store conn.new) }
+    ensures stops { CommitsNothing (state S.Store conn.old) (state S.Store conn.new) result }
 {
     match find_tx(conn, alloc, op, station, number)? {
         Some(row) => Ok(Some(row.state())),
@@ -182,6 +184,7 @@ pub(crate) fn txs<S: Alter>(
 ) -> Result<Listed<TxRow>, StoreFault>
     ensures found { Finds (state S.Store conn.old) (state S.Store conn.new) result (λ rows list. list ≡ txs_in op.now station.now rows.transactions) }
     ensures same { Rests (state S.Store conn.old) (state S.Store conn.new) }
+    ensures stops { CommitsNothing (state S.Store conn.old) (state S.Store conn.new) result }
 {
     listed(alloc, find_all(conn, op, station))
 }
@@ -195,6 +198,7 @@ fn txs_in_use<S: Alter>(
 ) -> Result<Listed<TxRow>, StoreFault>
     ensures found { Finds (state S.Store conn.old) (state S.Store conn.new) result (λ rows list. list ≡ filter (λ r. bytes_eq r.op op.now && (bytes_eq r.start.id.key key.now && counts r)) rows.transactions) }
     ensures same { Rests (state S.Store conn.old) (state S.Store conn.new) }
+    ensures stops { CommitsNothing (state S.Store conn.old) (state S.Store conn.new) result }
 {
     listed(alloc, list_in_use(conn, op, key))
 }
@@ -225,6 +229,7 @@ pub(crate) fn is_used<S: Alter>(
 ) -> Result<bool, StoreFault>
     ensures found { Finds (state S.Store conn.old) (state S.Store conn.new) result (λ rows used. used ≡ is_used_in op.now key.now except.now rows.transactions) }
     ensures same { Rests (state S.Store conn.old) (state S.Store conn.new) }
+    ensures stops { CommitsNothing (state S.Store conn.old) (state S.Store conn.new) result }
 {
     let rows = txs_in_use(conn, alloc, op, key)?;
     Ok(has_other(rows.as_slice(), except))
@@ -239,6 +244,7 @@ fn open_tx<S: Alter>(
 ) -> Result<Option<TxRow>, StoreFault>
     ensures found { Finds (state S.Store conn.old) (state S.Store conn.new) result (λ rows r. r ≡ found (λ r. r.op) op.now (λ r. bytes_eq r.station station.now && is_open r) rows.transactions) }
     ensures same { Rests (state S.Store conn.old) (state S.Store conn.new) }
+    ensures stops { CommitsNothing (state S.Store conn.old) (state S.Store conn.new) result }
 {
     first_row(alloc, list_open(conn, op, station))
 }
@@ -252,6 +258,7 @@ pub(crate) fn has_open<S: Alter>(
 ) -> Result<bool, StoreFault>
     ensures found { Finds (state S.Store conn.old) (state S.Store conn.new) result (λ rows has. has ≡ has_open_in op.now station.now rows.transactions) }
     ensures same { Rests (state S.Store conn.old) (state S.Store conn.new) }
+    ensures stops { CommitsNothing (state S.Store conn.old) (state S.Store conn.new) result }
 {
     is_found(open_tx(conn, alloc, op, station))
 }
@@ -270,6 +277,7 @@ fn tx_of_start<S: Alter>(
     requires at { at ≡ start.now.at }
     ensures found { Finds (state S.Store conn.old) (state S.Store conn.new) result (λ rows r. r ≡ found (λ r. r.op) op.now (is_started station.now start.now) rows.transactions) }
     ensures same { Rests (state S.Store conn.old) (state S.Store conn.new) }
+    ensures stops { CommitsNothing (state S.Store conn.old) (state S.Store conn.new) result }
 {
     let connector = u32::from(start.connector);
     first_row(
@@ -288,6 +296,7 @@ pub(crate) fn same_start<S: Alter>(
 ) -> Result<Option<u32>, StoreFault>
     ensures found { Finds (state S.Store conn.old) (state S.Store conn.new) result (λ rows number. number ≡ same_start_in op.now station.now start.now rows.transactions) }
     ensures same { Rests (state S.Store conn.old) (state S.Store conn.new) }
+    ensures stops { CommitsNothing (state S.Store conn.old) (state S.Store conn.new) result }
 {
     match tx_of_start(conn, alloc, op, station, start, start.meter_start, start.at)? {
         Some(row) => Ok(Some(row.number)),
@@ -324,6 +333,7 @@ pub(crate) fn last_number<S: Alter>(
 ) -> Result<u32, StoreFault>
     ensures found { Finds (state S.Store conn.old) (state S.Store conn.new) result (λ rows n. n ≡ greatest (numbers_of (λ r. r.number) (txs_in op.now station.now rows.transactions))) }
     ensures same { Rests (state S.Store conn.old) (state S.Store conn.new) }
+    ensures stops { CommitsNothing (state S.Store conn.old) (state S.Store conn.new) result }
 {
     only_number(find_last(conn, op, station))
 }

@@ -1,7 +1,7 @@
 use Rattle.std.proofs.Common.{arith, refl, ◌∙◌}
 use Rattle.replay.proofs.Facts.{on_err}
 use Rattle.replay.proofs.Parts.{reads_none, reads_both}
-use Rattle.replay.proofs.Progress.{progress_none, progress_line, progress_write, progress_end_text, progress_stop_world, progress_stop_text, progress_line_world, progress_line_text, falls_kept}
+use Rattle.replay.proofs.Progress.{progress_none, progress_line, progress_write, progress_end_text, progress_stop_world, progress_stop_text, progress_line_world, progress_line_text, progress_stop_rows, progress_line_rows, falls_kept}
 use Rattle.replay.proofs.input.pass.Goals as goal
 
 pub loop-answers-init : goal.loop-answers-init
@@ -10,6 +10,7 @@ loop-answers-init g c = record {
   number = omega arith;
   was_clean = λ clean. clean;
   count = omega arith;
+  kept = λ kept. kept;
   same = refl;
   end = λ e. absurd (let open' = c.requires.unended in cc);
   reads = reads_none _ _;
@@ -39,6 +40,7 @@ loop-answers-preserved g c =
       number = omega (arith, line.number, next.fewer c.if-branch.true, inv.number);
       was_clean = λ clean. inv.was_clean (line.counted.was_clean clean);
       count = omega (arith, inv.count, line.counted.count);
+      kept = λ kept. line.kept (inv.kept kept);
       same = line.setting ∙ inv.same;
       end = next.end (next.unended c.if-branch.true);
       reads = reads_both _ _ _ _ _ _ inv.reads next.count;
@@ -78,3 +80,46 @@ returns-in-Err-clause-fault_world g c = λ clean. progress_stop_world _ _ _ _ _ 
 pub returns-in-Err-clause-fault_text : goal.returns-in-Err-clause-fault_text
 returns-in-Err-clause-fault_text g c = λ clean. progress_stop_text _ _ _ _ _ _ _ _ _ _ _ _ _ _ _ c.loop-answers.invariant.progress (λ x. x) clean
     (falls_kept _ _ _ _ _ c.write_out.ensures.empty c.flush.ensures.bytes c.in_ok-write_out.ensures.ok)
+
+pub returns-in_err-next-clause-stopped : goal.returns-in_err-next-clause-stopped
+returns-in_err-next-clause-stopped g c = λ kept r found.
+    let one = (c.loop-answers.invariant.kept kept).alone r found in
+    progress_stop_rows _ _ _ _ _ (progress_stop_world _ _ _ _ _ _ _ _ _ _ _ _ _ c.loop-answers.invariant.progress (λ x. x) one.0) one.1
+
+pub returns-in_err-write_out-clause-stopped : goal.returns-in_err-write_out-clause-stopped
+returns-in_err-write_out-clause-stopped g c = λ kept r found.
+    let one = (c.loop-answers.invariant.kept kept).alone r found in
+    progress_stop_rows _ _ _ _ _ (progress_stop_world _ _ _ _ _ _ _ _ _ _ _ _ _ c.loop-answers.invariant.progress (λ x. x) one.0) one.1
+
+pub returns-in-Ok-clause-stopped : goal.returns-in-Ok-clause-stopped
+returns-in-Ok-clause-stopped g c = λ kept r found.
+    let one = (c.loop-answers.invariant.kept kept).alone r found in
+    progress_stop_rows _ _ _ _ _ (progress_stop_world _ _ _ _ _ _ _ _ _ _ _ _ _ c.loop-answers.invariant.progress (λ x. x) one.0) one.1
+
+pub returns-in-Err-clause-stopped : goal.returns-in-Err-clause-stopped
+returns-in-Err-clause-stopped g c = λ kept r found.
+    let one = (c.loop-answers.invariant.kept kept).alone r found in
+    progress_stop_rows _ _ _ _ _ (progress_stop_world _ _ _ _ _ _ _ _ _ _ _ _ _ c.loop-answers.invariant.progress (λ x. x) one.0) one.1
+
+pub returns-in_err-line-clause-stopped : goal.returns-in_err-line-clause-stopped
+returns-in_err-line-clause-stopped g c = λ kept r found.
+    progress_line_rows _ _ _ _ _ _ _ _ _ _ _ _ _ _ _ _ c.loop-answers.invariant.progress (c.in_ok-next.ensures.line c.if-branch.true) c.loop-answers.invariant.same
+    (λ line held. c.in_err-line.ensures.stopped line (c.held.ensures line held) (c.loop-answers.invariant.kept kept) r found)
+
+pub returns-in_err-write_if_long-clause-stopped : goal.returns-in_err-write_if_long-clause-stopped
+returns-in_err-write_if_long-clause-stopped g c = λ kept r found.
+    let inv = c.loop-answers.invariant in
+    let line = c.in_ok-line.ensures in
+    let one = (line.kept (inv.kept kept)).alone r found in
+    progress_stop_rows _ _ _ _ _ (progress_stop_world _ _ _ _ _ _ _ _ _ _ _ _ _
+    (progress_line _ _ _ _ _ _ _ _ _ _ _ _ _ _ _ _ _ _ _ inv.progress (c.in_ok-next.ensures.line c.if-branch.true) line.counted.was_clean inv.same line.number
+    (λ clean' l held. line.world clean' l (c.held.ensures l held)) (λ clean' l held. line.text clean' l (c.held.ensures l held)))
+    (λ x. x) one.0) one.1
+
+pub returns-in_err-next-clause-fault_text : goal.returns-in_err-next-clause-fault_text
+returns-in_err-next-clause-fault_text g c = λ clean. on_err _ _
+    (progress_stop_text _ _ _ _ _ _ _ _ _ _ _ _ _ _ _ c.loop-answers.invariant.progress (λ x. x) clean (λ start more whole s. record { ahead = more; stands = s }))
+
+pub returns-in_err-write_out-clause-fault_text : goal.returns-in_err-write_out-clause-fault_text
+returns-in_err-write_out-clause-fault_text g c = λ clean. on_err _ _
+    (progress_stop_text _ _ _ _ _ _ _ _ _ _ _ _ _ _ _ c.loop-answers.invariant.progress (λ x. x) clean c.in_err-write_out.ensures.fault)

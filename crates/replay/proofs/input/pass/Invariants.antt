@@ -1,7 +1,8 @@
 use Rattle.std.proofs.Common.{◌≡◌, ◌+◌, ◌<◌, ◌≤◌, true}
 use Rattle.std.specs.Prelude.{vec_len}
 use Rattle.std.specs.Io.KnownBytes.{IsAtEnd}
-use Rattle.hub.specs.Hub.{world, setting, is_clean, failures_of}
+use Rattle.hub_rows.specs.Stops.{IsKept}
+use Rattle.hub.specs.Hub.{hub_view, world, setting, is_clean, failures_of}
 use Rattle.replay.specs.Held.{Reads}
 use Rattle.replay.specs.Lines.{to_come, most_turns}
 use Rattle.replay.proofs.Progress.{ProgressOf}
@@ -13,6 +14,7 @@ invariant-loop-answers g l = let st = setting g.V.VendorHandler.view l.fn.hub in
   number : l.answers.number + most_turns l.lines ≤ l.fn.answers.number + most_turns l.fn.lines;
   was_clean : is_clean g.S.Store.view l.hub → is_clean g.S.Store.view l.fn.hub;
   count : failures_of g.S.Store.view l.fn.hub ≤ failures_of g.S.Store.view l.hub;
+  kept : IsKept (hub_view g.S.Store.view l.fn.hub) → IsKept (hub_view g.S.Store.view l.hub);
   same : setting g.V.VendorHandler.view l.hub ≡ st;
   end : l.lines.ended ≡ true → (0 < l.lines.left) × IsAtEnd (g.R.Read.remaining l.reader);
   reads : Reads (g.R.Read.remaining l.fn.reader) (g.R.Read.remaining l.reader) l.fn.lines.left l.lines.left;

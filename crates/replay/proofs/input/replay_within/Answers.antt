@@ -20,3 +20,15 @@ returns-clause-fault g c = λ clean.
     let new = c.new-lines.ensures in
     let none : unread c.new-lines.result ≡ [] = rw (new.start.0, new.start.1) refl in
     all_to_come _ _ (appends_front _ _ _ c.new.result.items _ st w c.new.ensures.items c.write_last.ensures.front) _ _ _ new.ended none (c.in-Err.ensures.fault_text clean)
+
+pub returns-in-Ok-clause-stopped : goal.returns-in-Ok-clause-stopped
+returns-in-Ok-clause-stopped g c = λ kept r found.
+    let new = c.new-lines.ensures in
+    let none : unread c.new-lines.result ≡ [] = rw (new.start.0, new.start.1) refl in
+    all_to_come _ _ (λ input reached. reached) _ _ _ new.ended none (c.pass.ensures.stopped kept r found)
+
+pub returns-clause-stopped : goal.returns-clause-stopped
+returns-clause-stopped g c = λ kept r found.
+    let new = c.new-lines.ensures in
+    let none : unread c.new-lines.result ≡ [] = rw (new.start.0, new.start.1) refl in
+    all_to_come _ _ (λ input reached. reached) _ _ _ new.ended none (c.pass.ensures.stopped kept r found)

@@ -5,7 +5,7 @@ use Rattle.sqlite.specs.Held.{state}
 use Rattle.sql_shelf.specs.Shelves.{rows_of}
 use Rattle.hub_rows.specs.Grants.{info_by}
 use Rattle.hub_rows.specs.Keyed.{first}
-use Rattle.sql_shelf.proofs.StoreLemmas.{rests_before, rests_then}
+use Rattle.sql_shelf.proofs.StoreLemmas.{commits_then, rests_before, rests_then, stays_then}
 use Rattle.store_sql.proofs.GrantedLaws.{found_first, none_more}
 use Rattle.store_sql.proofs.granted.first_info.Goals as goal
 
@@ -41,4 +41,9 @@ grants-preserved g c =
           let one : c.in_ok-info.info ≡ info_by tags x = subst (λ d. c.in_ok-info.info ≡ info_by (rows_of d.trees).tags x) before.1 (c.in_ok-info.ensures.found before.0 up) in
           let none = c.grants.invariant.1 serves (c.in_ok-info.ensures.same before.0 up).was_open in
           none_more (info_by tags) (take k all) (take (k + 1) all) x c.in_ok-info.info more none one c.if-is_some.ensures,
+      stays_then old mid new c.grants.invariant.0 c.grants.invariant.2 c.in_ok-info.ensures.stops,
     )
+
+pub returns-in_err-info-clause-stops : goal.returns-in_err-info-clause-stops
+returns-in_err-info-clause-stops g c =
+    commits_then (state g.S.Store c.args.conn.now) (state g.S.Store c.grants.conn) (state g.S.Store c.info_of.new.conn) c.grants.invariant.0 c.grants.invariant.2 c.from_residual.result (search rules)

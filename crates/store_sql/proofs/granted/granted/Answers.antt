@@ -4,6 +4,7 @@ use Rattle.sqlite.specs.Held.{state}
 use Rattle.sql_shelf.specs.Shelves.{rows_of}
 use Rattle.hub_rows.specs.Grants.{entry_by, grants_to, received_key}
 use Rattle.hub_rows.specs.Keyed.{by_key, in_order}
+use Rattle.sql_shelf.proofs.StoreLemmas.{commits_then}
 use Rattle.store_sql.proofs.GrantedLaws.{finds_from, granted_is}
 use Rattle.store_sql.proofs.granted.granted.Goals as goal
 
@@ -14,3 +15,6 @@ returns-clause-found g c = λ serves up.
     subst (λ list. IfOk c.entries.result (λ v. v ≡ list)) (granted_is op all.tags all.grants)
     (finds_from (state g.S.Store c.args.conn.now) (state g.S.Store c.grants_received.new.conn) (state g.S.Store c.entries.new.conn) c.entries.result c.in_ok-grants.grants c.as_slice.result.now (λ rows. in_order (by_key received_key) (grants_to op rows.grants)) (λ rows grants list. list ≡ filter_map (entry_by rows.tags) grants)
     c.in_ok-grants.ensures.same c.entries.ensures.same c.in_ok-grants.ensures.found c.as_slice.ensures c.entries.ensures.found serves up)
+
+pub returns-clause-stops : goal.returns-clause-stops
+returns-clause-stops g c = commits_then (state g.S.Store c.args.conn.now) (state g.S.Store c.grants_received.new.conn) (state g.S.Store c.entries.new.conn) c.in_ok-grants.ensures.same c.in_ok-grants.ensures.stops c.entries.result c.entries.ensures.stops

@@ -4,6 +4,7 @@ use Rattle.sqlite.specs.Held.{state}
 use Rattle.sql_shelf.specs.Shelves.{rows_of}
 use Rattle.hub_rows.specs.Grants.{grants_of_key, info_by}
 use Rattle.hub_rows.specs.Keyed.{first}
+use Rattle.sql_shelf.proofs.StoreLemmas.{commits_then}
 use Rattle.store_sql.proofs.GrantedLaws.{finds_from, granted_tag_is}
 use Rattle.store_sql.proofs.granted.granted_tag.Goals as goal
 
@@ -15,3 +16,6 @@ returns-clause-found g c = λ serves up.
     subst (λ info. IfOk c.first_info.result (λ v. v ≡ info)) (granted_tag_is op key all.tags all.grants)
     (finds_from (state g.S.Store c.args.conn.now) (state g.S.Store c.received_of_key.new.conn) (state g.S.Store c.first_info.new.conn) c.first_info.result c.in_ok-grants.grants c.as_slice.result.now (λ rows. grants_of_key op key rows.grants) (λ rows grants info. info ≡ first (filter_map (info_by rows.tags) grants))
     c.in_ok-grants.ensures.same c.first_info.ensures.same c.in_ok-grants.ensures.found c.as_slice.ensures c.first_info.ensures.found serves up)
+
+pub returns-clause-stops : goal.returns-clause-stops
+returns-clause-stops g c = commits_then (state g.S.Store c.args.conn.now) (state g.S.Store c.received_of_key.new.conn) (state g.S.Store c.first_info.new.conn) c.in_ok-grants.ensures.same c.in_ok-grants.ensures.stops c.first_info.result c.first_info.ensures.stops

@@ -1,5 +1,6 @@
+use Rattle.std.proofs.Common.{rules}
 use Rattle.sqlite.specs.Held.{state}
-use Rattle.sql_shelf.proofs.StoreLemmas.{rests_then}
+use Rattle.sql_shelf.proofs.StoreLemmas.{commits_then, rests_then, stays_then}
 use Rattle.store_sql.proofs.tags.own_tag.Goals as goal
 
 pub returns-in_err-by_parent-in-Some-clause-same : goal.returns-in_err-by_parent-in-Some-clause-same
@@ -7,3 +8,10 @@ returns-in_err-by_parent-in-Some-clause-same g c = rests_then (state g.S.Store c
 
 pub returns-after-tag-clause-same : goal.returns-after-tag-clause-same
 returns-after-tag-clause-same g c = rests_then (state g.S.Store c.args.conn.now) (state g.S.Store c.find_tag.new.conn) (state g.S.Store c.is_parent_blocked.new.conn) c.in_ok-find_tag.ensures.same c.in_ok-by_parent-in-Some.ensures.same
+
+pub returns-in_err-by_parent-in-Some-clause-stops : goal.returns-in_err-by_parent-in-Some-clause-stops
+returns-in_err-by_parent-in-Some-clause-stops g c =
+    commits_then (state g.S.Store c.args.conn.now) (state g.S.Store c.find_tag.new.conn) (state g.S.Store c.is_parent_blocked.new.conn) c.in_ok-find_tag.ensures.same c.in_ok-find_tag.ensures.stops c.from_residual-in_err-by_parent-in-Some.result (search rules)
+
+pub returns-after-tag-clause-stops : goal.returns-after-tag-clause-stops
+returns-after-tag-clause-stops g c = stays_then (state g.S.Store c.args.conn.now) (state g.S.Store c.find_tag.new.conn) (state g.S.Store c.is_parent_blocked.new.conn) c.in_ok-find_tag.ensures.same c.in_ok-find_tag.ensures.stops c.in_ok-by_parent-in-Some.ensures.stops

@@ -3,9 +3,13 @@ use Rattle.std.specs.Str.{bytes_eq}
 use Rattle.sqlite.specs.Held.{state}
 use Rattle.sql_shelf.specs.Shelves.{txs}
 use Rattle.hub_rows.specs.Transactions.{is_tx}
+use Rattle.sql_shelf.proofs.StoreLemmas.{commits_as}
 use Rattle.store_sql.proofs.Calls.{first_finds}
 use Rattle.store_sql.proofs.txs.find_tx.Goals as goal
 
 pub returns-clause-found : goal.returns-clause-found
 returns-clause-found g c = λ serves up.
     first_finds (λ v. v.items) txs (λ r. bytes_eq r.op c.args.op.now && is_tx c.args.station.now c.args.number r) (state g.S.Store c.args.conn.now).now.trees c.find_one.result c.first_row.result c.first_row.ensures.ok c.first_row.ensures.row ((c.find_one.ensures.shows serves).ok up)
+
+pub returns-clause-stops : goal.returns-clause-stops
+returns-clause-stops g c = commits_as (state g.S.Store c.args.conn.now) (state g.S.Store c.find_one.new.conn) c.find_one.result c.first_row.result c.first_row.ensures.ok (λ serves. (c.find_one.ensures.shows serves).stops)

@@ -11,6 +11,6 @@ pub returns : goal.returns
 returns g c =
     let new = c.query_all.new.self in
     record {
-      shows = λ serves. shows (reads_same_starts c.args.op.now c.args.station.now c.args.start.now) (λ v. v.items) (state g.S.Store c.args.conn.now) (state g.S.Store new) _ c.query_all.result c.query_all.ensures.ok c.query_all.ensures.err c.query_all.ensures.survives.limit
+      shows = λ serves. shows (reads_same_starts c.args.op.now c.args.station.now c.args.start.now) (λ v. v.items) (state g.S.Store c.args.conn.now) (state g.S.Store new) _ c.query_all.result c.query_all.ensures.ok c.query_all.ensures.err c.query_all.ensures.survives
           (rw (c.params-to_sql.ensures, c.params-to_sql-2.ensures, c.params-to_sql-3.ensures, c.params-to_sql-4.ensures, c.params-to_sql-5.ensures, c.params-to_sql-6.ensures, to_z-of_z w64 c.args.meter_start c.ranges.meter_start, to_z-of_z w64 c.args.at c.ranges.at, c.requires.connector, c.requires.meter, c.requires.at, c.as_str.ensures) refl) serves (open_is_clean _ _ (g.met.S.Store.shut_if_dirty new.store));
     }

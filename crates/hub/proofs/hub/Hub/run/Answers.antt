@@ -1,10 +1,10 @@
-use Rattle.std.proofs.Common.{◌≡◌, ◌∙◌, ◌+◌, true, take, ap, sym, subst, arith}
+use Rattle.std.proofs.Common.{◌≡◌, ◌∙◌, ◌+◌, inl, inr, refl, true, take, ap, sym, subst, arith}
 use Rattle.std.proofs.lemmas.List.Elements.{AllWithin-more, at_read}
 use Rattle.pending_calls.proofs.OwnSlots.{slots-sorted}
 use Rattle.hub.specs.Hub.{world, setting, is_taken}
 use Rattle.hub.specs.View.{view}
 use Rattle.hub.specs.WellFormed.{WellFormed, SlotsHaveStations}
-use Rattle.hub.specs.World.{Setting, World, outputs_of, run_outputs, world_run}
+use Rattle.hub.specs.World.{Setting, World, outputs_of, run_outputs, world_run, world_step}
 use Rattle.hub.proofs.Isolation.{run_outputs-own, world_run-own}
 use Rattle.hub.proofs.Runs.{outputs_go_on, world_goes_on}
 use Rattle.hub.proofs.Stations.{have-run}
@@ -68,6 +68,7 @@ loop-event-preserved g c =
       world = λ clean. let before = c.in-Ok.ensures.counted.was_clean clean in
           world_goes_on st w es i c.event-item.result (world g.S.Store.view c.take.new.self) mine (world g.S.Store.view at.self) c.loop-event-test.true c.event-item.is inv.setting (inv.world before) (c.in-Ok.ensures.world clean);
       setting = c.in-Ok.ensures.setting ∙ inv.setting;
+      kept = λ kept. c.in-Ok.ensures.kept (inv.kept kept);
       count = omega (arith, c.in-Ok.ensures.counted.count);
     }
 
@@ -86,3 +87,34 @@ returns-clause-stations g c = λ clean have.
     let st : Setting = setting g.V.VendorHandler.view c.args.self.now in
     let w : World = world g.S.Store.view c.args.self.now in
     subst SlotsHaveStations (sym (c.loop-event.invariant.world clean)) (have-run st w (take c.loop-event.event-index c.args.events.now) have)
+
+-- a stop leaves the rows after the events taken, or after those and the one in progress
+pub returns-in-Err-clause-stopped : goal.returns-in-Err-clause-stopped
+returns-in-Err-clause-stopped g c = λ kept r found.
+    let st : Setting = setting g.V.VendorHandler.view c.args.self.now in
+    let w : World = world g.S.Store.view c.args.self.now in
+    let at = c.loop-event in
+    let inv = c.loop-event.invariant in
+    let i = c.loop-event.event-index in
+    let es = c.args.events.now in
+    let mine : Setting = setting g.V.VendorHandler.view at.self in
+    let one = c.in-Err.ensures.stopped (inv.kept kept) r found in
+    let now : world g.S.Store.view at.self ≡ world_run st w (take i es) = inv.world one.0 in
+    elim one.1 [
+      | inl before ↦ inl (before ∙ ap (λ v. v.rows) now ∙ ap (λ n. (world_run st w (take n es)).rows) (sym inv.at))
+      | inr after ↦ inr (
+        refl,
+        after
+            ∙ ap (λ v. v.rows) (world_goes_on st w es i c.event-item.result (world_step mine (world g.S.Store.view at.self) c.event-item.result) mine (world g.S.Store.view at.self) c.loop-event-test.true c.event-item.is inv.setting now refl)
+            ∙ ap (λ n. (world_run st w (take (n + 1) es)).rows) (sym inv.at),
+      )
+    ]
+
+pub returns-clause-stopped : goal.returns-clause-stopped
+returns-clause-stopped g c = λ kept r found.
+    let st : Setting = setting g.V.VendorHandler.view c.args.self.now in
+    let w : World = world g.S.Store.view c.args.self.now in
+    let inv = c.loop-event.invariant in
+    let es = c.args.events.now in
+    let one = (inv.kept kept).alone r found in
+    inl (one.1 ∙ ap (λ v. v.rows) (inv.world one.0) ∙ ap (λ n. (world_run st w (take n es)).rows) (sym inv.at))

@@ -1,11 +1,11 @@
-use Rattle.std.proofs.Common.{sym, subst}
+use Rattle.std.proofs.Common.{◌≡◌, ◌∙◌, inl, inr, sym, subst}
 use Rattle.std.specs.Option.{ForSome}
 use Rattle.hub_rows.specs.Changes.{EditFits}
 use Rattle.hub_rows.specs.Operators.{is_hosted}
 use Rattle.pending_calls.specs.Slots.{first_number}
 use Rattle.hub.specs.Effects.{edit_of}
 use Rattle.hub.specs.Hub.{world, setting}
-use Rattle.hub.specs.World.{Setting, World}
+use Rattle.hub.specs.World.{Setting, World, plan_at, rows_after}
 use Rattle.hub.proofs.Committing.{edit_of_plan_fits}
 use Rattle.hub.proofs.hub.Hub.take_at.Goals as goal
 
@@ -25,3 +25,20 @@ returns-in_err-plan-clause-setting g c = λ i. record { is_hosted = is_hosted c.
 pub returns-clause-setting : goal.returns-clause-setting
 unfolding setting
 returns-clause-setting g c = λ i. record { is_hosted = is_hosted c.args.self.now.hosted.items; answers = c.plan_event.ensures.answers i; first_number = c.commit.ensures.first i }
+
+pub returns-clause-stopped : goal.returns-clause-stopped
+unfolding setting
+returns-clause-stopped g c = λ kept r found.
+    let st : Setting = setting g.V.VendorHandler.view c.args.self.now in
+    let w : World = world g.S.Store.view c.args.self.now in
+    let p = c.in_ok-plan.plan in
+    let reads = c.in_ok-plan.ensures.reads in
+    let one = c.commit.ensures.stopped (reads.stays kept) r found in
+    let same = reads.kept one.0 in
+    let is : p ≡ plan_at st w c.args.op.now c.args.moment c.args.what.now = rw c.as_slice-hosted.ensures.value at (c.in_ok-plan.ensures.plan one.0) in (
+      reads.was_clean one.0,
+      elim one.1 [
+        | inl before ↦ inl (before ∙ same)
+        | inr after ↦ inr (after ∙ (λ i. rows_after c.args.op.now (edit_of (is i).effect) (same i)))
+      ],
+    )

@@ -1,16 +1,12 @@
-use Rattle.std.proofs.Common.{sym, subst, ◌∙◌}
-use Rattle.hub_rows.specs.declared.change.Edit.TheVariants.{TxStopped}
-use Rattle.hub_rows.specs.Changes.{EditFits}
-use Rattle.hub_rows.specs.Rows.{Rows}
-use Rattle.hub_rows.proofs.WellFormedLaws.{is_registered, on_record-tx}
-use Rattle.store_mem.specs.Lists.{rows_in}
+use Rattle.store_mem.proofs.NeverKept.{never_kept, stops_whole}
 use Rattle.store_mem.proofs.mem_store.MemStoreStore.apply.Goals as goal
 
-pub add_readings-requires : goal.add_readings-requires
-add_readings-requires c =
-    let s = c.args.self.now in
-    let rows : Rows = rows_in s.lists in
-    let op = c.args.change.now.op in
-    let t = c.in-TxStopped in
-    let fits : EditFits op (TxStopped t.station t.number t.stop t.first t.readings) rows = subst (λ e. EditFits op e rows) (sym c.as_ref.ensures ∙ t.is) (c.requires tt) in
-    (is_registered op t.station rows.stations (on_record-tx op t.station t.number rows s.good fits.0), rw c.as_slice.ensures fits.1)
+-- it is never kept
+pub returns-in_err-make-clause-stopped : goal.returns-in_err-make-clause-stopped
+returns-in_err-make-clause-stopped c = stops_whole _ _
+
+pub returns-clause-stopped : goal.returns-clause-stopped
+returns-clause-stopped c = stops_whole _ _
+
+pub returns-clause-kept : goal.returns-clause-kept
+returns-clause-kept c = λ kept. absurd (never_kept _ kept)

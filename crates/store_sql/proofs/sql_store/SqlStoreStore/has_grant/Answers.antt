@@ -1,5 +1,6 @@
 use Rattle.sqlite.specs.Held.{state}
 use Rattle.store_sql.specs.Store.{SqlView}
+use Rattle.store_sql.proofs.StopLaws.{leaves_last}
 use Rattle.store_sql.proofs.StoreLaws.{kept_still, only_reads}
 use Rattle.store_sql.proofs.sql_store.SqlStoreStore.has_grant.Goals as goal
 
@@ -9,4 +10,4 @@ invariant_of-self g c = kept_still (state g.A.Store c.self.inside.taken.value) (
 pub returns-clause-reads : goal.returns-clause-reads
 returns-clause-reads g c =
     let inside : SqlView _ = record { conn = c.self.inside.conn; failures = c.self.inside.failures; taken = c.self.inside.taken.value } in
-    only_reads g.A.Store inside c.args.self.now c.counted.new.self c.self.view_is c.self.invariant c.has_grant-found.new.conn c.counted.ensures.taken c.counted.ensures.conn c.has_grant-found.ensures.same c.has_grant-found.result c.counted.result c.counted.ensures.same c.counted.ensures.failed c.counted.ensures.count
+    only_reads g.A.Store inside c.args.self.now c.counted.new.self c.self.view_is c.self.invariant c.has_grant-found.new.conn c.counted.ensures.taken c.counted.ensures.conn c.has_grant-found.ensures.same c.has_grant-found.result c.counted.result c.counted.ensures.same c.counted.ensures.failed c.counted.ensures.count c.has_grant-found.ensures.stops (g.met.A.Store.survives c.self.inside.conn.store) (leaves_last g.A.Store c.has_grant-found.new.conn (g.met.A.Store.shut_if_dirty c.has_grant-found.new.conn.store) (g.met.A.Store.stays c.has_grant-found.new.conn.store))
