@@ -18,7 +18,7 @@ from programs import TIME, listening
 
 PORT = 9288
 AT = '"timestamp":"2024-01-01T00:00:00Z"'
-AUTHORIZE = '[2,"3","Authorize",{"idTag":"T1"}]'
+AUTHORIZE = '[2,"3","Authorize",{"idTag":"SIM1"}]'
 STATUS = '[2,"6","StatusNotification",{"connectorId":1,"errorCode":"NoError","status":"Available"}]'
 LISTS = "list transactions CP01", "list tags", "list readings CP01", "list connectors CP01", "list stations"
 MOST_TAGS = 5000
@@ -30,7 +30,7 @@ ANSWERS = {
 
 
 def start(number):
-    return f'[2,"4","StartTransaction",{{"connectorId":1,"idTag":"T1","meterStart":{number},{AT}}}]'
+    return f'[2,"4","StartTransaction",{{"connectorId":1,"idTag":"SIM1","meterStart":{number},{AT}}}]'
 
 
 def stop(number):
@@ -133,9 +133,9 @@ def check_full(checks, server, size):
     refused(checks, server, "a start", station(), start(number))
     refused(checks, server, "a report", station(), STATUS)
     refused(checks, server, "a boot", station(), BOOT)
-    refused(checks, server, "a tag", operator(), "tag put T2 - 0 -")
+    refused(checks, server, "a tag", operator(), "tag put SIM2 - 0 -")
     refused(checks, server, "a station", operator(), "station add CP09 Accepted 300")
-    checks.check("a refusal", answer(operator(), "tag drop T9"), "ACME refused 3 NoSuchTag")
+    checks.check("a refusal", answer(operator(), "tag drop SIM9"), "ACME refused 3 NoSuchTag")
     checks.check("another operator", answer(operator("BETA"), "list tags"), "BETA ok")
     checks.check("no connection is left", answer(operator(), "call CP01 ClearCache {}"), "ACME refused 7 NotConnected")
     checks.check("listings after what was refused", [lines(operator(), line) for line in LISTS], before)
@@ -176,7 +176,7 @@ def check_room(checks, server, number):
 def check_all(checks, program, folder):
     server = Server(program, folder)
     try:
-        for line in ("station add CP01 Accepted 300", "tag put T1 - 0 -"):
+        for line in ("station add CP01 Accepted 300", "tag put SIM1 - 0 -"):
             checks.check(line, answer(operator(), line), "ACME ok")
         booted = '[3,"1",{"currentTime":"T","interval":300,"status":"Accepted"}]'
         checks.check("a boot", answer(station(), BOOT), booted)
