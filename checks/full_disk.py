@@ -14,7 +14,7 @@ import tempfile
 import time
 
 from peer import BOOT, HEARTBEAT, Peer
-from programs import TIME, listening
+from programs import TIME, Checks, listening
 
 PORT = 9288
 AT = '"timestamp":"2024-01-01T00:00:00Z"'
@@ -44,22 +44,9 @@ def meter(number):
     )
 
 
-class Checks:
-    def __init__(self):
-        self.passed = self.failed = 0
-
-    def check(self, what, got, wanted):
-        if got == wanted:
-            self.passed += 1
-        else:
-            self.failed += 1
-            print(f"{what}\n  wanted {wanted!r}\n  got    {got!r}")
-
-
 class Server:
     def __init__(self, program, folder):
         self.db = os.path.join(folder, "hub.db")
-        self.log = os.path.join(folder, "log")
         read, write = os.pipe()
         words = [program, "serve", "--port", str(PORT), "--db", self.db, "--operators", "ACME,BETA", "--log", "none"]
         # SIGXFSZ stays ignored, as Python has it, so that a write past the limit is refused and ends nothing
@@ -198,9 +185,9 @@ def check_all(checks, program, folder):
 
 
 def main():
-    checks = Checks()
     with tempfile.TemporaryDirectory() as folder:
-        check_all(checks, os.path.abspath(sys.argv[1]), folder)
+        checks = Checks(os.path.abspath(sys.argv[1]), folder)
+        check_all(checks, checks.program, folder)
     print(f"{checks.passed} passed, {checks.failed} failed")
     sys.exit(checks.failed > 0)
 

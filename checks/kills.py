@@ -30,7 +30,7 @@ GONE = (SystemExit, OSError)
 
 
 class Load:
-    """What one peer does: each step has the request, the lists that it changes and their rows after it."""
+    """What one peer does, step by step, and the rows of the lists that its steps change."""
 
     def __init__(self, owner, lists, seed):
         self.owner = owner
@@ -41,7 +41,7 @@ class Load:
         self.flight = {}
         self.steps = 0
 
-    def run(self, server, turn):
+    def run(self, turn):
         """Steps until the server is gone."""
         self.flight = {}
         with contextlib.suppress(*GONE):
@@ -262,7 +262,7 @@ class Checks:
     def one_kill(self, number):
         server = Server(self.program, self.db)
         turn = threading.Event()
-        threads = [threading.Thread(target=load.run, args=(server, turn)) for load in self.loads]
+        threads = [threading.Thread(target=load.run, args=(turn,)) for load in self.loads]
         for thread in threads:
             thread.start()
         time.sleep(self.random.uniform(0.02, 0.4))
