@@ -167,6 +167,10 @@ impl<S: Store + Drop, V: VendorHandler> Hub<S, V> {
     /// The clauses `isolated_outputs` and `isolated_view` are the isolation theorem: to each
     /// operator, the outputs and what it has afterwards are what its own machine gives for what
     /// it was shown of the events taken.
+    ///
+    /// Where the work stops during the call and the store of a kept hub is opened again, its records are those after the
+    /// events taken, or those after one more (`stopped`). With no fault the hub is kept, so its records are those after
+    /// all events (`kept`).
     pub fn run(&mut self, events: &[Event]) -> (Vec<Out>, usize, Option<Fault>)
         ensures counted { IsCounted (hub_view S.view) self.old self.new (result.2 ≡ Some Fault.Store) }
         ensures outputs { is_clean S.view self.new → result.0.items
