@@ -1,9 +1,10 @@
 -- The tables that CREATE makes, and a database that is looked at.
-use Rattle.std.proofs.Common.{codes, map, ◌≡◌, ◌⊎◌, ℕ, List, [], ◌∷◌, ◌++◌, true, false, Some, None, slice_get, Ok, Err, Result, IsTrue, IfOk, IfErr, OnOk, OnErr, IsOk, IsErr, refl, sym, ap, ◌∙◌, subst, inl, inr, true≢false, arith}
+use Rattle.std.proofs.Common.{codes, map, ◌≡◌, ◌≤◌, ◌⊎◌, ℕ, List, [], ◌∷◌, ◌++◌, true, false, Some, None, slice_get, Ok, Err, Result, IsTrue, IfOk, IfErr, OnOk, OnErr, IsOk, IsErr, refl, sym, ap, ◌∙◌, subst, inl, inr, true≢false, arith}
 use Rattle.std.proofs.lemmas.Bool.{cases_Bool}
 use Rattle.std.specs.List.{AllByRecursion}
 use Rattle.sqlite_value.specs.Order.{Row}
 use Rattle.sqlite_trees.specs.Tree.{Trees, IsTable}
+use Rattle.sqlite_trees.specs.View.{doubt}
 use Rattle.sqlite_schema.specs.declared.schema.Schema.{Schema}
 use Rattle.sqlite_schema.specs.declared.schema.Table.{Table}
 use Rattle.sqlite_schema.specs.declared.schema.Index.{Index}
@@ -248,6 +249,7 @@ module _ {S : Type 0} (g : Ghosts S) (old tx mid end : Held S) (begun : tx ≡ r
         let mid_clean = survives.clean in
         elim (survives.crash sure db may) [ inl was ↦ inl (crash_mid up (omega (arith, mid_clean, sure)) db was) | inr none ↦ absurd none ];
     durable = λ up. tt;
+    clean = let left = leaves.survives.clean in let more = survives.clean in omega (arith, left, more);
     up = λ sure. tt;
   }
 
@@ -263,6 +265,9 @@ module _ {S : Type 0} (g : Ghosts S) (old tx mid end : Held S) (begun : tx ≡ r
           let mid_sure : HasCleanDisk (state g mid) = omega (arith, mid_clean, sure) in
           elim (survives.crash sure db may) [ inl was ↦ inl (crash_mid up mid_sure db was) | inr done ↦ inr (blank, subst AreNew (sym done) (has (mid_up mid_sure)).new) ]
 
+      doubts : doubt (state g old).is_clean ≤ doubt (state g end).is_clean
+      doubts = let left = leaves.survives.clean in let more = survives.clean in omega (arith, left, more)
+
       go : (r : Result (Unit {0}) Error)
           → (HasCleanDisk (state g end) → OnOk r (IsTrue (state g mid).in_transaction × Shows (state g mid) (state g end) (state g mid).now (state g mid).now false × KeepsCounts (state g mid) (state g end) × ((state g end).marks ≡ [])))
           → (HasCleanDisk (state g end) → IfErr r (FailsToCommit (state g mid) (state g end))) → Prepares (state g old) (state g end) r
@@ -272,6 +277,7 @@ module _ {S : Type 0} (g : Ghosts S) (old tx mid end : Held S) (begun : tx ≡ r
         refused = λ up. elim (err (clean up)) [ inl fails ↦ rolled up fails.3 | inr over ↦ absurd (true≢false (sym (has over.2.0.was_open).mode ∙ over.1)) ];
         crash = crashes;
         durable = λ up. tt;
+        clean = doubts;
         up = λ sure. tt;
       }
       go (Ok x) ok err = record {
@@ -292,6 +298,7 @@ module _ {S : Type 0} (g : Ghosts S) (old tx mid end : Held S) (begun : tx ≡ r
         refused = λ up. tt;
         crash = crashes;
         durable = λ up db may. let shows = (ok (clean up)).1 in after up db may ∙ ap (λ (d : Database). d.trees) (shows.committed_is ∙ sym shows.now_is);
+        clean = doubts;
         up = λ sure. (ok sure).1.is_open;
       }
 
@@ -306,7 +313,7 @@ module _ (old new : State) (rested : Rested old) (spared : IsSpared old new) (be
   spared_crash up sure db may = elim (spared.survives.crash sure db may) [ inl was ↦ inl (before up db was) | inr none ↦ absurd none ]
 
   pub spared_err : {A E : Type 0} (e : E) → Prepares {A = A} {E = E} old new (Err e)
-  spared_err e = record { serves = λ ours up. tt; taken = λ up. tt; refused = λ up. (spared.was_open up, spared.now up); crash = spared_crash; durable = λ up. tt; up = λ sure. tt }
+  spared_err e = record { serves = λ ours up. tt; taken = λ up. tt; refused = λ up. (spared.was_open up, spared.now up); crash = spared_crash; durable = λ up. tt; clean = spared.survives.clean; up = λ sure. tt }
 
   pub spared_ok : {A E : Type 0} (x : A) → (IsTrue new.is_open → old.now.schema ≡ hub_schema) → (IsTrue new.is_open → (db : Trees) → new.may_leave db → db ≡ new.committed.trees) → (HasCleanDisk new → IsTrue new.is_open) → Prepares {A = A} {E = E} old new (Ok x)
   spared_ok x has after opens = record {
@@ -328,6 +335,7 @@ module _ (old new : State) (rested : Rested old) (spared : IsSpared old new) (be
     refused = λ up. tt;
     crash = spared_crash;
     durable = λ up db may. after up db may ∙ ap (λ (d : Database). d.trees) (spared.committed up ∙ rested.settled (spared.was_open up) ∙ sym (spared.now up));
+    clean = spared.survives.clean;
     up = opens;
   }
 
@@ -366,8 +374,8 @@ spared_then a b c p q = record {
 
 -- the same answer under another error
 pub prepares_as : {A B E F : Type 0} (old new : State) (r : Result A E) (q : Result B F) → Prepares old new r → OnOk q (IsOk r) → OnErr q (IsErr r) → Prepares old new q
-prepares_as old new (Ok a) (Ok b) p ok err = record { serves = p.serves; taken = p.taken; refused = p.refused; crash = p.crash; durable = p.durable; up = p.up }
-prepares_as old new (Err d) (Err e) p ok err = record { serves = p.serves; taken = p.taken; refused = p.refused; crash = p.crash; durable = p.durable; up = p.up }
+prepares_as old new (Ok a) (Ok b) p ok err = record { serves = p.serves; taken = p.taken; refused = p.refused; crash = p.crash; durable = p.durable; clean = p.clean; up = p.up }
+prepares_as old new (Err d) (Err e) p ok err = record { serves = p.serves; taken = p.taken; refused = p.refused; crash = p.crash; durable = p.durable; clean = p.clean; up = p.up }
 prepares_as old new (Ok a) (Err e) p ok err = absurd cc
 prepares_as old new (Err d) (Ok b) p ok err = absurd cc
 
@@ -375,10 +383,10 @@ prepares_as old new (Err d) (Ok b) p ok err = absurd cc
 pub unlimited : {S A E : Type 0} (g : Ghosts S) (old mid new : Held S) (r : Result A E) → mid ≡ record old { step_limit = None } → Prepares (state g mid) (state g new) r → Prepares (state g old) (state g new) r
 unlimited g old mid new r same p =
     let q = subst (λ h. Prepares (state g h) (state g new) r) same p in
-    record { serves = q.serves; taken = q.taken; refused = q.refused; crash = q.crash; durable = q.durable; up = q.up }
+    record { serves = q.serves; taken = q.taken; refused = q.refused; crash = q.crash; durable = q.durable; clean = q.clean; up = q.up }
 
 pub rested_as : {S : Type 0} (g : Ghosts S) (old mid : Held S) → mid ≡ record old { step_limit = None } → (IsTrue (state g old).is_open → IsDatabase (state g old).now) → (IsTrue (state g old).is_open → (state g old).committed ≡ (state g old).now) → old.in_transaction ≡ false → Rested (state g mid)
 rested_as g old mid same sound settled mode = subst (λ h. Rested (state g h)) (sym same) (record { sound = sound; settled = settled; mode = mode; limit = refl })
 
 pub nothing_done : {A E : Type 0} (s : State) (e : E) → (IsTrue s.is_open → (db : Trees) → s.may_leave db → db ≡ s.committed.trees) → Prepares {A = A} {E = E} s s (Err e)
-nothing_done s e before = record { serves = λ ours up. tt; taken = λ up. tt; refused = λ up. (up, refl); crash = λ up sure db may. inl (before up db may); durable = λ up. tt; up = λ sure. tt }
+nothing_done s e before = record { serves = λ ours up. tt; taken = λ up. tt; refused = λ up. (up, refl); crash = λ up sure db may. inl (before up db may); durable = λ up. tt; clean = omega arith; up = λ sure. tt }

@@ -1,7 +1,8 @@
 -- How a connection is taken over.
-use Rattle.std.specs.Prelude.{◌≡◌, ◌⊎◌, true, false, None, [], IsTrue, Result, OnOk, OnErr}
+use Rattle.std.specs.Prelude.{◌≡◌, ◌⊎◌, ◌≤◌, true, false, None, [], IsTrue, Result, OnOk, OnErr}
 use Rattle.std.specs.List.{AllByRecursion}
 use Rattle.sqlite_trees.specs.Tree.{Trees}
+use Rattle.sqlite_trees.specs.View.{doubt}
 use Rattle.sqlite_schema.specs.declared.schema.Schema.{Schema}
 use Rattle.sqlite.specs.Effect.{IsDatabase}
 use Rattle.sqlite.specs.State.{State, HasCleanDisk, Survives}
@@ -65,4 +66,6 @@ pub record Prepares {A E : Type 0} (old new : State) (r : Result A E) : Type 0 w
   pub refused : IsTrue new.is_open → OnErr r (IsTrue old.is_open × (new.now ≡ old.now))
   pub crash : IsTrue old.is_open → HasCleanDisk new → (db : Trees) → new.may_leave db → (db ≡ old.committed.trees) ⊎ ((old.now.schema ≡ no_schema) × AreNew db)
   pub durable : IsTrue new.is_open → OnOk r ((db : Trees) → new.may_leave db → db ≡ new.now.trees)
+  -- no fault of the disk is forgotten, and with none an Ok leaves the connection open
+  pub clean : doubt old.is_clean ≤ doubt new.is_clean
   pub up : HasCleanDisk new → OnOk r (IsTrue new.is_open)

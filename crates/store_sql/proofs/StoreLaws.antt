@@ -48,9 +48,9 @@ module _ {S : Type 0} (g : Ghosts S) (inside old new : SqlView S) (view_is : ins
       let up = (rests_new (serving_before clean) clean.up).was_open in
       record { ours = ours; up = up; good = (kept ours up).1 }
 
-  pub only_reads : {T : Type 0} (done result : Result T StoreFault) → result ≡ done → (done ≡ Err Failed → Rose inside.failures new.failures) → inside.failures ≤ new.failures → CommitsNothing (state g inside.conn) (state g conn) done → LeavesSome g inside.conn → LeavesLast g conn
+  pub only_reads : {T : Type 0} (done result : Result T StoreFault) → result ≡ done → (done ≡ Err Failed → Rose inside.failures new.failures) → inside.failures ≤ new.failures → CommitsNothing (state g inside.conn) (state g conn) done → LeavesSome g inside.conn → LeavesLast g inside.conn → LeavesLast g conn
       → OnlyReads (sql_view g) old new result
-  only_reads done result same failed count stops some last =
+  only_reads done result same failed count stops some last_inside last =
       let stops_new = subst₂ (λ h r. CommitsNothing (state g inside.conn) (state g h) r) (sym same_conn) (sym same) stops in
       let last_new = subst (LeavesLast g) (sym same_conn) last in
       subst (λ o. OnlyReads (sql_view g) o new result) view_is (record {
@@ -58,8 +58,8 @@ module _ {S : Type 0} (g : Ghosts S) (inside old new : SqlView S) (view_is : ins
         kept = λ clean. ap (λ (d : Database). rows_of d.trees) (rests_new (serving_before clean) clean.up).now;
         failed = λ e. failed (sym same ∙ e);
         count = count;
-        stopped = read_stopped g inside new kept same_taken some last_new result rests_new stops_new;
-        stays = read_stays g inside new kept same_taken some last_new result rests_new stops_new;
+        stopped = read_stopped g inside new kept same_taken some last_inside last_new result rests_new stops_new;
+        stays = read_stays g inside new kept same_taken some last_inside last_new result rests_new stops_new;
       })
 
   -- what the call answers of the rows of the connection, it answers of the rows of the store
@@ -73,8 +73,8 @@ module _ {S : Type 0} (g : Ghosts S) (inside old new : SqlView S) (view_is : ins
 
 module _ {S : Type 0} (g : Ghosts S) (inside : SqlView S) (conn : Held S) (kept : ServesIfOurs (state g inside.taken) (state g inside.conn)) (change : Change) (fits : IsCleanSql g inside → Fits change (sql_rows g inside)) (r : Result (Unit {0}) StoreFault)
     (made : IsReady change (state g inside.conn) → Changes (IsMade (after_change change)) (state g inside.conn) (state g conn) r) where
-  ready : IsOurs (state g inside.taken) → IsReady change (state g inside.conn)
-  ready ours up = let k = kept ours up in (k.0, k.1, fits (record { ours = ours; up = up; good = k.1 }))
+  ready : (IsTrue (state g inside.conn).is_open → IsOurs (state g inside.taken)) → IsReady change (state g inside.conn)
+  ready ours up = let k = kept (ours up) up in (k.0, k.1, fits (record { ours = ours up; up = up; good = k.1 }))
 
   abbrev pub Outcome : Result (Unit {0}) StoreFault → Type 0
   Outcome (Ok x) = Made (IsMade (after_change change)) (state g inside.conn) (state g conn)
@@ -85,7 +85,7 @@ module _ {S : Type 0} (g : Ghosts S) (inside : SqlView S) (conn : Held S) (kept 
   outcome_of (Err e) ok err = err
 
   outcome : IsOurs (state g inside.taken) → IsTrue (state g conn).is_open → Outcome r
-  outcome ours up = let m = made (ready ours) in outcome_of r (m.ok up) (m.err up)
+  outcome ours up = let m = made (ready (λ _. ours)) in outcome_of r (m.ok up) (m.err up)
 
   was_up : (r : Result (Unit {0}) StoreFault) → Outcome r → IsTrue (state g inside.conn).is_open
   was_up (Ok x) m = m.was_open
@@ -95,7 +95,7 @@ module _ {S : Type 0} (g : Ghosts S) (inside : SqlView S) (conn : Held S) (kept 
   change_kept ours up = go r (outcome ours up)
     where
       go : (r : Result (Unit {0}) StoreFault) → Outcome r → Serves (state g conn) × WellFormedRows (rows_of (state g conn).now.trees)
-      go (Ok x) m = let k = ready ours m.was_open in (m.serves, subst WellFormedRows (sym m.edit) (well_formed-edit change.op change.edit (sql_rows g inside) k.1 k.2))
+      go (Ok x) m = let k = ready (λ _. ours) m.was_open in (m.serves, subst WellFormedRows (sym m.edit) (well_formed-edit change.op change.edit (sql_rows g inside) k.1 k.2))
       go (Err e) m = (m.serves, subst (λ (d : Database). WellFormedRows (rows_of d.trees)) (sym m.now) (kept ours m.was_open).1)
 
   module _ (old new : SqlView S) (view_is : inside ≡ old) (same_taken : new.taken ≡ inside.taken) (same_conn : new.conn ≡ conn) (result : Result (Unit {0}) StoreFault) (same : result ≡ r) where
@@ -128,8 +128,8 @@ module _ {S : Type 0} (g : Ghosts S) (inside : SqlView S) (conn : Held S) (kept 
         go (Ok x) m = tt
         go (Err e) m = rows_at ∙ ap (λ (d : Database). rows_of d.trees) m.now
 
-    module _ (some : LeavesSome g inside.conn) (last : LeavesLast g conn) where
-      made_new : IsOurs (state g inside.taken) → Changes (IsMade (after_change change)) (state g inside.conn) (state g new.conn) result
+    module _ (some : LeavesSome g inside.conn) (last_inside : LeavesLast g inside.conn) (last : LeavesLast g conn) where
+      made_new : (IsTrue (state g inside.conn).is_open → IsOurs (state g inside.taken)) → Changes (IsMade (after_change change)) (state g inside.conn) (state g new.conn) result
       made_new ours = subst₂ (λ h q. Changes (IsMade (after_change change)) (state g inside.conn) (state g h) q) (sym same_conn) (sym same) (made (ready ours))
 
       kept_new : ServesIfOurs (state g new.taken) (state g new.conn)
@@ -139,7 +139,7 @@ module _ {S : Type 0} (g : Ghosts S) (inside : SqlView S) (conn : Held S) (kept 
       last_new = subst (LeavesLast g) (sym same_conn) last
 
       pub change_finds : FindsOldOr (after_change change (sql_rows g old)) (sql_view g old) (sql_view g new)
-      change_finds = subst (λ o. FindsOldOr (after_change change (sql_rows g o)) (sql_view g o) (sql_view g new)) view_is (change_stopped g inside new kept same_taken some last_new result (after_change change) made_new kept_new)
+      change_finds = subst (λ o. FindsOldOr (after_change change (sql_rows g o)) (sql_view g o) (sql_view g new)) view_is (change_stopped g inside new kept same_taken some last_inside last_new result (after_change change) made_new kept_new)
 
       pub change_keeps : IsKept (sql_view g old) → OnOk result (IsKept (sql_view g new))
-      change_keeps was = change_stays g inside new kept same_taken some last_new result (after_change change) made_new kept_new
+      change_keeps was = change_stays g inside new kept same_taken some last_inside last_new result (after_change change) made_new kept_new (subst (λ o. IsKept (sql_view g o)) (sym view_is) was)

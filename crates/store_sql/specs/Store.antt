@@ -56,9 +56,9 @@ module _ {S : Type 0} (g : Ghosts S) where
     pub up : IsTrue (state g s.conn).is_open
     pub good : WellFormedRows (sql_rows s)
 
-  -- what it took over was ours, the disk has returned what was written, and a stop now leaves tables with these rows
+  -- the disk has returned what was written, and a stop now leaves tables with these rows
   abbrev pub sql_may_find : SqlView S → Rows → Type 0
-  sql_may_find s r = IsOurs (state g s.taken) × HasCleanDisk (state g s.conn) × (db : Trees) × (state g s.conn).may_leave db × (r ≡ rows_of db)
+  sql_may_find s r = HasCleanDisk (state g s.conn) × (db : Trees) × (state g s.conn).may_leave db × (r ≡ rows_of db)
 
   -- the store, as the trait sees it
   abbrev pub sql_view : SqlView S → StoreView

@@ -15,6 +15,7 @@ mod reservations;
 mod same;
 mod sql_store;
 mod stations;
+mod stopping;
 mod stored;
 mod tags;
 mod tx_edits;
@@ -22,3 +23,4 @@ mod txs;
 
 pub use opening::{PrepareFault, prepare};
 pub use sql_store::SqlStore;
+pub use stopping::stopped_and_opened;

@@ -1,6 +1,6 @@
 //! How a connection is made ready: the tables are made in an empty database, and those of a database that has
 //! them are taken.
-ghost use Rattle.std.specs.Prelude.{◌≡◌, ◌≢◌, ℕ, Err, IfOk, IsTrue, OnOk, OnErr, IsOk, IsErr, None, false};
+ghost use Rattle.std.specs.Prelude.{◌≡◌, ◌≢◌, ◌↔◌, ℕ, Err, IfOk, IsTrue, OnOk, OnErr, IsOk, IsErr, None, false};
 ghost use Rattle.sqlite_schema.specs.declared.schema.Schema as any_schema;
 ghost use Rattle.sqlite_schema.specs.declared.schema.Table as any_table;
 ghost use Rattle.sqlite_schema.specs.declared.schema.Index as any_index;
@@ -183,8 +183,8 @@ fn is_ours<S: Alter>(conn: &Connection<S>, ours: &Connection<MemStore>) -> bool
     same_schema(conn.schema(), ours.schema())
 }
 
-fn is_new<S: Alter>(conn: &Connection<S>) -> bool
-    ensures { IsTrue result → (state S.Store conn.now).now.schema ≡ no_schema }
+pub(crate) fn is_new<S: Alter>(conn: &Connection<S>) -> bool
+    ensures { IsTrue result ↔ ((state S.Store conn.now).now.schema ≡ no_schema) }
 {
     is_blank(conn.schema())
 }

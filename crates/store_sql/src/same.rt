@@ -1,5 +1,5 @@
 //! Whether two schemas are the same.
-ghost use Rattle.std.specs.Prelude.{◌≡◌, [], IsTrue};
+ghost use Rattle.std.specs.Prelude.{◌≡◌, ◌↔◌, [], IsTrue};
 ghost use Rattle.sql_tables.specs.Opening.{no_schema};
 
 use sqlite_items::Items;
@@ -159,7 +159,7 @@ pub(crate) fn same_schema(a: &Schema, b: &Schema) -> bool
 }
 
 pub(crate) fn is_blank(a: &Schema) -> bool
-    ensures { IsTrue result → a.now ≡ no_schema }
+    ensures { IsTrue result ↔ (a.now ≡ no_schema) }
 {
     a.tables.is_empty() && a.indexes.is_empty() && a.views.is_empty()
 }

@@ -99,7 +99,7 @@ impl<A: Alter + Drop> SqlStore<A> {
         ensures clean { IfOk result (λ s. IsOurs (state A.Store conn) → IsTrue (state A.Store s.conn).is_open → IsCleanSql A.Store s) }
         ensures prepares { IfOk result (λ s. Prepares {A = ⊤} {E = Unfit} (state A.Store conn) (state A.Store s.conn) (Ok tt)) }
         ensures fresh { IfOk result (λ s. (s.taken ≡ conn) × (s.failures ≡ 0)) }
-        ensures kept { IfOk result (λ s. IsKept (sql_view A.Store s)) }
+        ensures kept { IsOurs (state A.Store conn) → IfOk result (λ s. IsKept (sql_view A.Store s)) }
     {
         let taken = Snapshot::of(&conn);
         let mut conn = conn;
@@ -155,7 +155,7 @@ impl<S: Start> SqlStore<FileStore<FileFrom<S>>> {
         ensures clean { IfOk result (λ s. IsOurs (file_state s.taken) → IsTrue (file_state s.conn).is_open → IsCleanSql over_files s) }
         ensures prepares { IfOk result (λ s. Prepares {A = ⊤} {E = Unfit} (file_state s.taken) (file_state s.conn) (Ok tt)) }
         ensures failures { IfOk result (λ s. s.failures ≡ 0) }
-        ensures kept { IfOk result (λ s. IsKept (sql_view over_files s)) }
+        ensures kept { IfOk result (λ s. IsOurs (file_state s.taken) → IsKept (sql_view over_files s)) }
     {
         match Connection::open_from(rt, path, false, start) {
             Ok(conn) => SqlStore::adopt(rt.alloc(), conn),

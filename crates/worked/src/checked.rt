@@ -14,7 +14,14 @@ pub struct Tally {
 }
 
 impl Tally {
-    fn count(&mut self, passes: bool) {
+    pub fn new() -> Tally {
+        Tally {
+            passed: 0,
+            failed: 0,
+        }
+    }
+
+    pub fn count(&mut self, passes: bool) {
         if passes {
             self.passed = self.passed.saturating_add(1);
         } else {
@@ -29,10 +36,7 @@ where
     R: Files + AllocGlobal + Print + Clone + Drop,
     M: Replays,
 {
-    let mut tally = Tally {
-        passed: 0,
-        failed: 0,
-    };
+    let mut tally = Tally::new();
     for name in &names(rt, ".script")? {
         let passes = passes(rt, stores, name.as_str()).context(format_args!("script {name}"))?;
         tally.count(passes);
@@ -40,15 +44,18 @@ where
     Ok(tally)
 }
 
-/// Whether a replay of the script of that name writes what it is to write; if not, prints the
-/// first line that differs.
+/// Whether a replay of the script of that name writes what it is to write.
 fn passes<R, M>(rt: &R, stores: &M, name: &str) -> Result<bool>
 where
     R: Files + AllocGlobal + Print,
     M: Replays,
 {
     let got = got_of(rt, stores, name)?;
-    let wanted = wanted_of(rt, name)?;
+    is_wanted(rt, name, &wanted_of(rt, name)?, &got)
+}
+
+/// Whether that is what was wanted of the script; if not, prints the first line that differs.
+pub fn is_wanted<R: Print>(rt: &R, name: &str, wanted: &String, got: &String) -> Result<bool> {
     let Some(difference) = first_difference(wanted.as_str(), got.as_str()) else {
         return Ok(true);
     };
@@ -57,7 +64,7 @@ where
 }
 
 /// What a replay of the script of that name writes.
-fn got_of<R, M>(rt: &R, stores: &M, name: &str) -> Result<String>
+pub fn got_of<R, M>(rt: &R, stores: &M, name: &str) -> Result<String>
 where
     R: Files + AllocGlobal,
     M: Replays,

@@ -4,6 +4,8 @@
 //! The operators are those of `NAME.operators`, or else ACME and BETA. A fault is the last line,
 //! `fault NAME`. Each script is replayed over a new store of each kind.
 //!
+//! `NAME.later` has the lines of a script over the file that `NAME.script` has left.
+//!
 //! `data/` has databases too, `NAME.db`, which are opened.
 //!
 //! Some of the scripts are tried over stores of which each call fails in turn. `worked memory NAME` and `worked cache
@@ -18,6 +20,7 @@ mod difference;
 mod failures;
 mod handed_again;
 mod kept;
+mod later;
 mod replayed;
 mod script;
 mod stores;
@@ -27,6 +30,7 @@ use checked::{Tally, check_all};
 use databases::open_all;
 use failures::{Kind, Met, answered, try_failures};
 use kept::fill;
+use later::check_later;
 use std::env;
 use std::process::ExitCode;
 use stores::{InCache, InCachedDatabase, InDatabase, InFile, InMemory, Replays};
@@ -36,7 +40,12 @@ const PATH: &str = "worked.db";
 
 /// Checks the scripts over stores of one kind. Whether all passed.
 fn checks<M: Replays>(rt: &HostRuntime, kind: &str, stores: &M) -> anyhow::Result<bool> {
-    let Tally { passed, failed } = check_all(rt, stores)?;
+    told(rt, kind, check_all(rt, stores)?)
+}
+
+/// Prints a tally. Whether none failed.
+fn told(rt: &HostRuntime, kind: &str, tally: Tally) -> anyhow::Result<bool> {
+    let Tally { passed, failed } = tally;
     println!(rt; "{kind}: {passed} scripts passed, {failed} failed")?;
     Ok(failed == 0)
 }
@@ -82,12 +91,17 @@ fn check(rt: &HostRuntime) -> anyhow::Result<bool> {
     let in_database = checks(rt, "in a database in memory", &InDatabase { alloc })?;
     let in_cache = check_caches(rt)?;
     let in_file = checks(rt, "in a file", &InFile { rt, path: PATH })?;
+    let later = told(
+        rt,
+        "over a file that is opened again",
+        check_later(rt, PATH)?,
+    )?;
     fill(rt, PATH)?;
     try_caches(rt)?;
     let memory = check_failures(rt, "in memory", Kind::Memory)?;
     let small = check_failures(rt, "in a cache of 1 of a database", Kind::Cache(1))?;
     let large = check_failures(rt, "in a cache of a database", Kind::Cache(1024))?;
-    Ok(in_memory && in_database && in_cache && in_file && memory && small && large)
+    Ok(in_memory && in_database && in_cache && in_file && later && memory && small && large)
 }
 
 /// Statuses: 0 where each script is answered as it is to be over each kind of store, 1 otherwise.

@@ -34,11 +34,11 @@ returns-clause-stopped g c =
     let inside : SqlView _ = record { conn = c.self.inside.conn; failures = c.self.inside.failures; taken = c.self.inside.taken.value } in
     let fits : IsCleanSql g.A.Store inside → Fits c.args.change.now (sql_rows g.A.Store inside) = subst (λ o. IsCleanSql g.A.Store o → Fits c.args.change.now (sql_rows g.A.Store o)) (sym c.self.view_is) c.requires in
     change_finds g.A.Store inside c.apply-done.new.conn c.self.invariant c.args.change.now fits c.apply-done.result c.apply-done.ensures.changes c.args.self.now c.counted.new.self c.self.view_is c.counted.ensures.taken c.counted.ensures.conn c.counted.result c.counted.ensures.same
-    (g.met.A.Store.survives c.self.inside.conn.store) (leaves_last g.A.Store c.apply-done.new.conn (g.met.A.Store.shut_if_dirty c.apply-done.new.conn.store) (g.met.A.Store.stays c.apply-done.new.conn.store))
+    (g.met.A.Store.survives c.self.inside.conn.store) (leaves_last g.A.Store c.self.inside.conn (g.met.A.Store.shut_if_dirty c.self.inside.conn.store) (g.met.A.Store.stays c.self.inside.conn.store)) (leaves_last g.A.Store c.apply-done.new.conn (g.met.A.Store.shut_if_dirty c.apply-done.new.conn.store) (g.met.A.Store.stays c.apply-done.new.conn.store))
 
 pub returns-clause-kept : goal.returns-clause-kept
 returns-clause-kept g c =
     let inside : SqlView _ = record { conn = c.self.inside.conn; failures = c.self.inside.failures; taken = c.self.inside.taken.value } in
     let fits : IsCleanSql g.A.Store inside → Fits c.args.change.now (sql_rows g.A.Store inside) = subst (λ o. IsCleanSql g.A.Store o → Fits c.args.change.now (sql_rows g.A.Store o)) (sym c.self.view_is) c.requires in
     change_keeps g.A.Store inside c.apply-done.new.conn c.self.invariant c.args.change.now fits c.apply-done.result c.apply-done.ensures.changes c.args.self.now c.counted.new.self c.self.view_is c.counted.ensures.taken c.counted.ensures.conn c.counted.result c.counted.ensures.same
-    (g.met.A.Store.survives c.self.inside.conn.store) (leaves_last g.A.Store c.apply-done.new.conn (g.met.A.Store.shut_if_dirty c.apply-done.new.conn.store) (g.met.A.Store.stays c.apply-done.new.conn.store))
+    (g.met.A.Store.survives c.self.inside.conn.store) (leaves_last g.A.Store c.self.inside.conn (g.met.A.Store.shut_if_dirty c.self.inside.conn.store) (g.met.A.Store.stays c.self.inside.conn.store)) (leaves_last g.A.Store c.apply-done.new.conn (g.met.A.Store.shut_if_dirty c.apply-done.new.conn.store) (g.met.A.Store.stays c.apply-done.new.conn.store))

@@ -10,4 +10,4 @@ invariant_of-self g c = kept_still (state g.A.Store c.self.inside.taken.value) (
 pub returns-clause-reads : goal.returns-clause-reads
 returns-clause-reads g c =
     let inside : SqlView _ = record { conn = c.self.inside.conn; failures = c.self.inside.failures; taken = c.self.inside.taken.value } in
-    only_reads g.A.Store inside c.args.self.now c.counted.new.self c.self.view_is c.self.invariant c.connectors-found.new.conn c.counted.ensures.taken c.counted.ensures.conn c.connectors-found.ensures.same c.connectors-found.result c.counted.result c.counted.ensures.same c.counted.ensures.failed c.counted.ensures.count c.connectors-found.ensures.stops (g.met.A.Store.survives c.self.inside.conn.store) (leaves_last g.A.Store c.connectors-found.new.conn (g.met.A.Store.shut_if_dirty c.connectors-found.new.conn.store) (g.met.A.Store.stays c.connectors-found.new.conn.store))
+    only_reads g.A.Store inside c.args.self.now c.counted.new.self c.self.view_is c.self.invariant c.connectors-found.new.conn c.counted.ensures.taken c.counted.ensures.conn c.connectors-found.ensures.same c.connectors-found.result c.counted.result c.counted.ensures.same c.counted.ensures.failed c.counted.ensures.count c.connectors-found.ensures.stops (g.met.A.Store.survives c.self.inside.conn.store) (leaves_last g.A.Store c.self.inside.conn (g.met.A.Store.shut_if_dirty c.self.inside.conn.store) (g.met.A.Store.stays c.self.inside.conn.store)) (leaves_last g.A.Store c.connectors-found.new.conn (g.met.A.Store.shut_if_dirty c.connectors-found.new.conn.store) (g.met.A.Store.stays c.connectors-found.new.conn.store))

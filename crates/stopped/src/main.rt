@@ -1,0 +1,69 @@
+//! Scripts that are stopped at each call on the files of a database, which is opened again: whether the records found are
+//! those after the events taken, or with the one in progress.
+//!
+//! `data/` has the lines of each script, `NAME.script`, and the lines that list all records, `lists.txt`.
+#![tactic(auto)]
+
+mod disks;
+mod runs;
+mod script;
+mod stop;
+mod stops;
+
+use anyhow::{Context, Result};
+use disks::{File, Leaves};
+use script::Script;
+use std::process::ExitCode;
+use stops::{Tally, try_files, try_in_place};
+
+/// The scripts that are tried.
+const SCRIPTS: &[&str] = &[
+    "boot_and_heartbeat",
+    "start_repeated",
+    "reservations",
+    "local_list_of_a_station",
+    "stop_with_a_reading",
+];
+
+/// What is tried of each script.
+const KINDS: &[(&str, File, Leaves)] = &[
+    ("the log, written", File::Log, Leaves::Written),
+    ("the log, synced", File::Log, Leaves::Synced),
+    ("the database, written", File::Database, Leaves::Written),
+    ("the database, synced", File::Database, Leaves::Synced),
+];
+
+/// Prints a tally. How many were wrong.
+fn told(rt: &HostRuntime, name: &str, kind: &str, tally: Tally) -> Result<u64> {
+    let Tally {
+        stops,
+        ahead,
+        wrong,
+    } = tally;
+    println!(rt;
+        "{name}, {kind}: {stops} stops, {ahead} with the event in progress, {wrong} wrong"
+    )?;
+    Ok(wrong)
+}
+
+/// Tries a script in all ways. How many stops were wrong.
+fn try_script(rt: &HostRuntime, name: &str) -> Result<u64> {
+    let alloc = rt.alloc();
+    let script = Script::read(rt, name)?;
+    let mut wrong = 0u64;
+    for (kind, file, leaves) in KINDS {
+        let tally = try_files(alloc, &script, *file, *leaves).context(*kind)?;
+        wrong = wrong.saturating_add(told(rt, name, kind, tally)?);
+    }
+    let tally = try_in_place(alloc, &script, File::Log, Leaves::Written)?;
+    Ok(wrong.saturating_add(told(rt, name, "opened in place", tally)?))
+}
+
+/// Statuses: 0 where no stop left other records, 1 otherwise.
+fn main(rt: HostRuntime) -> Result<ExitCode> {
+    let mut wrong = 0u64;
+    for name in SCRIPTS {
+        wrong = wrong.saturating_add(try_script(&rt, name).context(format_args!("script {name}"))?);
+    }
+    Ok(ExitCode::from(if wrong == 0 { 0 } else { 1 }))
+}
