@@ -35,6 +35,7 @@ pub struct At {
 }
 
 /// What comes of files that are opened.
+#[derive(Drop)]
 pub enum Opened {
     Database(Database),
     /// A call has failed before the tables stood.
