@@ -8,13 +8,13 @@ mod disks;
 mod runs;
 mod script;
 mod stop;
-mod stops;
+mod tries;
 
 use anyhow::{Context, Result};
 use disks::{File, Leaves};
 use script::Script;
 use std::process::ExitCode;
-use stops::{Tally, try_files, try_in_place};
+use tries::{Tally, try_files, try_in_place};
 
 /// The scripts that are tried.
 const SCRIPTS: &[&str] = &[
