@@ -46,7 +46,16 @@ pub fn take_all<S: Store + Drop>(alloc: Global, store: S, events: &[Event]) -> R
     Ok((taken, hub.into_store()))
 }
 
-/// The same over a database, whose files are opened again where the first fault is. `None` where they can't be.
+/// The same over a database.
+pub fn take_all_in<A: Alter + Drop>(
+    alloc: Global,
+    store: SqlStore<A>,
+    events: &[Event],
+) -> Result<(usize, SqlStore<A>)> {
+    take_all(alloc, store, events)
+}
+
+/// The same over a database that is opened again where the first fault is. `None` where it can't be.
 pub fn take_and_stop<A: Alter + Reopen + Drop>(
     alloc: Global,
     store: SqlStore<A>,
@@ -69,4 +78,13 @@ pub fn records<S: Store + Drop>(alloc: Global, store: S, lists: &[Event]) -> Res
         text.push('\n')?;
     }
     Ok(text)
+}
+
+/// The same over a database.
+pub fn records_in<A: Alter + Drop>(
+    alloc: Global,
+    store: SqlStore<A>,
+    lists: &[Event],
+) -> Result<String> {
+    records(alloc, store, lists)
 }

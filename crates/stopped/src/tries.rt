@@ -1,7 +1,7 @@
 //! A script that is stopped at each call on a file.
 
 use crate::disks::{At, File, Leaves, Opened, close, open_again, open_new};
-use crate::runs::{records, take_all, take_and_stop};
+use crate::runs::{records_in, take_all_in, take_and_stop};
 use crate::script::Script;
 use anyhow::{Result, bail};
 use std::alloc::Global;
@@ -62,7 +62,7 @@ pub fn try_files(alloc: Global, script: &Script, file: File, leaves: Leaves) -> 
 fn stop(alloc: Global, script: &Script, at: At) -> Result<Found> {
     let (taken, files) = match open_new(alloc, at)? {
         Opened::Database(store) => {
-            let (taken, store) = take_all(alloc, store, &script.events)?;
+            let (taken, store) = take_all_in(alloc, store, &script.events)?;
             (taken, close(store))
         }
         Opened::Files(files) => (0, files),
@@ -70,7 +70,7 @@ fn stop(alloc: Global, script: &Script, at: At) -> Result<Found> {
     match open_again(alloc, files)? {
         Opened::Database(store) => Ok(Found {
             taken,
-            records: records(alloc, store, &script.lists)?,
+            records: records_in(alloc, store, &script.lists)?,
         }),
         Opened::Files(_files) => bail!("the files can't be opened again"),
     }
@@ -107,6 +107,6 @@ fn stop_in_place(alloc: Global, script: &Script, at: At) -> Result<Option<Found>
     };
     Ok(Some(Found {
         taken,
-        records: records(alloc, store, &script.lists)?,
+        records: records_in(alloc, store, &script.lists)?,
     }))
 }
