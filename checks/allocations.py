@@ -316,8 +316,9 @@ class Server:
             time.sleep(0.001)
 
     def errors(self):
-        self.log.seek(0)
-        return self.log.read()
+        # by a handle of its own: the server writes on at the end of the one that it has
+        with open(f"/proc/self/fd/{self.log.fileno()}") as log:
+            return log.read()
 
     def close(self):
         self.process.kill()
