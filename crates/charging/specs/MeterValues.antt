@@ -14,7 +14,7 @@ use Rattle.charging.specs.Readings.{readings_of}
 -- readings of a station, after the last number that was given
 abbrev pub decision_of_readings : List ℕ → ℕ → List Reading → Decision
 decision_of_readings station last readings =
-    if has_room last (length readings) then record { reply = Conf conf.MeterValues; edit = Some (ReadingsAdded station (last + 1) readings) } else internal_error
+    if has_room last (length readings) then record { reply = Conf conf.Empty; edit = Some (ReadingsAdded station (last + 1) readings) } else internal_error
 
 abbrev pub meter_values_rule : List ℕ → MeterValues → Lookups → Decision
 meter_values_rule station r l = decision_of_readings station (l.last_numbers station).reading (readings_of r.connector_id r.transaction_id r.meter_value)

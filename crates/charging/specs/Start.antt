@@ -32,16 +32,20 @@ repeat_decision station id m l n = record {
 }
 
 -- transaction n begins
-abbrev pub begin_decision : List ℕ → StartTransaction → StartKey → ℕ → IdTagInfo → ℕ → Decision
-begin_decision station r id m info n = record {
+abbrev pub begin_decision : List ℕ → Start → IdTagInfo → ℕ → Decision
+begin_decision station start info n = record {
   reply = Conf (conf.StartTransaction info n);
-  edit = Some (TxStarted station n (start_of r id m info.status));
+  edit = Some (TxStarted station n start);
 }
+
+-- whatever the judgement of its tag is
+abbrev pub begin_judged : List ℕ → StartTransaction → StartKey → ℕ → ℕ → IdTagInfo → Decision
+begin_judged station r id m n info = begin_decision station (start_of r id m info.status) info n
 
 -- after the last number that was given
 abbrev pub begin_after : List ℕ → StartTransaction → StartKey → ℕ → Lookups → ℕ → Decision
 begin_after station r id m l last =
-    if nat_le last_of_all last then internal_error else begin_decision station r id m (judge_rule m id.key (purpose.Start None) l) (last + 1)
+    if nat_le last_of_all last then internal_error else begin_judged station r id m (last + 1) (judge_rule m id.key (purpose.Start None) l)
 
 abbrev pub new_start : List ℕ → StartTransaction → StartKey → ℕ → Lookups → Decision
 new_start station r id m l = begin_after station r id m l (l.last_numbers station).transaction

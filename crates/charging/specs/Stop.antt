@@ -36,6 +36,7 @@ stop_of r m = record { meter_stop = r.meter_stop; at = r.timestamp; reason = r.r
 abbrev pub stop_edit : List ℕ → ℕ → Stop → ℕ → List Reading → Edit
 stop_edit station n stop last readings = if has_room last (length readings) then TxStopped station n stop (last + 1) readings else TxStopped station n stop 0 []
 
+-- readings that are sent with a stop are of the transaction's connector
 abbrev pub end_edit : List ℕ → StopTransaction → ℕ → ℕ → ℕ → ℕ → Edit
 end_edit station r m n connector last = stop_edit station n (stop_of r m) last (readings_of connector (Some r.transaction_id) r.transaction_data)
 

@@ -9,7 +9,7 @@ use crate::readings::readings_of;
 use hub_rows::{Edit, Reading, Store, StoreFault};
 use ocpp_payload::{Conf, MeterValues};
 use ocpp_types::{Boxed, Listed, Mem, Text};
-use registry::{Decision, Reply, internal_error};
+use registry::{Decision, Reply, StationAt, internal_error};
 use std::alloc::Global;
 
 /// The readings of a MeterValues are kept, numbered from the one after the station's last on. A
@@ -17,16 +17,15 @@ use std::alloc::Global;
 pub fn on_meter_values<S: Store>(
     alloc: Global,
     store: &mut S,
-    op: &str,
-    station: &str,
+    at: &StationAt<'_>,
     request: MeterValues,
 ) -> Result<Decision, StoreFault>
     ensures reads { OnlyReads S.view store.old store.new result }
     ensures decision { (S.view store.new).clean → IfOk result (λ d. d
-        ≡ meter_values_rule station.now request (lookups_at op.now (S.view store.old).rows)) }
+        ≡ meter_values_rule at.now.station.now request (lookups_at at.now.op.now (S.view store.old).rows)) }
 {
-    let last = store.last_numbers(op, station)?.reading;
-    let station = Text::copy_of(alloc, station)?;
+    let last = store.last_numbers(at.op.as_str(), at.station.as_str())?.reading;
+    let station = at.station.clone()?;
     let readings = readings_of(
         alloc,
         request.connector_id,
@@ -53,7 +52,7 @@ fn decision_of_readings(
         readings,
     };
     Ok(Decision {
-        reply: Reply::Conf(Conf::MeterValues),
+        reply: Reply::Conf(Conf::Empty),
         edit: Some(Boxed::new(alloc, edit)?),
     })
 }

@@ -3,7 +3,7 @@ ghost use Rattle.std.specs.Prelude.{◌≡◌};
 ghost use Rattle.charging.specs.Numbers.{has_room};
 
 /// The last number that a transaction or a reading can have.
-pub const LAST_NUMBER: u32 = 2147483647;
+pub const LAST_NUMBER: u32 = i32::MAX as u32;
 
 /// Whether so many numbers are left after the last one that was given.
 pub fn has_room(last: u32, count: usize) -> bool

@@ -1,15 +1,17 @@
 //! Transactions that begin (OCPP 1.6, section 4.8; docs/RULES.md, Transactions).
-ghost use Rattle.std.specs.Prelude.{◌≡◌, Err, IfOk};
+ghost use Rattle.std.specs.Prelude.{◌≡◌, Err, IfOk, None};
 ghost use Rattle.hub_rows.specs.Reads.{OnlyReads};
 ghost use Rattle.hub_rows.specs.Lookups.{lookups_at};
+ghost use Rattle.id_tags.specs.Judge.{judge_rule};
+ghost use Rattle.id_tags.specs.declared.judgement.Purpose.TheVariants as purpose;
 ghost use Rattle.charging.specs.Start.{start_rule, start_key, start_of, repeat_decision, new_start, start_by_key, begin_decision};
 
 use crate::numbers::LAST_NUMBER;
 use hub_rows::{Edit, Start, StartKey, Store, StoreFault, TxKey};
 use id_tags::{Purpose, judge};
 use ocpp_payload::{Conf, StartTransaction};
-use ocpp_types::{AuthorizationStatus, Boxed, IdTagInfo, Mem, Moment, TagKey, Text};
-use registry::{Decision, Reply, internal_error};
+use ocpp_types::{AuthorizationStatus, Boxed, IdTagInfo, Mem, Moment, TagKey};
+use registry::{Decision, Reply, StationAt, internal_error};
 use std::alloc::Global;
 
 /// A start begins a transaction, whose number is the one after the station's last, and is answered
@@ -19,17 +21,15 @@ use std::alloc::Global;
 pub fn on_start<S: Store>(
     alloc: Global,
     store: &mut S,
-    op: &str,
-    station: &str,
+    at: &StationAt<'_>,
     request: StartTransaction,
-    moment: Moment,
 ) -> Result<Decision, StoreFault>
     ensures reads { OnlyReads S.view store.old store.new result }
     ensures decision { (S.view store.new).clean → IfOk result (λ d. d
-        ≡ start_rule station.now request moment (lookups_at op.now (S.view store.old).rows)) }
+        ≡ start_rule at.now.station.now request at.now.moment (lookups_at at.now.op.now (S.view store.old).rows)) }
 {
     let id = start_key(alloc, &request)?;
-    start_by_key(alloc, store, op, station, request, id, moment)
+    start_by_key(alloc, store, at, request, id)
 }
 
 /// What tells a start from others of its station.
@@ -48,40 +48,35 @@ fn start_key(alloc: Global, request: &StartTransaction) -> Mem<StartKey>
 fn start_by_key<S: Store>(
     alloc: Global,
     store: &mut S,
-    op: &str,
-    station: &str,
+    at: &StationAt<'_>,
     request: StartTransaction,
     id: StartKey,
-    moment: Moment,
 ) -> Result<Decision, StoreFault>
     ensures reads { OnlyReads S.view store.old store.new result }
     ensures decision { (S.view store.new).clean → IfOk result (λ d. d
-        ≡ start_by_key station.now request id moment (lookups_at op.now (S.view store.old).rows)) }
+        ≡ start_by_key at.now.station.now request id at.now.moment (lookups_at at.now.op.now (S.view store.old).rows)) }
 {
-    match store.same_start(op, station, &id)? {
-        None => new_start(alloc, store, op, station, request, id, moment),
-        Some(number) => repeat_decision(alloc, store, op, station, &id, moment, number),
+    match store.same_start(at.op.as_str(), at.station.as_str(), &id)? {
+        None => new_start(alloc, store, at, request, id),
+        Some(number) => repeat_decision(store, at, &id, number),
     }
 }
 
 /// The answer to a start that has a number.
 fn repeat_decision<S: Store>(
-    alloc: Global,
     store: &mut S,
-    op: &str,
-    station: &str,
+    at: &StationAt<'_>,
     id: &StartKey,
-    moment: Moment,
     number: u32,
 ) -> Result<Decision, StoreFault>
     ensures reads { OnlyReads S.view store.old store.new result }
     ensures decision { (S.view store.new).clean → IfOk result (λ d. d
-        ≡ repeat_decision station.now id.now moment (lookups_at op.now (S.view store.old).rows) number) }
+        ≡ repeat_decision at.now.station.now id.now at.now.moment (lookups_at at.now.op.now (S.view store.old).rows) number) }
 {
-    let station = Text::copy_of(alloc, station)?;
+    let station = at.station.clone()?;
     let own = TxKey { station, number };
     let purpose = Purpose::Start { except: Some(own) };
-    let id_tag_info = judge(store, op, &id.key, moment, &purpose)?;
+    let id_tag_info = judge(store, at.op.as_str(), &id.key, at.moment, &purpose)?;
     let reply = Conf::StartTransaction {
         id_tag_info,
         transaction_id: number,
@@ -96,48 +91,58 @@ fn repeat_decision<S: Store>(
 fn new_start<S: Store>(
     alloc: Global,
     store: &mut S,
-    op: &str,
-    station: &str,
+    at: &StationAt<'_>,
     request: StartTransaction,
     id: StartKey,
-    moment: Moment,
 ) -> Result<Decision, StoreFault>
     ensures reads { OnlyReads S.view store.old store.new result }
     ensures decision { (S.view store.new).clean → IfOk result (λ d. d
-        ≡ new_start station.now request id moment (lookups_at op.now (S.view store.old).rows)) }
+        ≡ new_start at.now.station.now request id at.now.moment (lookups_at at.now.op.now (S.view store.old).rows)) }
 {
-    let last = store.last_numbers(op, station)?.transaction;
+    let last = store.last_numbers(at.op.as_str(), at.station.as_str())?.transaction;
     if last >= LAST_NUMBER {
         return Ok(internal_error());
     }
+    let id_tag_info = judge_new(store, at, &id)?;
+    let number = TxKey {
+        station: at.station.clone()?,
+        number: last + 1,
+    };
+    let start = start_of(request, id, at.moment, id_tag_info.status);
+    Ok(begin_decision(alloc, number, start, id_tag_info)?)
+}
+
+/// The judgement of the tag of a new start.
+fn judge_new<S: Store>(
+    store: &mut S,
+    at: &StationAt<'_>,
+    id: &StartKey,
+) -> Result<IdTagInfo, StoreFault>
+    ensures reads { OnlyReads S.view store.old store.new result }
+    ensures judged { (S.view store.new).clean → IfOk result (λ i. i
+        ≡ judge_rule at.now.moment id.now.key (purpose.Start None) (lookups_at at.now.op.now (S.view store.old).rows)) }
+{
     let purpose = Purpose::Start { except: None };
-    let id_tag_info = judge(store, op, &id.key, moment, &purpose)?;
-    let station = Text::copy_of(alloc, station)?;
-    let number = last + 1;
-    Ok(begin_decision(alloc, station, request, id, moment, id_tag_info, number)?)
+    judge(store, at.op.as_str(), &id.key, at.moment, &purpose)
 }
 
 /// The transaction of that number begins.
 fn begin_decision(
     alloc: Global,
-    station: Text,
-    request: StartTransaction,
-    id: StartKey,
-    moment: Moment,
+    transaction: TxKey,
+    start: Start,
     id_tag_info: IdTagInfo,
-    number: u32,
 ) -> Mem<Decision>
-    ensures { IfOk result (λ d. d ≡ begin_decision station request id moment id_tag_info number) }
+    ensures { IfOk result (λ d. d ≡ begin_decision transaction.station start id_tag_info transaction.number) }
 {
-    let start = start_of(request, id, moment, id_tag_info.status);
     let edit = Edit::TxStarted {
-        station,
-        number,
+        station: transaction.station,
+        number: transaction.number,
         start,
     };
     let reply = Conf::StartTransaction {
         id_tag_info,
-        transaction_id: number,
+        transaction_id: transaction.number,
     };
     Ok(Decision {
         reply: Reply::Conf(reply),

@@ -2,15 +2,15 @@
 ghost use Rattle.std.specs.Prelude.{◌≡◌, Err, IfOk};
 ghost use Rattle.hub_rows.specs.Reads.{OnlyReads};
 ghost use Rattle.hub_rows.specs.Lookups.{lookups_at};
-ghost use Rattle.charging.specs.Stop.{stop_rule, info_of, edit_of_stop, end_edit, stop_edit, stop_of, number_of_id};
+ghost use Rattle.charging.specs.Stop.{stop_rule, info_of, edit_of_stop, stop_edit, stop_of, number_of_id};
 
 use crate::numbers::has_room;
 use crate::readings::readings_of;
-use hub_rows::{Edit, Reading, Stop, Store, StoreFault, TxState};
+use hub_rows::{Edit, Reading, Stop, Store, StoreFault, TxKey, TxState};
 use id_tags::{Purpose, judge};
 use ocpp_payload::{Conf, MeterValue, StopTransaction};
 use ocpp_types::{Boxed, IdTagInfo, Listed, Mem, Moment, TagKey, Text};
-use registry::{Decision, Reply};
+use registry::{Decision, Reply, StationAt};
 use std::alloc::Global;
 
 /// A stop ends the open transaction that it names, and keeps the readings that were sent with it,
@@ -20,17 +20,15 @@ use std::alloc::Global;
 pub fn on_stop<S: Store>(
     alloc: Global,
     store: &mut S,
-    op: &str,
-    station: &str,
+    at: &StationAt<'_>,
     request: StopTransaction,
-    moment: Moment,
 ) -> Result<Decision, StoreFault>
     ensures reads { OnlyReads S.view store.old store.new result }
     ensures decision { (S.view store.new).clean → IfOk result (λ d. d
-        ≡ stop_rule station.now request moment (lookups_at op.now (S.view store.old).rows)) }
+        ≡ stop_rule at.now.station.now request at.now.moment (lookups_at at.now.op.now (S.view store.old).rows)) }
 {
-    let id_tag_info = info_of(alloc, store, op, &request.id_tag, moment)?;
-    let edit = edit_of_stop(alloc, store, op, station, request, moment)?;
+    let id_tag_info = info_of(alloc, store, at, &request.id_tag)?;
+    let edit = edit_of_stop(alloc, store, at, request)?;
     let reply = Conf::StopTransaction { id_tag_info };
     Ok(Decision {
         reply: Reply::Conf(reply),
@@ -42,19 +40,18 @@ pub fn on_stop<S: Store>(
 fn info_of<S: Store>(
     alloc: Global,
     store: &mut S,
-    op: &str,
+    at: &StationAt<'_>,
     tag: &Option<Text>,
-    moment: Moment,
 ) -> Result<Option<IdTagInfo>, StoreFault>
     ensures reads { OnlyReads S.view store.old store.new result }
     ensures judged { (S.view store.new).clean → IfOk result (λ i. i
-        ≡ info_of tag.now moment (lookups_at op.now (S.view store.old).rows)) }
+        ≡ info_of tag.now at.now.moment (lookups_at at.now.op.now (S.view store.old).rows)) }
 {
     match tag {
         None => Ok(None),
         Some(tag) => {
             let key = TagKey::of(alloc, tag.as_str())?;
-            let info = judge(store, op, &key, moment, &Purpose::Authorize)?;
+            let info = judge(store, at.op.as_str(), &key, at.moment, &Purpose::Authorize)?;
             Ok(Some(info))
         }
     }
@@ -64,19 +61,17 @@ fn info_of<S: Store>(
 fn edit_of_stop<S: Store>(
     alloc: Global,
     store: &mut S,
-    op: &str,
-    station: &str,
+    at: &StationAt<'_>,
     request: StopTransaction,
-    moment: Moment,
 ) -> Result<Option<Boxed<Edit>>, StoreFault>
     ensures reads { OnlyReads S.view store.old store.new result }
     ensures edit { (S.view store.new).clean → IfOk result (λ e. e
-        ≡ edit_of_stop station.now request moment (lookups_at op.now (S.view store.old).rows)) }
+        ≡ edit_of_stop at.now.station.now request at.now.moment (lookups_at at.now.op.now (S.view store.old).rows)) }
 {
     let Some(number) = number_of_id(request.transaction_id) else {
         return Ok(None);
     };
-    let tx = store.tx(op, station, number)?;
+    let tx = store.tx(at.op.as_str(), at.station.as_str(), number)?;
     let Some(
         TxState {
             connector,
@@ -86,10 +81,14 @@ fn edit_of_stop<S: Store>(
     else {
         return Ok(None);
     };
-    let last = store.last_numbers(op, station)?.reading;
-    let station = Text::copy_of(alloc, station)?;
-    let edit = end_edit(alloc, station, request, moment, number, connector, last)?;
-    Ok(Some(edit))
+    let last = store.last_numbers(at.op.as_str(), at.station.as_str())?.reading;
+    let station = at.station.clone()?;
+    let tx = TxKey { station, number };
+    let id = Some(request.transaction_id);
+    let (stop, values) = parts_of(request, at.moment);
+    let readings = readings_of(alloc, connector, id, values)?;
+    let edit = stop_edit(alloc, tx, stop, last, readings);
+    Ok(Some(Boxed::new(alloc, edit)?))
 }
 
 /// The number that the id of a transaction names. A negative one names none.
@@ -97,25 +96,6 @@ fn number_of_id(id: i32) -> Option<u32>
     ensures { result ≡ number_of_id id }
 {
     u32::try_from(id).ok()
-}
-
-/// The end of a transaction on that connector.
-fn end_edit(
-    alloc: Global,
-    station: Text,
-    request: StopTransaction,
-    moment: Moment,
-    number: u32,
-    connector: u8,
-    last: u32,
-) -> Mem<Boxed<Edit>>
-    ensures { IfOk result (λ e. e ≡ end_edit station request moment number connector last) }
-{
-    let transaction = Some(request.transaction_id);
-    let (stop, values) = parts_of(request, moment);
-    let readings = readings_of(alloc, connector, transaction, values)?;
-    let edit = stop_edit(alloc, station, number, stop, last, readings);
-    Boxed::new(alloc, edit)
 }
 
 /// A stop as it is kept, and what was sent with it.
@@ -135,13 +115,12 @@ fn parts_of(request: StopTransaction, moment: Moment) -> (Stop, Listed<MeterValu
 /// The edit that keeps a stop and its readings, unless no numbers are left for all of them.
 fn stop_edit(
     alloc: Global,
-    station: Text,
-    number: u32,
+    tx: TxKey,
     stop: Stop,
     last: u32,
     readings: Listed<Reading>,
 ) -> Edit
-    ensures { result ≡ stop_edit station number stop last readings }
+    ensures { result ≡ stop_edit tx.station tx.number stop last readings }
 {
     let has_room = has_room(last, readings.as_slice().len());
     let (first, readings) = if has_room {
@@ -150,8 +129,8 @@ fn stop_edit(
         (0, Listed::new(alloc))
     };
     Edit::TxStopped {
-        station,
-        number,
+        station: tx.station,
+        number: tx.number,
         stop,
         first,
         readings,

@@ -4,7 +4,7 @@ use Rattle.serde_json.specs.Data.{Data}
 use Rattle.serde_json.specs.Written.{has_float}
 use Rattle.ocpp_types.specs.declared.authorization_status.AuthorizationStatus.{AuthorizationStatus}
 use Rattle.ocpp_payload.specs.declared.conf.Conf.{Conf}
-use Rattle.ocpp_payload.specs.declared.conf.Conf.TheVariants.{Authorize, BootNotification, DataTransfer, Heartbeat, MeterValues, StartTransaction, StatusNotification, StopTransaction}
+use Rattle.ocpp_payload.specs.declared.conf.Conf.TheVariants.{Authorize, BootNotification, DataTransfer, Heartbeat, Empty, StartTransaction, StopTransaction}
 use Rattle.ocpp_payload.specs.Conf.{conf_data, id_tag_info_data}
 
 -- by what is left out of it
@@ -21,9 +21,8 @@ data_no_float (BootNotification m interval status) = refl
 data_no_float (DataTransfer status None) = refl
 data_no_float (DataTransfer status (Some content)) = refl
 data_no_float (Heartbeat m) = refl
-data_no_float MeterValues = refl
+data_no_float Empty = refl
 data_no_float (StartTransaction info transaction) = rw (info_no_float info.expiry_date info.parent_id_tag info.status) refl
-data_no_float StatusNotification = refl
 data_no_float (StopTransaction None) = refl
 data_no_float (StopTransaction (Some info)) = rw (info_no_float info.expiry_date info.parent_id_tag info.status) refl
 

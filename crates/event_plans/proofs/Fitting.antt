@@ -40,7 +40,7 @@ use Rattle.registry.specs.InternalError.{internal_error}
 use Rattle.charging.specs.Numbers.{has_room}
 use Rattle.charging.specs.Readings.{readings_of}
 use Rattle.charging.specs.MeterValues.{meter_values_rule}
-use Rattle.charging.specs.Start.{start_rule, start_key, start_by_number, begin_decision}
+use Rattle.charging.specs.Start.{start_rule, start_key, start_by_number, begin_judged}
 use Rattle.charging.specs.Stop.{stop_rule, stop_of, number_of_id, edit_by_number, edit_by_state, end_edit}
 use Rattle.hub_rows.specs.Rows.{Rows}
 use Rattle.hub_rows.proofs.ListLaws.{text_itself}
@@ -51,10 +51,10 @@ use Rattle.id_tags.specs.Plan.{put_rule, drop_rule, grant_rule, grant_edit, revo
 use Rattle.id_tags.specs.declared.plan.Grant.{Grant}
 use Rattle.registry.specs.PolicySet.{policy_rule, policy_edit, is_kept_from}
 use Rattle.registry.specs.StationAdded.{add_rule, new_station_edit, is_station_name}
-use Rattle.event_plans.specs.declared.event.What.{What}
-use Rattle.event_plans.specs.declared.event.What.TheVariants as what
-use Rattle.event_plans.specs.declared.event.Admin.{Admin}
-use Rattle.event_plans.specs.declared.event.Admin.TheVariants as admin
+use Rattle.hub_events.specs.declared.event.What.{What}
+use Rattle.hub_events.specs.declared.event.What.TheVariants as what
+use Rattle.hub_events.specs.declared.event.Admin.{Admin}
+use Rattle.hub_events.specs.declared.event.Admin.TheVariants as admin
 use Rattle.station_calls.specs.Vendors.{Answers}
 use Rattle.operator_cmds.specs.Answer.{is_accepted, known_members}
 use Rattle.operator_cmds.specs.LocalList.{ListUpdate}
@@ -69,12 +69,13 @@ use Rattle.holdings.specs.Settled.{accepted_edit, settled}
 use Rattle.holdings.proofs.EntryLaws.{sorted-entries}
 use Rattle.hub_rows.specs.LocalLists.{AreEntries}
 use Rattle.hub_rows.specs.declared.list_row.LocalTag.{LocalTag}
-use Rattle.event_plans.specs.declared.out.Outcome.{Outcome}
-use Rattle.event_plans.specs.declared.out.Outcome.TheVariants as outcome
+use Rattle.hub_events.specs.declared.out.Outcome.{Outcome}
+use Rattle.hub_events.specs.declared.out.Outcome.TheVariants as outcome
 use Rattle.event_plans.specs.declared.plan.Effect.{Effect}
 use Rattle.event_plans.specs.declared.plan.Effect.TheVariants as effect
 use Rattle.event_plans.specs.declared.plan.Plan.{Plan}
-use Rattle.event_plans.specs.Commands.{answered_command, command_plan, command_rule, edit_by, end_plan, result_edit, result_outcome}
+use Rattle.pending_calls.specs.Slot.{answered_command}
+use Rattle.event_plans.specs.Commands.{command_plan, command_rule, edit_by, end_plan, result_edit, result_outcome}
 use Rattle.event_plans.specs.Effects.{edit_effect}
 use Rattle.event_plans.specs.Plans.{connect_plan, error_plan, edit_plan, list_plan, turned_plan}
 use Rattle.event_plans.specs.Table.{Facts, plan, frame_plan, call_plan, state_plan, payload_plan, admin_rule}
@@ -122,7 +123,7 @@ start_fits station r m l here =
     let id : StartKey = start_key r in
     elim (l.same_start station id) as (λ o. IfSome (start_by_number station r id m l o).edit (FitsLookups l)) [
       | None ↦ let last = (l.last_numbers station).transaction in
-          elim (nat_le last_of_all last) as (λ b. nat_le last_of_all last ≡ b → IfSome (cond b internal_error (begin_decision station r id m (judge_rule m id.key (purpose.Start None) l) (last + 1))).edit (FitsLookups l)) [
+          elim (nat_le last_of_all last) as (λ b. nat_le last_of_all last ≡ b → IfSome (cond b internal_error (begin_judged station r id m (last + 1) (judge_rule m id.key (purpose.Start None) l))).edit (FitsLookups l)) [
             | true ↦ λ full. tt
             | false ↦ λ room. (here, inr (record { next = inr refl; from_one = omega arith; to_the_end = omega (arith, leb-false last_of_all last room) }), refl)
           ] refl
@@ -133,7 +134,7 @@ meter_values_fit : (station : List ℕ) (r : ReadingsRequest) (l : Lookups) → 
 meter_values_fit station r l here =
     let readings : List Reading = readings_of r.connector_id r.transaction_id r.meter_value in
     let last = (l.last_numbers station).reading in
-    elim (has_room last (length readings)) as (λ b. has_room last (length readings) ≡ b → IfSome (cond b (record { reply = Conf conf.MeterValues; edit = Some (ReadingsAdded station (last + 1) readings) }) internal_error).edit (FitsLookups l)) [
+    elim (has_room last (length readings)) as (λ b. has_room last (length readings) ≡ b → IfSome (cond b (record { reply = Conf conf.Empty; edit = Some (ReadingsAdded station (last + 1) readings) }) internal_error).edit (FitsLookups l)) [
       | true ↦ λ room. (here, room_fits last (length readings) room)
       | false ↦ λ full. tt
     ] refl
@@ -224,18 +225,15 @@ accepted_fits station (command.Reset c) l here = tt
 accepted_fits station (command.TriggerMessage c) l here = tt
 accepted_fits station (command.UnlockConnector c) l here = tt
 
-settled_fits : (station : List ℕ) (c : Command) (answer : Data) (l : Lookups) → IfSome (settled station c answer l) (FitsLookups l)
-settled_fits station c answer l =
-    elim (is_accepted answer) as (λ a. IfSome (cond (a && is_some (l.registration station)) (accepted_edit station c l) None) (FitsLookups l)) [
-      | true ↦ elim (is_some (l.registration station)) as (λ t. is_some (l.registration station) ≡ t → IfSome (cond t (accepted_edit station c l) None) (FitsLookups l)) [
-        | true ↦ λ here. accepted_fits station c l here
-        | false ↦ λ none. tt
-      ] refl
-      | false ↦ tt
-    ]
+settled_fits : (station : List ℕ) (c : Command) (l : Lookups) → IfSome (settled station c l) (FitsLookups l)
+settled_fits station c l =
+    elim (is_some (l.registration station)) as (λ t. is_some (l.registration station) ≡ t → IfSome (cond t (accepted_edit station c l) None) (FitsLookups l)) [
+      | true ↦ λ here. accepted_fits station c l here
+      | false ↦ λ none. tt
+    ] refl
 
 edit_by_fits : (station : List ℕ) (c : Command) (read : Result Data FieldFault) (l : Lookups) → IfSome (edit_by station c read l) (FitsLookups l)
-edit_by_fits station c (Ok known) l = settled_fits station c known l
+edit_by_fits station c (Ok known) l = elim (is_accepted known) as (λ a. IfSome (cond a (settled station c l) None) (FitsLookups l)) [ true ↦ settled_fits station c l | false ↦ tt ]
 edit_by_fits station c (Err fault) l = tt
 
 answer_fits : (station id : List ℕ) (gives : Command → Outcome) (edits : Command → Option Edit) (o : Option Command) (f : Facts) → ((c : Command) → IfSome (edits c) (FitsLookups f.lookups)) → PlanFits f (end_plan station id gives edits o)

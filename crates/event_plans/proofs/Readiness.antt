@@ -6,10 +6,11 @@ use Rattle.hub_rows.specs.declared.store.StoreFault.{StoreFault}
 use Rattle.hub_rows.specs.declared.station_row.Registration.{Registration}
 use Rattle.registry.specs.declared.decision.Decision.{Decision}
 use Rattle.operator_cmds.specs.declared.command.Command.{Command}
-use Rattle.event_plans.specs.declared.out.Outcome.{Outcome}
-use Rattle.event_plans.specs.declared.out.Outcome.TheVariants as outcome
+use Rattle.hub_events.specs.declared.out.Outcome.{Outcome}
+use Rattle.hub_events.specs.declared.out.Outcome.TheVariants as outcome
 use Rattle.event_plans.specs.declared.plan.Plan.{Plan}
-use Rattle.event_plans.specs.Commands.{answered_command, end_plan, failure_plan}
+use Rattle.pending_calls.specs.Slot.{answered_command}
+use Rattle.event_plans.specs.Commands.{end_plan, failure_plan}
 use Rattle.event_plans.specs.Effects.{StationSlot, IsReady, edit_effect}
 use Rattle.event_plans.specs.Plans.{connect_plan, decided_plan, edit_plan}
 

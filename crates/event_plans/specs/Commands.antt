@@ -14,17 +14,18 @@ use Rattle.hub_rows.specs.declared.change.Edit.{Edit}
 use Rattle.hub_rows.specs.declared.station_row.Registration.{Registration}
 use Rattle.hub_rows.specs.declared.tx_row.TxState.{TxState}
 use Rattle.hub_rows.specs.Lookups.{Lookups}
+use Rattle.hub_rows.specs.Transactions.{last_of_all}
 use Rattle.holdings.specs.Reservation.{cancel_rule, reserve_rule}
 use Rattle.holdings.specs.Settled.{settled}
 use Rattle.id_tags.specs.Refusal.{refuse_rule}
-use Rattle.operator_cmds.specs.Answer.{known_members}
+use Rattle.operator_cmds.specs.Answer.{is_accepted, known_members}
 use Rattle.operator_cmds.specs.Command.{action_name_of, bad_field, command_data}
 use Rattle.operator_cmds.specs.declared.command.Command.{Command}
 use Rattle.operator_cmds.specs.declared.command.Command.TheVariants.{CancelReservation, RemoteStartTransaction, RemoteStopTransaction, ReserveNow}
-use Rattle.pending_calls.specs.Slot.{call_in_flight, is_answered, ready}
-use Rattle.event_plans.specs.declared.out.Outcome.{Outcome}
-use Rattle.event_plans.specs.declared.out.Outcome.TheVariants as outcome
-use Rattle.event_plans.specs.declared.out.Said.TheVariants as said
+use Rattle.pending_calls.specs.Slot.{answered_command, ready}
+use Rattle.hub_events.specs.declared.out.Outcome.{Outcome}
+use Rattle.hub_events.specs.declared.out.Outcome.TheVariants as outcome
+use Rattle.hub_events.specs.declared.out.Said.TheVariants as said
 use Rattle.event_plans.specs.declared.plan.Effect.TheVariants as effect
 use Rattle.event_plans.specs.declared.plan.Plan.{Plan}
 use Rattle.event_plans.specs.Effects.{StationSlot}
@@ -45,9 +46,9 @@ is_command_allowed state.Rejected c = false
 is_command_allowed state.Pending c = not (is_remote c)
 is_command_allowed state.Accepted c = true
 
--- the number that a transaction's id names; the last one is 2147483647
+-- the number that a transaction's id names
 abbrev pub transaction_number : ℤ → Option ℕ
-transaction_number (pos n) = if nat_le n 2147483647 then Some n else None
+transaction_number (pos n) = if nat_le n last_of_all then Some n else None
 transaction_number (negsuc n) = None
 
 -- the refusal of a stop, unless the transaction is open
@@ -106,18 +107,14 @@ read_outcome (Err fault) = outcome.BadAnswer fault.code fault.field
 abbrev pub result_outcome : Command → Data → Outcome
 result_outcome c payload = read_outcome (known_members c payload)
 
--- the edit that an answer makes
+-- the edit that an answer makes, if it is Accepted
 abbrev pub edit_by : List ℕ → Command → Result Data FieldFault → Lookups → Option Edit
-edit_by station c (Ok known) l = settled station c known l
+edit_by station c (Ok known) l = if is_accepted known then settled station c l else None
 edit_by station c (Err fault) l = None
 
 -- the edit of a call that is answered with a result
 abbrev pub result_edit : List ℕ → Command → Data → Lookups → Option Edit
 result_edit station c payload l = edit_by station c (known_members c payload) l
-
--- the command of the call in flight, if the answer has its number
-abbrev pub answered_command : List ℕ → StationSlot → Option Command
-answered_command id s = if is_answered id s then option_map (λ call. call.1) (call_in_flight s) else None
 
 -- the call in flight ends with the outcome and the edit that its command gives, if there is one
 abbrev pub end_plan : List ℕ → List ℕ → (Command → Outcome) → (Command → Option Edit) → Option Command → Plan

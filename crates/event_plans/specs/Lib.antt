@@ -1,5 +1,5 @@
 pub mod Effects
-pub mod Listing
 pub mod Plans
+pub mod Listing
 pub mod Commands
 pub mod Table

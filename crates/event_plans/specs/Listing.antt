@@ -1,16 +1,22 @@
 -- The rows of each listing.
-use Rattle.std.specs.Prelude.{ℕ, List, [], ◌∷◌, map, filter, Option, Some, None, Result, Ok, Err}
+use Rattle.std.specs.Prelude.{ℕ, List, [], ◌∷◌, map, filter, Option, Some, None, Result, Ok, Err, ◌≡◌, IfOk}
 use Rattle.ocpp_types.specs.declared.refusal.Refusal.{Refusal}
 use Rattle.ocpp_types.specs.declared.refusal.Refusal.TheVariants.{NoSuchStation}
 use Rattle.hub_rows.specs.declared.station_row.Registration.{Registration}
 use Rattle.hub_rows.specs.declared.list_row.LocalList.{LocalList}
 use Rattle.hub_rows.specs.declared.reservation_row.ReservationRow.{ReservationRow}
-use Rattle.hub_rows.specs.Lookups.{Lookups}
+use Rattle.hub_rows.specs.declared.store.StoreFault.{StoreFault}
+use Rattle.hub_rows.specs.Lookups.{Lookups, lookups_at}
+use Rattle.hub_rows.specs.Reads.{OnlyReads}
+use Rattle.hub_rows.specs.StoreView.{StoreView}
 use Rattle.holdings.specs.Reservation.{is_current}
-use Rattle.event_plans.specs.declared.event.Listing.{Listing}
-use Rattle.event_plans.specs.declared.event.Listing.TheVariants as listing
-use Rattle.event_plans.specs.declared.row.Row.{Row}
-use Rattle.event_plans.specs.declared.row.Row.TheVariants as row
+use Rattle.hub_events.specs.declared.event.Listing.{Listing}
+use Rattle.hub_events.specs.declared.event.Listing.TheVariants as listing
+use Rattle.hub_events.specs.declared.row.Row.{Row}
+use Rattle.hub_events.specs.declared.row.Row.TheVariants as row
+use Rattle.event_plans.specs.declared.plan.Plan.{Plan}
+use Rattle.event_plans.specs.Effects.{StationSlot, IsReady}
+use Rattle.event_plans.specs.Plans.{list_plan}
 
 -- of a station that is there
 abbrev pub of_station : Option Registration → List Row → Result (List Row) Refusal
@@ -37,3 +43,10 @@ rows_rule (listing.Transactions station) m l = of_station (l.registration statio
 rows_rule (listing.Readings station n) m l = of_station (l.registration station) (map row.Reading (l.readings station n))
 rows_rule (listing.Reservations station) m l = of_station (l.registration station) (map row.Reservation (current m (l.reservations station)))
 rows_rule (listing.LocalList station) m l = of_station (l.registration station) (list_rows station (l.local_list station))
+
+-- an operator's listing, whose rows or refusal are those of a rule: it only reads, and it submits no
+-- command
+pub record Lists {S : Type 0} (view : S → StoreView) (op : List ℕ) (rule : Lookups → Result (List Row) Refusal) (old new : S) (result : Result Plan StoreFault) : Type 0 where
+  pub reads : OnlyReads view old new result
+  pub plan : (view new).clean → IfOk result (λ p. p ≡ list_plan (rule (lookups_at op (view old).rows)))
+  pub ready : IfOk result (λ p. (slot : List ℕ → StationSlot) → IsReady slot p.effect)

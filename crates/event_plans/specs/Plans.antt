@@ -12,12 +12,12 @@ use Rattle.hub_rows.specs.declared.station_row.Registration.{Registration}
 use Rattle.registry.specs.declared.decision.Decision.{Decision}
 use Rattle.registry.specs.declared.decision.Reply.{Reply}
 use Rattle.registry.specs.declared.decision.Reply.TheVariants.{Conf, Error}
-use Rattle.event_plans.specs.declared.out.Said.{Said}
-use Rattle.event_plans.specs.declared.out.Said.TheVariants as said
+use Rattle.hub_events.specs.declared.out.Said.{Said}
+use Rattle.hub_events.specs.declared.out.Said.TheVariants as said
 use Rattle.event_plans.specs.declared.plan.Effect.{Effect}
 use Rattle.event_plans.specs.declared.plan.Effect.TheVariants as effect
 use Rattle.event_plans.specs.declared.plan.Plan.{Plan}
-use Rattle.event_plans.specs.declared.row.Row.{Row}
+use Rattle.hub_events.specs.declared.row.Row.{Row}
 use Rattle.event_plans.specs.Effects.{edit_effect}
 
 -- nothing is said and nothing changes

@@ -22,10 +22,10 @@ use Rattle.registry.specs.PolicySet.{policy_rule}
 use Rattle.registry.specs.StationAdded.{add_rule}
 use Rattle.station_calls.specs.Decided.{decision}
 use Rattle.station_calls.specs.Vendors.{Answers}
-use Rattle.event_plans.specs.declared.event.What.{What}
-use Rattle.event_plans.specs.declared.event.What.TheVariants as what
-use Rattle.event_plans.specs.declared.event.Admin.{Admin}
-use Rattle.event_plans.specs.declared.event.Admin.TheVariants as admin
+use Rattle.hub_events.specs.declared.event.What.{What}
+use Rattle.hub_events.specs.declared.event.What.TheVariants as what
+use Rattle.hub_events.specs.declared.event.Admin.{Admin}
+use Rattle.hub_events.specs.declared.event.Admin.TheVariants as admin
 use Rattle.event_plans.specs.declared.plan.Plan.{Plan}
 use Rattle.event_plans.specs.Listing.{rows_rule}
 use Rattle.event_plans.specs.Commands.{command_plan, command_rule, failure_plan, result_plan}

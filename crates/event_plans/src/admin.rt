@@ -5,11 +5,11 @@ ghost use Rattle.hub_rows.specs.Lookups.{lookups_at};
 ghost use Rattle.hub_rows.specs.Operators.{is_hosted};
 ghost use Rattle.event_plans.specs.Table.{admin_rule};
 
-use crate::event::Admin;
+use hub_events::Admin;
 use hub_rows::{Edit, Store, StoreFault};
 use id_tags::{plan_drop, plan_grant, plan_put, plan_revoke};
 use ocpp_types::{Refusal, Text};
-use registry::{plan_add, plan_policy};
+use registry::{Terms, plan_add, plan_policy};
 use std::alloc::Global;
 
 /// The edit that an operator's request asks for, or the refusal of its rule. `hosted` are the
@@ -30,12 +30,24 @@ pub fn decide_admin<S: Store>(
             station,
             policy,
             interval,
-        } => plan_add(alloc, store, op, station.as_str(), *policy, *interval),
+        } => {
+            let terms = Terms {
+                policy: *policy,
+                interval: *interval,
+            };
+            plan_add(alloc, store, op, station.as_str(), terms)
+        }
         Admin::StationPolicy {
             station,
             policy,
             interval,
-        } => plan_policy(alloc, store, op, station.as_str(), *policy, *interval),
+        } => {
+            let terms = Terms {
+                policy: *policy,
+                interval: *interval,
+            };
+            plan_policy(alloc, store, op, station.as_str(), terms)
+        }
         Admin::TagPut { tag } => Ok(plan_put(alloc, tag.as_ref())?),
         Admin::TagDrop { tag } => plan_drop(alloc, store, op, tag.as_str()),
         Admin::Grant(grant) => plan_grant(alloc, store, op, grant, hosted),

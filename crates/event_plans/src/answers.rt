@@ -3,21 +3,24 @@ ghost use Rattle.std.specs.Prelude.{◌≡◌, ℕ, List, Err, IfOk, false, opti
 ghost use Rattle.serde_json.specs.Written.{has_float};
 ghost use Rattle.hub_rows.specs.Reads.{OnlyReads};
 ghost use Rattle.hub_rows.specs.Lookups.{lookups_at};
+ghost use Rattle.pending_calls.specs.Slot.{answered_command};
 ghost use Rattle.pending_calls.specs.Slots.{slot_at};
-ghost use Rattle.event_plans.specs.Commands.{answered_command, edit_by, failure_plan, read_outcome, result_plan};
+ghost use Rattle.event_plans.specs.Commands.{edit_by, failure_plan, read_outcome, result_plan};
 ghost use Rattle.event_plans.specs.Effects.{StationSlot, IsReady};
 ghost use Rattle.event_plans.specs.Plans.{changing};
 ghost use Rattle.event_plans.specs.declared.plan.Effect.TheVariants as effect;
 
-use crate::out::Outcome;
+use crate::message_at::MessageAt;
 use crate::plan::{Effect, Plan};
 use holdings::settle;
+use hub_events::Outcome;
 use hub_rows::{Edit, Store, StoreFault};
 use ocpp_frame::Payload;
 use ocpp_payload::FieldFault;
 use ocpp_types::{Boxed, Mem, Text};
-use operator_cmds::{Command, read_answer};
+use operator_cmds::{Command, is_accepted, read_answer};
 use pending_calls::Slots;
+use registry::StationAt;
 use std::alloc::Global;
 
 /// The plan for the result of a call: it ends, and the records change as its command asked for, if
@@ -26,41 +29,37 @@ pub fn plan_result<S: Store>(
     alloc: Global,
     store: &mut S,
     slots: &Slots<Boxed<Command>>,
-    op: &Text,
-    station: &Text,
-    id: &Text,
+    message: &MessageAt<'_>,
     payload: &Payload,
 ) -> Result<Plan, StoreFault>
     ensures reads { OnlyReads S.view store.old store.new result }
-    ensures plan { (S.view store.new).clean → IfOk result (λ p. p ≡ result_plan station.now id.now payload.now
-        (slot_at op.now station.now slots.now) (lookups_at op.now (S.view store.old).rows)) }
+    ensures plan { (S.view store.new).clean → IfOk result (λ p. p ≡ result_plan message.now.at.now.station.now message.now.id.now payload.now
+        (slot_at message.now.at.now.op.now message.now.at.now.station.now slots.now) (lookups_at message.now.at.now.op.now (S.view store.old).rows)) }
     ensures ready { IfOk result (λ p. (slot : List ℕ → StationSlot) → IsReady slot p.effect) }
 {
-    let Some(command) = answered_command(slots, op, station, id) else {
+    let Some(command) = answered_command(slots, message) else {
         return Ok(Plan::nothing(alloc));
     };
     let read = read_answer(alloc, command, payload.as_value())?;
-    ended_plan(alloc, store, op, station, id, command, &read)
+    ended_plan(alloc, store, message, command, &read)
 }
 
 /// The plan for an error in answer to a call: it ends.
 pub fn plan_error(
     alloc: Global,
     slots: &Slots<Boxed<Command>>,
-    op: &Text,
-    station: &Text,
-    id: &Text,
+    message: &MessageAt<'_>,
     code: Text,
     description: Text,
 ) -> Mem<Plan>
-    ensures { IfOk result (λ p. p ≡ failure_plan station.now id.now code description (slot_at op.now station.now slots.now)) }
+    ensures { IfOk result (λ p. p ≡ failure_plan message.now.at.now.station.now message.now.id.now code description (slot_at message.now.at.now.op.now message.now.at.now.station.now slots.now)) }
 {
-    if answered_command(slots, op, station, id).is_none() {
+    if answered_command(slots, message).is_none() {
         return Ok(Plan::nothing(alloc));
     }
     let effect = Effect::Answer {
-        station: station.clone()?,
-        id: id.clone()?,
+        station: message.at.station.clone()?,
+        id: message.id.clone()?,
         outcome: Boxed::new(alloc, Outcome::Error { code, description })?,
         edit: None,
     };
@@ -68,18 +67,11 @@ pub fn plan_error(
 }
 
 /// The command of the call in flight, if an answer with that id ends it.
-fn answered_command<'a>(
-    slots: &'a Slots<Boxed<Command>>,
-    op: &Text,
-    station: &Text,
-    id: &Text,
-) -> Option<&'a Command>
-    ensures { option_map (λ c. c.now) result ≡ answered_command id.now (slot_at op.now station.now slots.now) }
+fn answered_command<'a>(slots: &'a Slots<Boxed<Command>>, message: &MessageAt<'_>) -> Option<&'a Command>
+    ensures { option_map (λ c. c.now) result ≡ answered_command message.now.id.now (slot_at message.now.at.now.op.now message.now.at.now.station.now slots.now) }
 {
-    if !slots.is_answered(op.as_str(), station.as_str(), id.as_str()) {
-        return None;
-    }
-    let (_, command) = slots.in_flight(op.as_str(), station.as_str())?;
+    let at = message.at;
+    let command = slots.answered_command(at.op.as_str(), at.station.as_str(), message.id.as_str())?;
     Some(command.as_ref())
 }
 
@@ -87,22 +79,20 @@ fn answered_command<'a>(
 fn ended_plan<S: Store>(
     alloc: Global,
     store: &mut S,
-    op: &Text,
-    station: &Text,
-    id: &Text,
+    message: &MessageAt<'_>,
     command: &Command,
     read: &Result<Payload, FieldFault>,
 ) -> Result<Plan, StoreFault>
     requires { IfOk read.now (λ known. has_float known ≡ false) }
     ensures reads { OnlyReads S.view store.old store.new result }
-    ensures plan { (S.view store.new).clean → IfOk result (λ p. p ≡ changing (effect.Answer station.now id.now
-        (read_outcome read.now) (edit_by station.now command.now read.now (lookups_at op.now (S.view store.old).rows)))) }
+    ensures plan { (S.view store.new).clean → IfOk result (λ p. p ≡ changing (effect.Answer message.now.at.now.station.now message.now.id.now
+        (read_outcome read.now) (edit_by message.now.at.now.station.now command.now read.now (lookups_at message.now.at.now.op.now (S.view store.old).rows)))) }
     ensures ready { IfOk result (λ p. (slot : List ℕ → StationSlot) → IsReady slot p.effect) }
 {
-    let answered = station.clone()?;
-    let number = id.clone()?;
+    let answered = message.at.station.clone()?;
+    let number = message.id.clone()?;
     let outcome = read_outcome(alloc, read)?;
-    let edit = read_edit(alloc, store, op, station, command, read)?;
+    let edit = read_edit(alloc, store, message.at, command, read)?;
     let effect = Effect::Answer {
         station: answered,
         id: number,
@@ -136,17 +126,18 @@ fn read_outcome(alloc: Global, read: &Result<Payload, FieldFault>) -> Mem<Boxed<
 fn read_edit<S: Store>(
     alloc: Global,
     store: &mut S,
-    op: &Text,
-    station: &Text,
+    at: &StationAt<'_>,
     command: &Command,
     read: &Result<Payload, FieldFault>,
 ) -> Result<Option<Boxed<Edit>>, StoreFault>
     ensures reads { OnlyReads S.view store.old store.new result }
     ensures edit { (S.view store.new).clean → IfOk result (λ e. e
-        ≡ edit_by station.now command.now read.now (lookups_at op.now (S.view store.old).rows)) }
+        ≡ edit_by at.now.station.now command.now read.now (lookups_at at.now.op.now (S.view store.old).rows)) }
 {
     match read {
-        Ok(known) => settle(alloc, store, op, station, command, known.as_value()),
-        Err(_fault) => Ok(None),
+        Ok(known) if is_accepted(known.as_value()) => {
+            settle(alloc, store, at.op, at.station, command)
+        }
+        _ => Ok(None),
     }
 }

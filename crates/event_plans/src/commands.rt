@@ -8,38 +8,35 @@ ghost use Rattle.event_plans.specs.Commands.{is_remote, is_command_allowed, tran
 ghost use Rattle.event_plans.specs.Effects.{IsReady};
 ghost use Rattle.event_plans.specs.declared.plan.Effect.TheVariants as effect;
 
-use crate::out::Said;
 use crate::plan::{Effect, Plan, one};
+use charging::LAST_NUMBER;
 use holdings::{plan_cancel, plan_reserve};
+use hub_events::Said;
 use hub_rows::{Registration, Store, StoreFault, TxState};
 use id_tags::refuse_tag;
 use ocpp_frame::write_call;
-use ocpp_types::{Boxed, Mem, Moment, Refusal, State, Text};
+use ocpp_types::{Boxed, Mem, Refusal, State, Text};
 use operator_cmds::{Command, action_name_of, bad_field, copy_command, write_request};
 use pending_calls::Slots;
+use registry::StationAt;
 use std::alloc::Global;
-
-/// The last number that a transaction may have.
-const LAST_NUMBER: u32 = 2147483647;
 
 /// The plan for a command: it is accepted with the number of its call, or refused.
 pub fn plan_command<S: Store>(
     alloc: Global,
     store: &mut S,
     slots: &Slots<Boxed<Command>>,
-    op: &Text,
-    station: &Text,
+    at: &StationAt<'_>,
     command: &Command,
-    moment: Moment,
 ) -> Result<Plan, StoreFault>
     ensures reads { OnlyReads S.view store.old store.new result }
-    ensures plan { (S.view store.new).clean → IfOk result (λ p. p ≡ command_plan station.now command.now
-        (command_rule station.now command.now ((lookups_at op.now (S.view store.old).rows).registration station.now)
-        (slot_at op.now station.now slots.now) moment (lookups_at op.now (S.view store.old).rows))) }
-    ensures ready { IfOk result (λ p. IsReady (λ st. slot_at op.now st slots.now) p.effect) }
+    ensures plan { (S.view store.new).clean → IfOk result (λ p. p ≡ command_plan at.now.station.now command.now
+        (command_rule at.now.station.now command.now ((lookups_at at.now.op.now (S.view store.old).rows).registration at.now.station.now)
+        (slot_at at.now.op.now at.now.station.now slots.now) at.now.moment (lookups_at at.now.op.now (S.view store.old).rows))) }
+    ensures ready { IfOk result (λ p. IsReady (λ st. slot_at at.now.op.now st slots.now) p.effect) }
 {
-    match number_of_call(alloc, store, slots, op, station, command, moment)? {
-        Ok(number) => Ok(submit_plan(alloc, station, command, number)?),
+    match number_of_call(alloc, store, slots, at, command)? {
+        Ok(number) => Ok(submit_plan(alloc, at.station, command, number)?),
         Err(refusal) => Ok(Plan::only(alloc, Said::Refused(refusal))?),
     }
 }
@@ -50,25 +47,23 @@ fn number_of_call<S: Store>(
     alloc: Global,
     store: &mut S,
     slots: &Slots<Boxed<Command>>,
-    op: &Text,
-    station: &Text,
+    at: &StationAt<'_>,
     command: &Command,
-    moment: Moment,
 ) -> Result<Result<u32, Refusal>, StoreFault>
     ensures reads { OnlyReads S.view store.old store.new result }
     ensures number { (S.view store.new).clean → IfOk result (λ n. n
-        ≡ command_rule station.now command.now ((lookups_at op.now (S.view store.old).rows).registration station.now)
-        (slot_at op.now station.now slots.now) moment (lookups_at op.now (S.view store.old).rows)) }
-    ensures ready { IfOk result (λ n. IfOk n (λ _. IsOk (ready (slot_at op.now station.now slots.now)))) }
+        ≡ command_rule at.now.station.now command.now ((lookups_at at.now.op.now (S.view store.old).rows).registration at.now.station.now)
+        (slot_at at.now.op.now at.now.station.now slots.now) at.now.moment (lookups_at at.now.op.now (S.view store.old).rows)) }
+    ensures ready { IfOk result (λ n. IfOk n (λ _. IsOk (ready (slot_at at.now.op.now at.now.station.now slots.now)))) }
 {
-    let Some(registration) = store.station(op.as_str(), station.as_str())? else {
+    let Some(registration) = store.station(at.op.as_str(), at.station.as_str())? else {
         return Ok(Err(Refusal::NoSuchStation));
     };
-    let number = match slots.ready(op.as_str(), station.as_str()) {
+    let number = match slots.ready(at.op.as_str(), at.station.as_str()) {
         Ok(number) => number,
         Err(refusal) => return Ok(Err(refusal)),
     };
-    match refusal_of(alloc, store, op, station, command, registration, moment)? {
+    match refusal_of(alloc, store, at, command, registration)? {
         Some(refusal) => Ok(Err(refusal)),
         None => Ok(Ok(number)),
     }
@@ -79,15 +74,13 @@ fn number_of_call<S: Store>(
 fn refusal_of<S: Store>(
     alloc: Global,
     store: &mut S,
-    op: &Text,
-    station: &Text,
+    at: &StationAt<'_>,
     command: &Command,
     registration: Registration,
-    moment: Moment,
 ) -> Result<Option<Refusal>, StoreFault>
     ensures reads { OnlyReads S.view store.old store.new result }
     ensures refusal { (S.view store.new).clean → IfOk result (λ r. r
-        ≡ command_refusal station.now command.now registration moment (lookups_at op.now (S.view store.old).rows)) }
+        ≡ command_refusal at.now.station.now command.now registration at.now.moment (lookups_at at.now.op.now (S.view store.old).rows)) }
 {
     if !is_command_allowed(registration.state, command) {
         return Ok(Some(Refusal::NotAllowedNow));
@@ -95,7 +88,7 @@ fn refusal_of<S: Store>(
     if let Some(field) = bad_field(command) {
         return Ok(Some(Refusal::BadField(field)));
     }
-    record_refusal(alloc, store, op, station, command, moment)
+    record_refusal(alloc, store, at, command)
 }
 
 /// Whether a station in a state may be sent a command (OCPP 1.6, section 4.2).
@@ -126,30 +119,29 @@ fn is_remote(command: &Command) -> bool
 fn record_refusal<S: Store>(
     alloc: Global,
     store: &mut S,
-    op: &Text,
-    station: &Text,
+    at: &StationAt<'_>,
     command: &Command,
-    moment: Moment,
 ) -> Result<Option<Refusal>, StoreFault>
     ensures reads { OnlyReads S.view store.old store.new result }
     ensures refusal { (S.view store.new).clean → IfOk result (λ r. r
-        ≡ record_refusal station.now command.now moment (lookups_at op.now (S.view store.old).rows)) }
+        ≡ record_refusal at.now.station.now command.now at.now.moment (lookups_at at.now.op.now (S.view store.old).rows)) }
 {
+    let op = at.op.as_str();
     match command {
         Command::CancelReservation(fields) => {
-            plan_cancel(store, op.as_str(), station.as_str(), fields, moment)
+            plan_cancel(store, op, at.station.as_str(), fields, at.moment)
         }
         Command::RemoteStartTransaction(fields) => {
-            refuse_tag(alloc, store, op.as_str(), fields.id_tag.as_str(), moment)
+            refuse_tag(alloc, store, op, fields.id_tag.as_str(), at.moment)
         }
         Command::RemoteStopTransaction(fields) => match transaction_number(fields.transaction_id) {
             Some(number) => {
-                let tx = store.tx(op.as_str(), station.as_str(), number)?;
+                let tx = store.tx(op, at.station.as_str(), number)?;
                 Ok(transaction_refusal(tx))
             }
             None => Ok(Some(Refusal::NoSuchTransaction)),
         },
-        Command::ReserveNow(fields) => plan_reserve(alloc, store, op.as_str(), fields, moment),
+        Command::ReserveNow(fields) => plan_reserve(alloc, store, op, fields, at.moment),
         _ => Ok(None),
     }
 }

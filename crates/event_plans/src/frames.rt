@@ -9,15 +9,16 @@ ghost use Rattle.event_plans.specs.Effects.{StationSlot, IsReady};
 ghost use Rattle.event_plans.specs.Table.{frame_plan, call_plan, state_plan, payload_plan};
 
 use crate::answers::{plan_error, plan_result};
+use crate::message_at::MessageAt;
 use crate::plan::Plan;
 use crate::plans::{decided_plan, error_plan};
 use hub_rows::{Registration, Store, StoreFault};
 use ocpp_frame::{Frame, Payload, read_frame};
 use ocpp_payload::{Action, ActionClass, FieldFault, Request, action_class, read_request};
-use ocpp_types::{Boxed, ErrorCode, Moment, Text};
+use ocpp_types::{Boxed, ErrorCode, Text};
 use operator_cmds::Command;
 use pending_calls::Slots;
-use registry::is_allowed;
+use registry::{StationAt, is_allowed};
 use station_calls::{Book, VendorHandler, decide};
 use std::alloc::Global;
 
@@ -27,17 +28,15 @@ pub fn plan_text<S: Store, V: VendorHandler>(
     alloc: Global,
     book: &mut Book<S, V>,
     slots: &Slots<Boxed<Command>>,
-    op: &Text,
-    station: &Text,
+    at: &StationAt<'_>,
     text: &Text,
-    moment: Moment,
 ) -> Result<Plan, StoreFault>
     ensures reads { OnlyReads (book_view S.view) book.old book.new result }
     ensures plan { IsCleanBook S.view book.new → IfOk result (λ p. p
-        ≡ frame_plan (book_answers V.view book.old) station.now (frame text.now) moment
-        (record { lookups = lookups_at op.now (book_rows S.view book.old); slot = λ st. slot_at op.now st slots.now })) }
+        ≡ frame_plan (book_answers V.view book.old) at.now.station.now (frame text.now) at.now.moment
+        (record { lookups = lookups_at at.now.op.now (book_rows S.view book.old); slot = λ st. slot_at at.now.op.now st slots.now })) }
     ensures answers { book_answers V.view book.new ≡ book_answers V.view book.old }
-    ensures ready { IfOk result (λ p. IsReady (λ st. slot_at op.now st slots.now) p.effect) }
+    ensures ready { IfOk result (λ p. IsReady (λ st. slot_at at.now.op.now st slots.now) p.effect) }
 {
     match read_frame(alloc, text.as_str())? {
         Frame::Call {
@@ -46,21 +45,24 @@ pub fn plan_text<S: Store, V: VendorHandler>(
             payload,
         } => {
             let class = action_class(action.as_str());
-            plan_call(alloc, book, op, station, &id, class, &payload, moment)
+            plan_call(alloc, book, &MessageAt { at, id: &id }, class, &payload)
         }
         Frame::Broken { id } => {
             let code = ErrorCode::FormationViolation;
-            Ok(error_plan(alloc, station, &id, code, "")?)
+            Ok(error_plan(alloc, at.station, &id, code, "")?)
         }
         Frame::CallResult { id, payload } => {
-            let store = &mut book.store;
-            plan_result(alloc, store, slots, op, station, &id, &payload)
+            let message = MessageAt { at, id: &id };
+            plan_result(alloc, &mut book.store, slots, &message, &payload)
         }
         Frame::CallError {
             id,
             code,
             description,
-        } => Ok(plan_error(alloc, slots, op, station, &id, code, description)?),
+        } => {
+            let message = MessageAt { at, id: &id };
+            Ok(plan_error(alloc, slots, &message, code, description)?)
+        }
         Frame::Ignored => Ok(Plan::nothing(alloc)),
     }
 }
@@ -69,55 +71,50 @@ pub fn plan_text<S: Store, V: VendorHandler>(
 fn plan_call<S: Store, V: VendorHandler>(
     alloc: Global,
     book: &mut Book<S, V>,
-    op: &Text,
-    station: &Text,
-    id: &Text,
+    call: &MessageAt<'_>,
     class: ActionClass,
     payload: &Payload,
-    moment: Moment,
 ) -> Result<Plan, StoreFault>
     ensures reads { OnlyReads (book_view S.view) book.old book.new result }
     ensures plan { IsCleanBook S.view book.new → IfOk result (λ p. p
-        ≡ call_plan (book_answers V.view book.old) station.now id.now class payload.now moment (lookups_at op.now (book_rows S.view book.old))) }
+        ≡ call_plan (book_answers V.view book.old) call.now.at.now.station.now call.now.id.now class payload.now call.now.at.now.moment (lookups_at call.now.at.now.op.now (book_rows S.view book.old))) }
     ensures answers { book_answers V.view book.new ≡ book_answers V.view book.old }
     ensures ready { IfOk result (λ p. (slot : List ℕ → StationSlot) → IsReady slot p.effect) }
 {
     let code = match class {
         ActionClass::Known(action) => {
-            return plan_known(alloc, book, op, station, id, action, payload, moment);
+            return plan_known(alloc, book, call, action, payload);
         }
         ActionClass::NotSupported => ErrorCode::NotSupported,
         ActionClass::NotImplemented => ErrorCode::NotImplemented,
     };
-    Ok(error_plan(alloc, station, id, code, "")?)
+    Ok(error_plan(alloc, call.at.station, call.id, code, "")?)
 }
 
 /// The plan for a call of a supported action: first the station's state, then the payload.
 fn plan_known<S: Store, V: VendorHandler>(
     alloc: Global,
     book: &mut Book<S, V>,
-    op: &Text,
-    station: &Text,
-    id: &Text,
+    call: &MessageAt<'_>,
     action: Action,
     payload: &Payload,
-    moment: Moment,
 ) -> Result<Plan, StoreFault>
     ensures reads { OnlyReads (book_view S.view) book.old book.new result }
     ensures plan { IsCleanBook S.view book.new → IfOk result (λ p. p
-        ≡ state_plan (book_answers V.view book.old) station.now ((lookups_at op.now (book_rows S.view book.old)).registration station.now)
-        id.now action payload.now moment (lookups_at op.now (book_rows S.view book.old))) }
+        ≡ state_plan (book_answers V.view book.old) call.now.at.now.station.now ((lookups_at call.now.at.now.op.now (book_rows S.view book.old)).registration call.now.at.now.station.now)
+        call.now.id.now action payload.now call.now.at.now.moment (lookups_at call.now.at.now.op.now (book_rows S.view book.old))) }
     ensures answers { book_answers V.view book.new ≡ book_answers V.view book.old }
     ensures ready { IfOk result (λ p. (slot : List ℕ → StationSlot) → IsReady slot p.effect) }
 {
+    let StationAt { op, station, .. } = *call.at;
     let Some(registration) = book.store.station(op.as_str(), station.as_str())? else {
-        return Ok(error_plan(alloc, station, id, ErrorCode::InternalError, "")?);
+        return Ok(error_plan(alloc, station, call.id, ErrorCode::InternalError, "")?);
     };
     if !is_allowed(registration.state, action) {
-        return Ok(error_plan(alloc, station, id, ErrorCode::SecurityError, "")?);
+        return Ok(error_plan(alloc, station, call.id, ErrorCode::SecurityError, "")?);
     }
     let request = read_request(alloc, action, payload.as_value())?;
-    plan_request(alloc, book, op, station, registration, id, request, moment)
+    plan_request(alloc, book, call, registration, request)
 }
 
 /// The plan for a call that the station's state allows: its request is decided, or its first faulty
@@ -126,24 +123,25 @@ fn plan_known<S: Store, V: VendorHandler>(
 fn plan_request<S: Store, V: VendorHandler>(
     alloc: Global,
     book: &mut Book<S, V>,
-    op: &Text,
-    station: &Text,
+    call: &MessageAt<'_>,
     registration: Registration,
-    id: &Text,
     request: Result<Request, FieldFault>,
-    moment: Moment,
 ) -> Result<Plan, StoreFault>
     ensures reads { OnlyReads (book_view S.view) book.old book.new result }
     ensures plan { IsCleanBook S.view book.new → IfOk result (λ p. p
-        ≡ payload_plan (book_answers V.view book.old) station.now registration id.now request moment (lookups_at op.now (book_rows S.view book.old))) }
+        ≡ payload_plan (book_answers V.view book.old) call.now.at.now.station.now registration call.now.id.now request call.now.at.now.moment (lookups_at call.now.at.now.op.now (book_rows S.view book.old))) }
     ensures answers { book_answers V.view book.new ≡ book_answers V.view book.old }
     ensures ready { IfOk result (λ p. (slot : List ℕ → StationSlot) → IsReady slot p.effect) }
 {
+    let station = call.at.station;
     match request {
         Ok(request) => {
-            let decision = decide(alloc, book, op, station, registration, request, moment)?;
-            Ok(decided_plan(alloc, station, id, decision)?)
+            let decision = decide(alloc, book, call.at, registration, request)?;
+            Ok(decided_plan(alloc, station, call.id, decision)?)
         }
-        Err(fault) => Ok(error_plan(alloc, station, id, fault.code, fault.field.as_str())?),
+        Err(fault) => {
+            let field = fault.field.as_str();
+            Ok(error_plan(alloc, station, call.id, fault.code, field)?)
+        }
     }
 }

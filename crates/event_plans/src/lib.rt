@@ -4,18 +4,14 @@
 mod admin;
 mod answers;
 mod commands;
-mod event;
 mod frames;
 mod list;
-mod out;
+mod message_at;
 mod plan;
 mod plans;
-mod row;
+mod shown;
 mod sizes;
 mod table;
 
-pub use event::{Admin, Event, Listing, What};
-pub use out::{Out, Outcome, Said};
 pub use plan::{Effect, Plan};
-pub use row::Row;
 pub use table::plan_event;

@@ -1,18 +1,14 @@
 //! Listings of an operator's records (docs/RULES.md, Requests of operators).
-ghost use Rattle.std.specs.Prelude.{◌≡◌, ℕ, List, ◌∷◌, [], ◌++◌, map, Ok, Err, IfOk, OnOk};
-ghost use Rattle.hub_rows.specs.Reads.{OnlyReads};
-ghost use Rattle.hub_rows.specs.Lookups.{lookups_at};
+ghost use Rattle.std.specs.Prelude.{◌≡◌, ◌++◌, map, Ok, Err, IfOk, OnOk};
 ghost use Rattle.holdings.specs.Reservation.{is_current};
-ghost use Rattle.event_plans.specs.Listing.{current, list_rows, of_station, rows_rule};
+ghost use Rattle.event_plans.specs.Listing.{current, list_rows, of_station, rows_rule, Lists};
 ghost use Rattle.event_plans.specs.Plans.{list_plan};
-ghost use Rattle.event_plans.specs.declared.row.Row.TheVariants as row;
-ghost use Rattle.event_plans.specs.Effects.{StationSlot, IsReady};
+ghost use Rattle.hub_events.specs.declared.row.Row.TheVariants as row;
 
-use crate::event::Listing;
-use crate::out::Said;
 use crate::plan::{Effect, Plan};
-use crate::row::{Row, Shown};
+use crate::shown::Shown;
 use holdings::is_current;
+use hub_events::{Listing, Row, Said};
 use hub_rows::{LocalList, LocalTag, ReservationRow, Store, StoreFault};
 use ocpp_types::{Boxed, Listed, Mem, Moment, Refusal, Text};
 use std::alloc::Global;
@@ -25,10 +21,7 @@ pub fn plan_list<S: Store>(
     listing: &Listing,
     moment: Moment,
 ) -> Result<Plan, StoreFault>
-    ensures reads { OnlyReads S.view store.old store.new result }
-    ensures plan { (S.view store.new).clean → IfOk result (λ p. p
-        ≡ list_plan (rows_rule listing.now moment (lookups_at op.now (S.view store.old).rows))) }
-    ensures ready { IfOk result (λ p. (slot : List ℕ → StationSlot) → IsReady slot p.effect) }
+    ensures { Lists S.view op.now (rows_rule listing.now moment) store.old store.new result }
 {
     match listing {
         Listing::Stations => stations(alloc, store, op),
@@ -47,40 +40,28 @@ pub fn plan_list<S: Store>(
 }
 
 fn stations<S: Store>(alloc: Global, store: &mut S, op: &Text) -> Result<Plan, StoreFault>
-    ensures reads { OnlyReads S.view store.old store.new result }
-    ensures plan { (S.view store.new).clean → IfOk result (λ p. p
-        ≡ list_plan (Ok (map row.Station (lookups_at op.now (S.view store.old).rows).stations))) }
-    ensures ready { IfOk result (λ p. (slot : List ℕ → StationSlot) → IsReady slot p.effect) }
+    ensures { Lists S.view op.now (λ l. Ok (map row.Station l.stations)) store.old store.new result }
 {
     let rows = store.stations(op.as_str())?;
     Ok(show(alloc, rows)?)
 }
 
 fn tags<S: Store>(alloc: Global, store: &mut S, op: &Text) -> Result<Plan, StoreFault>
-    ensures reads { OnlyReads S.view store.old store.new result }
-    ensures plan { (S.view store.new).clean → IfOk result (λ p. p
-        ≡ list_plan (Ok (map row.Tag (lookups_at op.now (S.view store.old).rows).tags))) }
-    ensures ready { IfOk result (λ p. (slot : List ℕ → StationSlot) → IsReady slot p.effect) }
+    ensures { Lists S.view op.now (λ l. Ok (map row.Tag l.tags)) store.old store.new result }
 {
     let rows = store.tags(op.as_str())?;
     Ok(show(alloc, rows)?)
 }
 
 fn grants<S: Store>(alloc: Global, store: &mut S, op: &Text) -> Result<Plan, StoreFault>
-    ensures reads { OnlyReads S.view store.old store.new result }
-    ensures plan { (S.view store.new).clean → IfOk result (λ p. p
-        ≡ list_plan (Ok (map row.Grant (lookups_at op.now (S.view store.old).rows).grants))) }
-    ensures ready { IfOk result (λ p. (slot : List ℕ → StationSlot) → IsReady slot p.effect) }
+    ensures { Lists S.view op.now (λ l. Ok (map row.Grant l.grants)) store.old store.new result }
 {
     let rows = store.grants_out(op.as_str())?;
     Ok(show(alloc, rows)?)
 }
 
 fn granted<S: Store>(alloc: Global, store: &mut S, op: &Text) -> Result<Plan, StoreFault>
-    ensures reads { OnlyReads S.view store.old store.new result }
-    ensures plan { (S.view store.new).clean → IfOk result (λ p. p
-        ≡ list_plan (Ok (map row.Granted (lookups_at op.now (S.view store.old).rows).granted))) }
-    ensures ready { IfOk result (λ p. (slot : List ℕ → StationSlot) → IsReady slot p.effect) }
+    ensures { Lists S.view op.now (λ l. Ok (map row.Granted l.granted)) store.old store.new result }
 {
     let rows = store.granted(op.as_str())?;
     Ok(show(alloc, rows)?)
@@ -92,10 +73,7 @@ fn connectors<S: Store>(
     op: &Text,
     station: &Text,
 ) -> Result<Plan, StoreFault>
-    ensures reads { OnlyReads S.view store.old store.new result }
-    ensures plan { (S.view store.new).clean → IfOk result (λ p. p
-        ≡ list_plan (of_station ((lookups_at op.now (S.view store.old).rows).registration station.now) (map row.Connector ((lookups_at op.now (S.view store.old).rows).connectors station.now)))) }
-    ensures ready { IfOk result (λ p. (slot : List ℕ → StationSlot) → IsReady slot p.effect) }
+    ensures { Lists S.view op.now (λ l. of_station (l.registration station.now) (map row.Connector (l.connectors station.now))) store.old store.new result }
 {
     if store.station(op.as_str(), station.as_str())?.is_none() {
         return Ok(no_station(alloc)?);
@@ -110,10 +88,7 @@ fn transactions<S: Store>(
     op: &Text,
     station: &Text,
 ) -> Result<Plan, StoreFault>
-    ensures reads { OnlyReads S.view store.old store.new result }
-    ensures plan { (S.view store.new).clean → IfOk result (λ p. p
-        ≡ list_plan (of_station ((lookups_at op.now (S.view store.old).rows).registration station.now) (map row.Transaction ((lookups_at op.now (S.view store.old).rows).txs station.now)))) }
-    ensures ready { IfOk result (λ p. (slot : List ℕ → StationSlot) → IsReady slot p.effect) }
+    ensures { Lists S.view op.now (λ l. of_station (l.registration station.now) (map row.Transaction (l.txs station.now))) store.old store.new result }
 {
     if store.station(op.as_str(), station.as_str())?.is_none() {
         return Ok(no_station(alloc)?);
@@ -129,10 +104,7 @@ fn readings<S: Store>(
     station: &Text,
     transaction: Option<u64>,
 ) -> Result<Plan, StoreFault>
-    ensures reads { OnlyReads S.view store.old store.new result }
-    ensures plan { (S.view store.new).clean → IfOk result (λ p. p
-        ≡ list_plan (of_station ((lookups_at op.now (S.view store.old).rows).registration station.now) (map row.Reading ((lookups_at op.now (S.view store.old).rows).readings station.now transaction)))) }
-    ensures ready { IfOk result (λ p. (slot : List ℕ → StationSlot) → IsReady slot p.effect) }
+    ensures { Lists S.view op.now (λ l. of_station (l.registration station.now) (map row.Reading (l.readings station.now transaction))) store.old store.new result }
 {
     if store.station(op.as_str(), station.as_str())?.is_none() {
         return Ok(no_station(alloc)?);
@@ -148,10 +120,7 @@ fn reservations<S: Store>(
     station: &Text,
     moment: Moment,
 ) -> Result<Plan, StoreFault>
-    ensures reads { OnlyReads S.view store.old store.new result }
-    ensures plan { (S.view store.new).clean → IfOk result (λ p. p
-        ≡ list_plan (of_station ((lookups_at op.now (S.view store.old).rows).registration station.now) (map row.Reservation (current moment ((lookups_at op.now (S.view store.old).rows).reservations station.now))))) }
-    ensures ready { IfOk result (λ p. (slot : List ℕ → StationSlot) → IsReady slot p.effect) }
+    ensures { Lists S.view op.now (λ l. of_station (l.registration station.now) (map row.Reservation (current moment (l.reservations station.now)))) store.old store.new result }
 {
     if store.station(op.as_str(), station.as_str())?.is_none() {
         return Ok(no_station(alloc)?);
@@ -189,10 +158,7 @@ fn local_list<S: Store>(
     op: &Text,
     station: &Text,
 ) -> Result<Plan, StoreFault>
-    ensures reads { OnlyReads S.view store.old store.new result }
-    ensures plan { (S.view store.new).clean → IfOk result (λ p. p
-        ≡ list_plan (of_station ((lookups_at op.now (S.view store.old).rows).registration station.now) (list_rows station.now ((lookups_at op.now (S.view store.old).rows).local_list station.now)))) }
-    ensures ready { IfOk result (λ p. (slot : List ℕ → StationSlot) → IsReady slot p.effect) }
+    ensures { Lists S.view op.now (λ l. of_station (l.registration station.now) (list_rows station.now (l.local_list station.now))) store.old store.new result }
 {
     if store.station(op.as_str(), station.as_str())?.is_none() {
         return Ok(no_station(alloc)?);

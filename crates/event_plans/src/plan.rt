@@ -3,7 +3,7 @@ ghost use Rattle.std.specs.Prelude.{◌≡◌, [], ◌∷◌, IfOk};
 ghost use Rattle.event_plans.specs.Effects.{edit_effect};
 ghost use Rattle.event_plans.specs.Plans.{nothing, only, changing};
 
-use crate::out::{Outcome, Said};
+use hub_events::{Outcome, Said};
 use hub_rows::Edit;
 use ocpp_types::{Boxed, Listed, Mem, Text};
 use operator_cmds::Command;

@@ -1,10 +1,10 @@
 //! Plans from facts: one small function for each kind of event (docs/RULES.md).
 ghost use Rattle.std.specs.Prelude.{◌≡◌, [], ◌∷◌, IfOk};
-ghost use Rattle.event_plans.specs.declared.out.Said.TheVariants as said;
+ghost use Rattle.hub_events.specs.declared.out.Said.TheVariants as said;
 ghost use Rattle.event_plans.specs.Plans.{turned_plan, connect_plan, disconnect_plan, sent_plan, error_plan, error_text, conf_text, reply_text, decided_plan, edit_plan};
 
-use crate::out::Said;
 use crate::plan::{Effect, Plan, one};
+use hub_events::Said;
 use hub_rows::{Edit, Registration};
 use ocpp_frame::{write_error, write_result};
 use ocpp_payload::{Conf, write_conf};

@@ -1,18 +1,12 @@
 //! How many bytes the values on an event's way take at most. Each is moved from call to call, and a
 //! call clears its locals as it begins, so what is wide and rare is in a box.
 
-use crate::event::{Event, What};
-use crate::out::{Out, Said};
 use crate::plan::{Effect, Plan};
 use hub_rows::{Change, Edit};
 use ocpp_frame::Frame;
 use ocpp_payload::{Conf, Request};
 use operator_cmds::Command;
 use registry::Decision;
-
-const _: () = prove!(size_of::<Event>() <= 128);
-
-const _: () = prove!(size_of::<What>() <= 128);
 
 const _: () = prove!(size_of::<Frame>() <= 128);
 
@@ -31,7 +25,3 @@ const _: () = prove!(size_of::<Change>() <= 128);
 const _: () = prove!(size_of::<Effect>() <= 128);
 
 const _: () = prove!(size_of::<Plan>() <= 128);
-
-const _: () = prove!(size_of::<Said>() <= 128);
-
-const _: () = prove!(size_of::<Out>() <= 128);

@@ -10,15 +10,16 @@ ghost use Rattle.event_plans.specs.Table.{plan};
 
 use crate::admin::decide_admin;
 use crate::commands::plan_command;
-use crate::event::What;
 use crate::frames::plan_text;
 use crate::list::plan_list;
 use crate::plan::Plan;
 use crate::plans::{connect_plan, disconnect_plan, edit_plan, turned_plan};
+use hub_events::{OperatorEvent, What};
 use hub_rows::{Store, StoreFault};
-use ocpp_types::{Boxed, Moment, Text};
+use ocpp_types::{Boxed, Text};
 use operator_cmds::Command;
 use pending_calls::Slots;
+use registry::StationAt;
 use station_calls::{Book, VendorHandler};
 use std::alloc::Global;
 
@@ -29,16 +30,15 @@ pub fn plan_event<S: Store, V: VendorHandler>(
     book: &mut Book<S, V>,
     slots: &Slots<Boxed<Command>>,
     hosted: &[Text],
-    op: &Text,
-    what: &What,
-    moment: Moment,
+    event: &OperatorEvent<'_>,
 ) -> Result<Plan, StoreFault>
     ensures reads { OnlyReads (book_view S.view) book.old book.new result }
-    ensures plan { IsCleanBook S.view book.new → IfOk result (λ p. p ≡ plan (is_hosted hosted.now) (book_answers V.view book.old) what.now moment
-        (record { lookups = lookups_at op.now (book_rows S.view book.old); slot = λ st. slot_at op.now st slots.now })) }
+    ensures plan { IsCleanBook S.view book.new → IfOk result (λ p. p ≡ plan (is_hosted hosted.now) (book_answers V.view book.old) event.now.what.now event.now.moment
+        (record { lookups = lookups_at event.now.op.now (book_rows S.view book.old); slot = λ st. slot_at event.now.op.now st slots.now })) }
     ensures answers { book_answers V.view book.new ≡ book_answers V.view book.old }
-    ensures ready { IfOk result (λ p. IsReady (λ st. slot_at op.now st slots.now) p.effect) }
+    ensures ready { IfOk result (λ p. IsReady (λ st. slot_at event.now.op.now st slots.now) p.effect) }
 {
+    let OperatorEvent { op, moment, what } = *event;
     match what {
         What::Connect { station } => {
             let registration = book.store.station(op.as_str(), station.as_str())?;
@@ -49,11 +49,12 @@ pub fn plan_event<S: Store, V: VendorHandler>(
             if !slots.is_connected(op.as_str(), station.as_str()) {
                 return Ok(turned_plan(alloc, station)?);
             }
-            plan_text(alloc, book, slots, op, station, text, moment)
+            let at = StationAt { op, station, moment };
+            plan_text(alloc, book, slots, &at, text)
         }
         What::Do { station, command } => {
-            let store = &mut book.store;
-            plan_command(alloc, store, slots, op, station, command.as_ref(), moment)
+            let at = StationAt { op, station, moment };
+            plan_command(alloc, &mut book.store, slots, &at, command.as_ref())
         }
         What::Admin(admin) => {
             let answer = decide_admin(alloc, &mut book.store, op.as_str(), admin, hosted)?;

@@ -1,9 +1,7 @@
--- What an answer to a command changes on record.
-use Rattle.std.specs.Prelude.{ℕ, List, Bool, true, false, ◌&&◌, if◌then◌else◌, Option, None, is_some}
-use Rattle.serde_json.specs.Data.{Data}
+-- What a command that a station accepts changes on record.
+use Rattle.std.specs.Prelude.{ℕ, List, Bool, true, false, if◌then◌else◌, Option, None, is_some}
 use Rattle.hub_rows.specs.declared.change.Edit.{Edit}
 use Rattle.hub_rows.specs.Lookups.{Lookups}
-use Rattle.operator_cmds.specs.Answer.{is_accepted}
 use Rattle.operator_cmds.specs.declared.command.Command.{Command}
 use Rattle.operator_cmds.specs.declared.command.Command.TheVariants.{CancelReservation, ReserveNow, SendLocalList}
 use Rattle.holdings.specs.LocalList.{list_set}
@@ -23,6 +21,6 @@ accepted_edit station (ReserveNow c) l = reserved station c
 accepted_edit station (SendLocalList c) l = list_set station (l.local_list station) c
 accepted_edit station c l = None
 
--- the edit that the known members of an answer make, at a station that is on record
-abbrev pub settled : List ℕ → Command → Data → Lookups → Option Edit
-settled station c answer l = if is_accepted answer && is_some (l.registration station) then accepted_edit station c l else None
+-- its edit at a station that is on record
+abbrev pub settled : List ℕ → Command → Lookups → Option Edit
+settled station c l = if is_some (l.registration station) then accepted_edit station c l else None

@@ -40,7 +40,7 @@ fn version_of(version: i64) -> Option<u32>
     ensures { result ≡ version_of version }
 {
     match u32::try_from(version) {
-        Ok(version) if 1 <= version && version <= 2147483647 => Some(version),
+        Ok(version) if 1 <= version && version <= i32::MAX as u32 => Some(version),
         _ => None,
     }
 }

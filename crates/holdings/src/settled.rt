@@ -1,6 +1,5 @@
-//! What an answer to a command changes on record (docs/RULES.md, Reservations and Local lists).
+//! What a command that a station accepts changes on record (docs/RULES.md, Reservations and Local lists).
 ghost use Rattle.std.specs.Prelude.{◌≡◌, Err, IfOk};
-ghost use Rattle.serde_json.specs.View.{view};
 ghost use Rattle.hub_rows.specs.Reads.{OnlyReads};
 ghost use Rattle.hub_rows.specs.Lookups.{lookups_at};
 ghost use Rattle.holdings.specs.LocalList.{kept_for};
@@ -10,26 +9,24 @@ use crate::local_list::list_answer;
 use crate::reservation::{cancelled, reserved};
 use hub_rows::{Edit, LocalList, Store, StoreFault};
 use ocpp_types::{Boxed, Mem, Text};
-use operator_cmds::{Command, UpdateType, is_accepted};
-use serde_json::Value;
+use operator_cmds::{Command, UpdateType};
 use std::alloc::Global;
 
-/// The edit that the known members of an answer make: Accepted to ReserveNow keeps the reservation,
-/// to CancelReservation removes it, to SendLocalList sets the list. Any other answer, and one of a
-/// station that isn't on record, edits nothing.
+/// The edit of a command that a station has answered with Accepted: a ReserveNow keeps the
+/// reservation, a CancelReservation removes it, a SendLocalList sets the list. Any other command,
+/// and one to a station that isn't on record, edits nothing.
 pub fn settle<S: Store>(
     alloc: Global,
     store: &mut S,
     op: &Text,
     station: &Text,
     command: &Command,
-    answer: &Value,
 ) -> Result<Option<Boxed<Edit>>, StoreFault>
     ensures reads { OnlyReads S.view store.old store.new result }
     ensures edit { (S.view store.new).clean → IfOk result (λ e. e
-        ≡ settled station.now command.now (view answer.now) (lookups_at op.now (S.view store.old).rows)) }
+        ≡ settled station.now command.now (lookups_at op.now (S.view store.old).rows)) }
 {
-    if !is_held(command) || !is_accepted(answer) {
+    if !is_held(command) {
         return Ok(None);
     }
     if store.station(op.as_str(), station.as_str())?.is_none() {

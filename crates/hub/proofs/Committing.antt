@@ -3,7 +3,7 @@ use Rattle.std.specs.Prelude.{◌≡◌, ℕ, Bool, List, Some}
 use Rattle.std.specs.Option.{ForSome}
 use Rattle.hub_rows.specs.Changes.{EditFits}
 use Rattle.station_calls.specs.Vendors.{Answers}
-use Rattle.event_plans.specs.declared.event.What.{What}
+use Rattle.hub_events.specs.declared.event.What.{What}
 use Rattle.event_plans.specs.declared.plan.Effect.{Effect}
 use Rattle.event_plans.specs.declared.plan.Effect.TheVariants as effect
 use Rattle.event_plans.specs.declared.plan.Plan.{Plan}

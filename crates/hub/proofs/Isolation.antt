@@ -18,11 +18,11 @@ use Rattle.hub_rows.proofs.WellFormedLaws.{well_formed-edit}
 use Rattle.pending_calls.specs.OwnSlots.{own_slots}
 use Rattle.pending_calls.proofs.OwnSlots.{slot_of-op, slot_of-own, tick-own}
 use Rattle.pending_calls.proofs.Ticks.{sorted-tick}
-use Rattle.event_plans.specs.declared.event.Event.{Event}
-use Rattle.event_plans.specs.declared.event.Event.TheVariants.{At, Tick}
-use Rattle.event_plans.specs.declared.event.What.{What}
-use Rattle.event_plans.specs.declared.out.Out.{Out}
-use Rattle.event_plans.specs.declared.out.Said.{Said}
+use Rattle.hub_events.specs.declared.event.Event.{Event}
+use Rattle.hub_events.specs.declared.event.Event.TheVariants.{At, Tick}
+use Rattle.hub_events.specs.declared.event.What.{What}
+use Rattle.hub_events.specs.declared.out.Out.{Out}
+use Rattle.hub_events.specs.declared.out.Said.{Said}
 use Rattle.event_plans.specs.declared.plan.Plan.{Plan}
 use Rattle.hub.specs.Effects.{edit_of, effect_outputs, tick_outputs}
 use Rattle.event_plans.specs.Table.{Facts, plan}

@@ -10,9 +10,9 @@ use Rattle.hub_rows.specs.Grants.{granted_in}
 use Rattle.hub_rows.specs.Rows.{Rows}
 use Rattle.hub_rows.proofs.ListLaws.{other_text}
 use Rattle.pending_calls.proofs.OwnSlots.{slot_of-op}
-use Rattle.event_plans.specs.declared.event.Event.{Event}
-use Rattle.event_plans.specs.declared.event.Event.TheVariants.{At, Tick}
-use Rattle.event_plans.specs.declared.out.Out.{Out}
+use Rattle.hub_events.specs.declared.event.Event.{Event}
+use Rattle.hub_events.specs.declared.event.Event.TheVariants.{At, Tick}
+use Rattle.hub_events.specs.declared.out.Out.{Out}
 use Rattle.hub.specs.Effects.{edit_of}
 use Rattle.hub.specs.Others.{IsOfAnother, LeavesAlone, edits_tags, is_of_tags}
 use Rattle.hub.specs.View.{Granted, Own, granted_to, news, seen_of}

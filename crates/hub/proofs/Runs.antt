@@ -1,8 +1,8 @@
 -- A run goes on by one event.
 use Rattle.std.proofs.Common.{◌≡◌, ℕ, List, [], ◌∷◌, ◌++◌, ◌<◌, ◌+◌, length, get_or, take, refl, ◌∙◌, ap, sym, append_assoc, append-nil}
 use Rattle.std.proofs.lemmas.List.{take_more}
-use Rattle.event_plans.specs.declared.event.Event.{Event}
-use Rattle.event_plans.specs.declared.out.Out.{Out}
+use Rattle.hub_events.specs.declared.event.Event.{Event}
+use Rattle.hub_events.specs.declared.out.Out.{Out}
 use Rattle.hub.specs.World.{Setting, World, world_outputs, world_step, run_outputs, world_run}
 
 world_run-push : (setting : Setting) (w : World) (es : List Event) (e : Event) → world_run setting w (es ++ e ∷ []) ≡ world_step setting (world_run setting w es) e

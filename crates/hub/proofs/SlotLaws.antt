@@ -14,9 +14,9 @@ use Rattle.pending_calls.specs.SlotList.{slot_key, slot_of}
 use Rattle.pending_calls.specs.OwnSlots.{own_slots}
 use Rattle.pending_calls.proofs.OwnSlots.{answered_op, changed_at-other, changed_at-own, connect-other, connect-own, sorted-changed_at, sorted-put_slot}
 use Rattle.pending_calls.proofs.Places.{answered_key}
-use Rattle.event_plans.specs.declared.out.Out.{Out}
-use Rattle.event_plans.specs.declared.out.Outcome.{Outcome}
-use Rattle.event_plans.specs.declared.out.Outcome.TheVariants.{Disconnected, Timeout}
+use Rattle.hub_events.specs.declared.out.Out.{Out}
+use Rattle.hub_events.specs.declared.out.Outcome.{Outcome}
+use Rattle.hub_events.specs.declared.out.Outcome.TheVariants.{Disconnected, Timeout}
 use Rattle.event_plans.specs.declared.plan.Effect.{Effect}
 use Rattle.event_plans.specs.declared.plan.Effect.TheVariants as effect
 use Rattle.event_plans.specs.Effects.{StationSlot}

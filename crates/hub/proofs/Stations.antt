@@ -14,8 +14,8 @@ use Rattle.pending_calls.specs.Slot.{answered, cut, expired, submitted, with_con
 use Rattle.pending_calls.specs.SlotList.{slot_key, slot_of}
 use Rattle.pending_calls.proofs.OwnSlots.{slot_of-op, slot_of-station}
 use Rattle.pending_calls.proofs.Places.{answered_key, expired_key}
-use Rattle.event_plans.specs.declared.event.Event.{Event}
-use Rattle.event_plans.specs.declared.event.Event.TheVariants.{At, Tick}
+use Rattle.hub_events.specs.declared.event.Event.{Event}
+use Rattle.hub_events.specs.declared.event.Event.TheVariants.{At, Tick}
 use Rattle.event_plans.specs.declared.plan.Effect.{Effect}
 use Rattle.event_plans.specs.declared.plan.Effect.TheVariants as effect
 use Rattle.event_plans.specs.Effects.{StationSlot}

@@ -7,8 +7,8 @@ use Rattle.pending_calls.specs.declared.call.Moved.{Moved}
 use Rattle.pending_calls.specs.Slot.{expiry}
 use Rattle.pending_calls.specs.Tick.{tick_moves}
 use Rattle.pending_calls.proofs.Ticks.{IsDone, IsStep}
-use Rattle.event_plans.specs.declared.out.Out.{Out}
-use Rattle.event_plans.specs.declared.out.Outcome.TheVariants.{Timeout}
+use Rattle.hub_events.specs.declared.out.Out.{Out}
+use Rattle.hub_events.specs.declared.out.Outcome.TheVariants.{Timeout}
 use Rattle.event_plans.specs.Effects.{StationSlot}
 use Rattle.hub.specs.Effects.{moved_outputs, tick_outputs}
 

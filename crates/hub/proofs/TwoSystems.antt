@@ -2,8 +2,8 @@
 use Rattle.std.specs.Prelude.{◌≡◌, ℕ, List, [], ◌∷◌, ◌++◌, cond}
 use Rattle.std.proofs.Common.{refl, ◌∙◌, sym, ap, append_assoc, append-nil}
 use Rattle.hub_rows.proofs.ListLaws.{text_itself}
-use Rattle.event_plans.specs.declared.event.Event.{Event}
-use Rattle.event_plans.specs.declared.event.Event.TheVariants.{At, Tick}
+use Rattle.hub_events.specs.declared.event.Event.{Event}
+use Rattle.hub_events.specs.declared.event.Event.TheVariants.{At, Tick}
 use Rattle.hub.specs.Others.{IsOfAnother}
 use Rattle.hub.specs.View.{Own, granted_to, news, view, seen, seen_of, operator_run_outputs, operator_run}
 use Rattle.hub.specs.WellFormed.{WellFormed}

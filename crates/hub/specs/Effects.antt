@@ -10,10 +10,10 @@ use Rattle.pending_calls.specs.declared.call.Message.{Message}
 use Rattle.pending_calls.specs.declared.call.Moved.{Moved}
 use Rattle.pending_calls.specs.Slot.{answer_move, answered, cut, ended_calls, expiry, most_calls, sent_now, submitted, with_connection}
 use Rattle.pending_calls.specs.SlotList.{changed_at, slot_key, slot_of}
-use Rattle.event_plans.specs.declared.out.Out.{Out}
-use Rattle.event_plans.specs.declared.out.Outcome.{Outcome}
-use Rattle.event_plans.specs.declared.out.Outcome.TheVariants.{Disconnected, Timeout}
-use Rattle.event_plans.specs.declared.out.Said.TheVariants as said
+use Rattle.hub_events.specs.declared.out.Out.{Out}
+use Rattle.hub_events.specs.declared.out.Outcome.{Outcome}
+use Rattle.hub_events.specs.declared.out.Outcome.TheVariants.{Disconnected, Timeout}
+use Rattle.hub_events.specs.declared.out.Said.TheVariants as said
 use Rattle.event_plans.specs.declared.plan.Effect.{Effect}
 use Rattle.event_plans.specs.declared.plan.Effect.TheVariants as effect
 use Rattle.event_plans.specs.Effects.{StationSlot}

@@ -4,8 +4,8 @@ use Rattle.hub_rows.specs.StoreView.{StoreView}
 use Rattle.hub_rows.specs.Operators.{is_hosted}
 use Rattle.station_calls.specs.Book.{book_view, book_answers}
 use Rattle.station_calls.specs.Vendors.{HandlerView, answer_of}
-use Rattle.event_plans.specs.declared.event.Event.{Event}
-use Rattle.event_plans.specs.declared.event.Event.TheVariants.{At, Tick}
+use Rattle.hub_events.specs.declared.event.Event.{Event}
+use Rattle.hub_events.specs.declared.event.Event.TheVariants.{At, Tick}
 use Rattle.hub.specs.declared.hub.Hub.{Hub}
 use Rattle.pending_calls.specs.Slots.{all_slots, first_number}
 use Rattle.hub.specs.World.{Setting, World}

@@ -1,6 +1,7 @@
 pub mod Fault
 pub mod Effects
 pub mod World
+pub mod Commits
 pub mod GrantedTags
 pub mod View
 pub mod WellFormed

@@ -1,7 +1,7 @@
 -- Two systems, in which one operator has the same and is shown the same.
 use Rattle.std.specs.Prelude.{◌≡◌, ℕ, ◌≤◌, ◌<◌, List, length, take, slice_index_or, false, Option}
-use Rattle.event_plans.specs.declared.event.Event.{Event}
-use Rattle.event_plans.specs.declared.event.Event.TheVariants.{At, Tick}
+use Rattle.hub_events.specs.declared.event.Event.{Event}
+use Rattle.hub_events.specs.declared.event.Event.TheVariants.{At, Tick}
 use Rattle.hub.specs.Hub.{is_taken}
 use Rattle.hub.specs.View.{granted_to, view, seen}
 use Rattle.hub.specs.World.{Setting, World, world_run, world_step}

@@ -9,10 +9,10 @@ use Rattle.hub_rows.specs.Keyed.{put, by_key}
 use Rattle.hub_rows.specs.Rows.{Rows}
 use Rattle.hub_rows.specs.Own.{own_rows, own_edit}
 use Rattle.hub_rows.specs.OwnLookups.{own_lookups}
-use Rattle.event_plans.specs.declared.event.Event.{Event}
-use Rattle.event_plans.specs.declared.event.Event.TheVariants.{At, Tick}
-use Rattle.event_plans.specs.declared.event.What.{What}
-use Rattle.event_plans.specs.declared.out.Out.{Out}
+use Rattle.hub_events.specs.declared.event.Event.{Event}
+use Rattle.hub_events.specs.declared.event.Event.TheVariants.{At, Tick}
+use Rattle.hub_events.specs.declared.event.What.{What}
+use Rattle.hub_events.specs.declared.out.Out.{Out}
 use Rattle.event_plans.specs.declared.plan.Effect.{Effect}
 use Rattle.event_plans.specs.declared.plan.Effect.TheVariants as effect
 use Rattle.event_plans.specs.declared.plan.Plan.{Plan}

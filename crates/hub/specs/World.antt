@@ -6,11 +6,11 @@ use Rattle.hub_rows.specs.Rows.{Rows}
 use Rattle.hub_rows.specs.Changes.{edit}
 use Rattle.hub_rows.specs.Lookups.{lookups_at}
 use Rattle.station_calls.specs.Vendors.{Answers}
-use Rattle.event_plans.specs.declared.event.Event.{Event}
-use Rattle.event_plans.specs.declared.event.Event.TheVariants.{At, Tick}
-use Rattle.event_plans.specs.declared.event.What.{What}
-use Rattle.event_plans.specs.declared.out.Out.{Out}
-use Rattle.event_plans.specs.declared.out.Said.{Said}
+use Rattle.hub_events.specs.declared.event.Event.{Event}
+use Rattle.hub_events.specs.declared.event.Event.TheVariants.{At, Tick}
+use Rattle.hub_events.specs.declared.event.What.{What}
+use Rattle.hub_events.specs.declared.out.Out.{Out}
+use Rattle.hub_events.specs.declared.out.Said.{Said}
 use Rattle.event_plans.specs.declared.plan.Plan.{Plan}
 use Rattle.event_plans.specs.declared.plan.Effect.{Effect}
 use Rattle.event_plans.specs.Effects.{StationSlot}

@@ -1,21 +1,21 @@
 //! Carries out the effect of a plan. What may fail comes before what can't.
-ghost use Rattle.std.specs.Prelude.{◌≡◌, Some, Err, ◌≢◌, ◌+◌, ◌≤◌, ◌++◌, length, map, take, IfOk, IfErr, OnOk, OnErr, vec_len, vec_capacity};
+ghost use Rattle.std.specs.Prelude.{◌≡◌, Some, ◌+◌, ◌≤◌, ◌++◌, length, map, take, IfOk, OnOk, OnErr, vec_len, vec_capacity};
 ghost use Rattle.std.specs.Option.{ForSome};
 ghost use Rattle.hub_rows.specs.Changes.{EditFits};
-ghost use Rattle.hub_rows.specs.Reads.{IsCounted};
-ghost use Rattle.hub_rows.specs.Stops.{IsKept, FindsOldOr};
-ghost use Rattle.pending_calls.specs.Slots.{all_slots, first_number, slot_at};
+ghost use Rattle.pending_calls.specs.Slots.{slot_at};
 ghost use Rattle.event_plans.specs.Effects.{IsReady};
-ghost use Rattle.hub.specs.Effects.{edit_of, slots_after, effect_outputs, room_of};
-ghost use Rattle.hub.specs.World.{rows_after, said_to};
+ghost use Rattle.hub.specs.Commits.{Edits, Moves};
+ghost use Rattle.hub.specs.Effects.{edit_of, effect_outputs, room_of};
+ghost use Rattle.hub.specs.World.{said_to};
 
 use crate::fault::Fault;
 use crate::told::{push_ended, push_message, push_moved};
-use event_plans::{Effect, Out, Plan, Said};
+use event_plans::{Effect, Plan};
+use hub_events::{OperatorEvent, Out, Said};
 use hub_rows::{Change, Edit, Store};
-use ocpp_types::{Boxed, Listed, Mem, Moment, Text};
+use ocpp_types::{Boxed, Listed, Mem, Text};
 use operator_cmds::Command;
-use pending_calls::Slots;
+use pending_calls::{NewCall, Slots};
 
 /// How many outputs an effect may add.
 fn room_of(effect: &Effect) -> usize
@@ -34,30 +34,20 @@ fn room_of(effect: &Effect) -> usize
 pub fn commit<S: Store>(
     store: &mut S,
     slots: &mut Slots<Boxed<Command>>,
-    op: &Text,
-    moment: Moment,
+    event: &OperatorEvent<'_>,
     plan: Plan,
     told: &mut Vec<Out>,
 ) -> Result<(), Fault>
-    requires fits { (S.view store.old).clean → ForSome (edit_of plan.effect) (λ e. EditFits op.now e (S.view store.old).rows) }
-    requires ready { IsReady (λ station. slot_at op.now station slots.old) plan.effect }
-    ensures counted { IsCounted S.view store.old store.new (result ≡ Err Fault.Store) }
-    ensures rows { (S.view store.new).clean
-        → OnOk result ((S.view store.new).rows ≡ rows_after op.now (edit_of plan.effect) (S.view store.old).rows) }
-    ensures slots { OnOk result (all_slots slots.new
-        ≡ slots_after (first_number slots.old) op.now moment plan.effect (all_slots slots.old)) }
-    ensures told { OnOk result (told.new.items ≡ told.old.items ++ (map (said_to op.now) plan.said
-        ++ effect_outputs plan.effect (λ station. slot_at op.now station slots.old))) }
-    ensures err_rows { (S.view store.new).clean → OnErr result ((S.view store.new).rows ≡ (S.view store.old).rows) }
-    ensures err_slots { OnErr result (all_slots slots.new ≡ all_slots slots.old) }
+    requires fits { (S.view store.old).clean → ForSome (edit_of plan.effect) (λ e. EditFits event.now.op.now e (S.view store.old).rows) }
+    requires ready { IsReady (λ station. slot_at event.now.op.now station slots.old) plan.effect }
+    ensures edits { Edits S.view event.now.op.now (edit_of plan.effect) store.old store.new result }
+    ensures moves { Moves event.now.op.now event.now.moment plan.effect slots.old slots.new result }
+    ensures told { OnOk result (told.new.items ≡ told.old.items ++ (map (said_to event.now.op.now) plan.said
+        ++ effect_outputs plan.effect (λ station. slot_at event.now.op.now station slots.old))) }
     ensures err_told { OnErr result (told.new.items ≡ told.old.items) }
-    ensures first { first_number slots.new ≡ first_number slots.old }
-    ensures hosted { IfErr result (λ f. f ≢ Fault.NoSuchOperator) }
-    ensures stopped { FindsOldOr (rows_after op.now (edit_of plan.effect) (S.view store.old).rows) (S.view store.old) (S.view store.new) }
-    ensures kept { IsKept (S.view store.old) → OnOk result (IsKept (S.view store.new)) }
 {
     let begun = told.len();
-    let carried = carry_out(store, slots, op, moment, plan, told);
+    let carried = carry_out(store, slots, event, plan, told);
     if carried.is_err() {
         told.truncate(begun);
     }
@@ -70,32 +60,22 @@ pub fn commit<S: Store>(
 fn carry_out<S: Store>(
     store: &mut S,
     slots: &mut Slots<Boxed<Command>>,
-    op: &Text,
-    moment: Moment,
+    event: &OperatorEvent<'_>,
     plan: Plan,
     told: &mut Vec<Out>,
 ) -> Result<(), Fault>
-    requires fits { (S.view store.old).clean → ForSome (edit_of plan.effect) (λ e. EditFits op.now e (S.view store.old).rows) }
-    requires ready { IsReady (λ station. slot_at op.now station slots.old) plan.effect }
-    ensures counted { IsCounted S.view store.old store.new (result ≡ Err Fault.Store) }
-    ensures rows { (S.view store.new).clean
-        → OnOk result ((S.view store.new).rows ≡ rows_after op.now (edit_of plan.effect) (S.view store.old).rows) }
-    ensures slots { OnOk result (all_slots slots.new
-        ≡ slots_after (first_number slots.old) op.now moment plan.effect (all_slots slots.old)) }
-    ensures told { OnOk result (told.new.items ≡ told.old.items ++ (map (said_to op.now) plan.said
-        ++ effect_outputs plan.effect (λ station. slot_at op.now station slots.old))) }
-    ensures err_rows { (S.view store.new).clean → OnErr result ((S.view store.new).rows ≡ (S.view store.old).rows) }
-    ensures err_slots { OnErr result (all_slots slots.new ≡ all_slots slots.old) }
+    requires fits { (S.view store.old).clean → ForSome (edit_of plan.effect) (λ e. EditFits event.now.op.now e (S.view store.old).rows) }
+    requires ready { IsReady (λ station. slot_at event.now.op.now station slots.old) plan.effect }
+    ensures edits { Edits S.view event.now.op.now (edit_of plan.effect) store.old store.new result }
+    ensures moves { Moves event.now.op.now event.now.moment plan.effect slots.old slots.new result }
+    ensures told { OnOk result (told.new.items ≡ told.old.items ++ (map (said_to event.now.op.now) plan.said
+        ++ effect_outputs plan.effect (λ station. slot_at event.now.op.now station slots.old))) }
     ensures err_told { OnErr result (take (length told.old.items) told.new.items ≡ told.old.items) }
-    ensures first { first_number slots.new ≡ first_number slots.old }
-    ensures hosted { IfErr result (λ f. f ≢ Fault.NoSuchOperator) }
-    ensures stopped { FindsOldOr (rows_after op.now (edit_of plan.effect) (S.view store.old).rows) (S.view store.old) (S.view store.new) }
-    ensures kept { IsKept (S.view store.old) → OnOk result (IsKept (S.view store.new)) }
 {
     let room = room_of(&plan.effect);
     let Plan { said, effect } = plan;
-    tell(op, said, room, told)?;
-    apply(store, slots, op, moment, effect, told)
+    tell(event.op, said, room, told)?;
+    apply(store, slots, event, effect, told)
 }
 
 /// Makes an effect of an operator, or changes nothing. What is said of calls that it ends or
@@ -103,35 +83,24 @@ fn carry_out<S: Store>(
 fn apply<S: Store>(
     store: &mut S,
     slots: &mut Slots<Boxed<Command>>,
-    op: &Text,
-    moment: Moment,
+    event: &OperatorEvent<'_>,
     effect: Effect,
     outs: &mut Vec<Out>,
 ) -> Result<(), Fault>
-    requires fits { (S.view store.old).clean → ForSome (edit_of effect) (λ e. EditFits op.now e (S.view store.old).rows) }
-    requires ready { IsReady (λ station. slot_at op.now station slots.old) effect }
+    requires fits { (S.view store.old).clean → ForSome (edit_of effect) (λ e. EditFits event.now.op.now e (S.view store.old).rows) }
+    requires ready { IsReady (λ station. slot_at event.now.op.now station slots.old) effect }
     requires room { vec_len outs.old + room_of effect ≤ vec_capacity outs.old }
-    ensures counted { IsCounted S.view store.old store.new (result ≡ Err Fault.Store) }
-    ensures rows { (S.view store.new).clean
-        → OnOk result ((S.view store.new).rows ≡ rows_after op.now (edit_of effect) (S.view store.old).rows) }
-    ensures slots { OnOk result (all_slots slots.new
-        ≡ slots_after (first_number slots.old) op.now moment effect (all_slots slots.old)) }
+    ensures edits { Edits S.view event.now.op.now (edit_of effect) store.old store.new result }
+    ensures moves { Moves event.now.op.now event.now.moment effect slots.old slots.new result }
     ensures outs { OnOk result (outs.new.items ≡ outs.old.items
-        ++ effect_outputs effect (λ station. slot_at op.now station slots.old)) }
+        ++ effect_outputs effect (λ station. slot_at event.now.op.now station slots.old)) }
     ensures len { OnOk result (vec_len outs.new ≤ vec_len outs.old + room_of effect) }
     ensures err_outs { OnErr result (outs.new.items ≡ outs.old.items) }
-    ensures err_rows { (S.view store.new).clean → OnErr result ((S.view store.new).rows ≡ (S.view store.old).rows) }
-    ensures err_slots { OnErr result (all_slots slots.new ≡ all_slots slots.old) }
-    ensures first { first_number slots.new ≡ first_number slots.old }
-    ensures hosted { IfErr result (λ f. f ≢ Fault.NoSuchOperator) }
-    ensures stopped { FindsOldOr (rows_after op.now (edit_of effect) (S.view store.old).rows) (S.view store.old) (S.view store.new) }
-    ensures kept { IsKept (S.view store.old) → OnOk result (IsKept (S.view store.new)) }
 {
+    let OperatorEvent { op, moment, .. } = *event;
     match effect {
         Effect::Nothing => {}
-        Effect::Edit(edit) => {
-            edit_records(store, op, edit)?;
-        }
+        Effect::Edit(edit) => edit_records(store, op, edit)?,
         Effect::Connect { station } => {
             let ended = slots.connect(op.as_str(), station.as_str())?;
             push_ended(outs, ended);
@@ -145,7 +114,8 @@ fn apply<S: Store>(
             command,
             text,
         } => {
-            let message = slots.submit(op.as_str(), station.as_str(), command, text, moment)?;
+            let new = NewCall { command, text };
+            let message = slots.submit(op.as_str(), station.as_str(), new, moment)?;
             push_message(outs, message);
         }
         Effect::Answer {
@@ -166,13 +136,7 @@ fn apply<S: Store>(
 /// Makes an edit of an operator's records, if there is one.
 fn edit_if_some<S: Store>(store: &mut S, op: &Text, edit: Option<Boxed<Edit>>) -> Result<(), Fault>
     requires { (S.view store.old).clean → ForSome edit (λ e. EditFits op.now e (S.view store.old).rows) }
-    ensures counted { IsCounted S.view store.old store.new (result ≡ Err Fault.Store) }
-    ensures rows { (S.view store.new).clean
-        → OnOk result ((S.view store.new).rows ≡ rows_after op.now edit (S.view store.old).rows) }
-    ensures err_rows { (S.view store.new).clean → OnErr result ((S.view store.new).rows ≡ (S.view store.old).rows) }
-    ensures hosted { IfErr result (λ f. f ≢ Fault.NoSuchOperator) }
-    ensures stopped { FindsOldOr (rows_after op.now edit (S.view store.old).rows) (S.view store.old) (S.view store.new) }
-    ensures kept { IsKept (S.view store.old) → OnOk result (IsKept (S.view store.new)) }
+    ensures { Edits S.view op.now edit store.old store.new result }
 {
     match edit {
         Some(edit) => edit_records(store, op, edit),
@@ -183,13 +147,7 @@ fn edit_if_some<S: Store>(store: &mut S, op: &Text, edit: Option<Boxed<Edit>>) -
 /// Makes an edit of an operator's records.
 fn edit_records<S: Store>(store: &mut S, op: &Text, edit: Boxed<Edit>) -> Result<(), Fault>
     requires { (S.view store.old).clean → EditFits op.now edit (S.view store.old).rows }
-    ensures counted { IsCounted S.view store.old store.new (result ≡ Err Fault.Store) }
-    ensures rows { (S.view store.new).clean
-        → OnOk result ((S.view store.new).rows ≡ rows_after op.now (Some edit) (S.view store.old).rows) }
-    ensures err_rows { (S.view store.new).clean → OnErr result ((S.view store.new).rows ≡ (S.view store.old).rows) }
-    ensures hosted { IfErr result (λ f. f ≢ Fault.NoSuchOperator) }
-    ensures stopped { FindsOldOr (rows_after op.now (Some edit) (S.view store.old).rows) (S.view store.old) (S.view store.new) }
-    ensures kept { IsKept (S.view store.old) → OnOk result (IsKept (S.view store.new)) }
+    ensures { Edits S.view op.now (Some edit) store.old store.new result }
 {
     let change = change_of(op, edit)?;
     store.apply(&change)?;

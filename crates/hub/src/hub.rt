@@ -8,9 +8,10 @@ ghost use Rattle.hub_rows.specs.Rows.{registration_at};
 use crate::commit::commit;
 use crate::fault::Fault;
 use crate::tick::expire_all;
-use event_plans::{Event, Out, What, plan_event};
+use event_plans::plan_event;
+use hub_events::{Event, OperatorEvent, Out};
 use hub_rows::{Store, are_operators, is_hosted};
-use ocpp_types::{Boxed, Moment, Text};
+use ocpp_types::{Boxed, Text};
 use operator_cmds::Command;
 use pending_calls::Slots;
 use station_calls::{Book, VendorHandler};
@@ -44,8 +45,8 @@ impl<S: Store + Drop, V: VendorHandler> Hub<S, V> {
     ghost use Rattle.hub.specs.Others.{IsOfAnother, LeavesAlone};
     ghost use Rattle.hub.specs.View.{view, seen, operator_run_outputs, operator_run};
     ghost use Rattle.hub.specs.WellFormed.{SlotsHaveStations};
-    ghost use Rattle.event_plans.specs.declared.event.Event.{Event};
-    ghost use Rattle.event_plans.specs.declared.event.Event.TheVariants as event;
+    ghost use Rattle.hub_events.specs.declared.event.Event.{Event};
+    ghost use Rattle.hub_events.specs.declared.event.Event.TheVariants as event;
 
     /// A hub over a store, with no station connected. It takes no memory. Where the operators
     /// can't be hosted the store and the handlers are dropped.
@@ -229,7 +230,10 @@ impl<S: Store + Drop, V: VendorHandler> Hub<S, V> {
             → is_taken (setting V.view self.old) event.now ≡ false) }
     {
         match event {
-            Event::At { op, moment, what } => self.take_at(op, *moment, what, told),
+            Event::At { op, moment, what } => {
+                let moment = *moment;
+                self.take_at(&OperatorEvent { op, moment, what }, told)
+            }
             Event::Tick { moment } => {
                 expire_all(&mut self.slots, *moment, told)?;
                 Ok(())
@@ -242,42 +246,31 @@ impl<S: Store + Drop, V: VendorHandler> Hub<S, V> {
     #[tactic(auto, unfolding(crate::specs::Hub::setting))]
     fn take_at(
         &mut self,
-        op: &Text,
-        moment: Moment,
-        what: &What,
+        lent: &OperatorEvent<'_>,
         told: &mut Vec<Out>,
     ) -> Result<(), Fault>
         ensures counted { IsCounted (hub_view S.view) self.old self.new (result ≡ Err Fault.Store) }
         ensures told { is_clean S.view self.new → OnOk result (told.new.items ≡ told.old.items
-            ++ world_outputs (setting V.view self.old) (world S.view self.old) (event.At op.now moment what.now)) }
+            ++ world_outputs (setting V.view self.old) (world S.view self.old) (event.At lent.now.op.now lent.now.moment lent.now.what.now)) }
         ensures world { is_clean S.view self.new → OnOk result (world S.view self.new
-            ≡ world_step (setting V.view self.old) (world S.view self.old) (event.At op.now moment what.now)) }
+            ≡ world_step (setting V.view self.old) (world S.view self.old) (event.At lent.now.op.now lent.now.moment lent.now.what.now)) }
         ensures err_told { OnErr result (told.new.items ≡ told.old.items) }
         ensures err_world { is_clean S.view self.new
             → OnErr result (world S.view self.new ≡ world S.view self.old) }
         ensures err_slots { OnErr result ((world S.view self.new).slots ≡ (world S.view self.old).slots) }
-        ensures stopped { FindsOldOr (world_step (setting V.view self.old) (world S.view self.old) (event.At op.now moment what.now)).rows
+        ensures stopped { FindsOldOr (world_step (setting V.view self.old) (world S.view self.old) (event.At lent.now.op.now lent.now.moment lent.now.what.now)).rows
             (hub_view S.view self.old) (hub_view S.view self.new) }
         ensures kept { IsKept (hub_view S.view self.old) → OnOk result (IsKept (hub_view S.view self.new)) }
         ensures setting { setting V.view self.new ≡ setting V.view self.old }
-        ensures taken { OnOk result ((setting V.view self.old).is_hosted op.now ≡ true) }
+        ensures taken { OnOk result ((setting V.view self.old).is_hosted lent.now.op.now ≡ true) }
         ensures not_taken { IfErr result (λ f. f ≡ Fault.NoSuchOperator
-            → (setting V.view self.old).is_hosted op.now ≡ false) }
+            → (setting V.view self.old).is_hosted lent.now.op.now ≡ false) }
     {
         let hosted = self.hosted.as_slice();
-        if !is_hosted(hosted, op.as_str()) {
+        if !is_hosted(hosted, lent.op.as_str()) {
             return Err(Fault::NoSuchOperator);
         }
-        let plan = plan_event(
-            self.alloc,
-            &mut self.book,
-            &self.slots,
-            hosted,
-            op,
-            what,
-            moment,
-        )?;
-        let store = &mut self.book.store;
-        commit(store, &mut self.slots, op, moment, plan, told)
+        let plan = plan_event(self.alloc, &mut self.book, &self.slots, hosted, lent)?;
+        commit(&mut self.book.store, &mut self.slots, lent, plan, told)
     }
 }

@@ -8,6 +8,6 @@ mod tick;
 mod told;
 pub mod worlds;
 
-pub use event_plans::{Admin, Event, Listing, Out, Outcome, Row, Said, What};
+pub use hub_events::{Admin, Event, Listing, Out, Outcome, Row, Said, What};
 pub use fault::Fault;
 pub use hub::{BadOperators, Hub};

@@ -5,7 +5,7 @@ ghost use Rattle.pending_calls.specs.Tick.{tick};
 ghost use Rattle.hub.specs.Effects.{tick_outputs};
 
 use crate::told::push_moved;
-use event_plans::{Out, Outcome};
+use hub_events::{Out, Outcome};
 use ocpp_types::{Boxed, Mem, Moment, NoMemory};
 use operator_cmds::Command;
 use pending_calls::Slots;

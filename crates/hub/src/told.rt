@@ -1,9 +1,9 @@
 //! What is said of calls that end or go out, at the end of a list that has room for it.
 ghost use Rattle.std.specs.Prelude.{◌≡◌, ◌+◌, ◌≤◌, ◌++◌, ◌∷◌, [], length, map, Some, vec_len, vec_capacity};
 ghost use Rattle.hub.specs.Effects.{done, sent, moved_outputs};
-ghost use Rattle.event_plans.specs.declared.out.Outcome.TheVariants.{Disconnected};
+ghost use Rattle.hub_events.specs.declared.out.Outcome.TheVariants.{Disconnected};
 
-use event_plans::{Out, Outcome, Said};
+use hub_events::{Out, Outcome, Said};
 use ocpp_types::Boxed;
 use operator_cmds::Command;
 use pending_calls::{Call, Ended, Message, Moved};

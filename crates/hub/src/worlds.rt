@@ -9,11 +9,11 @@ ghost use Rattle.hub.specs.WellFormed.{WellFormed};
 ghost use Rattle.hub.specs.World.{Setting, World, outputs_of, run_outputs, world_run};
 ghost use Rattle.hub.specs.TwoSystems.{AreAlike, AreSameTo, HasNotTaken, IsAfterSome, IsItsOwn, LeavesGranted};
 ghost use Rattle.hub.specs.Others.{IsOfAnother};
-ghost use Rattle.event_plans.specs.declared.event.Event.{Event};
+ghost use Rattle.hub_events.specs.declared.event.Event.{Event};
 
 use crate::fault::Fault;
 use crate::hub::Hub;
-use event_plans::{Event, Out};
+use hub_events::{Event, Out};
 use hub_rows::Store;
 use station_calls::VendorHandler;
 

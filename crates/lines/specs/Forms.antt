@@ -1,10 +1,10 @@
 -- What the forms of an operator's lines say.
 use Rattle.std.specs.Prelude.{ℕ, List, [], ◌∷◌, codes, Bool, true, false, if◌then◌else◌, Option, Some, None}
-use Rattle.event_plans.specs.declared.event.What.{What}
-use Rattle.event_plans.specs.declared.event.What.TheVariants as what
-use Rattle.event_plans.specs.declared.event.Admin.TheVariants as admin
-use Rattle.event_plans.specs.declared.event.Listing.{Listing}
-use Rattle.event_plans.specs.declared.event.Listing.TheVariants as listing
+use Rattle.hub_events.specs.declared.event.What.{What}
+use Rattle.hub_events.specs.declared.event.What.TheVariants as what
+use Rattle.hub_events.specs.declared.event.Admin.TheVariants as admin
+use Rattle.hub_events.specs.declared.event.Listing.{Listing}
+use Rattle.hub_events.specs.declared.event.Listing.TheVariants as listing
 use Rattle.ocpp_types.specs.Named.{named}
 use Rattle.operator_cmds.specs.Command.{command}
 use Rattle.ocpp_types.specs.Policy.{policies}

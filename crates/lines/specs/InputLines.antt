@@ -3,8 +3,8 @@ use Rattle.std.specs.Prelude.{codes, ℕ, nat_lt, ◌==◌, Bool, List, length, 
 use Rattle.std.specs.Io.BufRead.{strip_last}
 use Rattle.std.specs.Str.{bytes_eq}
 use Rattle.std.specs.Str.Lossy.{utf8_valid_len}
-use Rattle.event_plans.specs.declared.event.Event.{Event}
-use Rattle.event_plans.specs.declared.event.Event.TheVariants as event
+use Rattle.hub_events.specs.declared.event.Event.{Event}
+use Rattle.hub_events.specs.declared.event.Event.TheVariants as event
 use Rattle.lines.specs.Forms.{what_of}
 use Rattle.lines.specs.Words.{first_word, moment_at, ◌>>=◌}
 use Rattle.lines.specs.declared.input_line.Line.{Line}

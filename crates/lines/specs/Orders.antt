@@ -2,10 +2,10 @@
 use Rattle.std.specs.Prelude.{ℕ, nat_lt, ◌==◌, Bool, true, false, ◌||◌, List, length, Option, Some, None, if◌then◌else◌}
 use Rattle.std.specs.Io.BufRead.{strip_last}
 use Rattle.std.specs.List.{position_or_len}
-use Rattle.event_plans.specs.declared.event.Event.{Event}
-use Rattle.event_plans.specs.declared.event.Event.TheVariants as event
-use Rattle.event_plans.specs.declared.event.What.{What}
-use Rattle.event_plans.specs.declared.event.What.TheVariants.{Connect, Disconnect, Frame, Do, Admin, List as Listing}
+use Rattle.hub_events.specs.declared.event.Event.{Event}
+use Rattle.hub_events.specs.declared.event.Event.TheVariants as event
+use Rattle.hub_events.specs.declared.event.What.{What}
+use Rattle.hub_events.specs.declared.event.What.TheVariants.{Connect, Disconnect, Frame, Do, Admin, List as Listing}
 use Rattle.lines.specs.Forms.{what_of}
 use Rattle.lines.specs.Words.{◌>>=◌}
 

@@ -1,11 +1,11 @@
 -- The line of each output.
 use Rattle.std.specs.Prelude.{ℕ, List, ◌++◌, codes, Option, Some, None}
 use Rattle.std.specs.Fmt.{decimal}
-use Rattle.event_plans.specs.declared.out.Out.{Out}
-use Rattle.event_plans.specs.declared.out.Outcome.{Outcome}
-use Rattle.event_plans.specs.declared.out.Outcome.TheVariants as outcome
-use Rattle.event_plans.specs.declared.out.Said.{Said}
-use Rattle.event_plans.specs.declared.out.Said.TheVariants.{Send, Done, Turned, Refused, Row, Accepted}
+use Rattle.hub_events.specs.declared.out.Out.{Out}
+use Rattle.hub_events.specs.declared.out.Outcome.{Outcome}
+use Rattle.hub_events.specs.declared.out.Outcome.TheVariants as outcome
+use Rattle.hub_events.specs.declared.out.Said.{Said}
+use Rattle.hub_events.specs.declared.out.Said.TheVariants.{Send, Done, Turned, Refused, Row, Accepted}
 use Rattle.lines.specs.RowLines.{row_line}
 use Rattle.serde_json.specs.Data.{Data, array, item, no_items, string}
 use Rattle.serde_json.specs.Written.{compact_text}

@@ -38,8 +38,8 @@ use Rattle.hub_rows.specs.Reservations.{unshifted}
 use Rattle.hub_rows.specs.declared.list_row.LocalTag.{LocalTag}
 use Rattle.hub_rows.specs.declared.reservation_row.Reservation.{Reservation}
 use Rattle.hub_rows.specs.declared.reservation_row.ReservationRow.{ReservationRow}
-use Rattle.event_plans.specs.declared.row.Row.{Row}
-use Rattle.event_plans.specs.declared.row.Row.TheVariants as row
+use Rattle.hub_events.specs.declared.row.Row.{Row}
+use Rattle.hub_events.specs.declared.row.Row.TheVariants as row
 
 -- ---- fields: `-` stands for none, and a text of a peer is a JSON string
 

@@ -1,10 +1,10 @@
 //! Lines of output, added to a text (docs/RULES.md, Lines).
 ghost use Rattle.std.specs.Prelude.{◌≡◌, ◌++◌, [], ◌∷◌, length, take, OnOk, OnErr};
-ghost use Rattle.event_plans.specs.declared.out.Said.TheVariants as said;
+ghost use Rattle.hub_events.specs.declared.out.Said.TheVariants as said;
 ghost use Rattle.lines.specs.OutputLines.{line_of, said_line};
 
 use crate::output_line::print_out;
-use event_plans::{Out, Said};
+use hub_events::{Out, Said};
 use ocpp_types::{Mem, Text};
 use std::alloc::Global;
 

@@ -7,7 +7,7 @@ ghost use Rattle.lines.specs.Forms.{what_of, connect_form, disconnect_form, fram
 
 use crate::list_forms::list;
 use crate::words::{expiry_of, first_word, is_expiry, name_of, number_of, only_word};
-use event_plans::{Admin, What};
+use hub_events::{Admin, What};
 use hub_rows::Tag;
 use id_tags::Grant;
 use ocpp_types::{Boxed, Mem, Named, NoMemory, Policy, Text};

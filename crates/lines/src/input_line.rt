@@ -6,7 +6,7 @@ ghost use Rattle.lines.specs.InputLines.{spelled, event_of, operator_event};
 
 use crate::forms::read_what;
 use crate::words::{first_word, moment_at};
-use event_plans::Event;
+use hub_events::Event;
 use hub_rows::is_hosted;
 use ocpp_types::{Mem, Moment, Text};
 use std::alloc::Global;

@@ -3,7 +3,7 @@ ghost use Rattle.std.specs.Prelude.{◌≡◌, IfOk};
 ghost use Rattle.lines.specs.Forms.{list_form, plain_list, station_list_form, connectors_form, transactions_form, readings_form, numbered_readings_form, reservations_form, local_list_form};
 
 use crate::words::{first_word, name_of, number_of};
-use event_plans::{Listing, What};
+use hub_events::{Listing, What};
 use ocpp_types::{Mem, Text};
 use std::alloc::Global;
 

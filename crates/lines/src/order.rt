@@ -5,7 +5,7 @@ ghost use Rattle.lines.specs.Orders.{order_of, order_in, is_order, has_line_feed
 
 use crate::forms::read_what;
 use crate::input_line::MAX_LINE;
-use event_plans::{Event, What};
+use hub_events::{Event, What};
 use ocpp_types::{Mem, Moment, Text};
 use std::alloc::Global;
 

@@ -3,7 +3,7 @@ ghost use Rattle.std.specs.Prelude.{◌≡◌, IfOk, option_map, string_bytes};
 ghost use Rattle.lines.specs.OutputLines.{line_of, outcome_text, refused_line, refusal_detail};
 
 use crate::rows::print_row;
-use event_plans::{Out, Outcome, Said};
+use hub_events::{Out, Outcome, Said};
 use ocpp_types::{Mem, Named, Refusal, Text};
 use serde_json::json;
 use std::alloc::Global;

@@ -6,7 +6,7 @@ ghost use Rattle.lines.specs.RowLines.{row_line, station_line, tag_line, grant_l
 
 use crate::fields::{boot_field, mark, moment_field, quoted, signed_field, text_field, widened};
 use crate::held::{print_local_tag, print_reservation};
-use event_plans::Row;
+use hub_events::Row;
 use hub_rows::{
     ConnectorReport, ConnectorRow, GrantRow, GrantedTag, Reading, ReadingRow, Start, StationRow,
     Stop, TagRow, TxRow,

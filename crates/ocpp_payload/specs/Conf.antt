@@ -9,7 +9,7 @@ use Rattle.ocpp_types.specs.declared.data_transfer_status.DataTransferStatus.{Da
 use Rattle.ocpp_types.specs.declared.id_tag_info.IdTagInfo.{IdTagInfo}
 use Rattle.ocpp_types.specs.declared.policy.Policy.{Policy}
 use Rattle.ocpp_payload.specs.declared.conf.Conf.{Conf}
-use Rattle.ocpp_payload.specs.declared.conf.Conf.TheVariants.{Authorize, BootNotification, DataTransfer, Heartbeat, MeterValues, StartTransaction, StatusNotification, StopTransaction}
+use Rattle.ocpp_payload.specs.declared.conf.Conf.TheVariants.{Authorize, BootNotification, DataTransfer, Heartbeat, Empty, StartTransaction, StopTransaction}
 
 -- the members with one more, if there is one
 abbrev pub put_some : List ℕ → Option Data → Members → Members
@@ -62,7 +62,6 @@ conf_data (Authorize info) = authorize_conf info
 conf_data (BootNotification current_time interval status) = boot_notification_conf current_time interval status
 conf_data (DataTransfer status content) = data_transfer_conf status content
 conf_data (Heartbeat current_time) = heartbeat_conf current_time
-conf_data MeterValues = no_conf
+conf_data Empty = no_conf
 conf_data (StartTransaction info transaction) = start_transaction_conf info transaction
-conf_data StatusNotification = no_conf
 conf_data (StopTransaction info) = stop_transaction_conf info

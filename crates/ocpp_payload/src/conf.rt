@@ -22,12 +22,12 @@ pub enum Conf {
     Heartbeat {
         current_time: Moment,
     },
-    MeterValues,
+    /// The answer to a MeterValues and to a StatusNotification, which has no members.
+    Empty,
     StartTransaction {
         id_tag_info: IdTagInfo,
         transaction_id: u32,
     },
-    StatusNotification,
     StopTransaction {
         id_tag_info: Option<IdTagInfo>,
     },

@@ -28,7 +28,7 @@ pub fn write_conf(alloc: Global, conf: &Conf) -> Mem<Value>
             transaction_id,
         } => start_transaction(alloc, id_tag_info, *transaction_id),
         Conf::StopTransaction { id_tag_info } => stop_transaction(alloc, id_tag_info),
-        Conf::MeterValues | Conf::StatusNotification => empty(alloc),
+        Conf::Empty => empty(alloc),
     }
 }
 

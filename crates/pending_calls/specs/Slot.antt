@@ -69,14 +69,6 @@ module _ {C : Type 0} where
       else if nat_le s.next_number last_number then Ok s.next_number
       else Err NumberSpent
 
-  -- the number and the command of a call that was sent
-  abbrev pub number_and_command : Flight C → ℕ × C
-  number_and_command f = (f.number, f.command)
-
-  -- the number and the command of the call in flight, if there is one
-  abbrev pub call_in_flight : SlotState C → Option (ℕ × C)
-  call_in_flight s = option_map number_and_command s.in_flight
-
   -- a call of the slot's station, as its end is told
   abbrev pub call_of : SlotState C → ℕ → C → Call C
   call_of s number command = record { op = s.op; station = s.station; number = number; command = command }
@@ -155,6 +147,10 @@ module _ {C : Type 0} where
   -- whether an answer with that id ends the call in flight
   abbrev pub is_answered : List ℕ → SlotState C → Bool
   is_answered id s = has_number id s.in_flight
+
+  -- the command of the call in flight, if an answer with that id ends it
+  abbrev pub answered_command : List ℕ → SlotState C → Option C
+  answered_command id s = if is_answered id s then option_map (λ f. f.command) s.in_flight else None
 
   -- the slot after an answer with that id at moment m
   abbrev pub answered : List ℕ → ℕ → SlotState C → SlotState C

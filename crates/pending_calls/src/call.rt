@@ -16,6 +16,15 @@ pub struct Call<C> {
     pub command: C,
 }
 
+/// What a station is to be sent, before it has a number.
+#[derive(Drop)]
+pub struct NewCall<C> {
+    /// What is asked of the station.
+    pub command: C,
+    /// The frame (OCPP-J 1.6, section 4.2.1), whose id is the number that the call gets.
+    pub text: Text,
+}
+
 /// A text that goes to a station.
 #[derive(Drop)]
 pub struct Message {

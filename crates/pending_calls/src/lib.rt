@@ -7,6 +7,6 @@ mod ended;
 mod slot;
 mod slots;
 
-pub use call::{Call, Message, Moved};
+pub use call::{Call, Message, Moved, NewCall};
 pub use ended::Ended;
 pub use slots::Slots;

@@ -1,8 +1,8 @@
 //! The calls of one station.
 ghost use Rattle.std.specs.Prelude.{◌≡◌, ◌≤◌, false, length, option_map, IsOk, IfOk, OnOk, OnErr, OnSome, IfNone};
-ghost use Rattle.pending_calls.specs.Slot.{IsSlot, most_calls, fresh, ready, call_of, message_of, call_in_flight, submitted, sent_now, moved_on, move, is_answered, answered, answer_move, is_overdue, expired, expiry, cut, ended_calls, with_connection};
+ghost use Rattle.pending_calls.specs.Slot.{IsSlot, most_calls, fresh, ready, call_of, message_of, answered_command, submitted, sent_now, moved_on, move, is_answered, answered, answer_move, is_overdue, expired, expiry, cut, ended_calls, with_connection};
 
-use crate::call::{Call, InFlight, Message, Moved, Waiting};
+use crate::call::{Call, InFlight, Message, Moved, NewCall, Waiting};
 use crate::ended::Ended;
 use hub_rows::NamedRow;
 use itoa::Buffer;
@@ -15,7 +15,7 @@ use std::mem;
 const MOST_CALLS: usize = 16;
 
 /// The last number that a call may have.
-const LAST_NUMBER: u32 = 2147483647;
+const LAST_NUMBER: u32 = i32::MAX as u32;
 
 /// The answer time: how many seconds a call waits for its answer.
 pub const ANSWER_SECONDS: u64 = 30;
@@ -98,16 +98,6 @@ impl<C: Drop> Slot<C> {
         }
     }
 
-    /// The number and the command of the call in flight.
-    pub fn in_flight(&self) -> Option<(u32, &C)>
-        ensures { option_map (λ call. (call.0, call.1.now)) result ≡ call_in_flight self.now }
-    {
-        match &self.in_flight {
-            Some(first) => Some((first.call.number, &first.call.command)),
-            None => None,
-        }
-    }
-
     /// Whether the answer time of the call in flight has passed at `moment`.
     pub fn is_overdue(&self, moment: Moment) -> bool
         ensures { result ≡ is_overdue moment self.now }
@@ -129,12 +119,25 @@ impl<C: Drop> Slot<C> {
     }
 
     /// Whether `id` is the number of the call in flight, in decimal.
-    pub fn is_answered(&self, id: &str) -> bool
+    fn is_answered(&self, id: &str) -> bool
         ensures { result ≡ is_answered id.now self.now }
     {
         match &self.in_flight {
             Some(first) => id == Buffer::new().format(first.call.number),
             None => false,
+        }
+    }
+
+    /// The command of the call in flight, if an answer with that id ends it.
+    pub fn answered_command(&self, id: &str) -> Option<&C>
+        ensures { option_map (λ c. c.now) result ≡ answered_command id.now self.now }
+    {
+        if !self.is_answered(id) {
+            return None;
+        }
+        match &self.in_flight {
+            Some(first) => Some(&first.call.command),
+            None => None,
         }
     }
 
@@ -230,23 +233,23 @@ impl<C: Drop> Slot<C> {
     }
 
     /// The next call, with the text that it will be sent as.
-    fn next(&self, command: C, text: Text) -> Mem<Waiting<C>>
-        ensures call { IfOk result (λ next. next.call ≡ call_of self.now self.now.next_number command) }
-        ensures message { IfOk result (λ next. next.message ≡ message_of self.now text) }
+    fn next(&self, new: NewCall<C>) -> Mem<Waiting<C>>
+        ensures call { IfOk result (λ next. next.call ≡ call_of self.now self.now.next_number new.command) }
+        ensures message { IfOk result (λ next. next.message ≡ message_of self.now new.text) }
     {
-        let message = self.message(text)?;
-        let call = self.next_call(command)?;
+        let message = self.message(new.text)?;
+        let call = self.next_call(new.command)?;
         Ok(Waiting { call, message })
     }
 
     /// A call that is sent at `moment` where none is in flight, and else waits.
-    pub fn submit(&mut self, command: C, text: Text, moment: Moment) -> Mem<Option<Message>>
+    pub fn submit(&mut self, new: NewCall<C>, moment: Moment) -> Mem<Option<Message>>
         requires { IsOk (ready self.old) }
-        ensures sent { IfOk result (λ message. message ≡ sent_now text self.old) }
-        ensures ok { OnOk result (self.new ≡ submitted command text moment self.old) }
+        ensures sent { IfOk result (λ message. message ≡ sent_now new.text self.old) }
+        ensures ok { OnOk result (self.new ≡ submitted new.command new.text moment self.old) }
         ensures err { OnErr result (self.new ≡ self.old) }
     {
-        let next = self.next(command, text)?;
+        let next = self.next(new)?;
         if self.in_flight.is_none() {
             let Waiting { call, message } = next;
             self.in_flight = Some(InFlight { call, sent: moment });

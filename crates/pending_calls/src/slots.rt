@@ -3,10 +3,10 @@ ghost use Rattle.std.specs.Prelude.{◌≡◌, ◌≤◌, ◌+◌, [], length, t
 ghost use Rattle.std.specs.List.Sorted.{IsStrictlySortedBy};
 ghost use Rattle.std.proofs.Props.{props};
 ghost use Rattle.hub_rows.specs.Keyed.{by_key, put};
-ghost use Rattle.pending_calls.specs.Slot.{IsSlot, most_calls, ready, call_in_flight, is_answered, submitted, sent_now, expired, answered, answer_move, is_overdue, cut, ended_calls, with_connection};
+ghost use Rattle.pending_calls.specs.Slot.{IsSlot, most_calls, ready, answered_command, submitted, sent_now, expired, answered, answer_move, is_overdue, cut, ended_calls, with_connection};
 ghost use Rattle.pending_calls.specs.SlotList.{slot_key, changed_at, first_changed, next_expiry, IsFirstThat, NoneDue};
 
-use crate::call::{Message, Moved};
+use crate::call::{Message, Moved, NewCall};
 use crate::ended::Ended;
 use crate::slot::{ANSWER_SECONDS, Slot};
 use hub_rows::{place_of_name, row_of};
@@ -81,24 +81,13 @@ impl<C: Drop> Slots<C> {
         }
     }
 
-    /// The number and the command of a station's call in flight, `None` where none is in flight. It
-    /// takes no memory.
-    pub fn in_flight<'a>(&'a self, op: &str, station: &str) -> Option<(u32, &'a C)>
-        ensures { option_map (λ call. (call.0, call.1.now)) result ≡ call_in_flight (slot_at op.now station.now self.now) }
+    /// The command of a station's call in flight, where an answer with that `id` ends it: where
+    /// the id is the number of that call, in decimal with no leading zero. An answer has the id of
+    /// its call (OCPP-J 1.6, sections 4.2.2 and 4.2.3). It takes no memory.
+    pub fn answered_command<'a>(&'a self, op: &str, station: &str, id: &str) -> Option<&'a C>
+        ensures { option_map (λ c. c.now) result ≡ answered_command id.now (slot_at op.now station.now self.now) }
     {
-        row_of(&self.list, op, station)?.as_ref().in_flight()
-    }
-
-    /// Whether an answer of a station ends its call in flight: whether the answer's `id` is the
-    /// number of that call, in decimal with no leading zero. An answer has the id of its call
-    /// (OCPP-J 1.6, sections 4.2.2 and 4.2.3). It takes no memory.
-    pub fn is_answered(&self, op: &str, station: &str, id: &str) -> bool
-        ensures { result ≡ is_answered id.now (slot_at op.now station.now self.now) }
-    {
-        match row_of(&self.list, op, station) {
-            Some(slot) => slot.as_ref().is_answered(id),
-            None => false,
-        }
+        row_of(&self.list, op, station)?.as_ref().answered_command(id)
     }
 
     /// A station is connected. The calls of its last connection end, and come out in their order.
@@ -147,21 +136,19 @@ impl<C: Drop> Slots<C> {
         }
     }
 
-    /// A call to a station that is ready for one; it gets the number that `ready` gives, and
-    /// `text` is what the station is sent. Where no call is in flight it is sent at `moment`, and
-    /// the message comes out; else it waits, and `None` comes out. Where there is no memory
-    /// nothing changes.
+    /// A call to a station that is ready for one; it gets the number that `ready` gives. Where no
+    /// call is in flight it is sent at `moment`, and the message comes out; else it waits, and
+    /// `None` comes out. Where there is no memory nothing changes.
     pub fn submit(
         &mut self,
         op: &str,
         station: &str,
-        command: C,
-        text: Text,
+        new: NewCall<C>,
         moment: Moment,
     ) -> Mem<Option<Message>>
         requires { IsOk (ready (slot_at op.now station.now self.old)) }
-        ensures sent { IfOk result (λ message. message ≡ sent_now text (slot_at op.now station.now self.old)) }
-        ensures ok { OnOk result (all_slots self.new ≡ changed_at op.now station.now (submitted command text moment) (all_slots self.old)) }
+        ensures sent { IfOk result (λ message. message ≡ sent_now new.text (slot_at op.now station.now self.old)) }
+        ensures ok { OnOk result (all_slots self.new ≡ changed_at op.now station.now (submitted new.command new.text moment) (all_slots self.old)) }
         ensures err { OnErr result (all_slots self.new ≡ all_slots self.old) }
         ensures number { first_number self.new ≡ first_number self.old }
     {
@@ -170,7 +157,7 @@ impl<C: Drop> Slots<C> {
                 self.quiet_until = quiet_with(self.quiet_until, moment);
                 self.searched = 0;
                 let slot = self.list[place].as_mut();
-                slot.submit(command, text, moment)
+                slot.submit(new, moment)
             }
             Err(_) => unreachable!(),
         }

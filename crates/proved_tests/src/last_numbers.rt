@@ -9,7 +9,7 @@ use ocpp_types::{
     AuthorizationStatus, Boxed, Listed, Location, Measurand, Mem, Moment, Policy, ReadingContext,
     Refusal, TagKey, Text, ValueFormat,
 };
-use pending_calls::Slots;
+use pending_calls::{NewCall, Slots};
 use station_calls::Echo;
 use std::alloc::Global;
 use std::test::Fail;
@@ -204,7 +204,7 @@ fn no_call_follows_the_last(rt: HostRuntime) -> Result<(), Fail> {
     assert!(rt; slots.ready("ACME", "CP01") == Ok(LAST_NUMBER));
     let command = Text::copy_of(alloc, "ClearCache")?;
     let text = Text::copy_of(alloc, "a call")?;
-    let sent = slots.submit("ACME", "CP01", command, text, moment)?;
+    let sent = slots.submit("ACME", "CP01", NewCall { command, text }, moment)?;
     assert!(rt; sent.is_some());
     assert!(rt; slots.ready("ACME", "CP01") == Err(Refusal::NumberSpent));
     Ok(())

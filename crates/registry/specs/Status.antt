@@ -20,6 +20,6 @@ report_of r m = record {
 
 abbrev pub status_rule : List ℕ → StatusNotification → ℕ → Decision
 status_rule station r m = record {
-  reply = Conf conf.StatusNotification;
+  reply = Conf conf.Empty;
   edit = Some (ConnectorSeen station r.connector_id (report_of r m));
 }

@@ -3,29 +3,30 @@ ghost use Rattle.std.specs.Prelude.{◌≡◌, IfOk};
 ghost use Rattle.registry.specs.Boot.{boot_rule, heartbeat_rule, state_after};
 
 use crate::decision::{Decision, Reply};
+use crate::station_at::StationAt;
 use hub_rows::{Boot, Edit, Registration};
 use ocpp_payload::Conf;
-use ocpp_types::{BootNotification, Boxed, Mem, Moment, Policy, State, Text};
+use ocpp_types::{BootNotification, Boxed, Mem, Moment, Policy, State};
 use std::alloc::Global;
 
 /// A boot of a station is answered with the moment, the station's interval and its policy, which is
 /// its state afterwards. Its texts take the place of those of the boot before.
 pub fn on_boot(
     alloc: Global,
-    station: &str,
+    at: &StationAt<'_>,
     registration: Registration,
     texts: Boxed<BootNotification>,
-    moment: Moment,
 ) -> Mem<Decision>
-    ensures { IfOk result (λ d. d ≡ boot_rule station.now registration texts moment) }
+    ensures { IfOk result (λ d. d ≡ boot_rule at.now.station.now registration texts at.now.moment) }
 {
+    let moment = at.moment;
     let reply = Conf::BootNotification {
         current_time: moment,
         interval: registration.interval,
         status: registration.policy,
     };
     let edit = Edit::BootSeen {
-        station: Text::copy_of(alloc, station)?,
+        station: at.station.clone()?,
         boot: Boot { texts, moment },
         state: state_after(registration.policy),
     };

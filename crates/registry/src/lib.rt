@@ -7,11 +7,13 @@ mod boot;
 mod decision;
 mod policy_set;
 mod station_added;
+mod station_at;
 mod status;
 
 pub use allowed::is_allowed;
 pub use boot::{on_boot, on_heartbeat};
 pub use decision::{Decision, Reply, internal_error};
 pub use policy_set::plan_policy;
-pub use station_added::{MAX_INTERVAL, MAX_STATION, plan_add};
+pub use station_added::{MAX_INTERVAL, MAX_STATION, Terms, plan_add};
+pub use station_at::StationAt;
 pub use status::on_status;

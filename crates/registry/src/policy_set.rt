@@ -4,7 +4,7 @@ ghost use Rattle.hub_rows.specs.Reads.{OnlyReads};
 ghost use Rattle.hub_rows.specs.Lookups.{lookups_at};
 ghost use Rattle.registry.specs.PolicySet.{is_kept_from, is_rejected, policy_rule};
 
-use crate::station_added::MAX_INTERVAL;
+use crate::station_added::{MAX_INTERVAL, Terms};
 use hub_rows::{Edit, Store, StoreFault};
 use ocpp_types::{FieldName, Policy, Refusal, Text};
 use std::alloc::Global;
@@ -17,26 +17,25 @@ pub fn plan_policy<S: Store>(
     store: &mut S,
     op: &str,
     station: &str,
-    policy: Policy,
-    interval: u64,
+    terms: Terms,
 ) -> Result<Result<Edit, Refusal>, StoreFault>
     ensures reads { OnlyReads S.view store.old store.new result }
     ensures plan { (S.view store.new).clean → IfOk result (λ p. p
-        ≡ policy_rule station.now policy interval (lookups_at op.now (S.view store.old).rows)) }
+        ≡ policy_rule station.now terms.policy terms.interval (lookups_at op.now (S.view store.old).rows)) }
 {
     if store.station(op, station)?.is_none() {
         return Ok(Err(Refusal::NoSuchStation));
     }
-    if interval > MAX_INTERVAL as u64 {
+    if terms.interval > MAX_INTERVAL as u64 {
         return Ok(Err(Refusal::BadField(FieldName::new("interval"))));
     }
-    if is_kept_from(store, op, station, policy)? {
+    if is_kept_from(store, op, station, terms.policy)? {
         return Ok(Err(Refusal::HasOpenTransactions));
     }
     Ok(Ok(Edit::PolicySet {
         station: Text::copy_of(alloc, station)?,
-        policy,
-        interval: interval as u32,
+        policy: terms.policy,
+        interval: terms.interval as u32,
     }))
 }
 

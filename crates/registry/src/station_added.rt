@@ -15,6 +15,15 @@ pub const MAX_INTERVAL: u32 = 86400;
 /// The greatest number of characters of a station's name.
 pub const MAX_STATION: usize = 48;
 
+/// What an operator sets for a station.
+#[derive(Clone, Copy, Drop)]
+pub struct Terms {
+    /// What the station's next boot is answered.
+    pub policy: Policy,
+    /// Its heartbeat interval in seconds.
+    pub interval: u64,
+}
+
 /// The edit that adds a station, or the first refusal that applies: BadField `station` for a name
 /// that isn't 1 to 48 characters from `!` to `~`, BadField `interval` past 86400 seconds, and
 /// StationExists.
@@ -23,17 +32,16 @@ pub fn plan_add<S: Store>(
     store: &mut S,
     op: &str,
     station: &str,
-    policy: Policy,
-    interval: u64,
+    terms: Terms,
 ) -> Result<Result<Edit, Refusal>, StoreFault>
     ensures reads { OnlyReads S.view store.old store.new result }
     ensures plan { (S.view store.new).clean → IfOk result (λ p. p
-        ≡ add_rule station.now policy interval (lookups_at op.now (S.view store.old).rows)) }
+        ≡ add_rule station.now terms.policy terms.interval (lookups_at op.now (S.view store.old).rows)) }
 {
     if !is_station_name(station) {
         return Ok(Err(Refusal::BadField(FieldName::new("station"))));
     }
-    if interval > MAX_INTERVAL as u64 {
+    if terms.interval > MAX_INTERVAL as u64 {
         return Ok(Err(Refusal::BadField(FieldName::new("interval"))));
     }
     if store.station(op, station)?.is_some() {
@@ -41,8 +49,8 @@ pub fn plan_add<S: Store>(
     }
     Ok(Ok(Edit::StationAdded {
         station: Text::copy_of(alloc, station)?,
-        policy,
-        interval: interval as u32,
+        policy: terms.policy,
+        interval: terms.interval as u32,
     }))
 }
 

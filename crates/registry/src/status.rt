@@ -3,30 +3,30 @@ ghost use Rattle.std.specs.Prelude.{◌≡◌, IfOk};
 ghost use Rattle.registry.specs.Status.{status_rule, report_of};
 
 use crate::decision::{Decision, Reply};
+use crate::station_at::StationAt;
 use hub_rows::{ConnectorReport, Edit};
 use ocpp_payload::{Conf, StatusNotification};
-use ocpp_types::{Boxed, Mem, Moment, Text};
+use ocpp_types::{Boxed, Mem, Moment};
 use std::alloc::Global;
 
 /// A report on a connector takes the place of the one before. It is of the time that was sent
 /// with it, or else of the moment.
 pub fn on_status(
     alloc: Global,
-    station: &str,
+    at: &StationAt<'_>,
     request: Boxed<StatusNotification>,
-    moment: Moment,
 ) -> Mem<Decision>
-    ensures { IfOk result (λ d. d ≡ status_rule station.now request moment) }
+    ensures { IfOk result (λ d. d ≡ status_rule at.now.station.now request at.now.moment) }
 {
     let request = request.into_inner();
     let connector = request.connector_id;
     let edit = Edit::ConnectorSeen {
-        station: Text::copy_of(alloc, station)?,
+        station: at.station.clone()?,
         connector,
-        report: report_of(request, moment),
+        report: report_of(request, at.moment),
     };
     Ok(Decision {
-        reply: Reply::Conf(Conf::StatusNotification),
+        reply: Reply::Conf(Conf::Empty),
         edit: Some(Boxed::new(alloc, edit)?),
     })
 }

@@ -2,7 +2,7 @@ use Rattle.std.proofs.Common.{subst, ◌≡◌, ◌∙◌, sym, ap, ◌++◌, Li
 use Rattle.std.proofs.lemmas.List.{take-append-drop}
 use mathlib.Core.List.{append-nil}
 use Rattle.std.proofs.lemmas.Grind.{flat_map-append}
-use Rattle.event_plans.specs.declared.out.Out.{Out}
+use Rattle.hub_events.specs.declared.out.Out.{Out}
 use Rattle.replay.specs.Run.{Begins, told_lines, AppendsFront, Stands, Falls}
 use Rattle.std.specs.Io.KnownBytes.{Appends, Keeps}
 use Rattle.std.specs.Prelude.{Option, Some, None, OnErr, Result, Ok, Err}

@@ -1,8 +1,8 @@
 -- What lines spell: events of hosted operators, and nothing where they are too long. Failures are counted along.
 use Rattle.std.proofs.Common.{◌≡◌, ◌<◌, ℕ, List, Bool, true, false, cond, refl, subst, arith}
 use Rattle.std.specs.Prelude.{Option, Some, None}
-use Rattle.event_plans.specs.declared.event.Event.{Event as HubEvent}
-use Rattle.event_plans.specs.declared.event.Event.TheVariants as event
+use Rattle.hub_events.specs.declared.event.Event.{Event as HubEvent}
+use Rattle.hub_events.specs.declared.event.Event.TheVariants as event
 use Rattle.hub.specs.Hub.{is_of_hosted}
 use Rattle.lines.specs.declared.input_line.Line.{Line}
 use Rattle.lines.specs.declared.input_line.Line.TheVariants as line

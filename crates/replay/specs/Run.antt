@@ -2,7 +2,7 @@
 use Rattle.std.specs.Prelude.{◌≡◌, ℕ, Bool, ◌+◌, List, [], ◌∷◌, ◌++◌, ◌⊎◌, true, Option, Some, None, flat_map, take, codes}
 use Rattle.std.specs.Fmt.{decimal}
 use Rattle.std.specs.Io.KnownBytes.{Appends}
-use Rattle.event_plans.specs.declared.out.Out.{Out}
+use Rattle.hub_events.specs.declared.out.Out.{Out}
 use Rattle.hub_rows.specs.Rows.{Rows}
 use Rattle.hub.specs.Hub.{is_of_hosted}
 use Rattle.hub.specs.World.{Setting, World, world_outputs, world_step}

@@ -11,8 +11,8 @@ use ocpp_payload::{
     Authorize, Conf, DataTransfer, MeterValues, StartTransaction, StatusNotification,
     StopTransaction,
 };
-use ocpp_types::{BootNotification, Boxed, Moment, TagKey};
-use registry::{Decision, Reply, on_boot, on_heartbeat, on_status};
+use ocpp_types::{BootNotification, Boxed, TagKey};
+use registry::{Decision, Reply, StationAt, on_boot, on_heartbeat, on_status};
 use std::alloc::Global;
 
 /// A store and the handlers of vendors' messages.
@@ -40,13 +40,12 @@ impl<S: Store, V: VendorHandler> CoreHandler for Book<S, V> {
     fn on_authorize(
         &mut self,
         alloc: Global,
-        op: &str,
-        _station: &str,
+        at: &StationAt<'_>,
         request: Authorize,
-        moment: Moment,
     ) -> Result<Decision, StoreFault> {
+        let op = at.op.as_str();
         let key = TagKey::of(alloc, request.id_tag.as_str())?;
-        let id_tag_info = judge(&mut self.store, op, &key, moment, &Purpose::Authorize)?;
+        let id_tag_info = judge(&mut self.store, op, &key, at.moment, &Purpose::Authorize)?;
         Ok(Decision {
             reply: Reply::Conf(Conf::Authorize { id_tag_info }),
             edit: None,
@@ -56,22 +55,18 @@ impl<S: Store, V: VendorHandler> CoreHandler for Book<S, V> {
     fn on_boot_notification(
         &mut self,
         alloc: Global,
-        _op: &str,
-        station: &str,
+        at: &StationAt<'_>,
         registration: Registration,
         request: Boxed<BootNotification>,
-        moment: Moment,
     ) -> Result<Decision, StoreFault> {
-        Ok(on_boot(alloc, station, registration, request, moment)?)
+        Ok(on_boot(alloc, at, registration, request)?)
     }
 
     fn on_data_transfer(
         &mut self,
         _alloc: Global,
-        _op: &str,
-        _station: &str,
+        _at: &StationAt<'_>,
         request: DataTransfer,
-        _moment: Moment,
     ) -> Result<Decision, StoreFault> {
         let message = lent(&request.message_id);
         let content = lent(&request.content);
@@ -88,54 +83,44 @@ impl<S: Store, V: VendorHandler> CoreHandler for Book<S, V> {
     fn on_heartbeat(
         &mut self,
         _alloc: Global,
-        _op: &str,
-        _station: &str,
-        moment: Moment,
+        at: &StationAt<'_>,
     ) -> Result<Decision, StoreFault> {
-        Ok(on_heartbeat(moment))
+        Ok(on_heartbeat(at.moment))
     }
 
     fn on_status_notification(
         &mut self,
         alloc: Global,
-        _op: &str,
-        station: &str,
+        at: &StationAt<'_>,
         request: Boxed<StatusNotification>,
-        moment: Moment,
     ) -> Result<Decision, StoreFault> {
-        Ok(on_status(alloc, station, request, moment)?)
+        Ok(on_status(alloc, at, request)?)
     }
 
     fn on_meter_values(
         &mut self,
         alloc: Global,
-        op: &str,
-        station: &str,
+        at: &StationAt<'_>,
         request: MeterValues,
-        _moment: Moment,
     ) -> Result<Decision, StoreFault> {
-        on_meter_values(alloc, &mut self.store, op, station, request)
+        on_meter_values(alloc, &mut self.store, at, request)
     }
 
     fn on_start_transaction(
         &mut self,
         alloc: Global,
-        op: &str,
-        station: &str,
+        at: &StationAt<'_>,
         request: StartTransaction,
-        moment: Moment,
     ) -> Result<Decision, StoreFault> {
-        on_start(alloc, &mut self.store, op, station, request, moment)
+        on_start(alloc, &mut self.store, at, request)
     }
 
     fn on_stop_transaction(
         &mut self,
         alloc: Global,
-        op: &str,
-        station: &str,
+        at: &StationAt<'_>,
         request: StopTransaction,
-        moment: Moment,
     ) -> Result<Decision, StoreFault> {
-        on_stop(alloc, &mut self.store, op, station, request, moment)
+        on_stop(alloc, &mut self.store, at, request)
     }
 }

@@ -10,47 +10,32 @@ use crate::core_handler::CoreHandler;
 use crate::vendor::VendorHandler;
 use hub_rows::{Registration, Store, StoreFault};
 use ocpp_payload::Request;
-use ocpp_types::{Moment, Text};
-use registry::Decision;
+use registry::{Decision, StationAt};
 use std::alloc::Global;
 
 /// The decision of the rule of each request, of a station that is registered so.
 pub fn decide<S: Store, V: VendorHandler>(
     alloc: Global,
     book: &mut Book<S, V>,
-    op: &Text,
-    station: &Text,
+    at: &StationAt<'_>,
     registration: Registration,
     request: Request,
-    moment: Moment,
 ) -> Result<Decision, StoreFault>
     ensures reads { OnlyReads (book_view S.view) book.old book.new result }
     ensures decision { IsCleanBook S.view book.new → IfOk result (λ d. d
-        ≡ decision (book_answers V.view book.old) station.now registration request moment (lookups_at op.now (book_rows S.view book.old))) }
+        ≡ decision (book_answers V.view book.old) at.now.station.now registration request at.now.moment (lookups_at at.now.op.now (book_rows S.view book.old))) }
     ensures answers { book_answers V.view book.new ≡ book_answers V.view book.old }
 {
-    let op = op.as_str();
-    let station = station.as_str();
     match request {
-        Request::Authorize(request) => book.on_authorize(alloc, op, station, request, moment),
+        Request::Authorize(request) => book.on_authorize(alloc, at, request),
         Request::BootNotification(request) => {
-            book.on_boot_notification(alloc, op, station, registration, request, moment)
+            book.on_boot_notification(alloc, at, registration, request)
         }
-        Request::DataTransfer(request) => {
-            book.on_data_transfer(alloc, op, station, request, moment)
-        }
-        Request::Heartbeat => book.on_heartbeat(alloc, op, station, moment),
-        Request::MeterValues(request) => {
-            book.on_meter_values(alloc, op, station, request, moment)
-        }
-        Request::StartTransaction(request) => {
-            book.on_start_transaction(alloc, op, station, request, moment)
-        }
-        Request::StatusNotification(request) => {
-            book.on_status_notification(alloc, op, station, request, moment)
-        }
-        Request::StopTransaction(request) => {
-            book.on_stop_transaction(alloc, op, station, request, moment)
-        }
+        Request::DataTransfer(request) => book.on_data_transfer(alloc, at, request),
+        Request::Heartbeat => book.on_heartbeat(alloc, at),
+        Request::MeterValues(request) => book.on_meter_values(alloc, at, request),
+        Request::StartTransaction(request) => book.on_start_transaction(alloc, at, request),
+        Request::StatusNotification(request) => book.on_status_notification(alloc, at, request),
+        Request::StopTransaction(request) => book.on_stop_transaction(alloc, at, request),
     }
 }

@@ -16,13 +16,13 @@ use hub_rows::{Registration, StoreFault};
 use ocpp_payload::{
     Authorize, DataTransfer, MeterValues, StartTransaction, StatusNotification, StopTransaction,
 };
-use ocpp_types::{BootNotification, Boxed, Moment};
-use registry::Decision;
+use ocpp_types::{BootNotification, Boxed};
+use registry::{Decision, StationAt};
 use std::alloc::Global;
 
 /// Decides the calls of registered stations, one for each action: the reply, and an edit of the
 /// records of the station's operator, which is for the caller to make. A decision leaves the
-/// records.
+/// records. Each call takes the station that it is of, and the moment.
 pub trait CoreHandler {
     /// The records that it decides by, as contracts see their store.
     ghost view: { Self → StoreView };
@@ -34,38 +34,32 @@ pub trait CoreHandler {
     fn on_authorize(
         &mut self,
         alloc: Global,
-        op: &str,
-        station: &str,
+        at: &StationAt<'_>,
         request: Authorize,
-        moment: Moment,
     ) -> Result<Decision, StoreFault>
         ensures reads { OnlyReads view self.old self.new result }
         ensures decision { (view self.new).clean → IfOk result (λ d. d
-            ≡ authorize_rule request moment (lookups_at op.now (view self.old).rows)) }
+            ≡ authorize_rule request at.now.moment (lookups_at at.now.op.now (view self.old).rows)) }
         ensures answers { answers self.new ≡ answers self.old };
 
     /// A boot, of a station that is registered so (OCPP 1.6, section 4.2).
     fn on_boot_notification(
         &mut self,
         alloc: Global,
-        op: &str,
-        station: &str,
+        at: &StationAt<'_>,
         registration: Registration,
         request: Boxed<BootNotification>,
-        moment: Moment,
     ) -> Result<Decision, StoreFault>
         ensures reads { OnlyReads view self.old self.new result }
-        ensures decision { IfOk result (λ d. d ≡ boot_rule station.now registration request moment) }
+        ensures decision { IfOk result (λ d. d ≡ boot_rule at.now.station.now registration request at.now.moment) }
         ensures answers { answers self.new ≡ answers self.old };
 
     /// A vendor's message (OCPP 1.6, section 4.3).
     fn on_data_transfer(
         &mut self,
         alloc: Global,
-        op: &str,
-        station: &str,
+        at: &StationAt<'_>,
         request: DataTransfer,
-        moment: Moment,
     ) -> Result<Decision, StoreFault>
         ensures reads { OnlyReads view self.old self.new result }
         ensures decision { IfOk result (λ d. d ≡ transfer_rule (answers self.old) request) }
@@ -75,66 +69,56 @@ pub trait CoreHandler {
     fn on_heartbeat(
         &mut self,
         alloc: Global,
-        op: &str,
-        station: &str,
-        moment: Moment,
+        at: &StationAt<'_>,
     ) -> Result<Decision, StoreFault>
         ensures reads { OnlyReads view self.old self.new result }
-        ensures decision { IfOk result (λ d. d ≡ heartbeat_rule moment) }
+        ensures decision { IfOk result (λ d. d ≡ heartbeat_rule at.now.moment) }
         ensures answers { answers self.new ≡ answers self.old };
 
     /// Readings of a meter (OCPP 1.6, section 4.7).
     fn on_meter_values(
         &mut self,
         alloc: Global,
-        op: &str,
-        station: &str,
+        at: &StationAt<'_>,
         request: MeterValues,
-        moment: Moment,
     ) -> Result<Decision, StoreFault>
         ensures reads { OnlyReads view self.old self.new result }
         ensures decision { (view self.new).clean → IfOk result (λ d. d
-            ≡ meter_values_rule station.now request (lookups_at op.now (view self.old).rows)) }
+            ≡ meter_values_rule at.now.station.now request (lookups_at at.now.op.now (view self.old).rows)) }
         ensures answers { answers self.new ≡ answers self.old };
 
     /// A transaction has begun (OCPP 1.6, section 4.8).
     fn on_start_transaction(
         &mut self,
         alloc: Global,
-        op: &str,
-        station: &str,
+        at: &StationAt<'_>,
         request: StartTransaction,
-        moment: Moment,
     ) -> Result<Decision, StoreFault>
         ensures reads { OnlyReads view self.old self.new result }
         ensures decision { (view self.new).clean → IfOk result (λ d. d
-            ≡ start_rule station.now request moment (lookups_at op.now (view self.old).rows)) }
+            ≡ start_rule at.now.station.now request at.now.moment (lookups_at at.now.op.now (view self.old).rows)) }
         ensures answers { answers self.new ≡ answers self.old };
 
     /// A report on a connector (OCPP 1.6, section 4.9).
     fn on_status_notification(
         &mut self,
         alloc: Global,
-        op: &str,
-        station: &str,
+        at: &StationAt<'_>,
         request: Boxed<StatusNotification>,
-        moment: Moment,
     ) -> Result<Decision, StoreFault>
         ensures reads { OnlyReads view self.old self.new result }
-        ensures decision { IfOk result (λ d. d ≡ status_rule station.now request moment) }
+        ensures decision { IfOk result (λ d. d ≡ status_rule at.now.station.now request at.now.moment) }
         ensures answers { answers self.new ≡ answers self.old };
 
     /// A transaction has ended (OCPP 1.6, section 4.10).
     fn on_stop_transaction(
         &mut self,
         alloc: Global,
-        op: &str,
-        station: &str,
+        at: &StationAt<'_>,
         request: StopTransaction,
-        moment: Moment,
     ) -> Result<Decision, StoreFault>
         ensures reads { OnlyReads view self.old self.new result }
         ensures decision { (view self.new).clean → IfOk result (λ d. d
-            ≡ stop_rule station.now request moment (lookups_at op.now (view self.old).rows)) }
+            ≡ stop_rule at.now.station.now request at.now.moment (lookups_at at.now.op.now (view self.old).rows)) }
         ensures answers { answers self.new ≡ answers self.old };
 }

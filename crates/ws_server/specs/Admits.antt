@@ -2,10 +2,10 @@
 use Rattle.std.specs.Prelude.{ℕ, List, [], ◌∷◌, ◌++◌, Option, Some, None, Bool, true, false, not, ◌||◌, ◌≡◌, Ok, Err, ◌&&◌, ◌⊎◌, is_some, nat_le, length, take, codes, ⊤}
 use Rattle.std.specs.List.{filter}
 use Rattle.tungstenite.specs.Socket.{Socket}
-use Rattle.event_plans.specs.declared.event.Event.{Event}
-use Rattle.event_plans.specs.declared.event.Event.TheVariants as event
-use Rattle.event_plans.specs.declared.event.What.TheVariants as what
-use Rattle.event_plans.specs.declared.out.Out.{Out}
+use Rattle.hub_events.specs.declared.event.Event.{Event}
+use Rattle.hub_events.specs.declared.event.Event.TheVariants as event
+use Rattle.hub_events.specs.declared.event.What.TheVariants as what
+use Rattle.hub_events.specs.declared.out.Out.{Out}
 use Rattle.hub_rows.specs.Rows.{Rows, registration_at}
 use Rattle.ws_handshake.specs.Heads.{Asks}
 use Rattle.ws_handshake.specs.Shakes.{Shaken}

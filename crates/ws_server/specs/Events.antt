@@ -1,12 +1,12 @@
 -- What a peer hands to the hub.
 use Rattle.std.specs.Prelude.{ℕ, List, Option, Some, None, Bool, true, false}
 use Rattle.std.specs.List.{list_any}
-use Rattle.event_plans.specs.declared.event.Event.{Event}
-use Rattle.event_plans.specs.declared.event.Event.TheVariants.{At}
-use Rattle.event_plans.specs.declared.event.What.TheVariants as what
-use Rattle.event_plans.specs.declared.out.Out.{Out}
-use Rattle.event_plans.specs.declared.out.Said.{Said}
-use Rattle.event_plans.specs.declared.out.Said.TheVariants as said
+use Rattle.hub_events.specs.declared.event.Event.{Event}
+use Rattle.hub_events.specs.declared.event.Event.TheVariants.{At}
+use Rattle.hub_events.specs.declared.event.What.TheVariants as what
+use Rattle.hub_events.specs.declared.out.Out.{Out}
+use Rattle.hub_events.specs.declared.out.Said.{Said}
+use Rattle.hub_events.specs.declared.out.Said.TheVariants as said
 use Rattle.lines.specs.Orders.{order_of}
 use Rattle.ws_peers.specs.declared.peer.Peer.{Peer}
 use Rattle.ws_peers.specs.declared.routes.Route.{Route}

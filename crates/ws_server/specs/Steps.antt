@@ -1,7 +1,7 @@
 -- What the hub takes of its peers, in order.
 use Rattle.std.specs.Prelude.{List, [], ◌∷◌, ◌≡◌, true}
-use Rattle.event_plans.specs.declared.event.Event.{Event}
-use Rattle.event_plans.specs.declared.out.Out.{Out}
+use Rattle.hub_events.specs.declared.event.Event.{Event}
+use Rattle.hub_events.specs.declared.out.Out.{Out}
 use Rattle.hub_rows.specs.StoreView.{StoreView}
 use Rattle.station_calls.specs.Vendors.{HandlerView}
 use Rattle.hub.specs.declared.hub.Hub.{Hub}

@@ -1,8 +1,8 @@
 -- What sending outputs does to the peers.
 use Rattle.std.specs.Prelude.{ℕ, List, [], ◌∷◌, Option, ◌≡◌}
-use Rattle.event_plans.specs.declared.out.Out.{Out}
-use Rattle.event_plans.specs.declared.out.Said.{Said}
-use Rattle.event_plans.specs.declared.out.Said.TheVariants as said
+use Rattle.hub_events.specs.declared.out.Out.{Out}
+use Rattle.hub_events.specs.declared.out.Said.{Said}
+use Rattle.hub_events.specs.declared.out.Said.TheVariants as said
 use Rattle.lines.specs.OutputLines.{line_of}
 use Rattle.ws_peers.specs.declared.peer.Peer.{Peer}
 use Rattle.ws_peers.specs.Lists.{peers, ToStation, ToOperator}

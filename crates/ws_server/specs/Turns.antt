@@ -1,9 +1,9 @@
 -- What serving peers does: to them, and which steps the hub takes.
 use Rattle.std.specs.Prelude.{ℕ, zero, suc, List, [], ◌∷◌, ◌++◌, Option, Some, None, Bool, true, false, if◌then◌else◌, nat_lt, ◌≡◌, ◌<◌, ◌≤◌, ◌⊎◌, Result, Ok, Err, map, length, slice_index_or, codes}
 use Rattle.std.specs.List.{filter}
-use Rattle.event_plans.specs.declared.event.Event.{Event}
-use Rattle.event_plans.specs.declared.event.Event.TheVariants.{Tick}
-use Rattle.event_plans.specs.declared.out.Out.{Out}
+use Rattle.hub_events.specs.declared.event.Event.{Event}
+use Rattle.hub_events.specs.declared.event.Event.TheVariants.{Tick}
+use Rattle.hub_events.specs.declared.out.Out.{Out}
 use Rattle.hub.specs.declared.fault.Fault.{Fault}
 use Rattle.hub.specs.declared.fault.Fault.TheVariants.{NoSuchOperator}
 use Rattle.hub.specs.Hub.{is_of_hosted}

@@ -1,10 +1,10 @@
 //! What a peer hands to the hub.
 ghost use Rattle.std.specs.Prelude.{◌≡◌, IfOk, OnErr, is_some, true};
-ghost use Rattle.event_plans.specs.declared.event.Event.TheVariants as event;
-ghost use Rattle.event_plans.specs.declared.event.What.TheVariants as what;
+ghost use Rattle.hub_events.specs.declared.event.Event.TheVariants as event;
+ghost use Rattle.hub_events.specs.declared.event.What.TheVariants as what;
 ghost use Rattle.ws_server.specs.Events.{event_of, disconnect_of, parting, is_turned, turns_away};
 
-use event_plans::{Event, Out, Said, What};
+use hub_events::{Event, Out, Said, What};
 use lines::read_order;
 use ocpp_types::{Mem, Moment, Text};
 use std::alloc::Global;

@@ -3,7 +3,7 @@ ghost use Rattle.std.specs.Prelude.{◌≡◌, ◌<◌, ◌≤◌, false, [], le
 
 use crate::gateway::Gateway;
 use crate::notes::{Note, Notes};
-use event_plans::{Out, Said};
+use hub_events::{Out, Said};
 use lines::print_out;
 use ready_streams::Served;
 use std::alloc::Global;

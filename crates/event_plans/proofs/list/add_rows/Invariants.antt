@@ -1,5 +1,5 @@
 use Rattle.std.proofs.Common.{◌≡◌, ◌++◌, map}
-use Rattle.event_plans.specs.declared.out.Said.TheVariants.{Row}
+use Rattle.hub_events.specs.declared.out.Said.TheVariants.{Row}
 use Rattle.event_plans.proofs.list.add_rows.Given as goal
 
 abbrev pub invariant-loop-row : goal.invariant-loop-row

@@ -1,7 +1,7 @@
 use Rattle.std.proofs.Common.{◌++◌, sym, ap, ◌∙◌, arith, append_assoc, append-nil, Some}
 use Rattle.pending_calls.specs.Slots.{all_slots}
 use Rattle.pending_calls.proofs.Ticks.{IsStep, IsDone, step, done}
-use Rattle.event_plans.specs.declared.out.Outcome.TheVariants.{Timeout}
+use Rattle.hub_events.specs.declared.out.Outcome.TheVariants.{Timeout}
 use Rattle.hub.specs.Effects.{moved_outputs, tick_outputs}
 use Rattle.hub.proofs.TickLaws.{step_says, done_says}
 use Rattle.hub.proofs.tick.expire_all.Goals as goal

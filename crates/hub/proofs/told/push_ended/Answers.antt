@@ -1,5 +1,5 @@
 use Rattle.std.proofs.Common.{◌++◌, map, sym, ap, ◌∙◌, append-nil}
-use Rattle.event_plans.specs.declared.out.Outcome.TheVariants.{Disconnected}
+use Rattle.hub_events.specs.declared.out.Outcome.TheVariants.{Disconnected}
 use Rattle.hub.specs.Effects.{done}
 use Rattle.hub.proofs.told.push_ended.Goals as goal
 

@@ -1,5 +1,5 @@
 use Rattle.std.proofs.Common.{◌≡◌, ◌+◌, ◌≤◌, ◌++◌, length, map, vec_len, vec_capacity}
-use Rattle.event_plans.specs.declared.out.Outcome.TheVariants.{Disconnected}
+use Rattle.hub_events.specs.declared.out.Outcome.TheVariants.{Disconnected}
 use Rattle.hub.specs.Effects.{done}
 use Rattle.hub.proofs.told.push_ended.Given as goal
 

@@ -1,6 +1,6 @@
 use Rattle.std.proofs.Common.{◌∙◌, ap, sym, arith, List, length, Result, Ok, Err, OnErr}
 use Rattle.std.proofs.Math.Seq.{take-length}
-use Rattle.event_plans.specs.declared.event.Event.{Event}
+use Rattle.hub_events.specs.declared.event.Event.{Event}
 use Rattle.hub.specs.Hub.{world, setting}
 use Rattle.hub.specs.TwoSystems.{IsAfterSome}
 use Rattle.hub.specs.World.{Setting, World, world_run}

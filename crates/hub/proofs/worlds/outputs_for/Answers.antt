@@ -1,6 +1,6 @@
 use Rattle.std.proofs.Common.{◌≡◌, ℕ, List, ◌<◌, length, slice_index_or, false, subst}
 use Rattle.std.specs.Option.{IfSome}
-use Rattle.event_plans.specs.declared.event.Event.{Event}
+use Rattle.hub_events.specs.declared.event.Event.{Event}
 use Rattle.hub.specs.declared.fault.Fault.TheVariants as fault
 use Rattle.hub.specs.Hub.{setting, is_taken}
 use Rattle.hub.specs.World.{Setting}

@@ -15,8 +15,8 @@ commit-requires-clause-fits g c = λ clean.
     let st : Setting = setting g.V.VendorHandler.view c.args.self.now in
     let w : World = world g.S.Store.view c.args.self.now in
     let p = c.in_ok-plan.plan in
-    subst (λ rows. ForSome (edit_of p.effect) (λ e. EditFits c.args.op.now e rows)) (sym (c.in_ok-plan.ensures.reads.kept clean))
-    (edit_of_plan_fits st.first_number st.is_hosted st.answers c.args.op.now c.args.what.now c.args.moment w p (rw c.as_slice-hosted.ensures.value at (c.in_ok-plan.ensures.plan clean)))
+    subst (λ rows. ForSome (edit_of p.effect) (λ e. EditFits c.args.lent.now.op.now e rows)) (sym (c.in_ok-plan.ensures.reads.kept clean))
+    (edit_of_plan_fits st.first_number st.is_hosted st.answers c.args.lent.now.op.now c.args.lent.now.what.now c.args.lent.now.moment w p (rw c.as_slice-hosted.ensures.value at (c.in_ok-plan.ensures.plan clean)))
 
 pub returns-in_err-plan-clause-setting : goal.returns-in_err-plan-clause-setting
 unfolding setting
@@ -24,7 +24,7 @@ returns-in_err-plan-clause-setting g c = λ i. record { is_hosted = is_hosted c.
 
 pub returns-clause-setting : goal.returns-clause-setting
 unfolding setting
-returns-clause-setting g c = λ i. record { is_hosted = is_hosted c.args.self.now.hosted.items; answers = c.plan_event.ensures.answers i; first_number = c.commit.ensures.first i }
+returns-clause-setting g c = λ i. record { is_hosted = is_hosted c.args.self.now.hosted.items; answers = c.plan_event.ensures.answers i; first_number = c.commit.ensures.moves.first i }
 
 pub returns-clause-stopped : goal.returns-clause-stopped
 unfolding setting
@@ -33,12 +33,12 @@ returns-clause-stopped g c = λ kept r found.
     let w : World = world g.S.Store.view c.args.self.now in
     let p = c.in_ok-plan.plan in
     let reads = c.in_ok-plan.ensures.reads in
-    let one = c.commit.ensures.stopped (reads.stays kept) r found in
+    let one = c.commit.ensures.edits.stopped (reads.stays kept) r found in
     let same = reads.kept one.0 in
-    let is : p ≡ plan_at st w c.args.op.now c.args.moment c.args.what.now = rw c.as_slice-hosted.ensures.value at (c.in_ok-plan.ensures.plan one.0) in (
+    let is : p ≡ plan_at st w c.args.lent.now.op.now c.args.lent.now.moment c.args.lent.now.what.now = rw c.as_slice-hosted.ensures.value at (c.in_ok-plan.ensures.plan one.0) in (
       reads.was_clean one.0,
       elim one.1 [
         | inl before ↦ inl (before ∙ same)
-        | inr after ↦ inr (after ∙ (λ i. rows_after c.args.op.now (edit_of (is i).effect) (same i)))
+        | inr after ↦ inr (after ∙ (λ i. rows_after c.args.lent.now.op.now (edit_of (is i).effect) (same i)))
       ],
     )

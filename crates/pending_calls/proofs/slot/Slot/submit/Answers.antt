@@ -8,12 +8,12 @@ use Rattle.pending_calls.proofs.slot.Slot.submit.Goals as goal
 pub returns-then-is_none-clause-sent : goal.returns-then-is_none-clause-sent
 returns-then-is_none-clause-sent g c =
     let s = c.self.inside in
-    ap (λ message. Some message) c.in_ok-next.ensures.message ∙ sent_at_once s.op s.station s.is_connected s.next_number s.in_flight s.waiting.items c.args.self.now c.self.view_is c.if-is_none.ensures c.args.text
+    ap (λ message. Some message) c.in_ok-next.ensures.message ∙ sent_at_once s.op s.station s.is_connected s.next_number s.in_flight s.waiting.items c.args.self.now c.self.view_is c.if-is_none.ensures c.args.new.text
 
 pub returns-then-is_none-clause-ok : goal.returns-then-is_none-clause-ok
 returns-then-is_none-clause-ok g c =
     let s = c.self.inside in
-    shown_sent s.op s.station s.is_connected s.next_number s.in_flight s.waiting.items c.args.self.now c.self.view_is c.if-is_none.ensures c.args.command c.args.text c.args.moment c.in_ok-next.next.call c.in_ok-next.ensures.call
+    shown_sent s.op s.station s.is_connected s.next_number s.in_flight s.waiting.items c.args.self.now c.self.view_is c.if-is_none.ensures c.args.new.command c.args.new.text c.args.moment c.in_ok-next.next.call c.in_ok-next.ensures.call
 
 pub invariant_of-self-2 : goal.invariant_of-self-2
 invariant_of-self-2 g c =

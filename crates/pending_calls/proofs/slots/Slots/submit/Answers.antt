@@ -26,19 +26,19 @@ invariant_of-self g c =
     let is = lent_here c.args.self.now.list.items c.in-Ok.place c.as_mut-slot.result.now c.index_mut.result.now c.index_mut.ensures.value c.as_mut-slot.ensures.value in
     let until = c.quiet_with-self.result in
     let quiet = none_due_before s.quiet_until until s.list.items c.quiet_with-self.ensures.before s.quiet in
-    record { quiet = submit_in_time until c.args.moment c.args.command c.args.text c.submit.result s.list.items c.in-Ok.place old c.submit.new.self at.in_range is c.submit.ensures.ok c.submit.ensures.err c.quiet_with-self.ensures.sent quiet; none_found = tt; sorted = sorted-written slot_key s.list.items c.in-Ok.place c.submit.new.self old at.in_range (same_key_either slot_key c.submit.result old c.submit.new.self (submitted c.args.command c.args.text c.args.moment old) c.submit.ensures.ok c.submit.ensures.err refl) (lent_here c.args.self.now.list.items c.in-Ok.place c.as_mut-slot.result.now c.index_mut.result.now c.index_mut.ensures.value c.as_mut-slot.ensures.value) s.sorted }
+    record { quiet = submit_in_time until c.args.moment c.args.new.command c.args.new.text c.submit.result s.list.items c.in-Ok.place old c.submit.new.self at.in_range is c.submit.ensures.ok c.submit.ensures.err c.quiet_with-self.ensures.sent quiet; none_found = tt; sorted = sorted-written slot_key s.list.items c.in-Ok.place c.submit.new.self old at.in_range (same_key_either slot_key c.submit.result old c.submit.new.self (submitted c.args.new.command c.args.new.text c.args.moment old) c.submit.ensures.ok c.submit.ensures.err refl) (lent_here c.args.self.now.list.items c.in-Ok.place c.as_mut-slot.result.now c.index_mut.result.now c.index_mut.ensures.value c.as_mut-slot.ensures.value) s.sorted }
 
 pub returns-clause-sent : goal.returns-clause-sent
 returns-clause-sent g c =
     let s = c.args.self.now in
     let at = (rw c.deref.ensures.value at c.in-Ok.ensures) in
-    subst (λ x. IfOk c.submit.result (λ message. message ≡ sent_now c.args.text x)) (sym (slot-here c.args.op.now c.args.station.now s.list.items c.in-Ok.place s.first_number at c.as_mut-slot.result.now (lent_here c.args.self.now.list.items c.in-Ok.place c.as_mut-slot.result.now c.index_mut.result.now c.index_mut.ensures.value c.as_mut-slot.ensures.value))) c.submit.ensures.sent
+    subst (λ x. IfOk c.submit.result (λ message. message ≡ sent_now c.args.new.text x)) (sym (slot-here c.args.op.now c.args.station.now s.list.items c.in-Ok.place s.first_number at c.as_mut-slot.result.now (lent_here c.args.self.now.list.items c.in-Ok.place c.as_mut-slot.result.now c.index_mut.result.now c.index_mut.ensures.value c.as_mut-slot.ensures.value))) c.submit.ensures.sent
 
 pub returns-clause-ok : goal.returns-clause-ok
 returns-clause-ok g c =
     let s = c.args.self.now in
     let at = (rw c.deref.ensures.value at c.in-Ok.ensures) in
-    let f = submitted c.args.command c.args.text c.args.moment in
+    let f = submitted c.args.new.command c.args.new.text c.args.moment in
     ok_then _ _ c.submit.result (changed-here c.args.op.now c.args.station.now s.list.items c.in-Ok.place f at c.as_mut-slot.result.now c.submit.new.self (lent_here c.args.self.now.list.items c.in-Ok.place c.as_mut-slot.result.now c.index_mut.result.now c.index_mut.ensures.value c.as_mut-slot.ensures.value)) c.submit.ensures.ok
 
 pub returns-clause-err : goal.returns-clause-err

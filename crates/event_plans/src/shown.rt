@@ -1,32 +1,12 @@
-//! Rows of listings.
+//! Records as rows of listings.
 ghost use Rattle.std.specs.Prelude.{◌≡◌};
-ghost use Rattle.event_plans.specs.declared.row.Row.{Row};
-ghost use Rattle.event_plans.specs.declared.row.Row.TheVariants as shown;
+ghost use Rattle.hub_events.specs.declared.row.Row.{Row};
+ghost use Rattle.hub_events.specs.declared.row.Row.TheVariants as shown;
 
+use hub_events::Row;
 use hub_rows::{
-    ConnectorRow, GrantRow, GrantedTag, LocalTag, ReadingRow, ReservationRow, StationRow, TagRow,
-    TxRow,
+    ConnectorRow, GrantRow, GrantedTag, ReadingRow, ReservationRow, StationRow, TagRow, TxRow,
 };
-use ocpp_types::Text;
-
-/// A row of a listing.
-#[derive(Drop)]
-pub enum Row {
-    Station(StationRow),
-    Tag(TagRow),
-    /// What the operator granted.
-    Grant(GrantRow),
-    /// What is granted to the operator.
-    Granted(GrantedTag),
-    Connector(ConnectorRow),
-    Transaction(TxRow),
-    Reading(ReadingRow),
-    Reservation(ReservationRow),
-    /// The version of a station's local list, 0 where it has none.
-    LocalList { station: Text, version: u32 },
-    /// An entry of a station's local list.
-    LocalTag { station: Text, entry: LocalTag },
-}
 
 /// A record that listings show.
 pub trait Shown: Drop {

@@ -20,6 +20,14 @@ pub enum Event {
     },
 }
 
+/// What happens at an operator, and when.
+#[derive(Clone, Copy, Drop)]
+pub struct OperatorEvent<'a> {
+    pub op: &'a Text,
+    pub moment: Moment,
+    pub what: &'a What,
+}
+
 /// What happens at an operator.
 #[derive(Drop)]
 pub enum What {

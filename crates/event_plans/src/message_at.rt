@@ -1,0 +1,13 @@
+//! A message of a station at a moment.
+
+use ocpp_types::Text;
+use registry::StationAt;
+
+/// The station that a message is of, the moment, and the message's id (OCPP-J 1.6, section 4.1.4).
+#[derive(Clone, Copy, Drop)]
+pub struct MessageAt<'a> {
+    /// The station and the moment.
+    pub at: &'a StationAt<'a>,
+    /// The id of the call, or of the call that is answered.
+    pub id: &'a Text,
+}
