@@ -1,9 +1,9 @@
 """Checks that a refused allocation costs no more than the event that met it. Each allocation of replays and of a
 session at the server is refused once, by refusing_malloc.c under the built program, and each of scripts whose events
-are handed once more, under the worked scripts' program. Prints a line for each scenario, then `N passed, M failed`.
+are handed once more, under the program of the scripts. Prints a line for each scenario, then `N passed, M failed`.
 With --small it refuses fewer.
 
-    python3 checks/allocations.py crates/central/out/central crates/worked/out/worked [--small]
+    python3 checks/allocations.py crates/central/out/central crates/check_scripts/out/check_scripts [--small]
 
 What is refused are the calls of the C library's allocator, so the program has to be linked to that dynamically.
 """
@@ -76,9 +76,9 @@ class Allocator:
 
 
 class Checks:
-    def __init__(self, program, worked, folder, small):
+    def __init__(self, program, scripts, folder, small):
         self.program = program
-        self.worked = worked
+        self.scripts = scripts
         self.folder = folder
         self.small = small
         self.allocator = Allocator(folder)
@@ -257,7 +257,7 @@ FAULTS = re.compile(r"faults: ([01])\n")
 def handed_again(checks, kind, name, number):
     """How a script went with that allocation refused, whose events that end in a fault are handed once more."""
     checks.allocator.refuse(number, number)
-    words = [checks.worked, kind, name]
+    words = [checks.scripts, kind, name]
     ran = subprocess.run(
         words, capture_output=True, timeout=60, env=checks.allocator.environment, cwd=SCRIPTS, text=True
     )
@@ -447,8 +447,8 @@ def check_serve(checks):
 
 def main():
     with tempfile.TemporaryDirectory() as folder:
-        program, worked = map(os.path.abspath, sys.argv[1:3])
-        checks = Checks(program, worked, folder, "--small" in sys.argv[3:])
+        program, scripts = map(os.path.abspath, sys.argv[1:3])
+        checks = Checks(program, scripts, folder, "--small" in sys.argv[3:])
         checks.replay("")
         if not checks.allocator.count:
             sys.exit("the program's allocations aren't those of the C library, so none can be refused")

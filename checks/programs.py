@@ -21,7 +21,7 @@ from pathlib import Path
 from heads import check_heads
 from peer import BOOT, HEAD, HEARTBEAT, Peer, frame
 
-SCRIPTS = Path(__file__).resolve().parent.parent / "crates" / "worked" / "data"
+SCRIPTS = Path(__file__).resolve().parent.parent / "crates" / "check_scripts" / "data"
 
 PORT = 9281
 MOST = 1 << 20

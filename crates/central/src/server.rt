@@ -226,7 +226,7 @@ impl<S: Store + Drop, V: VendorHandler> Server<S, V> {
         }
         let welcomed = self
             .lobby
-            .serve(self.alloc, &mut self.gateway, &mut self.hub, self.moment);
+            .serve(&mut self.gateway, &mut self.hub, self.moment);
         self.has_faulted = false;
         self.report(rt, welcomed);
         self.choose();

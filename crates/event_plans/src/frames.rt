@@ -11,7 +11,7 @@ ghost use Rattle.event_plans.specs.Table.{frame_plan, call_plan, state_plan, pay
 use crate::answers::{plan_error, plan_result};
 use crate::message_at::MessageAt;
 use crate::plan::Plan;
-use crate::plans::{decided_plan, error_plan};
+use crate::short_plans::{decided_plan, error_plan};
 use hub_rows::{Registration, Store, StoreFault};
 use ocpp_frame::{Frame, Payload, read_frame};
 use ocpp_payload::{Action, ActionClass, FieldFault, Request, action_class, read_request};

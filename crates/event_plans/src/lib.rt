@@ -8,10 +8,10 @@ mod frames;
 mod list;
 mod message_at;
 mod plan;
-mod plans;
+mod short_plans;
 mod shown;
 mod sizes;
-mod table;
+mod plan_event;
 
 pub use plan::{Effect, Plan};
-pub use table::plan_event;
+pub use plan_event::plan_event;

@@ -1,11 +1,11 @@
 //! The hub: events of stations and operators to outputs, over a store.
 #![tactic(auto)]
 
+mod call_outputs;
 mod commit;
 mod fault;
 mod hub;
 mod tick;
-mod told;
 pub mod worlds;
 
 pub use hub_events::{Admin, Event, Listing, Out, Outcome, Row, Said, What};

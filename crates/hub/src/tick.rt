@@ -4,7 +4,7 @@ ghost use Rattle.pending_calls.specs.Slots.{all_slots, first_number};
 ghost use Rattle.pending_calls.specs.Tick.{tick};
 ghost use Rattle.hub.specs.Effects.{tick_outputs};
 
-use crate::told::push_moved;
+use crate::call_outputs::push_moved;
 use hub_events::{Out, Outcome};
 use ocpp_types::{Boxed, Mem, Moment, NoMemory};
 use operator_cmds::Command;

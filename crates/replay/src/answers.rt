@@ -22,6 +22,7 @@ use std::alloc::{AllocError, Global};
 /// The number of the next line, and the text that is still to be written.
 #[derive(Drop)]
 pub struct Answers {
+    pub alloc: Global,
     pub number: u64,
     pub text: Vec<u8>,
 }
@@ -31,7 +32,6 @@ impl Answers {
     /// Answers the next line, of which none is held where it is too long.
     pub fn line<S: Store + Drop, V: VendorHandler>(
         &mut self,
-        alloc: Global,
         hub: &mut Hub<S, V>,
         held: Option<&[u8]>,
     ) -> Result<(), LineFault>
@@ -51,8 +51,8 @@ impl Answers {
             → FindsOldOr (after (setting V.view hub.old) (world S.view hub.old) (spelled (setting V.view hub.old).is_hosted line)).rows (hub_view S.view hub.old) (hub_view S.view hub.new) }
         ensures kept { IsKept (hub_view S.view hub.old) → OnOk result (IsKept (hub_view S.view hub.new)) }
     {
-        let said = read_held(alloc, hub.hosted(), held)?;
-        self.said(alloc, hub, &said)?;
+        let said = read_held(self.alloc, hub.hosted(), held)?;
+        self.said(hub, &said)?;
         self.number += 1;
         Ok(())
     }
@@ -60,7 +60,6 @@ impl Answers {
     /// Answers what a line says.
     fn said<S: Store + Drop, V: VendorHandler>(
         &mut self,
-        alloc: Global,
         hub: &mut Hub<S, V>,
         said: &Line,
     ) -> Result<(), LineFault>
@@ -80,8 +79,8 @@ impl Answers {
     {
         match said {
             Line::Nothing => {}
-            Line::Event(event) => self.event(alloc, hub, event)?,
-            Line::Bad => push_bad(&mut self.text, alloc, self.number)?,
+            Line::Event(event) => self.event(hub, event)?,
+            Line::Bad => push_bad(&mut self.text, self.alloc, self.number)?,
         }
         Ok(())
     }
@@ -89,7 +88,6 @@ impl Answers {
     /// Answers an event.
     fn event<S: Store + Drop, V: VendorHandler>(
         &mut self,
-        alloc: Global,
         hub: &mut Hub<S, V>,
         event: &Event,
     ) -> Result<(), LineFault>
@@ -108,7 +106,7 @@ impl Answers {
         ensures kept { IsKept (hub_view S.view hub.old) → OnOk result (IsKept (hub_view S.view hub.new)) }
     {
         let outs = hub.handle(event)?;
-        push_all(&mut self.text, alloc, outs.as_slice())?;
+        push_all(&mut self.text, self.alloc, outs.as_slice())?;
         Ok(())
     }
 }

@@ -27,7 +27,6 @@ pub const MAX_INPUT: u64 = 1_073_741_824;
 fn pass<S: Store + Drop, V: VendorHandler, R: Read, W: Write>(
     lines: &mut Lines,
     answers: &mut Answers,
-    alloc: Global,
     hub: &mut Hub<S, V>,
     reader: &mut R,
     writer: &mut W,
@@ -54,7 +53,7 @@ fn pass<S: Store + Drop, V: VendorHandler, R: Read, W: Write>(
         AreReached (setting V.view hub.old) (world S.view hub.old) all r) }
 {
     while lines.next(reader)? {
-        answers.line(alloc, hub, lines.held())?;
+        answers.line(hub, lines.held())?;
         write_if_long(&mut answers.text, writer)?;
     }
     write_out(&mut answers.text, writer)?;
@@ -101,10 +100,11 @@ pub fn replay_within<S: Store + Drop, V: VendorHandler, R: Read, W: Write>(
 {
     let mut lines = Lines::new(alloc, bound(most));
     let mut answers = Answers {
+        alloc,
         number: 1,
         text: Vec::new(alloc),
     };
-    match pass(&mut lines, &mut answers, alloc, hub, reader, writer) {
+    match pass(&mut lines, &mut answers, hub, reader, writer) {
         Ok(()) => Ok(()),
         Err(fault) => {
             write_last(&mut answers.text, writer);

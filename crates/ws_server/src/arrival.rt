@@ -1,7 +1,15 @@
-//! Connections that ask to be admitted.
+//! Connections before they are admitted.
 
 use std::net::SocketAddr;
 use ws_peers::Route;
+
+/// A connection that was accepted.
+#[derive(Drop)]
+pub struct Client<T> {
+    pub stream: T,
+    /// Where it comes from, for the notes.
+    pub address: Option<SocketAddr>,
+}
 
 /// A connection whose handshake is done.
 #[derive(Drop)]

@@ -13,7 +13,7 @@ mod tell;
 mod turn;
 mod welcome;
 
-pub use arrival::Arrival;
+pub use arrival::{Arrival, Client};
 pub use gateway::Gateway;
 pub use lobby::Lobby;
 pub use notes::{Happened, Note, Refusal};

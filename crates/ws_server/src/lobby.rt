@@ -7,6 +7,7 @@ ghost use Rattle.ws_server.specs.Lobbies.{waiting_count, with_room, is_late, IfW
 ghost use Rattle.ws_server.specs.Steps.{Takes};
 ghost use Rattle.ws_server.specs.Tells.{peers_of};
 
+use crate::arrival::Client;
 use crate::gateway::Gateway;
 use crate::notes::{Happened, Note, Notes, Refusal};
 use hub::{Fault, Hub};
@@ -29,11 +30,10 @@ const GRACE: u64 = 1;
 /// The most connections that wait at once.
 const MAX_WAITING: usize = 4096;
 
-/// A connection that was accepted.
+/// A connection that waits, and the moment at which it was accepted.
 #[derive(Drop)]
 struct Waiting<T> {
-    stream: T,
-    address: Option<SocketAddr>,
+    client: Client<T>,
     since: Moment,
 }
 
@@ -102,16 +102,15 @@ impl<T: Peek + Read + Write + Served + Drop> Lobby<T> {
     /// Takes a connection that was accepted at that moment, from that address. Where 4,096 wait, the
     /// one that was accepted first is dropped. Without memory for the new one, that is dropped too.
     pub fn enter(&mut self, stream: T, address: Option<SocketAddr>, moment: Moment) -> Mem<()>
-        ensures entered { OnOk result (self.new.waiting.items ≡ with_room self.old.waiting.items ++ record { stream = stream; address = address; since = moment } ∷ []) }
+        ensures entered { OnOk result (self.new.waiting.items ≡ with_room self.old.waiting.items ++ record { client = record { stream = stream; address = address }; since = moment } ∷ []) }
         ensures dropped { OnErr result (self.new.waiting.items ≡ with_room self.old.waiting.items) }
     {
         if self.waiting.len() >= MAX_WAITING {
             let first = self.waiting.remove(0);
-            self.refuse(first.address, Refusal::Crowded);
+            self.refuse(first.client.address, Refusal::Crowded);
         }
         self.waiting.push(Waiting {
-            stream,
-            address,
+            client: Client { stream, address },
             since: moment,
         })?;
         Ok(())
@@ -143,7 +142,6 @@ impl<T: Peek + Read + Write + Served + Drop> Lobby<T> {
     /// anything else is answered and dropped; after a fault it is dropped, and the others wait for the next turn.
     pub fn serve<S: Store + Drop, V: VendorHandler>(
         &mut self,
-        alloc: Global,
         gateway: &mut Gateway<T>,
         hub: &mut Hub<S, V>,
         moment: Moment,
@@ -157,7 +155,7 @@ impl<T: Peek + Read + Write + Served + Drop> Lobby<T> {
     {
         let mut n = 0_usize;
         for _ in 0..self.waiting.len() {
-            self.look(alloc, gateway, hub, &mut n, moment)?;
+            self.look(gateway, hub, &mut n, moment)?;
         }
         Ok(())
     }
@@ -165,7 +163,6 @@ impl<T: Peek + Read + Write + Served + Drop> Lobby<T> {
     /// Polls the one at place n, if there is one, and moves n to the next.
     fn look<S: Store + Drop, V: VendorHandler>(
         &mut self,
-        alloc: Global,
         gateway: &mut Gateway<T>,
         hub: &mut Hub<S, V>,
         n: &mut usize,
@@ -181,27 +178,27 @@ impl<T: Peek + Read + Write + Served + Drop> Lobby<T> {
         if *n >= self.waiting.len() {
             return Ok(());
         }
-        match self.next(alloc, *n, moment) {
+        match self.next(gateway.alloc, *n, moment) {
             Ok(Next::Wait) => {
                 *n = n.saturating_add(1);
                 Ok(())
             }
             Ok(Next::Drop(refusal)) => {
                 let dropped = self.waiting.remove(*n);
-                self.refuse(dropped.address, refusal);
+                self.refuse(dropped.client.address, refusal);
                 Ok(())
             }
             Ok(Next::Refuse(seen, answer)) => {
                 let one = self.waiting.remove(*n);
                 if let Some(refusal) = Refusal::of(answer) {
-                    self.refuse(one.address, refusal);
+                    self.refuse(one.client.address, refusal);
                 }
-                let _closed = refuse(one.stream, seen, answer);
+                let _closed = refuse(one.client.stream, seen, answer);
                 Ok(())
             }
             Ok(Next::Welcome(upgrade)) => {
                 let one = self.waiting.remove(*n);
-                gateway.welcome(hub, one.stream, one.address, upgrade, moment)
+                gateway.welcome(hub, one.client, upgrade, moment)
             }
             Err(fault) => {
                 let _dropped = self.waiting.remove(*n);
@@ -214,11 +211,11 @@ impl<T: Peek + Read + Write + Served + Drop> Lobby<T> {
         requires { n < length self.old.waiting.items }
         ensures waiting { self.new.waiting.items ≡ self.old.waiting.items }
         ensures asks { IfOk result (λ next. IfWelcome next (λ upgrade. (other : Waiting T)
-            → AsksFor T.remaining (slice_index_or self.old.waiting.items n other).stream upgrade)) }
+            → AsksFor T.remaining (slice_index_or self.old.waiting.items n other).client.stream upgrade)) }
     {
         let one = &self.waiting[n];
         let is_late = one.is_late(moment, PATIENCE);
-        next_of(alloc, &one.stream, self.head.as_mut_slice(), is_late)
+        next_of(alloc, &one.client.stream, self.head.as_mut_slice(), is_late)
     }
 }
 

@@ -6,7 +6,7 @@ ghost use Rattle.ws_server.specs.Admits.{is_known, is_full};
 ghost use Rattle.ws_server.specs.Steps.{Takes};
 ghost use Rattle.ws_server.specs.Tells.{peers_of};
 
-use crate::arrival::Arrival;
+use crate::arrival::{Arrival, Client};
 use crate::gateway::Gateway;
 use crate::notes::{Happened, Refusal};
 use hub::{Fault, Hub};
@@ -26,18 +26,16 @@ impl<T: Read + Write + Served + Drop> Gateway<T> {
     ghost use Rattle.ws_server.specs.Admits.{Welcomes};
 
     /// Makes the handshake that the head of a stream asks for, and admits it. A station that the hub doesn't know and an
-    /// operator that it doesn't host are answered 404; an operator that has 32 open connections is answered 503. The
-    /// address is that from which the connection came, for the notes.
+    /// operator that it doesn't host are answered 404; an operator that has 32 open connections is answered 503.
     pub fn welcome<S: Store + Drop, V: VendorHandler>(
         &mut self,
         hub: &mut Hub<S, V>,
-        stream: T,
-        address: Option<SocketAddr>,
+        client: Client<T>,
         upgrade: Upgrade,
         moment: Moment,
     ) -> Result<(), Fault>
         ensures takes { Takes S.view V.view hub.old hub.new
-            (λ steps. Welcomes T.remaining T.contents moment stream upgrade (peers_of self.old) (peers_of self.new) steps result) }
+            (λ steps. Welcomes T.remaining T.contents moment client.stream upgrade (peers_of self.old) (peers_of self.new) steps result) }
         ensures known { is_clean S.view hub.new → is_known (setting V.view hub.old).is_hosted (world S.view hub.old).rows upgrade.route ≡ false
             → peers_of self.new ≡ peers_of self.old }
         ensures full { is_full upgrade.route (peers_of self.old) ≡ true → peers_of self.new ≡ peers_of self.old }
@@ -45,6 +43,7 @@ impl<T: Read + Write + Served + Drop> Gateway<T> {
         ensures counted { IsCounted (hub_view S.view) hub.old hub.new (result ≡ Err Fault.Store) }
         ensures setting { setting V.view hub.new ≡ setting V.view hub.old }
     {
+        let Client { stream, address } = client;
         let is_known = match is_known(hub, &upgrade.route) {
             Ok(is_known) => is_known,
             Err(fault) => {

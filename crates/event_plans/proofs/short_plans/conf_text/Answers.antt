@@ -3,7 +3,7 @@ use Rattle.serde_json.specs.Written.{compact_text}
 use Rattle.ocpp_frame.specs.Written.{result_data}
 use Rattle.event_plans.specs.Plans.{conf_text}
 use Rattle.event_plans.proofs.ConfLaws.{conf_no_float}
-use Rattle.event_plans.proofs.plans.conf_text.Goals as goal
+use Rattle.event_plans.proofs.short_plans.conf_text.Goals as goal
 
 pub returns : goal.returns
 unfolding conf_text

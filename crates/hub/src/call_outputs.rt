@@ -1,5 +1,5 @@
 //! What is said of calls that end or go out, at the end of a list that has room for it.
-ghost use Rattle.std.specs.Prelude.{◌≡◌, ◌+◌, ◌≤◌, ◌++◌, ◌∷◌, [], length, map, Some, vec_len, vec_capacity};
+ghost use Rattle.std.specs.Prelude.{◌≡◌, ◌+◌, ◌≤◌, ◌++◌, length, map, Some, vec_len, vec_capacity};
 ghost use Rattle.hub.specs.Effects.{done, sent, moved_outputs};
 ghost use Rattle.hub_events.specs.declared.out.Outcome.TheVariants.{Disconnected};
 
@@ -22,19 +22,6 @@ fn done(call: Call<Boxed<Command>>, outcome: Outcome) -> Out
     }
 }
 
-/// Adds one output.
-fn push_ready(outs: &mut Vec<Out>, out: Out)
-    requires { vec_len outs.old + 1 ≤ vec_capacity outs.old }
-    ensures items { outs.new.items ≡ outs.old.items ++ out ∷ [] }
-    ensures capacity { vec_capacity outs.old ≤ vec_capacity outs.new }
-    ensures len { vec_len outs.new ≡ vec_len outs.old + 1 }
-{
-    match outs.push(out) {
-        Ok(()) => {}
-        Err(_) => unreachable!(),
-    }
-}
-
 /// Adds the ends of calls whose connection has ended.
 pub fn push_ended(outs: &mut Vec<Out>, mut ended: Ended<Boxed<Command>>)
     requires { vec_len outs.old + length ended ≤ vec_capacity outs.old }
@@ -42,7 +29,7 @@ pub fn push_ended(outs: &mut Vec<Out>, mut ended: Ended<Boxed<Command>>)
     ensures len { vec_len outs.new ≡ vec_len outs.old + length ended }
 {
     while let Some(call) = ended.pop() {
-        push_ready(outs, done(call, Outcome::Disconnected));
+        outs.push_reserved(done(call, Outcome::Disconnected));
     }
 }
 
@@ -54,16 +41,13 @@ pub fn push_message(outs: &mut Vec<Out>, message: Option<Message>)
     ensures capacity { vec_capacity outs.old ≤ vec_capacity outs.new }
 {
     if let Some(message) = message {
-        push_ready(
-            outs,
-            Out {
-                op: message.op,
-                said: Said::Send {
-                    station: message.station,
-                    text: message.text,
-                },
+        outs.push_reserved(Out {
+            op: message.op,
+            said: Said::Send {
+                station: message.station,
+                text: message.text,
             },
-        );
+        });
     }
 }
 
@@ -74,6 +58,6 @@ pub fn push_moved(outs: &mut Vec<Out>, moved: Moved<Boxed<Command>>, outcome: Ou
     ensures len { vec_len outs.new ≤ vec_len outs.old + 2 }
     ensures capacity { vec_capacity outs.old ≤ vec_capacity outs.new }
 {
-    push_ready(outs, done(moved.ended, outcome));
+    outs.push_reserved(done(moved.ended, outcome));
     push_message(outs, moved.next);
 }

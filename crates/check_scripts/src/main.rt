@@ -8,7 +8,7 @@
 //!
 //! `data/` has databases too, `NAME.db`, which are opened.
 //!
-//! Some of the scripts are tried over stores of which each call fails in turn. `worked memory NAME` and `worked cache
+//! Some of the scripts are tried over stores of which each call fails in turn. `check_scripts memory NAME` and `check_scripts cache
 //! NAME` print what one script is answered over a store in memory, and over a cache before a database. An event that
 //! ends in a fault is handed once more. checks/allocations.py runs them with allocations refused.
 #![tactic(auto)]

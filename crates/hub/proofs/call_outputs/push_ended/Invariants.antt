@@ -1,7 +1,7 @@
 use Rattle.std.proofs.Common.{◌≡◌, ◌+◌, ◌≤◌, ◌++◌, length, map, vec_len, vec_capacity}
 use Rattle.hub_events.specs.declared.out.Outcome.TheVariants.{Disconnected}
 use Rattle.hub.specs.Effects.{done}
-use Rattle.hub.proofs.told.push_ended.Given as goal
+use Rattle.hub.proofs.call_outputs.push_ended.Given as goal
 
 abbrev pub invariant-loop-call : goal.invariant-loop-call
 invariant-loop-call l = record {

@@ -13,7 +13,7 @@ use crate::commands::plan_command;
 use crate::frames::plan_text;
 use crate::list::plan_list;
 use crate::plan::Plan;
-use crate::plans::{connect_plan, disconnect_plan, edit_plan, turned_plan};
+use crate::short_plans::{connect_plan, disconnect_plan, edit_plan, turned_plan};
 use hub_events::{OperatorEvent, What};
 use hub_rows::{Store, StoreFault};
 use ocpp_types::{Boxed, Text};

@@ -109,7 +109,7 @@ impl Server {
     pub fn turn(&mut self) -> Result<(), Fault> {
         self.accept()?;
         self.lobby
-            .serve(self.alloc, &mut self.gateway, &mut self.hub, self.moment)?;
+            .serve(&mut self.gateway, &mut self.hub, self.moment)?;
         let places = self.places()?;
         self.gateway
             .turn(&mut self.hub, self.moment, places.as_slice())
