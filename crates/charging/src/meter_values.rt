@@ -24,7 +24,9 @@ pub fn on_meter_values<S: Store>(
     ensures decision { (S.view store.new).clean → IfOk result (λ d. d
         ≡ meter_values_rule at.now.station.now request (lookups_at at.now.op.now (S.view store.old).rows)) }
 {
-    let last = store.last_numbers(at.op.as_str(), at.station.as_str())?.reading;
+    let last = store
+        .last_numbers(at.op.as_str(), at.station.as_str())?
+        .reading;
     let station = at.station.clone()?;
     let readings = readings_of(
         alloc,

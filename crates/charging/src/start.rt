@@ -99,7 +99,9 @@ fn new_start<S: Store>(
     ensures decision { (S.view store.new).clean → IfOk result (λ d. d
         ≡ new_start at.now.station.now request id at.now.moment (lookups_at at.now.op.now (S.view store.old).rows)) }
 {
-    let last = store.last_numbers(at.op.as_str(), at.station.as_str())?.transaction;
+    let last = store
+        .last_numbers(at.op.as_str(), at.station.as_str())?
+        .transaction;
     if last >= LAST_NUMBER {
         return Ok(internal_error());
     }

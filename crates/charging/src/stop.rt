@@ -81,7 +81,9 @@ fn edit_of_stop<S: Store>(
     else {
         return Ok(None);
     };
-    let last = store.last_numbers(at.op.as_str(), at.station.as_str())?.reading;
+    let last = store
+        .last_numbers(at.op.as_str(), at.station.as_str())?
+        .reading;
     let station = at.station.clone()?;
     let tx = TxKey { station, number };
     let id = Some(request.transaction_id);
@@ -113,13 +115,7 @@ fn parts_of(request: StopTransaction, moment: Moment) -> (Stop, Listed<MeterValu
 }
 
 /// The edit that keeps a stop and its readings, unless no numbers are left for all of them.
-fn stop_edit(
-    alloc: Global,
-    tx: TxKey,
-    stop: Stop,
-    last: u32,
-    readings: Listed<Reading>,
-) -> Edit
+fn stop_edit(alloc: Global, tx: TxKey, stop: Stop, last: u32, readings: Listed<Reading>) -> Edit
     ensures { result ≡ stop_edit tx.station tx.number stop last readings }
 {
     let has_room = has_room(last, readings.as_slice().len());

@@ -67,7 +67,10 @@ pub fn plan_error(
 }
 
 /// The command of the call in flight, if an answer with that id ends it.
-fn answered_command<'a>(slots: &'a Slots<Boxed<Command>>, message: &MessageAt<'_>) -> Option<&'a Command>
+fn answered_command<'a>(
+    slots: &'a Slots<Boxed<Command>>,
+    message: &MessageAt<'_>,
+) -> Option<&'a Command>
     ensures { option_map (λ c. c.now) result ≡ answered_command message.now.id.now (slot_at message.now.at.now.op.now message.now.at.now.station.now slots.now) }
 {
     let at = message.at;

@@ -8,10 +8,10 @@ mod frames;
 mod list;
 mod message_at;
 mod plan;
+mod plan_event;
 mod short_plans;
 mod shown;
 mod sizes;
-mod plan_event;
 
 pub use plan::{Effect, Plan};
 pub use plan_event::plan_event;

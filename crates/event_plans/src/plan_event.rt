@@ -49,11 +49,19 @@ pub fn plan_event<S: Store, V: VendorHandler>(
             if !slots.is_connected(op.as_str(), station.as_str()) {
                 return Ok(turned_plan(alloc, station)?);
             }
-            let at = StationAt { op, station, moment };
+            let at = StationAt {
+                op,
+                station,
+                moment,
+            };
             plan_text(alloc, book, slots, &at, text)
         }
         What::Do { station, command } => {
-            let at = StationAt { op, station, moment };
+            let at = StationAt {
+                op,
+                station,
+                moment,
+            };
             plan_command(alloc, &mut book.store, slots, &at, command.as_ref())
         }
         What::Admin(admin) => {

@@ -3,7 +3,7 @@ use Rattle.std.specs.Prelude.{◌≡◌, ℕ, Option, None, Some, List, [], ◌�
 use Rattle.std.proofs.Common.{refl, sym, ◌∙◌, ap, subst}
 use Rattle.std.proofs.lemmas.Bool.{true≢false}
 use Rattle.hub_rows.specs.declared.change.Edit.{Edit}
-use Rattle.hub_rows.specs.declared.change.Edit.TheVariants.{StationAdded, BootSeen, PolicySet, ConnectorSeen, TagPut, TagDropped, GrantPut, GrantDropped, TxStarted, TxStopped, ReadingsAdded, ReservationPut, ReservationDropped, ListSet}
+use Rattle.hub_rows.specs.declared.change.Edit.TheVariants.{TagPut, TagDropped, GrantPut, GrantDropped}
 use Rattle.hub_rows.specs.declared.info.GrantedTag.{GrantedTag}
 use Rattle.hub_rows.specs.Changes.{edit}
 use Rattle.hub_rows.specs.Grants.{granted_in}
@@ -23,20 +23,11 @@ use Rattle.hub.proofs.SlotLaws.{outputs_of-other, slots_after-other}
 
 -- an edit that is none of tags leaves what is granted
 granted-edit : (a b : List ℕ) (e : Edit) (rows : Rows) → is_of_tags e ≡ false → granted_in a (edit b e rows).tags (edit b e rows).grants ≡ granted_in a rows.tags rows.grants
-granted-edit a b (StationAdded station policy interval) rows none = refl
-granted-edit a b (BootSeen station boot state) rows none = refl
-granted-edit a b (PolicySet station policy interval) rows none = refl
-granted-edit a b (ConnectorSeen station connector report) rows none = refl
 granted-edit a b (TagPut key tag) rows none = absurd (true≢false none)
 granted-edit a b (TagDropped key) rows none = absurd (true≢false none)
 granted-edit a b (GrantPut key to until) rows none = absurd (true≢false none)
 granted-edit a b (GrantDropped key to) rows none = absurd (true≢false none)
-granted-edit a b (TxStarted station number start) rows none = refl
-granted-edit a b (TxStopped station number stop first readings) rows none = refl
-granted-edit a b (ReadingsAdded station first readings) rows none = refl
-granted-edit a b (ReservationPut station id reservation) rows none = refl
-granted-edit a b (ReservationDropped station id) rows none = refl
-granted-edit a b (ListSet station list) rows none = refl
+granted-edit a b e rows none = refl
 
 granted-after : (a b : List ℕ) (o : Option Edit) (rows : Rows) → edits_tags o ≡ false → granted_in a (rows_after b o rows).tags (rows_after b o rows).grants ≡ granted_in a rows.tags rows.grants
 granted-after a b None rows none = refl

@@ -8,8 +8,8 @@ ghost use Rattle.hub.specs.Commits.{Edits, Moves};
 ghost use Rattle.hub.specs.Effects.{edit_of, effect_outputs, room_of};
 ghost use Rattle.hub.specs.World.{said_to};
 
-use crate::fault::Fault;
 use crate::call_outputs::{push_ended, push_message, push_moved};
+use crate::fault::Fault;
 use event_plans::{Effect, Plan};
 use hub_events::{OperatorEvent, Out, Said};
 use hub_rows::{Change, Edit, Store};

@@ -244,11 +244,7 @@ impl<S: Store + Drop, V: VendorHandler> Hub<S, V> {
     /// Takes an event of an operator. Room for all that grows is made before the one change of the
     /// store.
     #[tactic(auto, unfolding(crate::specs::Hub::setting))]
-    fn take_at(
-        &mut self,
-        lent: &OperatorEvent<'_>,
-        told: &mut Vec<Out>,
-    ) -> Result<(), Fault>
+    fn take_at(&mut self, lent: &OperatorEvent<'_>, told: &mut Vec<Out>) -> Result<(), Fault>
         ensures counted { IsCounted (hub_view S.view) self.old self.new (result ≡ Err Fault.Store) }
         ensures told { is_clean S.view self.new → OnOk result (told.new.items ≡ told.old.items
             ++ world_outputs (setting V.view self.old) (world S.view self.old) (event.At lent.now.op.now lent.now.moment lent.now.what.now)) }

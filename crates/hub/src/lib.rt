@@ -8,6 +8,6 @@ mod hub;
 mod tick;
 pub mod worlds;
 
-pub use hub_events::{Admin, Event, Listing, Out, Outcome, Row, Said, What};
 pub use fault::Fault;
 pub use hub::{BadOperators, Hub};
+pub use hub_events::{Admin, Event, Listing, Out, Outcome, Row, Said, What};

@@ -87,7 +87,9 @@ impl<C: Drop> Slots<C> {
     pub fn answered_command<'a>(&'a self, op: &str, station: &str, id: &str) -> Option<&'a C>
         ensures { option_map (λ c. c.now) result ≡ answered_command id.now (slot_at op.now station.now self.now) }
     {
-        row_of(&self.list, op, station)?.as_ref().answered_command(id)
+        row_of(&self.list, op, station)?
+            .as_ref()
+            .answered_command(id)
     }
 
     /// A station is connected. The calls of its last connection end, and come out in their order.

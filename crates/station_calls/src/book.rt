@@ -80,11 +80,7 @@ impl<S: Store, V: VendorHandler> CoreHandler for Book<S, V> {
         })
     }
 
-    fn on_heartbeat(
-        &mut self,
-        _alloc: Global,
-        at: &StationAt<'_>,
-    ) -> Result<Decision, StoreFault> {
+    fn on_heartbeat(&mut self, _alloc: Global, at: &StationAt<'_>) -> Result<Decision, StoreFault> {
         Ok(on_heartbeat(at.moment))
     }
 

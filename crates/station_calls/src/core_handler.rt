@@ -66,11 +66,7 @@ pub trait CoreHandler {
         ensures answers { answers self.new ≡ answers self.old };
 
     /// A heartbeat (OCPP 1.6, section 4.6).
-    fn on_heartbeat(
-        &mut self,
-        alloc: Global,
-        at: &StationAt<'_>,
-    ) -> Result<Decision, StoreFault>
+    fn on_heartbeat(&mut self, alloc: Global, at: &StationAt<'_>) -> Result<Decision, StoreFault>
         ensures reads { OnlyReads view self.old self.new result }
         ensures decision { IfOk result (λ d. d ≡ heartbeat_rule at.now.moment) }
         ensures answers { answers self.new ≡ answers self.old };
