@@ -29,32 +29,32 @@ fn room_of(effect: &Effect) -> usize
     }
 }
 
-/// Carries out a plan of an operator, or changes nothing. Its outputs come at the end of `told`. Room
+/// Carries out a plan of an operator, or changes nothing. Its outputs come at the end of `outs`. Room
 /// for them is made before the one change of the store.
 pub fn commit<S: Store>(
     store: &mut S,
     slots: &mut Slots<Boxed<Command>>,
     event: &OperatorEvent<'_>,
     plan: Plan,
-    told: &mut Vec<Out>,
+    outs: &mut Vec<Out>,
 ) -> Result<(), Fault>
     requires fits { (S.view store.old).clean → ForSome (edit_of plan.effect) (λ e. EditFits event.now.op.now e (S.view store.old).rows) }
     requires ready { IsReady (λ station. slot_at event.now.op.now station slots.old) plan.effect }
     ensures edits { Edits S.view event.now.op.now (edit_of plan.effect) store.old store.new result }
     ensures moves { Moves event.now.op.now event.now.moment plan.effect slots.old slots.new result }
-    ensures told { OnOk result (told.new.items ≡ told.old.items ++ (map (said_to event.now.op.now) plan.said
+    ensures outs { OnOk result (outs.new.items ≡ outs.old.items ++ (map (said_to event.now.op.now) plan.said
         ++ effect_outputs plan.effect (λ station. slot_at event.now.op.now station slots.old))) }
-    ensures err_told { OnErr result (told.new.items ≡ told.old.items) }
+    ensures err_outs { OnErr result (outs.new.items ≡ outs.old.items) }
 {
-    let begun = told.len();
-    let carried = carry_out(store, slots, event, plan, told);
+    let begun = outs.len();
+    let carried = carry_out(store, slots, event, plan, outs);
     if carried.is_err() {
-        told.truncate(begun);
+        outs.truncate(begun);
     }
     carried
 }
 
-/// Carries out a plan of an operator, or changes nothing but `told`, which may then have more at its
+/// Carries out a plan of an operator, or changes nothing but `outs`, which may then have more at its
 /// end.
 #[tactic(auto, using(hub_rows::proofs::Steps::begins))]
 fn carry_out<S: Store>(
@@ -62,20 +62,20 @@ fn carry_out<S: Store>(
     slots: &mut Slots<Boxed<Command>>,
     event: &OperatorEvent<'_>,
     plan: Plan,
-    told: &mut Vec<Out>,
+    outs: &mut Vec<Out>,
 ) -> Result<(), Fault>
     requires fits { (S.view store.old).clean → ForSome (edit_of plan.effect) (λ e. EditFits event.now.op.now e (S.view store.old).rows) }
     requires ready { IsReady (λ station. slot_at event.now.op.now station slots.old) plan.effect }
     ensures edits { Edits S.view event.now.op.now (edit_of plan.effect) store.old store.new result }
     ensures moves { Moves event.now.op.now event.now.moment plan.effect slots.old slots.new result }
-    ensures told { OnOk result (told.new.items ≡ told.old.items ++ (map (said_to event.now.op.now) plan.said
+    ensures outs { OnOk result (outs.new.items ≡ outs.old.items ++ (map (said_to event.now.op.now) plan.said
         ++ effect_outputs plan.effect (λ station. slot_at event.now.op.now station slots.old))) }
-    ensures err_told { OnErr result (take (length told.old.items) told.new.items ≡ told.old.items) }
+    ensures err_outs { OnErr result (take (length outs.old.items) outs.new.items ≡ outs.old.items) }
 {
     let room = room_of(&plan.effect);
     let Plan { said, effect } = plan;
-    tell(event.op, said, room, told)?;
-    apply(store, slots, event, effect, told)
+    tell(event.op, said, room, outs)?;
+    apply(store, slots, event, effect, outs)
 }
 
 /// Makes an effect of an operator, or changes nothing. What is said of calls that it ends or
@@ -166,28 +166,28 @@ fn change_of(op: &Text, edit: Boxed<Edit>) -> Mem<Change>
 /// Adds what is said, as outputs for an operator, and makes room for more. Without memory some of it may
 /// be there.
 #[tactic(auto, using(hub_rows::proofs::Steps::begins))]
-fn tell(op: &Text, said: Listed<Said>, room: usize, told: &mut Vec<Out>) -> Mem<()>
-    ensures told { OnOk result (told.new.items ≡ told.old.items ++ map (said_to op.now) said) }
-    ensures room { OnOk result (vec_len told.new + room ≤ vec_capacity told.new) }
-    ensures err { OnErr result (take (length told.old.items) told.new.items ≡ told.old.items) }
+fn tell(op: &Text, said: Listed<Said>, room: usize, outs: &mut Vec<Out>) -> Mem<()>
+    ensures outs { OnOk result (outs.new.items ≡ outs.old.items ++ map (said_to op.now) said) }
+    ensures room { OnOk result (vec_len outs.new + room ≤ vec_capacity outs.new) }
+    ensures err { OnErr result (take (length outs.old.items) outs.new.items ≡ outs.old.items) }
 {
     let said = said.into_vec();
     if let Some(all) = said.len().checked_add(room) {
-        told.reserve(all)?;
+        outs.reserve(all)?;
     }
-    push_said(op, said, told)?;
-    told.reserve(room)?;
+    push_said(op, said, outs)?;
+    outs.reserve(room)?;
     Ok(())
 }
 
 #[tactic(auto, using(hub_rows::proofs::Steps::begins))]
-fn push_said(op: &Text, said: Vec<Said>, told: &mut Vec<Out>) -> Mem<()>
-    ensures told { OnOk result (told.new.items ≡ told.old.items ++ map (said_to op.now) said.items) }
-    ensures err { OnErr result (take (length told.old.items) told.new.items ≡ told.old.items) }
+fn push_said(op: &Text, said: Vec<Said>, outs: &mut Vec<Out>) -> Mem<()>
+    ensures outs { OnOk result (outs.new.items ≡ outs.old.items ++ map (said_to op.now) said.items) }
+    ensures err { OnErr result (take (length outs.old.items) outs.new.items ≡ outs.old.items) }
 {
     for said in said {
         let op = op.clone()?;
-        told.push(Out { op, said })?;
+        outs.push(Out { op, said })?;
     }
     Ok(())
 }

@@ -210,14 +210,14 @@ impl<S: Store + Drop, V: VendorHandler> Hub<S, V> {
         (outs, taken, None)
     }
 
-    /// Takes one event, and adds its outputs to those told.
-    fn take(&mut self, event: &Event, told: &mut Vec<Out>) -> Result<(), Fault>
+    /// Takes one event, and adds its outputs at the end of `outs`.
+    fn take(&mut self, event: &Event, outs: &mut Vec<Out>) -> Result<(), Fault>
         ensures counted { IsCounted (hub_view S.view) self.old self.new (result ≡ Err Fault.Store) }
-        ensures told { is_clean S.view self.new → OnOk result (told.new.items ≡ told.old.items
+        ensures outs { is_clean S.view self.new → OnOk result (outs.new.items ≡ outs.old.items
             ++ world_outputs (setting V.view self.old) (world S.view self.old) event.now) }
         ensures world { is_clean S.view self.new → OnOk result (world S.view self.new
             ≡ world_step (setting V.view self.old) (world S.view self.old) event.now) }
-        ensures err_told { OnErr result (told.new.items ≡ told.old.items) }
+        ensures err_outs { OnErr result (outs.new.items ≡ outs.old.items) }
         ensures err_world { is_clean S.view self.new
             → OnErr result (world S.view self.new ≡ world S.view self.old) }
         ensures err_slots { OnErr result ((world S.view self.new).slots ≡ (world S.view self.old).slots) }
@@ -232,10 +232,10 @@ impl<S: Store + Drop, V: VendorHandler> Hub<S, V> {
         match event {
             Event::At { op, moment, what } => {
                 let moment = *moment;
-                self.take_at(&OperatorEvent { op, moment, what }, told)
+                self.take_at(&OperatorEvent { op, moment, what }, outs)
             }
             Event::Tick { moment } => {
-                expire_all(&mut self.slots, *moment, told)?;
+                expire_all(&mut self.slots, *moment, outs)?;
                 Ok(())
             }
         }
@@ -244,13 +244,13 @@ impl<S: Store + Drop, V: VendorHandler> Hub<S, V> {
     /// Takes an event of an operator. Room for all that grows is made before the one change of the
     /// store.
     #[tactic(auto, unfolding(crate::specs::Hub::setting))]
-    fn take_at(&mut self, lent: &OperatorEvent<'_>, told: &mut Vec<Out>) -> Result<(), Fault>
+    fn take_at(&mut self, lent: &OperatorEvent<'_>, outs: &mut Vec<Out>) -> Result<(), Fault>
         ensures counted { IsCounted (hub_view S.view) self.old self.new (result ≡ Err Fault.Store) }
-        ensures told { is_clean S.view self.new → OnOk result (told.new.items ≡ told.old.items
+        ensures outs { is_clean S.view self.new → OnOk result (outs.new.items ≡ outs.old.items
             ++ world_outputs (setting V.view self.old) (world S.view self.old) (event.At lent.now.op.now lent.now.moment lent.now.what.now)) }
         ensures world { is_clean S.view self.new → OnOk result (world S.view self.new
             ≡ world_step (setting V.view self.old) (world S.view self.old) (event.At lent.now.op.now lent.now.moment lent.now.what.now)) }
-        ensures err_told { OnErr result (told.new.items ≡ told.old.items) }
+        ensures err_outs { OnErr result (outs.new.items ≡ outs.old.items) }
         ensures err_world { is_clean S.view self.new
             → OnErr result (world S.view self.new ≡ world S.view self.old) }
         ensures err_slots { OnErr result ((world S.view self.new).slots ≡ (world S.view self.old).slots) }
@@ -267,6 +267,6 @@ impl<S: Store + Drop, V: VendorHandler> Hub<S, V> {
             return Err(Fault::NoSuchOperator);
         }
         let plan = plan_event(self.alloc, &mut self.book, &self.slots, hosted, lent)?;
-        commit(&mut self.book.store, &mut self.slots, lent, plan, told)
+        commit(&mut self.book.store, &mut self.slots, lent, plan, outs)
     }
 }

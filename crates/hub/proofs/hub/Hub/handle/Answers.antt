@@ -14,7 +14,7 @@ returns-clause-isolated_outputs g c = λ clean a.
     let st : Setting = setting g.V.VendorHandler.view c.args.self.now in
     let w : World = world g.S.Store.view c.args.self.now in
     let good : WellFormed w = record { rows = g.met.S.Store.well_formed c.args.self.now.book.store (c.in_ok-take.ensures.counted.was_clean clean); slots = slots-sorted c.args.self.now.slots } in
-    ap (outputs_of a) (c.in_ok-take.ensures.told clean ∙ ap (λ outs. outs ++ world_outputs st w c.args.event.now) c.new-outs.ensures.items ∙ sym (append-nil (world_outputs st w c.args.event.now)))
+    ap (outputs_of a) (c.in_ok-take.ensures.outs clean ∙ ap (λ outs. outs ++ world_outputs st w c.args.event.now) c.new-outs.ensures.items ∙ sym (append-nil (world_outputs st w c.args.event.now)))
     ∙ run_outputs-own st a w (c.args.event.now ∷ []) good
 
 pub returns-clause-isolated_view : goal.returns-clause-isolated_view
@@ -28,8 +28,8 @@ pub returns-clause-others : goal.returns-clause-others
 returns-clause-others g c = λ clean a.
     let st : Setting = setting g.V.VendorHandler.view c.args.self.now in
     let w : World = world g.S.Store.view c.args.self.now in
-    leaves_alone st a w c.args.event.now c.take.new.told.items (world g.S.Store.view c.take.new.self)
-    (c.in_ok-take.ensures.told clean ∙ ap (λ outs. outs ++ world_outputs st w c.args.event.now) c.new-outs.ensures.items) (c.in_ok-take.ensures.world clean)
+    leaves_alone st a w c.args.event.now c.take.new.outs.items (world g.S.Store.view c.take.new.self)
+    (c.in_ok-take.ensures.outs clean ∙ ap (λ outs. outs ++ world_outputs st w c.args.event.now) c.new-outs.ensures.items) (c.in_ok-take.ensures.world clean)
 
 pub returns-clause-stations : goal.returns-clause-stations
 returns-clause-stations g c = λ clean have.

@@ -17,7 +17,7 @@ returns-in-Err-clause-isolated_outputs g c = λ clean a.
     let inv = c.loop-event.invariant in
     let before = c.in-Err.ensures.counted.was_clean clean in
     let good : WellFormed w = record { rows = g.met.S.Store.well_formed c.args.self.now.book.store (inv.was_clean before); slots = slots-sorted c.args.self.now.slots } in
-    ap (outputs_of a) (c.in-Err.ensures.err_told ∙ inv.outputs before ∙ ap (λ n. run_outputs st w (take n c.args.events.now)) (sym inv.at))
+    ap (outputs_of a) (c.in-Err.ensures.err_outs ∙ inv.outputs before ∙ ap (λ n. run_outputs st w (take n c.args.events.now)) (sym inv.at))
     ∙ run_outputs-own st a w (take c.loop-event.taken c.args.events.now) good
 
 pub returns-in-Err-clause-isolated_view : goal.returns-in-Err-clause-isolated_view
@@ -64,7 +64,7 @@ loop-event-preserved g c =
           (ap (λ s. is_taken s c.event-item.result) (sym inv.setting) ∙ c.in-Ok.ensures.taken));
       was_clean = λ clean. inv.was_clean (c.in-Ok.ensures.counted.was_clean clean);
       outputs = λ clean. let before = c.in-Ok.ensures.counted.was_clean clean in
-          outputs_go_on st w es i c.event-item.result at.outs.items c.take.new.told.items mine (world g.S.Store.view at.self) c.loop-event-test.true c.event-item.is inv.setting (inv.world before) (inv.outputs before) (c.in-Ok.ensures.told clean);
+          outputs_go_on st w es i c.event-item.result at.outs.items c.take.new.outs.items mine (world g.S.Store.view at.self) c.loop-event-test.true c.event-item.is inv.setting (inv.world before) (inv.outputs before) (c.in-Ok.ensures.outs clean);
       world = λ clean. let before = c.in-Ok.ensures.counted.was_clean clean in
           world_goes_on st w es i c.event-item.result (world g.S.Store.view c.take.new.self) mine (world g.S.Store.view at.self) c.loop-event-test.true c.event-item.is inv.setting (inv.world before) (c.in-Ok.ensures.world clean);
       setting = c.in-Ok.ensures.setting ∙ inv.setting;
