@@ -5,7 +5,7 @@ use Rattle.std.specs.Option.{option_map}
 use Rattle.std.specs.Str.{bytes_eq}
 use Rattle.std.specs.Cmp.Lexicographic.{bytes_decides}
 use Rattle.hub_rows.specs.declared.change.Edit.{Edit}
-use Rattle.hub_rows.specs.declared.change.Edit.TheVariants.{StationAdded, BootSeen, PolicySet, ConnectorSeen, TagPut, TagDropped, GrantPut, GrantDropped, TxStarted, TxStopped, ReadingsAdded, ReservationPut, ReservationDropped, ListSet}
+use Rattle.hub_rows.specs.declared.change.Edit.TheVariants.{StationAdded, BootSeen, PolicySet}
 use Rattle.hub_rows.specs.declared.station_row.StationRow.{StationRow}
 use Rattle.hub_rows.specs.Changes.{edit, new_station, with_boot, with_policy}
 use Rattle.hub_rows.specs.Keyed.{by_key, changed, first, put}
@@ -64,34 +64,14 @@ unchanged_station b t (BootSeen station boot state) rows answer is other right =
 unchanged_station b t (PolicySet station policy interval) rows answer is other right =
     let same : t ≡ station = cc in
     right ∙ sym (ap (option_map registration_of) (station-changed answer.op answer.station b station (with_policy policy interval) (λ r. (refl, refl)) (subst (λ x. bytes_eq answer.op b && bytes_eq answer.station x ≡ false) same other) rows.stations))
-unchanged_station b t (ConnectorSeen station connector report) rows answer is other right = right
-unchanged_station b t (TagPut key tag) rows answer is other right = right
-unchanged_station b t (TagDropped key) rows answer is other right = right
-unchanged_station b t (GrantPut key to until) rows answer is other right = right
-unchanged_station b t (GrantDropped key to) rows answer is other right = right
-unchanged_station b t (TxStarted station number start) rows answer is other right = right
-unchanged_station b t (TxStopped station number stop from readings) rows answer is other right = right
-unchanged_station b t (ReadingsAdded station from readings) rows answer is other right = right
-unchanged_station b t (ReservationPut station id reservation) rows answer is other right = right
-unchanged_station b t (ReservationDropped station id) rows answer is other right = right
-unchanged_station b t (ListSet station list) rows answer is other right = right
+unchanged_station b t e rows answer is other right = right
 
 -- an edit that changes no station
 pub unseen_station : (b : List ℕ) (e : Edit) (rows : Rows) (answer : StationAnswer) → is_some (changed_station e) ≡ false → IsRegistered rows answer → IsRegistered (edit b e rows) answer
 unseen_station b (StationAdded station policy interval) rows answer none right = absurd (true≢false none)
 unseen_station b (BootSeen station boot state) rows answer none right = absurd (true≢false none)
 unseen_station b (PolicySet station policy interval) rows answer none right = absurd (true≢false none)
-unseen_station b (ConnectorSeen station connector report) rows answer none right = right
-unseen_station b (TagPut key tag) rows answer none right = right
-unseen_station b (TagDropped key) rows answer none right = right
-unseen_station b (GrantPut key to until) rows answer none right = right
-unseen_station b (GrantDropped key to) rows answer none right = right
-unseen_station b (TxStarted station number start) rows answer none right = right
-unseen_station b (TxStopped station number stop from readings) rows answer none right = right
-unseen_station b (ReadingsAdded station from readings) rows answer none right = right
-unseen_station b (ReservationPut station id reservation) rows answer none right = right
-unseen_station b (ReservationDropped station id) rows answer none right = right
-unseen_station b (ListSet station list) rows answer none right = right
+unseen_station b e rows answer none right = right
 
 -- what the rows give of the station that an answer is of
 pub registered_of : (rows : Rows) (answer : StationAnswer) (a name : List ℕ) → IsOf a name answer → registration_at answer.op answer.station rows ≡ registration_at a name rows

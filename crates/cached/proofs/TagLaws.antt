@@ -8,7 +8,7 @@ use Rattle.std.specs.Prelude.{is_some}
 use Rattle.std.specs.Str.{bytes_eq}
 use Rattle.ocpp_types.specs.TagKey.{key_of}
 use Rattle.hub_rows.specs.declared.change.Edit.{Edit}
-use Rattle.hub_rows.specs.declared.change.Edit.TheVariants.{StationAdded, BootSeen, PolicySet, ConnectorSeen, TagPut, TagDropped, GrantPut, GrantDropped, TxStarted, TxStopped, ReadingsAdded, ReservationPut, ReservationDropped, ListSet}
+use Rattle.hub_rows.specs.declared.change.Edit.TheVariants.{TagPut, TagDropped, GrantPut, GrantDropped}
 use Rattle.hub_rows.specs.declared.grant_row.GrantRow.{GrantRow}
 use Rattle.hub_rows.specs.declared.info.Info.{Info}
 use Rattle.hub_rows.specs.declared.tag_row.Tag.{Tag}
@@ -136,10 +136,6 @@ apart_by : (key : List ℕ) (rows : Rows) (answer : TagAnswer) → IsApart key a
 apart_by key rows answer apart right = subst (IsParentApart key) right apart.parent
 
 pub untouched_right : (key b : List ℕ) (e : Edit) (rows : Rows) (answer : TagAnswer) → touched e ≡ Some key → IsApart key answer → IsRight rows answer → IsRight (edit b e rows) answer
-untouched_right key b (StationAdded station policy interval) rows answer is apart right = right
-untouched_right key b (BootSeen station boot state) rows answer is apart right = right
-untouched_right key b (PolicySet station policy interval) rows answer is apart right = right
-untouched_right key b (ConnectorSeen station connector report) rows answer is apart right = right
 untouched_right key b (TagPut k tag) rows answer is apart right =
     let other : answer.key ≢ k = λ q. (apart.key (let same : k ≡ key = cc in q ∙ same)) in
     let parent = subst (λ x. IsParentApart x (answered answer.look_up answer.op answer.key rows.tags rows.grants)) (let same : key ≡ k = cc in same) (apart_by key rows answer apart right) in
@@ -156,29 +152,15 @@ untouched_right key b (GrantDropped k to) rows answer is apart right =
     let other : answer.key ≢ k = λ q. (apart.key (let same : k ≡ key = cc in q ∙ same)) in
     let parent = subst (λ x. IsParentApart x (answered answer.look_up answer.op answer.key rows.tags rows.grants)) (let same : key ≡ k = cc in same) (apart_by key rows answer apart right) in
     right ∙ sym (answered_same k rows.tags rows.tags (λ a j o. refl) answer.look_up answer.op answer.key rows.grants (without (λ r. r.op) b (is_grant k to) rows.grants) (grant-dropped b k to rows.grants) other parent)
-untouched_right key b (TxStarted station number start) rows answer is apart right = right
-untouched_right key b (TxStopped station number stop from readings) rows answer is apart right = right
-untouched_right key b (ReadingsAdded station from readings) rows answer is apart right = right
-untouched_right key b (ReservationPut station id reservation) rows answer is apart right = right
-untouched_right key b (ReservationDropped station id) rows answer is apart right = right
-untouched_right key b (ListSet station list) rows answer is apart right = right
+untouched_right key b e rows answer is apart right = right
 
 -- an edit that changes no tag and no grant
 pub unseen_right : (b : List ℕ) (e : Edit) (rows : Rows) (answer : TagAnswer) → is_some (touched e) ≡ false → IsRight rows answer → IsRight (edit b e rows) answer
-unseen_right b (StationAdded station policy interval) rows answer none right = right
-unseen_right b (BootSeen station boot state) rows answer none right = right
-unseen_right b (PolicySet station policy interval) rows answer none right = right
-unseen_right b (ConnectorSeen station connector report) rows answer none right = right
 unseen_right b (TagPut key tag) rows answer none right = absurd (true≢false none)
 unseen_right b (TagDropped key) rows answer none right = absurd (true≢false none)
 unseen_right b (GrantPut key to until) rows answer none right = absurd (true≢false none)
 unseen_right b (GrantDropped key to) rows answer none right = absurd (true≢false none)
-unseen_right b (TxStarted station number start) rows answer none right = right
-unseen_right b (TxStopped station number stop from readings) rows answer none right = right
-unseen_right b (ReadingsAdded station from readings) rows answer none right = right
-unseen_right b (ReservationPut station id reservation) rows answer none right = right
-unseen_right b (ReservationDropped station id) rows answer none right = right
-unseen_right b (ListSet station list) rows answer none right = right
+unseen_right b e rows answer none right = right
 
 -- what is right of an answer about a look-up
 pub about_right : (rows : Rows) (answer : TagAnswer) (how : LookUp) (a k : List ℕ) → IsAbout how a k answer → looked_up answer.look_up answer.op answer.key rows ≡ looked_up how a k rows

@@ -5,7 +5,7 @@ use Rattle.hub_rows.specs.declared.grant_row.GrantRow.{GrantRow}
 use Rattle.hub_rows.specs.declared.info.Info.{Info}
 use Rattle.hub_rows.specs.declared.tag_row.TagRow.{TagRow}
 use Rattle.hub_rows.specs.declared.change.Edit.{Edit}
-use Rattle.hub_rows.specs.declared.change.Edit.TheVariants.{StationAdded, BootSeen, PolicySet, ConnectorSeen, TagPut, TagDropped, GrantPut, GrantDropped, TxStarted, TxStopped, ReadingsAdded, ReservationPut, ReservationDropped, ListSet}
+use Rattle.hub_rows.specs.declared.change.Edit.TheVariants.{TagPut, TagDropped, GrantPut, GrantDropped}
 use Rattle.hub_rows.specs.Grants.{granted_tag_in}
 use Rattle.hub_rows.specs.Rows.{Rows}
 use Rattle.hub_rows.specs.Tags.{own_tag_in}
@@ -43,17 +43,8 @@ IsRight rows answer = answer.info ≡ looked_up answer.look_up answer.op answer.
 
 -- the key of the tag that an edit changes, or whose grants it changes
 abbrev pub touched : Edit → Option (List ℕ)
-touched (StationAdded station policy interval) = None
-touched (BootSeen station boot state) = None
-touched (PolicySet station policy interval) = None
-touched (ConnectorSeen station connector report) = None
 touched (TagPut key tag) = Some key
 touched (TagDropped key) = Some key
 touched (GrantPut key to until) = Some key
 touched (GrantDropped key to) = Some key
-touched (TxStarted station number start) = None
-touched (TxStopped station number stop first readings) = None
-touched (ReadingsAdded station first readings) = None
-touched (ReservationPut station id reservation) = None
-touched (ReservationDropped station id) = None
-touched (ListSet station list) = None
+touched e = None

@@ -213,17 +213,7 @@ accepted_fits : (station : List ℕ) (c : Command) (l : Lookups) → IsSome (l.r
 accepted_fits station (command.CancelReservation c) l here = cancelled_fits station c l
 accepted_fits station (command.ReserveNow c) l here = reserved_fits station c l here
 accepted_fits station (command.SendLocalList c) l here = list_fits station c l here
-accepted_fits station (command.ChangeAvailability c) l here = tt
-accepted_fits station (command.ChangeConfiguration c) l here = tt
-accepted_fits station command.ClearCache l here = tt
-accepted_fits station (command.DataTransfer c) l here = tt
-accepted_fits station (command.GetConfiguration c) l here = tt
-accepted_fits station command.GetLocalListVersion l here = tt
-accepted_fits station (command.RemoteStartTransaction c) l here = tt
-accepted_fits station (command.RemoteStopTransaction c) l here = tt
-accepted_fits station (command.Reset c) l here = tt
-accepted_fits station (command.TriggerMessage c) l here = tt
-accepted_fits station (command.UnlockConnector c) l here = tt
+accepted_fits station c l here = tt
 
 settled_fits : (station : List ℕ) (c : Command) (l : Lookups) → IfSome (settled station c l) (FitsLookups l)
 settled_fits station c l =

@@ -83,17 +83,7 @@ pub keeps-edit : (b : List ℕ) (e : Edit) (rows : Rows) → KeepsRecord rows.st
 keeps-edit b (StationAdded station policy interval) rows = keeps-put (new_station b station policy interval) rows.stations
 keeps-edit b (BootSeen station boot state) rows = keeps-changed b (λ r. bytes_eq r.station station) (with_boot boot state) (λ r. (refl, refl)) rows.stations
 keeps-edit b (PolicySet station policy interval) rows = keeps-changed b (λ r. bytes_eq r.station station) (with_policy policy interval) (λ r. (refl, refl)) rows.stations
-keeps-edit b (ConnectorSeen station connector report) rows = λ c s on. on
-keeps-edit b (TagPut key tag) rows = λ c s on. on
-keeps-edit b (TagDropped key) rows = λ c s on. on
-keeps-edit b (GrantPut key to until) rows = λ c s on. on
-keeps-edit b (GrantDropped key to) rows = λ c s on. on
-keeps-edit b (TxStarted station number start) rows = λ c s on. on
-keeps-edit b (TxStopped station number stop first readings) rows = λ c s on. on
-keeps-edit b (ReadingsAdded station first readings) rows = λ c s on. on
-keeps-edit b (ReservationPut station id reservation) rows = λ c s on. on
-keeps-edit b (ReservationDropped station id) rows = λ c s on. on
-keeps-edit b (ListSet station list) rows = λ c s on. on
+keeps-edit b e rows = λ c s on. on
 
 -- ---- tags on record
 

@@ -1,6 +1,6 @@
 //! Which actions are answered.
 ghost use Rattle.std.specs.Prelude.{◌≡◌};
-ghost use Rattle.ocpp_payload.specs.ActionClass.{action_class, is_unsupported};
+ghost use Rattle.ocpp_payload.specs.ActionClass.{action_class, is_of_the_standard};
 
 use crate::action::Action;
 use ocpp_types::Named;
@@ -28,13 +28,23 @@ pub fn action_class(name: &str) -> ActionClass
     }
 }
 
+/// Whether OCPP 1.6 has an action of that name: first those of a station, then those of a central
+/// system.
 fn is_of_the_standard(name: &str) -> bool
-    ensures { result ≡ is_unsupported name.now }
+    ensures { result ≡ is_of_the_standard name.now }
 {
     matches!(
         name,
-        "DiagnosticsStatusNotification"
+        "Authorize"
+            | "BootNotification"
+            | "DataTransfer"
+            | "DiagnosticsStatusNotification"
             | "FirmwareStatusNotification"
+            | "Heartbeat"
+            | "MeterValues"
+            | "StartTransaction"
+            | "StatusNotification"
+            | "StopTransaction"
             | "CancelReservation"
             | "ChangeAvailability"
             | "ChangeConfiguration"
