@@ -6,6 +6,7 @@ use Rattle.std.specs.Str.{bytes_eq}
 use Rattle.hub_rows.specs.Keyed.{by_key}
 use Rattle.store_mem.specs.declared.named_groups.NamedGroup.{NamedGroup}
 
+-- what tells groups apart
 abbrev pub group_key : {R : Type 0} → NamedGroup R → List (List ℕ)
 group_key s = s.op ∷ s.name ∷ []
 
@@ -19,6 +20,7 @@ AreInPlace ss = IsStrictlySortedBy (by_key group_key) ss
 abbrev pub is_at : {R : Type 0} → List ℕ → List ℕ → NamedGroup R → Bool
 is_at b n s = bytes_eq s.op b && bytes_eq s.name n
 
+-- the rows of a group, none where there is none
 abbrev pub rows_or_none : {R : Type 0} → Option (NamedGroup R) → List R
 rows_or_none None = []
 rows_or_none (Some s) = s.rows.items
@@ -53,10 +55,11 @@ module _ {R : Type 0} (op station : R → List ℕ) (number : R → ℕ) where
     pub mine : AllByRecursion (λ r. (op r ≡ b) × (station r ≡ st)) rows
     pub sorted : IsStrictlySortedBy (by_key (number_key number)) rows
 
+  -- a group with the rows of its station
   abbrev pub IsGroup : NamedGroup R → Type 0
   IsGroup s = AreOf s.op s.name s.rows.items
 
   -- groups in the order of their stations
   pub record AreGrouped (ss : List (NamedGroup R)) : Type 0 where
-    pub sorted : IsStrictlySortedBy (by_key group_key) ss
+    pub sorted : AreInPlace ss
     pub each : AllByRecursion IsGroup ss

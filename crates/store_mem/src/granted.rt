@@ -15,12 +15,7 @@ use ocpp_types::{Listed, Mem};
 use std::alloc::Global;
 
 /// The tag of a key that is granted to an operator: that of the first owner.
-pub fn granted_tag(
-    tags: &Tags,
-    grants: &Grants,
-    op: &str,
-    key: &str,
-) -> Mem<Option<Info>>
+pub fn granted_tag(tags: &Tags, grants: &Grants, op: &str, key: &str) -> Mem<Option<Info>>
     requires { AreGood grant_key (IsGoodGrant (all_of tags.now.groups.items)) (all_of grants.now.given.items) }
     ensures { IfOk result (λ t. t ≡ granted_tag_in op.now key.now (all_of tags.now.groups.items) (all_of grants.now.given.items)) }
 {
@@ -32,12 +27,7 @@ pub fn granted_tag(
 }
 
 /// The tags that are granted to an operator, in the order of their keys, then of their owners.
-pub fn granted(
-    alloc: Global,
-    tags: &Tags,
-    grants: &Grants,
-    op: &str,
-) -> Mem<Listed<GrantedTag>>
+pub fn granted(alloc: Global, tags: &Tags, grants: &Grants, op: &str) -> Mem<Listed<GrantedTag>>
     ensures { IfOk result (λ l. l ≡ granted_in op.now (all_of tags.now.groups.items) (all_of grants.now.given.items)) }
 {
     entries_by(alloc, tags, rows_of_group(&grants.received, op))

@@ -44,7 +44,7 @@ impl GroupedRow for TagRow {
         self.op.as_str()
     }
 
-    /// One text is less than two that begin with it.
+    /// A rest of one text is less than two texts that begin with it.
     fn compare_rest(&self, second: &str, _third: &str) -> Ordering {
         self.key.as_str().cmp(second).then(Ordering::Less)
     }

@@ -33,13 +33,7 @@ impl Readings {
     }
 
     /// Adds readings after those of their station, numbered from the first number on.
-    pub fn add(
-        &mut self,
-        op: &Text,
-        station: &Text,
-        first: u32,
-        readings: &[Reading],
-    ) -> Mem<()>
+    pub fn add(&mut self, op: &Text, station: &Text, first: u32, readings: &[Reading]) -> Mem<()>
         requires { AreNext (greatest (map (λ r. r.number) (readings_in op.now station.now None (all_rows self.old.rows.items)))) first (length readings.now) }
         ensures ok { OnOk result (all_rows self.new.rows.items ≡ with_readings op.now station.now first readings.now (all_rows self.old.rows.items)) }
         ensures err { OnErr result (all_rows self.new.rows.items ≡ all_rows self.old.rows.items) }
@@ -48,7 +42,13 @@ impl Readings {
             return Ok(());
         }
         let rows = reading_rows(self.alloc, op, station, first, readings)?;
-        append_rows(self.alloc, &mut self.rows, op.as_str(), station.as_str(), rows)
+        append_rows(
+            self.alloc,
+            &mut self.rows,
+            op.as_str(),
+            station.as_str(),
+            rows,
+        )
     }
 
     /// The readings of a station, of all or of those sent with the number of a transaction.

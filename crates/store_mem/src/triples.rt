@@ -17,11 +17,7 @@ pub fn place_of_row<R: GroupedRow>(
     requires { IsStrictlySortedBy (by_key R.key) rows.now }
     ensures { IsPlace R.key (name.now ∷ second.now ∷ third.now ∷ []) rows.now result }
 {
-    rows.binary_search_by(|row| {
-        row.group()
-            .cmp(name)
-            .then(row.compare_rest(second, third))
-    })
+    rows.binary_search_by(|row| { row.group().cmp(name).then(row.compare_rest(second, third)) })
 }
 
 /// Removes a row from its group, if it is there.

@@ -20,9 +20,9 @@ invariant_of-self c =
     let key = c.args.key.now in
     let to = c.args.to.now in
     let received : all_of c.drop_row.new.groups.items ≡ without (λ r. r.grant.to) to (is_of key b) (all_of s.received.items) =
-        c.drop_row.ensures.rows ∙ (λ i. without (λ r. r.grant.to) to (λ r. sym (two_parts r.grant.key r.grant.op key b) i) (all_of s.received.items)) in
+    c.drop_row.ensures.rows ∙ (λ i. without (λ r. r.grant.to) to (λ r. sym (two_parts r.grant.key r.grant.op key b) i) (all_of s.received.items)) in
     let given : all_of c.drop_row-2.new.groups.items ≡ without (λ r. r.op) b (is_grant key to) (all_of s.given.items) =
-        c.drop_row-2.ensures.rows ∙ (λ i. without (λ r. r.op) b (λ r. sym (two_parts r.key r.to key to) i) (all_of s.given.items)) in
+    c.drop_row-2.ensures.rows ∙ (λ i. without (λ r. r.op) b (λ r. sym (two_parts r.key r.to key to) i) (all_of s.given.items)) in
     record {
       by_owner = c.drop_row-2.ensures.groups;
       by_receiver = c.drop_row.ensures.groups;

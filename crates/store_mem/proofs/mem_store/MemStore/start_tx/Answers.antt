@@ -1,7 +1,5 @@
-use Rattle.std.proofs.Common.{sym, subst}
 use Rattle.hub_rows.specs.declared.change.Edit.TheVariants.{TxStarted}
 use Rattle.hub_rows.specs.Rows.{Rows}
-use Rattle.hub_rows.specs.WellFormed.{WellFormedRows}
 use Rattle.hub_rows.proofs.WellFormedLaws.{well_formed-edit}
 use Rattle.store_mem.specs.Lists.{rows_in}
 use Rattle.store_mem.proofs.mem_store.MemStore.start_tx.Goals as goal
