@@ -8,7 +8,7 @@ pub mod DroppedLaws
 pub mod TripleLaws
 pub mod ReceivedLaws
 pub mod GrantedLaws
-pub mod IndexedLaws
+pub mod NamedGroupLaws
 pub mod OpenLaws
 pub mod StartLaws
 pub mod NewRows

@@ -11,7 +11,7 @@ use Rattle.hub_rows.specs.declared.reading_row.ReadingRow.{ReadingRow}
 use Rattle.hub_rows.specs.Keyed.{by_key, those, greatest}
 use Rattle.hub_rows.specs.Transactions.{reading_rows, readings_in, AreNext}
 use Rattle.hub_rows.proofs.ListLaws.{all-weaker, and-true}
-use Rattle.store_mem.specs.ByStation.{number_key, AreOf}
+use Rattle.store_mem.specs.NamedGroups.{number_key, AreOf}
 use Rattle.store_mem.proofs.StationRowsLaws.{number-less}
 
 -- numbers that follow the last are above it

@@ -22,9 +22,9 @@ use Rattle.hub_rows.specs.Keyed.{text_cmp, by_key, key_cmp, put, changed, found,
 use Rattle.hub_rows.specs.Rows.{tx_key}
 use Rattle.hub_rows.specs.Transactions.{counts, has_open_in, is_open, is_tx, is_left_out, is_used_in}
 use Rattle.hub_rows.proofs.ListLaws.{by_key_total, all-filter, all-weaker, put-front, put-agree, same_key, same_text, text_itself, two_parts, head, keys_total, and-true}
-use Rattle.store_mem.specs.declared.indexed.Indexed.{Indexed}
+use Rattle.store_mem.specs.declared.named_groups.NamedGroup.{NamedGroup}
 use Rattle.store_mem.specs.declared.open.OpenRow.{OpenRow}
-use Rattle.store_mem.specs.Indexed.{rows_at, AreInPlace}
+use Rattle.store_mem.specs.NamedGroups.{rows_at, AreInPlace}
 use Rattle.store_mem.specs.Open.{open_key, open_of, is_open_tx, is_excepted, has_other, opens_of, AreOpens}
 use Rattle.store_mem.proofs.DroppedLaws.{all-passed}
 use Rattle.store_mem.proofs.ReceivedLaws.{map-filter, map-put}
@@ -194,7 +194,7 @@ module _ (stands : TxRow → Bool) (name : TxRow → List ℕ) where
       ] refl
 
   -- a transaction is put under its name, if it stands
-  pub opens-started : (o m : List ℕ) (t : Bool) (r : TxRow) (s : OpenRow) (txs now : List TxRow) (old new : List (Indexed OpenRow)) → IsStrictlySortedBy (by_key tx_key) txs → IsNew r txs → now ≡ put (by_key tx_key) r txs
+  pub opens-started : (o m : List ℕ) (t : Bool) (r : TxRow) (s : OpenRow) (txs now : List TxRow) (old new : List (NamedGroup OpenRow)) → IsStrictlySortedBy (by_key tx_key) txs → IsNew r txs → now ≡ put (by_key tx_key) r txs
       → r.op ≡ o → name r ≡ m → s ≡ open_of r → stands r ≡ t → AreOpens stands name old txs → AreInPlace new
       → ((b n : List ℕ) → rows_at b n new ≡ cond (bytes_eq o b && (t && bytes_eq m n)) (put (by_key open_key) s (rows_at b n old)) (rows_at b n old))
       → AreOpens stands name new now

@@ -27,8 +27,8 @@ use Rattle.hub_rows.proofs.ListLaws.{keys_total, by_key_total, all-weaker, filte
 use Rattle.hub_rows.proofs.OrderLaws.{find-first, in_order-sorted, filter-in_order, in_order-put}
 use Rattle.hub_rows.proofs.PlaceLaws.{find-none}
 use Rattle.store_mem.specs.declared.starts.StartRow.{StartRow}
-use Rattle.store_mem.specs.declared.indexed.Indexed.{Indexed}
-use Rattle.store_mem.specs.Indexed.{rows_at, AreInPlace}
+use Rattle.store_mem.specs.declared.named_groups.NamedGroup.{NamedGroup}
+use Rattle.store_mem.specs.NamedGroups.{rows_at, AreInPlace}
 use Rattle.store_mem.specs.Starts.{sign, code, start_key, start_of, starts_of, AreStarts, number_of}
 use Rattle.std.proofs.lemmas.Map.Text.{is_eq-slice_cmp}
 use Rattle.store_mem.proofs.DroppedLaws.{all-passed}
@@ -152,7 +152,7 @@ module _ (b st : List ℕ) (k : StartKey) where
       ∙ in_order-sorted (by_key start_key) (filter (same k) (map start_of rs)) (subst (IsStrictlySortedBy (by_key start_key)) (sym ones) (map-sorted (filter is_one txs) (sorted-ones txs sorted)))
 
   -- the first equal start is that of the first transaction with it
-  pub number-first : (ss : List (Indexed StartRow)) (txs : List TxRow) → IsStrictlySortedBy (by_key tx_key) txs → AreStarts ss txs → number_of k (rows_at b st ss) ≡ same_start_in b st k txs
+  pub number-first : (ss : List (NamedGroup StartRow)) (txs : List TxRow) → IsStrictlySortedBy (by_key tx_key) txs → AreStarts ss txs → number_of k (rows_at b st ss) ≡ same_start_in b st k txs
   number-first ss txs sorted are =
       let rs : List TxRow = those (λ r. r.op) b (λ r. bytes_eq r.station st) txs in
       (λ i. option_map (λ s. s.number) (find (λ s. sym (same_code k s.start) i) (are.each b st i)))
@@ -293,7 +293,7 @@ starts-stopped o t n stop b st (x ∷ txs) =
     behind y x false left rows same more = more
 
 -- a start leaves the others, and is put among those of its station
-pub starts-started : (o t : List ℕ) (r : TxRow) (s : StartRow) (txs now : List TxRow) (old new : List (Indexed StartRow)) → IsStrictlySortedBy (by_key tx_key) txs
+pub starts-started : (o t : List ℕ) (r : TxRow) (s : StartRow) (txs now : List TxRow) (old new : List (NamedGroup StartRow)) → IsStrictlySortedBy (by_key tx_key) txs
     → greatest (map (λ x. x.number) (those (λ x. x.op) r.op (λ x. bytes_eq x.station r.station) txs)) < r.number → now ≡ put (by_key tx_key) r txs → r.op ≡ o → r.station ≡ t → s ≡ start_of r
     → AreStarts old txs → AreInPlace new
     → ((b st : List ℕ) → rows_at b st new ≡ cond (bytes_eq o b && bytes_eq t st) (put (by_key start_key) s (rows_at b st old)) (rows_at b st old))

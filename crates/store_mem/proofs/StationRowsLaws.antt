@@ -17,8 +17,8 @@ use Rattle.hub_rows.specs.Keyed.{text_cmp, key_cmp, by_key, put_all, found, thos
 use Rattle.hub_rows.specs.Places.{AllBelow, AllAbove, IsFoundAt, IsGapAt}
 use Rattle.hub_rows.proofs.ListLaws.{keys_total, by_key_total, all-weaker, put-front, sorted-put, set_here, two_parts, head}
 use Rattle.hub_rows.proofs.PlaceLaws.{all-back, map-append, map-none, put-passed, put-gap}
-use Rattle.store_mem.specs.declared.station_rows.StationRows.{StationRows}
-use Rattle.store_mem.specs.ByStation.{number_key, group_key, all_rows, AreOf, AreGrouped}
+use Rattle.store_mem.specs.declared.named_groups.NamedGroup.{NamedGroup}
+use Rattle.store_mem.specs.NamedGroups.{number_key, group_key, all_rows, AreOf, AreGrouped}
 use Rattle.store_mem.proofs.RowLaws.{all-append, all-front, all-both, filter-all, filter-no, sorted-kept, sorted-swap}
 
 -- ---- lists
@@ -127,11 +127,11 @@ last_greatest number (x ∷ xs) r sorted is =
 
 -- ---- the rows of all stations
 
-pub all_rows-append : {R : Type 0} (ss ts : List (StationRows R)) → all_rows (ss ++ ts) ≡ all_rows ss ++ all_rows ts
+pub all_rows-append : {R : Type 0} (ss ts : List (NamedGroup R)) → all_rows (ss ++ ts) ≡ all_rows ss ++ all_rows ts
 all_rows-append [] ts = refl
 all_rows-append (s ∷ ss) ts = ap (λ rs. s.rows.items ++ rs) (all_rows-append ss ts) ∙ sym (append_assoc s.rows.items (all_rows ss) (all_rows ts))
 
-pub all-rows : {R : Type 0} (P : R → Type 0) (Q : StationRows R → Type 0) → ((s : StationRows R) → Q s → AllByRecursion P s.rows.items) → (ss : List (StationRows R)) → AllByRecursion Q ss → AllByRecursion P (all_rows ss)
+pub all-rows : {R : Type 0} (P : R → Type 0) (Q : NamedGroup R → Type 0) → ((s : NamedGroup R) → Q s → AllByRecursion P s.rows.items) → (ss : List (NamedGroup R)) → AllByRecursion Q ss → AllByRecursion P (all_rows ss)
 all-rows P Q f [] all = tt
 all-rows P Q f (s ∷ ss) all = all-append P s.rows.items (all_rows ss) (f s all.0) (all-rows P Q f ss all.1)
 
@@ -160,16 +160,16 @@ module _ {R : Type 0} (op station : R → List ℕ) (number : R → ℕ) (b st :
 
   -- the rows of a group of another station
   module _ (z : Ordering) (apart : is_eq z ≡ false) where
-    group_not : (s : StationRows R) → AreOf op station number s.op s.station s.rows.items × (key_cmp (group_key s) k ≡ z) → AllByRecursion (λ r. mine r ≡ false) s.rows.items
+    group_not : (s : NamedGroup R) → AreOf op station number s.op s.name s.rows.items × (key_cmp (group_key s) k ≡ z) → AllByRecursion (λ r. mine r ≡ false) s.rows.items
     group_not s at =
-        all-weaker (λ r. (op r ≡ s.op) × (station r ≡ s.station)) (λ r. mine r ≡ false)
+        all-weaker (λ r. (op r ≡ s.op) × (station r ≡ s.name)) (λ r. mine r ≡ false)
         (λ r m. two_parts (op r) (station r) b st ∙ ap is_eq ((λ i. key_cmp (m.0 i ∷ m.1 i ∷ []) k) ∙ at.1) ∙ apart) s.rows.items at.0.mine
 
-    groups_not : (ss : List (StationRows R)) → AllByRecursion (λ s. AreOf op station number s.op s.station s.rows.items) ss → AllByRecursion (λ s. key_cmp (group_key s) k ≡ z) ss → AllByRecursion (λ r. mine r ≡ false) (all_rows ss)
-    groups_not ss each all = all-rows (λ r. mine r ≡ false) (λ s. AreOf op station number s.op s.station s.rows.items × (key_cmp (group_key s) k ≡ z)) group_not ss (all-both _ _ ss each all)
+    groups_not : (ss : List (NamedGroup R)) → AllByRecursion (λ s. AreOf op station number s.op s.name s.rows.items) ss → AllByRecursion (λ s. key_cmp (group_key s) k ≡ z) ss → AllByRecursion (λ r. mine r ≡ false) (all_rows ss)
+    groups_not ss each all = all-rows (λ r. mine r ≡ false) (λ s. AreOf op station number s.op s.name s.rows.items × (key_cmp (group_key s) k ≡ z)) group_not ss (all-both _ _ ss each all)
 
   -- what stands before, at and behind the place of the station
-  pub record Parts (ss : List (StationRows R)) (front rows back : List R) : Type 0 where
+  pub record Parts (ss : List (NamedGroup R)) (front rows back : List R) : Type 0 where
     pub split : all_rows ss ≡ front ++ (rows ++ back)
     pub of_station : AreOf op station number b st rows
     pub front_not : AllByRecursion (λ r. mine r ≡ false) front
@@ -177,31 +177,31 @@ module _ {R : Type 0} (op station : R → List ℕ) (number : R → ℕ) (b st :
     pub front_less : (r : R) → IsMine r → AllByRecursion (λ y. by_key key r y ≡ Greater) front
     pub back_more : (r : R) → IsMine r → AllByRecursion (λ y. by_key key r y ≡ Less) back
 
-  front_below : (ss : List (StationRows R)) → AllByRecursion (λ s. AreOf op station number s.op s.station s.rows.items) ss → AllBelow group_key k ss → (r : R) → IsMine r → AllByRecursion (λ y. by_key key r y ≡ Greater) (all_rows ss)
+  front_below : (ss : List (NamedGroup R)) → AllByRecursion (λ s. AreOf op station number s.op s.name s.rows.items) ss → AllBelow group_key k ss → (r : R) → IsMine r → AllByRecursion (λ y. by_key key r y ≡ Greater) (all_rows ss)
   front_below ss each all r m =
-      all-rows (λ y. by_key key r y ≡ Greater) (λ s. AreOf op station number s.op s.station s.rows.items × (key_cmp (group_key s) k ≡ Less))
-      (λ s at. all-weaker (λ y. (op y ≡ s.op) × (station y ≡ s.station)) (λ y. by_key key r y ≡ Greater)
+      all-rows (λ y. by_key key r y ≡ Greater) (λ s. AreOf op station number s.op s.name s.rows.items × (key_cmp (group_key s) k ≡ Less))
+      (λ s at. all-weaker (λ y. (op y ≡ s.op) × (station y ≡ s.name)) (λ y. by_key key r y ≡ Greater)
       (λ y n. keys_total.antisymm (key r) (key y)
       ∙ ap ordering_reverse ((λ i. key_cmp (n.0 i ∷ n.1 i ∷ number_key number y) (m.0 i ∷ m.1 i ∷ number_key number r))
-      ∙ then-less (text_cmp s.op b) (text_cmp s.station st) (key_cmp (number_key number y) (number_key number r)) at.1))
+      ∙ then-less (text_cmp s.op b) (text_cmp s.name st) (key_cmp (number_key number y) (number_key number r)) at.1))
       s.rows.items at.0.mine)
       ss (all-both _ _ ss each all)
 
-  back_above : (ss : List (StationRows R)) → AllByRecursion (λ s. AreOf op station number s.op s.station s.rows.items) ss → AllAbove group_key k ss → (r : R) → IsMine r → AllByRecursion (λ y. by_key key r y ≡ Less) (all_rows ss)
+  back_above : (ss : List (NamedGroup R)) → AllByRecursion (λ s. AreOf op station number s.op s.name s.rows.items) ss → AllAbove group_key k ss → (r : R) → IsMine r → AllByRecursion (λ y. by_key key r y ≡ Less) (all_rows ss)
   back_above ss each all r m =
-      all-rows (λ y. by_key key r y ≡ Less) (λ s. AreOf op station number s.op s.station s.rows.items × (key_cmp (group_key s) k ≡ Greater))
-      (λ s at. all-weaker (λ y. (op y ≡ s.op) × (station y ≡ s.station)) (λ y. by_key key r y ≡ Less)
+      all-rows (λ y. by_key key r y ≡ Less) (λ s. AreOf op station number s.op s.name s.rows.items × (key_cmp (group_key s) k ≡ Greater))
+      (λ s at. all-weaker (λ y. (op y ≡ s.op) × (station y ≡ s.name)) (λ y. by_key key r y ≡ Less)
       (λ y n. keys_total.antisymm (key r) (key y)
       ∙ ap ordering_reverse ((λ i. key_cmp (n.0 i ∷ n.1 i ∷ number_key number y) (m.0 i ∷ m.1 i ∷ number_key number r))
-      ∙ then-greater (text_cmp s.op b) (text_cmp s.station st) (key_cmp (number_key number y) (number_key number r)) at.1))
+      ∙ then-greater (text_cmp s.op b) (text_cmp s.name st) (key_cmp (number_key number y) (number_key number r)) at.1))
       s.rows.items at.0.mine)
       ss (all-both _ _ ss each all)
 
-  pub parts-found : (ss : List (StationRows R)) (i : ℕ) → AreGrouped op station number ss → (at : IsFoundAt group_key k ss i) → Parts ss (all_rows (take i ss)) at.row.rows.items (all_rows (drop (i + 1) ss))
+  pub parts-found : (ss : List (NamedGroup R)) (i : ℕ) → AreGrouped op station number ss → (at : IsFoundAt group_key k ss i) → Parts ss (all_rows (take i ss)) at.row.rows.items (all_rows (drop (i + 1) ss))
   parts-found ss i are at =
-      let each = subst (AllByRecursion (λ s. AreOf op station number s.op s.station s.rows.items)) at.split are.each in
-      let before = all-front (λ s. AreOf op station number s.op s.station s.rows.items) (take i ss) (at.row ∷ drop (i + 1) ss) each in
-      let here = all-back (λ s. AreOf op station number s.op s.station s.rows.items) (take i ss) (at.row ∷ drop (i + 1) ss) each in
+      let each = subst (AllByRecursion (λ s. AreOf op station number s.op s.name s.rows.items)) at.split are.each in
+      let before = all-front (λ s. AreOf op station number s.op s.name s.rows.items) (take i ss) (at.row ∷ drop (i + 1) ss) each in
+      let here = all-back (λ s. AreOf op station number s.op s.name s.rows.items) (take i ss) (at.row ∷ drop (i + 1) ss) each in
       record {
         split = ap all_rows at.split ∙ all_rows-append (take i ss) (at.row ∷ drop (i + 1) ss);
         of_station = subst (λ l. AreOf op station number (head l) (second l) at.row.rows.items) at.has_key here.0;
@@ -211,12 +211,12 @@ module _ {R : Type 0} (op station : R → List ℕ) (number : R → ℕ) (b st :
         back_more = back_above (drop (i + 1) ss) here.1 at.after;
       }
 
-  pub parts-gap : (ss : List (StationRows R)) (i : ℕ) → AreGrouped op station number ss → IsGapAt group_key k ss i → Parts ss (all_rows (take i ss)) [] (all_rows (drop i ss))
+  pub parts-gap : (ss : List (NamedGroup R)) (i : ℕ) → AreGrouped op station number ss → IsGapAt group_key k ss i → Parts ss (all_rows (take i ss)) [] (all_rows (drop i ss))
   unfolding IsStrictlySortedBy
   parts-gap ss i are gap =
-      let each = subst (AllByRecursion (λ s. AreOf op station number s.op s.station s.rows.items)) (sym (take-append-drop i ss)) are.each in
-      let before = all-front (λ s. AreOf op station number s.op s.station s.rows.items) (take i ss) (drop i ss) each in
-      let behind = all-back (λ s. AreOf op station number s.op s.station s.rows.items) (take i ss) (drop i ss) each in
+      let each = subst (AllByRecursion (λ s. AreOf op station number s.op s.name s.rows.items)) (sym (take-append-drop i ss)) are.each in
+      let before = all-front (λ s. AreOf op station number s.op s.name s.rows.items) (take i ss) (drop i ss) each in
+      let behind = all-back (λ s. AreOf op station number s.op s.name s.rows.items) (take i ss) (drop i ss) each in
       record {
         split = ap all_rows (sym (take-append-drop i ss)) ∙ all_rows-append (take i ss) (drop i ss);
         of_station = record { mine = tt; sorted = tt };
@@ -227,14 +227,14 @@ module _ {R : Type 0} (op station : R → List ℕ) (number : R → ℕ) (b st :
       }
 
   -- the rows of the station
-  pub those-parts : (ss : List (StationRows R)) (front rows back : List R) → Parts ss front rows back → those op b (λ r. bytes_eq (station r) st) (all_rows ss) ≡ rows
+  pub those-parts : (ss : List (NamedGroup R)) (front rows back : List R) → Parts ss front rows back → those op b (λ r. bytes_eq (station r) st) (all_rows ss) ≡ rows
   those-parts ss front rows back parts =
       ap (filter mine) parts.split ∙ filter-append mine front (rows ++ back) ∙ ap (λ xs. filter mine front ++ xs) (filter-append mine rows back)
       ∙ (λ i. filter-no mine front parts.front_not i ++ (filter-all mine rows (all_mine rows parts.of_station.mine) i ++ filter-no mine back parts.back_not i))
       ∙ append-nil rows
 
   -- a change of the row of a number
-  pub changed-parts : (ss : List (StationRows R)) (front rows back : List R) (n : ℕ) (f : R → R) → Parts ss front rows back
+  pub changed-parts : (ss : List (NamedGroup R)) (front rows back : List R) (n : ℕ) (f : R → R) → Parts ss front rows back
       → map (λ r. cond (bytes_eq (op r) b && (bytes_eq (station r) st && number r == n)) (f r) r) (all_rows ss) ≡ front ++ (map (λ r. cond (number r == n) (f r) r) rows ++ back)
   changed-parts ss front rows back n f parts =
       let t : R → Bool = (λ r. bytes_eq (op r) b && (bytes_eq (station r) st && number r == n)) in
@@ -268,7 +268,7 @@ module _ {R : Type 0} (op station : R → List ℕ) (number : R → ℕ) (b st :
       ∙ append_assoc front (r ∷ []) (new ++ back)
 
   -- new rows of the station, behind those that it has
-  module _ (ss : List (StationRows R)) (front rows back : List R) (parts : Parts ss front rows back) (new : List R) (are : AreOf op station number b st new)
+  module _ (ss : List (NamedGroup R)) (front rows back : List R) (parts : Parts ss front rows back) (new : List R) (are : AreOf op station number b st new)
       (behind : AllByRecursion (λ r. greatest (map number rows) < number r) new) where
     above : (r : R) → greatest (map number rows) < number r → AllByRecursion (λ y. number y < number r) rows
     above r below = all-above number (number r) rows below
@@ -306,8 +306,8 @@ module _ {R : Type 0} (op station : R → List ℕ) (number : R → ℕ) (b st :
   -- ---- groups
 
   -- a group in the place of that of its station
-  module _ (ss : List (StationRows R)) (i : ℕ) (good : AreGrouped op station number ss) (at : IsFoundAt group_key k ss i) (s : StationRows R)
-      (same_op : s.op ≡ at.row.op) (same_station : s.station ≡ at.row.station) (of : AreOf op station number b st s.rows.items) where
+  module _ (ss : List (NamedGroup R)) (i : ℕ) (good : AreGrouped op station number ss) (at : IsFoundAt group_key k ss i) (s : NamedGroup R)
+      (same_op : s.op ≡ at.row.op) (same_station : s.name ≡ at.row.name) (of : AreOf op station number b st s.rows.items) where
     written : set ss i s ≡ take i ss ++ s ∷ drop (i + 1) ss
     written = set_here ss i s at.in_range
 
@@ -316,19 +316,19 @@ module _ {R : Type 0} (op station : R → List ℕ) (number : R → ℕ) (b st :
 
     pub set-groups : AreGrouped op station number (set ss i s)
     set-groups =
-        let each = subst (AllByRecursion (λ t. AreOf op station number t.op t.station t.rows.items)) at.split good.each in
+        let each = subst (AllByRecursion (λ t. AreOf op station number t.op t.name t.rows.items)) at.split good.each in
         let its_op : b ≡ s.op = ap head (sym at.has_key) ∙ sym same_op in
-        let its_station : st ≡ s.station = ap second (sym at.has_key) ∙ sym same_station in
-        let here : AreOf op station number s.op s.station s.rows.items = subst (λ o. AreOf op station number o s.station s.rows.items) its_op (subst (λ t. AreOf op station number b t s.rows.items) its_station of) in
+        let its_station : st ≡ s.name = ap second (sym at.has_key) ∙ sym same_station in
+        let here : AreOf op station number s.op s.name s.rows.items = subst (λ o. AreOf op station number o s.name s.rows.items) its_op (subst (λ t. AreOf op station number b t s.rows.items) its_station of) in
         subst (AreGrouped op station number) (sym written) (record {
           sorted = sorted-swap group_key (take i ss) (drop (i + 1) ss) at.row s (λ j. same_op j ∷ same_station j ∷ []) (subst (IsStrictlySortedBy (by_key group_key)) at.split good.sorted);
-          each = all-append (λ t. AreOf op station number t.op t.station t.rows.items) (take i ss) (s ∷ drop (i + 1) ss)
-              (all-front (λ t. AreOf op station number t.op t.station t.rows.items) (take i ss) (at.row ∷ drop (i + 1) ss) each)
-              (here, (all-back (λ t. AreOf op station number t.op t.station t.rows.items) (take i ss) (at.row ∷ drop (i + 1) ss) each).1);
+          each = all-append (λ t. AreOf op station number t.op t.name t.rows.items) (take i ss) (s ∷ drop (i + 1) ss)
+              (all-front (λ t. AreOf op station number t.op t.name t.rows.items) (take i ss) (at.row ∷ drop (i + 1) ss) each)
+              (here, (all-back (λ t. AreOf op station number t.op t.name t.rows.items) (take i ss) (at.row ∷ drop (i + 1) ss) each).1);
         })
 
   -- a group of a new station
-  module _ (ss : List (StationRows R)) (i : ℕ) (good : AreGrouped op station number ss) (s : StationRows R) (its_op : s.op ≡ b) (its_station : s.station ≡ st)
+  module _ (ss : List (NamedGroup R)) (i : ℕ) (good : AreGrouped op station number ss) (s : NamedGroup R) (its_op : s.op ≡ b) (its_station : s.name ≡ st)
       (gap : IsGapAt group_key k ss i) (of : AreOf op station number b st s.rows.items) where
     its_key : k ≡ group_key s
     its_key = λ j. sym its_op j ∷ sym its_station j ∷ []
@@ -338,13 +338,13 @@ module _ {R : Type 0} (op station : R → List ℕ) (number : R → ℕ) (b st :
 
     pub insert-groups : AreGrouped op station number (take i ss ++ s ∷ drop i ss)
     insert-groups =
-        let each = subst (AllByRecursion (λ t. AreOf op station number t.op t.station t.rows.items)) (sym (take-append-drop i ss)) good.each in
-        let here : AreOf op station number s.op s.station s.rows.items = subst (λ o. AreOf op station number o s.station s.rows.items) (sym its_op) (subst (λ t. AreOf op station number b t s.rows.items) (sym its_station) of) in
+        let each = subst (AllByRecursion (λ t. AreOf op station number t.op t.name t.rows.items)) (sym (take-append-drop i ss)) good.each in
+        let here : AreOf op station number s.op s.name s.rows.items = subst (λ o. AreOf op station number o s.name s.rows.items) (sym its_op) (subst (λ t. AreOf op station number b t s.rows.items) (sym its_station) of) in
         record {
           sorted = subst (IsStrictlySortedBy (by_key group_key)) (put-gap group_key s ss i (subst (λ l. IsGapAt group_key l ss i) its_key gap)) (sorted-put (by_key group_key) (by_key_total group_key) s ss good.sorted);
-          each = all-append (λ t. AreOf op station number t.op t.station t.rows.items) (take i ss) (s ∷ drop i ss)
-              (all-front (λ t. AreOf op station number t.op t.station t.rows.items) (take i ss) (drop i ss) each)
-              (here, all-back (λ t. AreOf op station number t.op t.station t.rows.items) (take i ss) (drop i ss) each);
+          each = all-append (λ t. AreOf op station number t.op t.name t.rows.items) (take i ss) (s ∷ drop i ss)
+              (all-front (λ t. AreOf op station number t.op t.name t.rows.items) (take i ss) (drop i ss) each)
+              (here, all-back (λ t. AreOf op station number t.op t.name t.rows.items) (take i ss) (drop i ss) each);
         }
 
   -- a change of the row of a number keeps what the rows are
@@ -362,11 +362,11 @@ module _ {R : Type 0} (op station : R → List ℕ) (number : R → ℕ) (b st :
 
   -- ---- what becomes of the rows of a station
 
-  abbrev IsChanged : List (StationRows R) → List R → Type 0
+  abbrev IsChanged : List (NamedGroup R) → List R → Type 0
   IsChanged ss rows = AreGrouped op station number ss × (all_rows ss ≡ rows)
 
-  module _ (ss : List (StationRows R)) (i : ℕ) (good : AreGrouped op station number ss) (at : IsFoundAt group_key k ss i) (s : StationRows R)
-      (same_op : s.op ≡ at.row.op) (same_station : s.station ≡ at.row.station) where
+  module _ (ss : List (NamedGroup R)) (i : ℕ) (good : AreGrouped op station number ss) (at : IsFoundAt group_key k ss i) (s : NamedGroup R)
+      (same_op : s.op ≡ at.row.op) (same_station : s.name ≡ at.row.name) where
     its_parts : Parts ss (all_rows (take i ss)) at.row.rows.items (all_rows (drop (i + 1) ss))
     its_parts = parts-found ss i good at
 
@@ -391,11 +391,11 @@ module _ {R : Type 0} (op station : R → List ℕ) (number : R → ℕ) (b st :
         let to = changed_to (map (λ r. cond (number r == n) (f r) r) at.row.rows.items) (of-changed n f same at.row.rows.items its_parts.of_station) are in
         (to.0, to.1 ∙ sym (changed-parts ss (all_rows (take i ss)) at.row.rows.items (all_rows (drop (i + 1) ss)) n f its_parts))
 
-  module _ (ss : List (StationRows R)) (i : ℕ) (good : AreGrouped op station number ss) (gap : IsGapAt group_key k ss i) where
+  module _ (ss : List (NamedGroup R)) (i : ℕ) (good : AreGrouped op station number ss) (gap : IsGapAt group_key k ss i) where
     no_parts : Parts ss (all_rows (take i ss)) [] (all_rows (drop i ss))
     no_parts = parts-gap ss i good gap
 
-    pub insert-more : (s : StationRows R) → s.op ≡ b → s.station ≡ st → AreOf op station number b st s.rows.items → AllByRecursion (λ r. greatest (map number (those op b (λ x. bytes_eq (station x) st) (all_rows ss))) < number r) s.rows.items
+    pub insert-more : (s : NamedGroup R) → s.op ≡ b → s.name ≡ st → AreOf op station number b st s.rows.items → AllByRecursion (λ r. greatest (map number (those op b (λ x. bytes_eq (station x) st) (all_rows ss))) < number r) s.rows.items
         → IsChanged (take i ss ++ s ∷ drop i ss) (put_all (by_key key) s.rows.items (all_rows ss))
     insert-more s its_op its_station are behind =
         let behind_these = subst (λ xs. AllByRecursion (λ r. greatest (map number xs) < number r) s.rows.items) (those-parts ss (all_rows (take i ss)) [] (all_rows (drop i ss)) no_parts) behind in

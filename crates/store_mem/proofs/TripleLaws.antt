@@ -9,35 +9,29 @@ use Rattle.std.proofs.Common.{refl, sym, ◌∙◌, ap}
 use Rattle.std.proofs.lemmas.Map.Text.{is_eq-slice_cmp}
 use Rattle.hub_rows.specs.Keyed.{text_cmp, key_cmp}
 use Rattle.hub_rows.specs.Places.{IsPlace}
-use Rattle.hub_rows.proofs.ListLaws.{two_parts}
 use Rattle.hub_rows.proofs.PlaceLaws.{find-found, find-gap}
+use Rattle.store_mem.specs.Groups.{is_row}
 
 both-equal : (o p : Ordering) → is_eq (ordering_then o p) ≡ is_eq o && is_eq p
 both-equal Less p = refl
 both-equal Equal p = refl
 both-equal Greater p = refl
 
-three_texts : (a b c d e f : List ℕ) → bytes_eq a d && (bytes_eq b e && bytes_eq c f) ≡ is_eq (key_cmp (a ∷ b ∷ c ∷ []) (d ∷ e ∷ f ∷ []))
-three_texts a b c d e f =
-    (λ i. sym (is_eq-slice_cmp a d) i && two_parts b c e f i) ∙ sym (both-equal (text_cmp a d) (key_cmp (b ∷ c ∷ []) (e ∷ f ∷ [])))
-
 -- one is there if one is found
 pub any-found : {R : Type 0} (t : R → Bool) (xs : List R) → list_any t xs ≡ is_some (find t xs)
 any-found t [] = refl
 any-found t (x ∷ xs) = elim (t x) as (λ b. b || list_any t xs ≡ is_some (cond b (Some x) (find t xs))) [ true ↦ refl | false ↦ any-found t xs ]
 
-module _ {R : Type 0} (key : R → List (List ℕ)) (group : R → List ℕ) (rest : R → List (List ℕ)) (splits : (r : R) → key r ≡ group r ∷ rest r) (second third : R → List ℕ) (parts : (r : R) → rest r ≡ second r ∷ third r ∷ []) where
-  pub triple : (r : R) → group r ∷ second r ∷ third r ∷ [] ≡ key r
-  triple r = sym (splits r ∙ ap (λ l. group r ∷ l) (parts r))
+module _ {R : Type 0} (key : R → List (List ℕ)) (group : R → List ℕ) (rest : R → List (List ℕ)) (splits : (r : R) → key r ≡ group r ∷ rest r) (b s t : List ℕ) where
+  abbrev pub is_its_row : R → Bool
+  is_its_row r = bytes_eq (group r) b && is_row rest s t r
 
-  module _ (b s t : List ℕ) where
-    abbrev pub is_row : R → Bool
-    is_row r = bytes_eq (group r) b && (bytes_eq (second r) s && bytes_eq (third r) t)
+  pub agrees : (r : R) → is_its_row r ≡ is_eq (key_cmp (key r) (b ∷ s ∷ t ∷ []))
+  agrees r =
+      (λ i. sym (is_eq-slice_cmp (group r) b) i && is_row rest s t r) ∙ sym (both-equal (text_cmp (group r) b) (key_cmp (rest r) (s ∷ t ∷ [])))
+      ∙ ap (λ k. is_eq (key_cmp k (b ∷ s ∷ t ∷ []))) (sym (splits r))
 
-    pub agrees : (r : R) → is_row r ≡ is_eq (key_cmp (key r) (b ∷ s ∷ t ∷ []))
-    agrees r = three_texts (group r) (second r) (third r) b s t ∙ ap (λ k. is_eq (key_cmp k (b ∷ s ∷ t ∷ []))) (triple r)
-
-    -- a search for it succeeds if it is there
-    pub found-place : (rows : List R) (p : Result ℕ ℕ) → IsPlace key (b ∷ s ∷ t ∷ []) rows p → is_ok p ≡ is_some (find is_row rows)
-    found-place rows (Ok i) at = sym (ap is_some (find-found key (b ∷ s ∷ t ∷ []) is_row agrees rows i at))
-    found-place rows (Err i) gap = sym (ap is_some (find-gap key (b ∷ s ∷ t ∷ []) is_row agrees rows i gap))
+  -- a search for it succeeds if it is there
+  pub found-place : (rows : List R) (p : Result ℕ ℕ) → IsPlace key (b ∷ s ∷ t ∷ []) rows p → is_ok p ≡ is_some (find is_its_row rows)
+  found-place rows (Ok i) at = sym (ap is_some (find-found key (b ∷ s ∷ t ∷ []) is_its_row agrees rows i at))
+  found-place rows (Err i) gap = sym (ap is_some (find-gap key (b ∷ s ∷ t ∷ []) is_its_row agrees rows i gap))

@@ -1,8 +1,8 @@
 pub mod Stations
-pub mod ByStation
+pub mod NamedGroups
 pub mod Groups
 pub mod Lists
 pub mod Open
 pub mod Received
-pub mod Indexed
 pub mod Starts
+pub mod Edits

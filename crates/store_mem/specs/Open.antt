@@ -5,9 +5,9 @@ use Rattle.std.specs.Str.{bytes_eq}
 use Rattle.hub_rows.specs.declared.tx_row.TxRow.{TxRow}
 use Rattle.hub_rows.specs.declared.tx_row.TxKey.{TxKey}
 use Rattle.hub_rows.specs.Keyed.{those}
-use Rattle.store_mem.specs.declared.indexed.Indexed.{Indexed}
+use Rattle.store_mem.specs.declared.named_groups.NamedGroup.{NamedGroup}
 use Rattle.store_mem.specs.declared.open.OpenRow.{OpenRow}
-use Rattle.store_mem.specs.Indexed.{rows_at, AreInPlace}
+use Rattle.store_mem.specs.NamedGroups.{rows_at, AreInPlace}
 
 abbrev pub open_key : OpenRow → List (List ℕ)
 open_key o = o.station ∷ (o.number ∷ []) ∷ []
@@ -34,6 +34,6 @@ module _ (stands : TxRow → Bool) (name : TxRow → List ℕ) where
   opens_of b n txs = map open_of (those (λ r. r.op) b (λ r. stands r && bytes_eq (name r) n) txs)
 
   -- those among all transactions, under each name
-  pub record AreOpens (opens : List (Indexed OpenRow)) (txs : List TxRow) : Type 0 where
+  pub record AreOpens (opens : List (NamedGroup OpenRow)) (txs : List TxRow) : Type 0 where
     pub in_place : AreInPlace opens
     pub each : (b n : List ℕ) → rows_at b n opens ≡ opens_of b n txs

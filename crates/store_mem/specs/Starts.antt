@@ -8,8 +8,8 @@ use Rattle.hub_rows.specs.declared.tx_row.TxRow.{TxRow}
 use Rattle.hub_rows.specs.Keyed.{by_key, in_order, those}
 use Rattle.hub_rows.specs.Transactions.{is_start}
 use Rattle.store_mem.specs.declared.starts.StartRow.{StartRow}
-use Rattle.store_mem.specs.declared.indexed.Indexed.{Indexed}
-use Rattle.store_mem.specs.Indexed.{rows_at, AreInPlace}
+use Rattle.store_mem.specs.declared.named_groups.NamedGroup.{NamedGroup}
+use Rattle.store_mem.specs.NamedGroups.{rows_at, AreInPlace}
 
 -- the sign of a signed number: 1 below zero, else 0
 abbrev pub sign : ℤ → ℕ
@@ -30,7 +30,7 @@ abbrev pub starts_of : List ℕ → List ℕ → List TxRow → List StartRow
 starts_of b st txs = map start_of (those (λ r. r.op) b (λ r. bytes_eq r.station st) txs)
 
 -- the starts of all transactions, station by station, each station's in order
-pub record AreStarts (ss : List (Indexed StartRow)) (txs : List TxRow) : Type 0 where
+pub record AreStarts (ss : List (NamedGroup StartRow)) (txs : List TxRow) : Type 0 where
   pub in_place : AreInPlace ss
   pub each : (b st : List ℕ) → rows_at b st ss ≡ in_order (by_key start_key) (starts_of b st txs)
 

@@ -18,6 +18,7 @@ use std::alloc::Global;
 /// The grants of all operators.
 #[derive(Drop)]
 pub struct Grants {
+    alloc: Global,
     /// By their owners.
     pub given: Vec<Group<GrantRow>>,
     /// The same by their receivers.
@@ -33,18 +34,19 @@ impl Grants {
         ensures { all_of result.given.items ≡ [] }
     {
         Grants {
+            alloc,
             given: Vec::new(alloc),
             received: Vec::new(alloc),
         }
     }
 
     /// Keeps a grant, in place of the one with its key.
-    pub fn put(&mut self, alloc: Global, grant: GrantRow) -> Mem<()>
+    pub fn put(&mut self, grant: GrantRow) -> Mem<()>
         ensures ok { OnOk result (all_of self.new.given.items ≡ put (by_key grant_key) grant (all_of self.old.given.items)) }
         ensures err { OnErr result (all_of self.new.given.items ≡ all_of self.old.given.items) }
     {
-        make_room(alloc, &mut self.given, grant.op.as_str())?;
-        make_room(alloc, &mut self.received, grant.to.as_str())?;
+        make_room(self.alloc, &mut self.given, grant.op.as_str())?;
+        make_room(self.alloc, &mut self.received, grant.to.as_str())?;
         let received = Received {
             grant: grant.clone()?,
         };

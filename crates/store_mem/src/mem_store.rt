@@ -5,29 +5,18 @@ ghost use Rattle.hub_rows.specs.Keyed.{changed};
 ghost use Rattle.hub_rows.specs.Rows.{no_rows};
 ghost use Rattle.hub_rows.specs.WellFormed.{WellFormedRows};
 ghost use Rattle.hub_rows.specs.Changes.{edit, with_stop, after_change, EditFits, Fits};
-ghost use Rattle.hub_rows.specs.Transactions.{counts, is_open, is_tx};
+ghost use Rattle.hub_rows.specs.Transactions.{is_tx};
 ghost use Rattle.hub_rows.specs.declared.change.Edit.TheVariants.{StationAdded, BootSeen, PolicySet, ConnectorSeen, TagPut, TagDropped, GrantPut, GrantDropped, TxStarted, ReadingsAdded, ReservationPut, ReservationDropped, ListSet};
-ghost use Rattle.store_mem.specs.Lists.{rows_in, AreByStation, AreByOperator};
-ghost use Rattle.store_mem.specs.Open.{AreOpens};
-ghost use Rattle.store_mem.specs.Starts.{AreStarts};
+ghost use Rattle.store_mem.specs.Edits.{IsOfStations, IsOfTags, IsOfTransactions, IsOfReservations};
+ghost use Rattle.store_mem.specs.Lists.{rows_in};
 
 use crate::copies::{connectors_of, copies, own_copies};
 use crate::granted::{granted, granted_tag};
-use crate::groups::{put_in_group, rows_of_group};
-use crate::indexed::{Indexed, make_room_at, put_at, rows_at};
+use crate::groups::rows_of_group;
 use crate::lists::Lists;
 use crate::local_lists::{copy_of, local_list_of};
-use crate::open::{
-    OpenRow, close, close_tag, has_any, has_other, make_room_if, open_of, put_counted,
-};
-use crate::readings::{add_readings, readings_of};
 use crate::reservations::{drop_named, drop_reservation, reservations_of, reserved_until};
-use crate::started::{start_tx, started};
-use crate::starts::{StartRow, number_of, start_of};
-use crate::station_rows::{last_number, rows_of};
 use crate::stations::{StationChange, change_station, registration_of};
-use crate::tags::{drop_tag, own_tag};
-use crate::transactions::{stop_tx, tx_state};
 use hub_rows::{
     Boot, Change, ConnectorReport, ConnectorRow, Edit, GrantRow, GrantedTag, Info, LastNumbers,
     ListRow, LocalList, Reading, ReadingRow, Registration, Reservation, ReservationId,
@@ -42,18 +31,7 @@ use std::alloc::Global;
 pub struct MemStore {
     alloc: Global,
     lists: Lists,
-    /// The transactions by which tags are in use, by the keys of the tags.
-    opens: Vec<Indexed<OpenRow>>,
-    /// The open transactions, by their stations.
-    open_at: Vec<Indexed<OpenRow>>,
-    /// The starts of each station's transactions, in the order of their times.
-    starts: Vec<Indexed<StartRow>>,
     ghost good: { WellFormedRows (rows_in lists) } by { Prim.hlevel props },
-    ghost by_station: { AreByStation lists } by { Prim.hlevel props },
-    ghost by_operator: { AreByOperator lists } by { Prim.hlevel props },
-    ghost in_use: { AreOpens counts (λ r. r.start.id.key) opens.items (rows_in lists).transactions } by { Prim.hlevel props },
-    ghost opened: { AreOpens is_open (λ r. r.station) open_at.items (rows_in lists).transactions } by { Prim.hlevel props },
-    ghost started: { AreStarts starts.items (rows_in lists).transactions } by { Prim.hlevel props },
 }
 
 impl MemStore {
@@ -64,9 +42,6 @@ impl MemStore {
         MemStore {
             alloc,
             lists: Lists::new(alloc),
-            opens: Vec::new(alloc),
-            open_at: Vec::new(alloc),
-            starts: Vec::new(alloc),
         }
     }
 }
@@ -75,8 +50,8 @@ impl MemStore {
     /// Adds a station, which is Fresh.
     fn add_station(&mut self, op: &Text, station: &Text, policy: Policy, interval: u32) -> Mem<()>
         requires { EditFits op.now (StationAdded station.now policy interval) (rows_in self.old.lists) }
-        ensures ok { OnOk result ((⟦<MemStore as Store>⟧.view self.new).rows ≡ edit op.now (StationAdded station.now policy interval) (⟦<MemStore as Store>⟧.view self.old).rows) }
-        ensures err { OnErr result ((⟦<MemStore as Store>⟧.view self.new).rows ≡ (⟦<MemStore as Store>⟧.view self.old).rows) }
+        ensures ok { OnOk result (rows_in self.new.lists ≡ edit op.now (StationAdded station.now policy interval) (rows_in self.old.lists)) }
+        ensures err { OnErr result (rows_in self.new.lists ≡ rows_in self.old.lists) }
     {
         let row = StationRow {
             op: op.clone()?,
@@ -92,8 +67,8 @@ impl MemStore {
 
     /// Keeps a boot of a station in place of the one before, and the state that it leads to.
     fn see_boot(&mut self, op: &Text, station: &Text, boot: &Boot, state: State) -> Mem<()>
-        ensures ok { OnOk result ((⟦<MemStore as Store>⟧.view self.new).rows ≡ edit op.now (BootSeen station.now boot.now state) (⟦<MemStore as Store>⟧.view self.old).rows) }
-        ensures err { OnErr result ((⟦<MemStore as Store>⟧.view self.new).rows ≡ (⟦<MemStore as Store>⟧.view self.old).rows) }
+        ensures ok { OnOk result (rows_in self.new.lists ≡ edit op.now (BootSeen station.now boot.now state) (rows_in self.old.lists)) }
+        ensures err { OnErr result (rows_in self.new.lists ≡ rows_in self.old.lists) }
     {
         let boot = boot.clone()?;
         let booted = StationChange::Booted { boot, state };
@@ -103,7 +78,7 @@ impl MemStore {
 
     /// Sets what a station's next boot is answered, which can't fail.
     fn set_policy(&mut self, op: &Text, station: &Text, policy: Policy, interval: u32)
-        ensures { (⟦<MemStore as Store>⟧.view self.new).rows ≡ edit op.now (PolicySet station.now policy interval) (⟦<MemStore as Store>⟧.view self.old).rows }
+        ensures { rows_in self.new.lists ≡ edit op.now (PolicySet station.now policy interval) (rows_in self.old.lists) }
     {
         let set = StationChange::PolicySet { policy, interval };
         change_station(&mut self.lists.stations, op, station, set);
@@ -118,8 +93,8 @@ impl MemStore {
         report: &ConnectorReport,
     ) -> Mem<()>
         requires { EditFits op.now (ConnectorSeen station.now connector report.now) (rows_in self.old.lists) }
-        ensures ok { OnOk result ((⟦<MemStore as Store>⟧.view self.new).rows ≡ edit op.now (ConnectorSeen station.now connector report.now) (⟦<MemStore as Store>⟧.view self.old).rows) }
-        ensures err { OnErr result ((⟦<MemStore as Store>⟧.view self.new).rows ≡ (⟦<MemStore as Store>⟧.view self.old).rows) }
+        ensures ok { OnOk result (rows_in self.new.lists ≡ edit op.now (ConnectorSeen station.now connector report.now) (rows_in self.old.lists)) }
+        ensures err { OnErr result (rows_in self.new.lists ≡ rows_in self.old.lists) }
     {
         let row = ConnectorRow {
             op: op.clone()?,
@@ -134,32 +109,32 @@ impl MemStore {
     /// Keeps a tag, in place of the one with its key.
     fn put_tag(&mut self, op: &Text, key: &TagKey, tag: &Tag) -> Mem<()>
         requires { EditFits op.now (TagPut key.now tag.now) (rows_in self.old.lists) }
-        ensures ok { OnOk result ((⟦<MemStore as Store>⟧.view self.new).rows ≡ edit op.now (TagPut key.now tag.now) (⟦<MemStore as Store>⟧.view self.old).rows) }
-        ensures err { OnErr result ((⟦<MemStore as Store>⟧.view self.new).rows ≡ (⟦<MemStore as Store>⟧.view self.old).rows) }
+        ensures ok { OnOk result (rows_in self.new.lists ≡ edit op.now (TagPut key.now tag.now) (rows_in self.old.lists)) }
+        ensures err { OnErr result (rows_in self.new.lists ≡ rows_in self.old.lists) }
     {
         let row = TagRow {
             op: op.clone()?,
             key: key.clone()?,
             tag: tag.clone()?,
         };
-        put_in_group(self.alloc, &mut self.lists.tags, row)
+        self.lists.tags.put(row)
     }
 
     /// Removes the tag of a key, with its grants, which can't fail.
     fn drop_tag(&mut self, op: &Text, key: &TagKey)
-        ensures { (⟦<MemStore as Store>⟧.view self.new).rows ≡ edit op.now (TagDropped key.now) (⟦<MemStore as Store>⟧.view self.old).rows }
+        ensures { rows_in self.new.lists ≡ edit op.now (TagDropped key.now) (rows_in self.old.lists) }
     {
         let op = op.as_str();
         let key = key.as_str();
         self.lists.grants.drop_of_tag(op, key);
-        drop_tag(&mut self.lists.tags, op, key);
+        self.lists.tags.drop_one(op, key);
     }
 
     /// Keeps a grant of a tag, in place of the one to that operator.
     fn put_grant(&mut self, op: &Text, key: &TagKey, to: &Text, until: Option<Moment>) -> Mem<()>
         requires { EditFits op.now (GrantPut key.now to.now until) (rows_in self.old.lists) }
-        ensures ok { OnOk result ((⟦<MemStore as Store>⟧.view self.new).rows ≡ edit op.now (GrantPut key.now to.now until) (⟦<MemStore as Store>⟧.view self.old).rows) }
-        ensures err { OnErr result ((⟦<MemStore as Store>⟧.view self.new).rows ≡ (⟦<MemStore as Store>⟧.view self.old).rows) }
+        ensures ok { OnOk result (rows_in self.new.lists ≡ edit op.now (GrantPut key.now to.now until) (rows_in self.old.lists)) }
+        ensures err { OnErr result (rows_in self.new.lists ≡ rows_in self.old.lists) }
     {
         let row = GrantRow {
             op: op.clone()?,
@@ -167,12 +142,12 @@ impl MemStore {
             to: to.clone()?,
             until,
         };
-        self.lists.grants.put(self.alloc, row)
+        self.lists.grants.put(row)
     }
 
     /// Removes a grant of a tag, which can't fail.
     fn drop_grant(&mut self, op: &Text, key: &TagKey, to: &Text)
-        ensures { (⟦<MemStore as Store>⟧.view self.new).rows ≡ edit op.now (GrantDropped key.now to.now) (⟦<MemStore as Store>⟧.view self.old).rows }
+        ensures { rows_in self.new.lists ≡ edit op.now (GrantDropped key.now to.now) (rows_in self.old.lists) }
     {
         let grants = &mut self.lists.grants;
         grants.drop_one(op.as_str(), key.as_str(), to.as_str());
@@ -187,8 +162,8 @@ impl MemStore {
         reservation: &Reservation,
     ) -> Mem<()>
         requires { EditFits op.now (ReservationPut station.now id reservation.now) (rows_in self.old.lists) }
-        ensures ok { OnOk result ((⟦<MemStore as Store>⟧.view self.new).rows ≡ edit op.now (ReservationPut station.now id reservation.now) (⟦<MemStore as Store>⟧.view self.old).rows) }
-        ensures err { OnErr result ((⟦<MemStore as Store>⟧.view self.new).rows ≡ (⟦<MemStore as Store>⟧.view self.old).rows) }
+        ensures ok { OnOk result (rows_in self.new.lists ≡ edit op.now (ReservationPut station.now id reservation.now) (rows_in self.old.lists)) }
+        ensures err { OnErr result (rows_in self.new.lists ≡ rows_in self.old.lists) }
     {
         let row = ReservationRow {
             op: op.clone()?,
@@ -202,7 +177,7 @@ impl MemStore {
 
     /// Removes a reservation, which can't fail.
     fn drop_reservation(&mut self, op: &Text, station: &Text, id: ReservationId)
-        ensures { (⟦<MemStore as Store>⟧.view self.new).rows ≡ edit op.now (ReservationDropped station.now id) (⟦<MemStore as Store>⟧.view self.old).rows }
+        ensures { rows_in self.new.lists ≡ edit op.now (ReservationDropped station.now id) (rows_in self.old.lists) }
     {
         let rows = &mut self.lists.reservations;
         drop_reservation(rows, op.as_str(), station.as_str(), id);
@@ -211,8 +186,8 @@ impl MemStore {
     /// Keeps the local list of a station, in place of the one before.
     fn set_list(&mut self, op: &Text, station: &Text, list: &LocalList) -> Mem<()>
         requires { EditFits op.now (ListSet station.now list.now) (rows_in self.old.lists) }
-        ensures ok { OnOk result ((⟦<MemStore as Store>⟧.view self.new).rows ≡ edit op.now (ListSet station.now list.now) (⟦<MemStore as Store>⟧.view self.old).rows) }
-        ensures err { OnErr result ((⟦<MemStore as Store>⟧.view self.new).rows ≡ (⟦<MemStore as Store>⟧.view self.old).rows) }
+        ensures ok { OnOk result (rows_in self.new.lists ≡ edit op.now (ListSet station.now list.now) (rows_in self.old.lists)) }
+        ensures err { OnErr result (rows_in self.new.lists ≡ rows_in self.old.lists) }
     {
         let row = ListRow {
             op: op.clone()?,
@@ -228,42 +203,21 @@ impl MemStore {
     /// Adds a transaction after those of its station, and removes the reservation that it names.
     fn start_tx(&mut self, op: &Text, station: &Text, number: u32, start: &Start) -> Mem<()>
         requires { EditFits op.now (TxStarted station.now number start.now) (rows_in self.old.lists) }
-        ensures ok { OnOk result ((⟦<MemStore as Store>⟧.view self.new).rows ≡ edit op.now (TxStarted station.now number start.now) (⟦<MemStore as Store>⟧.view self.old).rows) }
-        ensures err { OnErr result ((⟦<MemStore as Store>⟧.view self.new).rows ≡ (⟦<MemStore as Store>⟧.view self.old).rows) }
+        ensures ok { OnOk result (rows_in self.new.lists ≡ edit op.now (TxStarted station.now number start.now) (rows_in self.old.lists)) }
+        ensures err { OnErr result (rows_in self.new.lists ≡ rows_in self.old.lists) }
     {
-        let row = started(op, station, number, start)?;
-        let start_row = start_of(&row)?;
-        let open_row = open_of(&row)?;
-        let used_row = open_of(&row)?;
-        let counts = row.counts();
-        let key = start.id.key.as_str();
-        make_room_at(self.alloc, &mut self.starts, op.as_str(), station.as_str())?;
-        make_room_if(self.alloc, &mut self.opens, op.as_str(), key, counts)?;
-        make_room_at(self.alloc, &mut self.open_at, op.as_str(), station.as_str())?;
-        start_tx(self.alloc, &mut self.lists.transactions, op, station, row)?;
-        let (op, station) = (op.as_str(), station.as_str());
-        put_at(&mut self.starts, op, station, start_row);
-        put_counted(&mut self.opens, op, key, used_row, counts);
-        put_at(&mut self.open_at, op, station, open_row);
-        drop_named(&mut self.lists.reservations, op, station, start.reservation);
+        self.lists.transactions.start(op, station, number, start)?;
+        let rows = &mut self.lists.reservations;
+        drop_named(rows, op.as_str(), station.as_str(), start.reservation);
         Ok(())
     }
 
     /// Stops a transaction, which can't fail.
     fn stop_tx(&mut self, op: &Text, station: &Text, number: u32, stop: Stop)
-        ensures { (⟦<MemStore as Store>⟧.view self.new).rows ≡ record (⟦<MemStore as Store>⟧.view self.old).rows { transactions = changed (λ r. r.op) op.now (is_tx station.now number) (with_stop stop) (rows_in self.old.lists).transactions } }
+        ensures { rows_in self.new.lists ≡ record (rows_in self.old.lists) { transactions = changed (λ r. r.op) op.now (is_tx station.now number) (with_stop stop) (rows_in self.old.lists).transactions } }
     {
-        let op = op.as_str();
-        let station = station.as_str();
-        close(&mut self.open_at, op, station, station, number);
-        close_tag(
-            &mut self.opens,
-            &self.lists.transactions,
-            op,
-            station,
-            number,
-        );
-        stop_tx(&mut self.lists.transactions, op, station, number, stop);
+        let txs = &mut self.lists.transactions;
+        txs.stop(op.as_str(), station.as_str(), number, stop);
     }
 
     /// Adds readings after those of their station.
@@ -275,22 +229,41 @@ impl MemStore {
         readings: &[Reading],
     ) -> Mem<()>
         requires { EditFits op.now (ReadingsAdded station.now first readings.now) (rows_in self.old.lists) }
-        ensures ok { OnOk result ((⟦<MemStore as Store>⟧.view self.new).rows ≡ edit op.now (ReadingsAdded station.now first readings.now) (⟦<MemStore as Store>⟧.view self.old).rows) }
-        ensures err { OnErr result ((⟦<MemStore as Store>⟧.view self.new).rows ≡ (⟦<MemStore as Store>⟧.view self.old).rows) }
+        ensures ok { OnOk result (rows_in self.new.lists ≡ edit op.now (ReadingsAdded station.now first readings.now) (rows_in self.old.lists)) }
+        ensures err { OnErr result (rows_in self.new.lists ≡ rows_in self.old.lists) }
     {
-        add_readings(
-            self.alloc,
-            &mut self.lists.readings,
-            op,
-            station,
-            first,
-            readings,
-        )
+        self.lists.readings.add(op, station, first, readings)
     }
 
     /// Makes a change that fits.
     fn make(&mut self, change: &Change) -> Mem<()>
         requires { Fits change.now (rows_in self.old.lists) }
+        ensures ok { OnOk result (rows_in self.new.lists ≡ after_change change.now (rows_in self.old.lists)) }
+        ensures err { OnErr result (rows_in self.new.lists ≡ rows_in self.old.lists) }
+    {
+        match change.edit.as_ref() {
+            Edit::StationAdded { .. }
+            | Edit::BootSeen { .. }
+            | Edit::PolicySet { .. }
+            | Edit::ConnectorSeen { .. }
+            | Edit::ListSet { .. } => self.edit_stations(change),
+            Edit::TagPut { .. }
+            | Edit::TagDropped { .. }
+            | Edit::GrantPut { .. }
+            | Edit::GrantDropped { .. } => self.edit_tags(change),
+            Edit::TxStarted { .. } | Edit::TxStopped { .. } | Edit::ReadingsAdded { .. } => {
+                self.edit_transactions(change)
+            }
+            Edit::ReservationPut { .. } | Edit::ReservationDropped { .. } => {
+                self.edit_reservations(change)
+            }
+        }
+    }
+
+    /// Makes a change of a station, its connectors or its local list.
+    fn edit_stations(&mut self, change: &Change) -> Mem<()>
+        requires kind { IsOfStations change.now.edit }
+        requires fits { Fits change.now (rows_in self.old.lists) }
         ensures ok { OnOk result (rows_in self.new.lists ≡ after_change change.now (rows_in self.old.lists)) }
         ensures err { OnErr result (rows_in self.new.lists ≡ rows_in self.old.lists) }
     {
@@ -316,10 +289,39 @@ impl MemStore {
                 connector,
                 report,
             } => self.put_connector(op, station, *connector, report)?,
+            Edit::ListSet { station, list } => self.set_list(op, station, list)?,
+            _ => unreachable!(),
+        }
+        Ok(())
+    }
+
+    /// Makes a change of an id tag or its grants.
+    fn edit_tags(&mut self, change: &Change) -> Mem<()>
+        requires kind { IsOfTags change.now.edit }
+        requires fits { Fits change.now (rows_in self.old.lists) }
+        ensures ok { OnOk result (rows_in self.new.lists ≡ after_change change.now (rows_in self.old.lists)) }
+        ensures err { OnErr result (rows_in self.new.lists ≡ rows_in self.old.lists) }
+    {
+        let op = &change.op;
+        match change.edit.as_ref() {
             Edit::TagPut { key, tag } => self.put_tag(op, key, tag)?,
             Edit::TagDropped { key } => self.drop_tag(op, key),
             Edit::GrantPut { key, to, until } => self.put_grant(op, key, to, *until)?,
             Edit::GrantDropped { key, to } => self.drop_grant(op, key, to),
+            _ => unreachable!(),
+        }
+        Ok(())
+    }
+
+    /// Makes a change of a transaction or of readings.
+    fn edit_transactions(&mut self, change: &Change) -> Mem<()>
+        requires kind { IsOfTransactions change.now.edit }
+        requires fits { Fits change.now (rows_in self.old.lists) }
+        ensures ok { OnOk result (rows_in self.new.lists ≡ after_change change.now (rows_in self.old.lists)) }
+        ensures err { OnErr result (rows_in self.new.lists ≡ rows_in self.old.lists) }
+    {
+        let op = &change.op;
+        match change.edit.as_ref() {
             Edit::TxStarted {
                 station,
                 number,
@@ -341,13 +343,27 @@ impl MemStore {
                 first,
                 readings,
             } => self.add_readings(op, station, *first, readings.as_slice())?,
+            _ => unreachable!(),
+        }
+        Ok(())
+    }
+
+    /// Makes a change of a reservation.
+    fn edit_reservations(&mut self, change: &Change) -> Mem<()>
+        requires kind { IsOfReservations change.now.edit }
+        requires fits { Fits change.now (rows_in self.old.lists) }
+        ensures ok { OnOk result (rows_in self.new.lists ≡ after_change change.now (rows_in self.old.lists)) }
+        ensures err { OnErr result (rows_in self.new.lists ≡ rows_in self.old.lists) }
+    {
+        let op = &change.op;
+        match change.edit.as_ref() {
             Edit::ReservationPut {
                 station,
                 id,
                 reservation,
             } => self.put_reservation(op, station, *id, reservation)?,
             Edit::ReservationDropped { station, id } => self.drop_reservation(op, station, *id),
-            Edit::ListSet { station, list } => self.set_list(op, station, list)?,
+            _ => unreachable!(),
         }
         Ok(())
     }
@@ -363,13 +379,12 @@ impl Store for MemStore {
     }
 
     fn own_tag(&mut self, op: &str, key: &TagKey) -> Result<Option<Info>, StoreFault> {
-        let tags = rows_of_group(&self.lists.tags, op);
-        Ok(own_tag(self.alloc, tags, op, key)?)
+        Ok(self.lists.tags.own_tag(op, key)?)
     }
 
     fn granted_tag(&mut self, op: &str, key: &TagKey) -> Result<Option<Info>, StoreFault> {
         let Lists { tags, grants, .. } = &self.lists;
-        Ok(granted_tag(self.alloc, tags, grants, op, key.as_str())?)
+        Ok(granted_tag(tags, grants, op, key.as_str())?)
     }
 
     fn has_grant(&mut self, op: &str, key: &TagKey, to: &str) -> Result<bool, StoreFault> {
@@ -382,7 +397,8 @@ impl Store for MemStore {
         key: &TagKey,
         except: &Option<TxKey>,
     ) -> Result<bool, StoreFault> {
-        Ok(has_other(rows_at(&self.opens, op, key.as_str()), except))
+        let txs = &self.lists.transactions;
+        Ok(txs.is_used(op, key.as_str(), except))
     }
 
     fn same_start(
@@ -391,21 +407,21 @@ impl Store for MemStore {
         station: &str,
         start: &StartKey,
     ) -> Result<Option<u32>, StoreFault> {
-        Ok(number_of(rows_at(&self.starts, op, station), start))
+        Ok(self.lists.transactions.same_start(op, station, start))
     }
 
     fn tx(&mut self, op: &str, station: &str, number: u32) -> Result<Option<TxState>, StoreFault> {
-        Ok(tx_state(&self.lists.transactions, op, station, number))
+        Ok(self.lists.transactions.state(op, station, number))
     }
 
     fn has_open(&mut self, op: &str, station: &str) -> Result<bool, StoreFault> {
-        Ok(has_any(rows_at(&self.open_at, op, station)))
+        Ok(self.lists.transactions.has_open(op, station))
     }
 
     fn last_numbers(&mut self, op: &str, station: &str) -> Result<LastNumbers, StoreFault> {
         Ok(LastNumbers {
-            transaction: last_number(rows_of(&self.lists.transactions, op, station)),
-            reading: last_number(rows_of(&self.lists.readings, op, station)),
+            transaction: self.lists.transactions.last_number(op, station),
+            reading: self.lists.readings.last_number(op, station),
         })
     }
 
@@ -427,7 +443,7 @@ impl Store for MemStore {
     }
 
     fn tags(&mut self, op: &str) -> Result<Listed<TagRow>, StoreFault> {
-        Ok(copies(self.alloc, rows_of_group(&self.lists.tags, op))?)
+        Ok(copies(self.alloc, self.lists.tags.of_operator(op))?)
     }
 
     fn grants_out(&mut self, op: &str) -> Result<Listed<GrantRow>, StoreFault> {
@@ -445,7 +461,8 @@ impl Store for MemStore {
     }
 
     fn txs(&mut self, op: &str, station: &str) -> Result<Listed<TxRow>, StoreFault> {
-        Ok(copies(self.alloc, rows_of(&self.lists.transactions, op, station))?)
+        let rows = self.lists.transactions.of_station(op, station);
+        Ok(copies(self.alloc, rows)?)
     }
 
     fn readings(
@@ -454,7 +471,8 @@ impl Store for MemStore {
         station: &str,
         transaction: Option<u64>,
     ) -> Result<Listed<ReadingRow>, StoreFault> {
-        Ok(readings_of(self.alloc, &self.lists.readings, op, station, transaction)?)
+        let readings = &self.lists.readings;
+        Ok(readings.of_station(op, station, transaction)?)
     }
 
     fn reservations(

@@ -8,12 +8,11 @@ ghost use Rattle.hub_rows.specs.Places.{IsPlace};
 ghost use Rattle.hub_rows.specs.Transactions.{counts, is_tx};
 ghost use Rattle.hub_rows.specs.Rows.{tx_key};
 ghost use Rattle.hub_rows.specs.declared.tx_row.Stop.{Stop};
-ghost use Rattle.store_mem.specs.ByStation.{all_rows, AreGrouped};
-ghost use Rattle.store_mem.specs.Indexed.{rows_at, AreInPlace, HasRoomAt};
+ghost use Rattle.store_mem.specs.NamedGroups.{all_rows, AreGrouped, rows_at, AreInPlace, HasRoomAt};
 ghost use Rattle.store_mem.specs.Open.{open_key, open_of, has_other, is_excepted, is_open_tx, AreOpens};
 
-use crate::indexed::{Indexed, drop_if_empty, make_room_at, put_at};
-use crate::station_rows::{StationRows, place_of_number, rows_of};
+use crate::named_groups::{NamedGroup, drop_if_empty, make_room_at, put_at};
+use crate::station_rows::{place_of_number, rows_of};
 use hub_rows::{Keyed, TxKey, TxRow, place_of_name};
 use ocpp_types::{Mem, TagKey, Text};
 use std::alloc::Global;
@@ -81,7 +80,7 @@ fn is_left_out(row: &OpenRow, except: &Option<TxKey>) -> bool
 
 /// The key of a transaction's tag.
 fn tag_of<'a>(
-    groups: &'a [StationRows<TxRow>],
+    groups: &'a [NamedGroup<TxRow>],
     op: &str,
     station: &str,
     number: u32,
@@ -100,7 +99,7 @@ fn tag_of<'a>(
 /// Makes room for a transaction among those by which the tag of a key is in use, if it counts.
 pub fn make_room_if(
     alloc: Global,
-    opens: &mut Vec<Indexed<OpenRow>>,
+    opens: &mut Vec<NamedGroup<OpenRow>>,
     op: &str,
     key: &str,
     counts: bool,
@@ -120,7 +119,7 @@ pub fn make_room_if(
 /// Puts a transaction among those by which the tag of a key is in use, if it counts. There is room
 /// for it, so that it can't fail.
 pub fn put_counted(
-    opens: &mut Vec<Indexed<OpenRow>>,
+    opens: &mut Vec<NamedGroup<OpenRow>>,
     op: &str,
     key: &str,
     row: OpenRow,
@@ -140,8 +139,8 @@ pub fn put_counted(
 
 /// Removes a transaction, which then is stopped, from those by which its tag is in use.
 pub fn close_tag(
-    opens: &mut Vec<Indexed<OpenRow>>,
-    groups: &[StationRows<TxRow>],
+    opens: &mut Vec<NamedGroup<OpenRow>>,
+    groups: &[NamedGroup<TxRow>],
     op: &str,
     station: &str,
     number: u32,
@@ -158,7 +157,7 @@ pub fn close_tag(
 
 /// Removes a transaction from those under a name, if it is there, and their group if it was the
 /// last one.
-pub fn close(opens: &mut Vec<Indexed<OpenRow>>, op: &str, name: &str, station: &str, number: u32)
+pub fn close(opens: &mut Vec<NamedGroup<OpenRow>>, op: &str, name: &str, station: &str, number: u32)
     requires in_place { AreInPlace opens.old.items }
     requires sorted { IsStrictlySortedBy (by_key open_key) (rows_at op.now name.now opens.old.items) }
     ensures in_place { AreInPlace opens.new.items }

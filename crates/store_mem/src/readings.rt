@@ -1,14 +1,75 @@
 //! Meter readings, kept station by station.
-ghost use Rattle.std.specs.Prelude.{◌≡◌, ◌+◌, ◌≤◌, length, filter, map, None, IfOk, OnOk, OnErr};
+ghost use Rattle.std.specs.Prelude.{◌≡◌, ◌+◌, ◌≤◌, [], length, filter, map, None, IfOk, OnOk, OnErr};
+ghost use Rattle.std.proofs.Props.{props};
 ghost use Rattle.hub_rows.specs.Changes.{with_readings};
 ghost use Rattle.hub_rows.specs.Keyed.{greatest};
 ghost use Rattle.hub_rows.specs.Transactions.{reading_rows, readings_in, is_sent_with, AreNext};
-ghost use Rattle.store_mem.specs.ByStation.{all_rows, AreGrouped};
+ghost use Rattle.store_mem.specs.NamedGroups.{all_rows, AreGrouped};
 
-use crate::station_rows::{StationRows, append_rows, rows_of};
+use crate::named_groups::NamedGroup;
+use crate::station_rows::{append_rows, last_number, rows_of};
 use hub_rows::{Reading, ReadingRow};
 use ocpp_types::{Listed, Mem, Text};
 use std::alloc::Global;
+
+/// The readings of all operators.
+#[derive(Drop)]
+pub struct Readings {
+    alloc: Global,
+    /// All of them, by their stations.
+    pub rows: Vec<NamedGroup<ReadingRow>>,
+    ghost by_station: { AreGrouped (λ r. r.op) (λ r. r.station) (λ r. r.number) rows.items } by { Prim.hlevel props },
+}
+
+impl Readings {
+    /// No readings, which take no memory yet.
+    pub fn new(alloc: Global) -> Readings
+        ensures { all_rows result.rows.items ≡ [] }
+    {
+        Readings {
+            alloc,
+            rows: Vec::new(alloc),
+        }
+    }
+
+    /// Adds readings after those of their station, numbered from the first number on.
+    pub fn add(&mut self, op: &Text, station: &Text, first: u32, readings: &[Reading]) -> Mem<()>
+        requires { AreNext (greatest (map (λ r. r.number) (readings_in op.now station.now None (all_rows self.old.rows.items)))) first (length readings.now) }
+        ensures ok { OnOk result (all_rows self.new.rows.items ≡ with_readings op.now station.now first readings.now (all_rows self.old.rows.items)) }
+        ensures err { OnErr result (all_rows self.new.rows.items ≡ all_rows self.old.rows.items) }
+    {
+        if readings.is_empty() {
+            return Ok(());
+        }
+        let rows = reading_rows(self.alloc, op, station, first, readings)?;
+        append_rows(
+            self.alloc,
+            &mut self.rows,
+            op.as_str(),
+            station.as_str(),
+            rows,
+        )
+    }
+
+    /// The readings of a station, of all or of those sent with the number of a transaction.
+    pub fn of_station(
+        &self,
+        op: &str,
+        station: &str,
+        transaction: Option<u64>,
+    ) -> Mem<Listed<ReadingRow>>
+        ensures { IfOk result (λ rows. rows ≡ readings_in op.now station.now transaction (all_rows self.now.rows.items)) }
+    {
+        sent_with(self.alloc, rows_of(&self.rows, op, station), transaction)
+    }
+
+    /// The number of a station's last reading, 0 where there is none.
+    pub fn last_number(&self, op: &str, station: &str) -> u32
+        ensures { result ≡ greatest (map (λ r. r.number) (readings_in op.now station.now None (all_rows self.now.rows.items))) }
+    {
+        last_number(rows_of(&self.rows, op, station))
+    }
+}
 
 #[tactic(auto, using(hub_rows::proofs::Steps::drop_here))]
 /// Readings of a station as rows, numbered from the first number on.
@@ -34,42 +95,6 @@ fn reading_rows(
         number += 1;
     }
     Ok(rows)
-}
-
-/// Adds readings after those of their station, numbered from the first number on.
-pub fn add_readings(
-    alloc: Global,
-    groups: &mut Vec<StationRows<ReadingRow>>,
-    op: &Text,
-    station: &Text,
-    first: u32,
-    readings: &[Reading],
-) -> Mem<()>
-    requires groups { AreGrouped (λ r. r.op) (λ r. r.station) (λ r. r.number) groups.old.items }
-    requires next { AreNext (greatest (map (λ r. r.number) (readings_in op.now station.now None (all_rows groups.old.items)))) first (length readings.now) }
-    ensures groups { AreGrouped (λ r. r.op) (λ r. r.station) (λ r. r.number) groups.new.items }
-    ensures ok { OnOk result (all_rows groups.new.items ≡ with_readings op.now station.now first readings.now (all_rows groups.old.items)) }
-    ensures err { OnErr result (all_rows groups.new.items ≡ all_rows groups.old.items) }
-{
-    if readings.is_empty() {
-        return Ok(());
-    }
-    let rows = reading_rows(alloc, op, station, first, readings)?;
-    append_rows(alloc, groups, op.as_str(), station.as_str(), rows)
-}
-
-/// The readings of a station, of all or of those sent with the number of a transaction.
-pub fn readings_of(
-    alloc: Global,
-    groups: &[StationRows<ReadingRow>],
-    op: &str,
-    station: &str,
-    transaction: Option<u64>,
-) -> Mem<Listed<ReadingRow>>
-    requires { AreGrouped (λ r. r.op) (λ r. r.station) (λ r. r.number) groups.now }
-    ensures { IfOk result (λ rows. rows ≡ readings_in op.now station.now transaction (all_rows groups.now)) }
-{
-    sent_with(alloc, rows_of(groups, op, station), transaction)
 }
 
 #[tactic(auto, using(hub_rows::proofs::Steps::drop_here))]

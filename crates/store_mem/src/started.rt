@@ -4,9 +4,10 @@ ghost use Rattle.std.specs.Str.{bytes_eq};
 ghost use Rattle.hub_rows.specs.Changes.{tx_row};
 ghost use Rattle.hub_rows.specs.Keyed.{by_key, greatest, put, those};
 ghost use Rattle.hub_rows.specs.Rows.{tx_key};
-ghost use Rattle.store_mem.specs.ByStation.{all_rows, AreGrouped};
+ghost use Rattle.store_mem.specs.NamedGroups.{all_rows, AreGrouped};
 
-use crate::station_rows::{StationRows, append_rows};
+use crate::named_groups::NamedGroup;
+use crate::station_rows::append_rows;
 use hub_rows::{Start, TxRow};
 use ocpp_types::{Mem, Text};
 use std::alloc::Global;
@@ -27,7 +28,7 @@ pub fn started(op: &Text, station: &Text, number: u32, start: &Start) -> Mem<TxR
 /// Adds a transaction after those of its station.
 pub fn start_tx(
     alloc: Global,
-    groups: &mut Vec<StationRows<TxRow>>,
+    groups: &mut Vec<NamedGroup<TxRow>>,
     op: &Text,
     station: &Text,
     row: TxRow,

@@ -1,14 +1,14 @@
-//! Rows that are kept station by station, so that a change of one station's moves no row of
-//! another.
+//! Rows that are kept station by station, in the order of their numbers.
 ghost use Rattle.std.specs.Prelude.{◌≡◌, ◌<◌, ℕ, List, [], ◌∷◌, ◌++◌, map, OnOk, OnErr};
 ghost use Rattle.std.specs.List.{AllByRecursion};
 ghost use Rattle.std.specs.List.Sorted.{IsStrictlySortedBy};
 ghost use Rattle.std.specs.Str.{bytes_eq};
 ghost use Rattle.hub_rows.specs.Keyed.{by_key, greatest, numbered_key, put_all, those};
 ghost use Rattle.hub_rows.specs.Places.{IsPlace};
-ghost use Rattle.store_mem.specs.ByStation.{number_key, all_rows, AreOf, AreGrouped};
+ghost use Rattle.store_mem.specs.NamedGroups.{number_key, all_rows, AreOf, AreGrouped};
 
-use hub_rows::{NamedRow, ReadingRow, TxRow, place_of_name};
+use crate::named_groups::NamedGroup;
+use hub_rows::{ReadingRow, TxRow, place_of_name};
 use ocpp_types::{Mem, Text};
 use std::alloc::{AllocError, Global};
 
@@ -49,30 +49,8 @@ impl NumberedRow for ReadingRow {
     }
 }
 
-/// The rows of one station, in the order of their numbers.
-#[derive(Drop)]
-pub struct StationRows<R> {
-    pub op: Text,
-    pub station: Text,
-    pub rows: Vec<R>,
-}
-
-impl<R: Drop> NamedRow for StationRows<R> {
-    ghost op = { λ s. s.op };
-
-    ghost name = { λ s. s.station };
-
-    fn op(&self) -> &str {
-        self.op.as_str()
-    }
-
-    fn name(&self) -> &str {
-        self.station.as_str()
-    }
-}
-
 /// The rows of a station.
-pub fn rows_of<'a, R: NumberedRow>(groups: &'a [StationRows<R>], op: &str, station: &str) -> &'a [R]
+pub fn rows_of<'a, R: NumberedRow>(groups: &'a [NamedGroup<R>], op: &str, station: &str) -> &'a [R]
     requires { AreGrouped R.op R.station R.number groups.now }
     ensures rows { result.now ≡ those R.op op.now (λ r. bytes_eq (R.station r) station.now) (all_rows groups.now) }
     ensures sorted { IsStrictlySortedBy (by_key (number_key R.number)) result.now }
@@ -105,7 +83,7 @@ pub fn last_number<R: NumberedRow>(rows: &[R]) -> u32
 /// Adds rows of a station after those that it has.
 pub fn append_rows<R: NumberedRow>(
     alloc: Global,
-    groups: &mut Vec<StationRows<R>>,
+    groups: &mut Vec<NamedGroup<R>>,
     op: &str,
     station: &str,
     rows: Vec<R>,
@@ -120,9 +98,9 @@ pub fn append_rows<R: NumberedRow>(
     match place_of_name(groups.as_slice(), op, station) {
         Ok(place) => extend_group(&mut groups[place], rows)?,
         Err(place) => {
-            let group = StationRows {
+            let group = NamedGroup {
                 op: Text::copy_of(alloc, op)?,
-                station: Text::copy_of(alloc, station)?,
+                name: Text::copy_of(alloc, station)?,
                 rows,
             };
             groups.insert(place, group)?;
@@ -131,9 +109,9 @@ pub fn append_rows<R: NumberedRow>(
     Ok(())
 }
 
-fn extend_group<R: NumberedRow>(group: &mut StationRows<R>, rows: Vec<R>) -> Result<(), AllocError>
+fn extend_group<R: NumberedRow>(group: &mut NamedGroup<R>, rows: Vec<R>) -> Result<(), AllocError>
     ensures op { group.new.op ≡ group.old.op }
-    ensures station { group.new.station ≡ group.old.station }
+    ensures name { group.new.name ≡ group.old.name }
     ensures ok { OnOk result (group.new.rows.items ≡ group.old.rows.items ++ rows.items) }
     ensures err { OnErr result (group.new.rows.items ≡ group.old.rows.items) }
 {

@@ -1,19 +1,70 @@
 //! Id tags, kept in groups by their operators.
-ghost use Rattle.std.specs.Prelude.{◌≡◌, IfOk, option_map};
+ghost use Rattle.std.specs.Prelude.{◌≡◌, [], IfOk, OnOk, OnErr, option_map};
 ghost use Rattle.std.specs.List.Sorted.{IsStrictlySortedBy};
 ghost use Rattle.std.specs.Str.{bytes_eq};
-ghost use Rattle.hub_rows.specs.Keyed.{by_key, without};
+ghost use Rattle.std.proofs.Props.{props};
+ghost use Rattle.hub_rows.specs.Keyed.{by_key, own, put, without};
 ghost use Rattle.hub_rows.specs.Rows.{tag_key};
 ghost use Rattle.hub_rows.specs.Tags.{own_tag_in, tag_in, is_blocked, is_parent_blocked};
 ghost use Rattle.store_mem.specs.Groups.{all_of, AreGroups};
 
-use crate::groups::{Group, place_of_group};
+use crate::groups::{Group, place_of_group, put_in_group, rows_of_group};
 use hub_rows::{Info, TagRow, remove_row, row_of};
 use ocpp_types::{Mem, TagKey, Text, copied};
 use std::alloc::Global;
 
-/// The tag of a key as it counts: blocked by itself or by its parent.
-pub fn own_tag(alloc: Global, tags: &[TagRow], op: &str, key: &TagKey) -> Mem<Option<Info>>
+/// The id tags of all operators.
+#[derive(Drop)]
+pub struct Tags {
+    alloc: Global,
+    /// By their operators.
+    pub groups: Vec<Group<TagRow>>,
+    ghost by_operator: { AreGroups tag_key (λ r. r.op) groups.items } by { Prim.hlevel props },
+}
+
+impl Tags {
+    /// No tags, which take no memory yet.
+    pub fn new(alloc: Global) -> Tags
+        ensures { all_of result.groups.items ≡ [] }
+    {
+        Tags {
+            alloc,
+            groups: Vec::new(alloc),
+        }
+    }
+
+    /// Keeps a tag, in place of the one with its key.
+    pub fn put(&mut self, tag: TagRow) -> Mem<()>
+        ensures ok { OnOk result (all_of self.new.groups.items ≡ put (by_key tag_key) tag (all_of self.old.groups.items)) }
+        ensures err { OnErr result (all_of self.new.groups.items ≡ all_of self.old.groups.items) }
+    {
+        put_in_group(self.alloc, &mut self.groups, tag)
+    }
+
+    /// Removes the tag of a key, if it is there.
+    pub fn drop_one(&mut self, op: &str, key: &str)
+        ensures { all_of self.new.groups.items ≡ without (λ r. r.op) op.now (λ r. bytes_eq r.key key.now) (all_of self.old.groups.items) }
+    {
+        drop_tag(&mut self.groups, op, key);
+    }
+
+    /// The tags of an operator.
+    pub fn of_operator(&self, op: &str) -> &[TagRow]
+        ensures { result.now ≡ own (λ r. r.op) op.now (all_of self.now.groups.items) }
+    {
+        rows_of_group(&self.groups, op)
+    }
+
+    /// The tag of a key as it counts: blocked by itself or by its parent.
+    pub fn own_tag(&self, op: &str, key: &TagKey) -> Mem<Option<Info>>
+        ensures { IfOk result (λ t. t ≡ own_tag_in op.now key.now (all_of self.now.groups.items)) }
+    {
+        tag_among(self.alloc, rows_of_group(&self.groups, op), op, key)
+    }
+}
+
+/// The tag of a key as it counts, among those of its operator.
+fn tag_among(alloc: Global, tags: &[TagRow], op: &str, key: &TagKey) -> Mem<Option<Info>>
     requires { IsStrictlySortedBy (by_key tag_key) tags.now }
     ensures { IfOk result (λ t. t ≡ own_tag_in op.now key.now tags.now) }
 {
@@ -50,8 +101,7 @@ fn is_blocked(row: Option<&TagRow>) -> bool
     }
 }
 
-/// Removes the tag of a key, if it is there.
-pub fn drop_tag(groups: &mut Vec<Group<TagRow>>, op: &str, key: &str)
+fn drop_tag(groups: &mut Vec<Group<TagRow>>, op: &str, key: &str)
     requires { AreGroups tag_key (λ r. r.op) groups.old.items }
     ensures groups { AreGroups tag_key (λ r. r.op) groups.new.items }
     ensures rows { all_of groups.new.items

@@ -1,63 +1,131 @@
-//! Transactions, kept station by station.
-ghost use Rattle.std.specs.Prelude.{◌≡◌, ◌==◌, if◌then◌else◌, map};
+//! Transactions, with what finds them.
+ghost use Rattle.std.specs.Prelude.{◌≡◌, [], map, OnOk, OnErr};
 ghost use Rattle.std.specs.List.Sorted.{IsStrictlySortedBy};
-ghost use Rattle.hub_rows.specs.Changes.{with_stop};
-ghost use Rattle.hub_rows.specs.Keyed.{by_key, changed};
-ghost use Rattle.hub_rows.specs.Transactions.{tx_in, is_tx};
-ghost use Rattle.store_mem.specs.ByStation.{number_key, all_rows, AreGrouped};
+ghost use Rattle.std.proofs.Props.{props};
+ghost use Rattle.hub_rows.specs.Changes.{tx_row, with_stop};
+ghost use Rattle.hub_rows.specs.Keyed.{by_key, changed, greatest, put};
+ghost use Rattle.hub_rows.specs.Rows.{tx_key};
+ghost use Rattle.hub_rows.specs.Transactions.{counts, is_open, is_tx, is_used_in, same_start_in, tx_in, has_open_in, txs_in, AreNext};
+ghost use Rattle.store_mem.specs.NamedGroups.{all_rows, AreGrouped};
+ghost use Rattle.store_mem.specs.Open.{AreOpens};
+ghost use Rattle.store_mem.specs.Starts.{AreStarts};
 
-use crate::station_rows::{StationRows, place_of_number, rows_of};
-use hub_rows::{Stop, TxRow, TxState, place_of_name};
+use crate::named_groups::{NamedGroup, make_room_at, put_at, rows_at};
+use crate::open::{
+    OpenRow, close, close_tag, has_any, has_other, make_room_if, open_of, put_counted,
+};
+use crate::started::{start_tx, started};
+use crate::starts::{StartRow, number_of, start_of};
+use crate::station_rows::{last_number, rows_of};
+use crate::tx_rows::{stop_tx, tx_state};
+use hub_rows::{Start, StartKey, Stop, TxKey, TxRow, TxState};
+use ocpp_types::{Mem, Text};
+use std::alloc::Global;
 
-/// A transaction of a station, by its number.
-pub fn tx_state(
-    groups: &[StationRows<TxRow>],
-    op: &str,
-    station: &str,
-    number: u32,
-) -> Option<TxState>
-    requires { AreGrouped (λ r. r.op) (λ r. r.station) (λ r. r.number) groups.now }
-    ensures { result ≡ tx_in op.now station.now number (all_rows groups.now) }
-{
-    let rows = rows_of(groups, op, station);
-    match place_of_number(rows, number) {
-        Ok(place) => Some(rows[place].state()),
-        Err(_) => None,
-    }
+/// The transactions of all operators.
+#[derive(Drop)]
+pub struct Transactions {
+    alloc: Global,
+    /// All of them, by their stations.
+    pub rows: Vec<NamedGroup<TxRow>>,
+    /// Those by which tags are in use, by the keys of the tags.
+    opens: Vec<NamedGroup<OpenRow>>,
+    /// The open ones, by their stations.
+    open_at: Vec<NamedGroup<OpenRow>>,
+    /// The starts of each station's, in the order of their times.
+    starts: Vec<NamedGroup<StartRow>>,
+    ghost by_station: { AreGrouped (λ r. r.op) (λ r. r.station) (λ r. r.number) rows.items } by { Prim.hlevel props },
+    ghost sorted: { IsStrictlySortedBy (by_key tx_key) (all_rows rows.items) } by { Prim.hlevel props },
+    ghost in_use: { AreOpens counts (λ r. r.start.id.key) opens.items (all_rows rows.items) } by { Prim.hlevel props },
+    ghost opened: { AreOpens is_open (λ r. r.station) open_at.items (all_rows rows.items) } by { Prim.hlevel props },
+    ghost started: { AreStarts starts.items (all_rows rows.items) } by { Prim.hlevel props },
 }
 
-/// Stops a transaction, if it is there.
-pub fn stop_tx(
-    groups: &mut Vec<StationRows<TxRow>>,
-    op: &str,
-    station: &str,
-    number: u32,
-    stop: Stop,
-)
-    requires { AreGrouped (λ r. r.op) (λ r. r.station) (λ r. r.number) groups.old.items }
-    ensures groups { AreGrouped (λ r. r.op) (λ r. r.station) (λ r. r.number) groups.new.items }
-    ensures rows { all_rows groups.new.items
-        ≡ changed (λ r. r.op) op.now (is_tx station.now number) (with_stop stop) (all_rows groups.old.items) }
-{
-    if let Ok(place) = place_of_name(groups.as_slice(), op, station) {
-        stop_in_group(&mut groups[place], number, stop);
+impl Transactions {
+    /// No transactions, which take no memory yet.
+    pub fn new(alloc: Global) -> Transactions
+        ensures { all_rows result.rows.items ≡ [] }
+    {
+        Transactions {
+            alloc,
+            rows: Vec::new(alloc),
+            opens: Vec::new(alloc),
+            open_at: Vec::new(alloc),
+            starts: Vec::new(alloc),
+        }
     }
-}
 
-fn stop_in_group(group: &mut StationRows<TxRow>, number: u32, stop: Stop)
-    requires { IsStrictlySortedBy (by_key (number_key (λ r. r.number))) group.old.rows.items }
-    ensures op { group.new.op ≡ group.old.op }
-    ensures station { group.new.station ≡ group.old.station }
-    ensures rows { group.new.rows.items
-        ≡ map (λ r. if r.number == number then with_stop stop r else r) group.old.rows.items }
-{
-    if let Ok(place) = place_of_number(group.rows.as_slice(), number) {
-        stop_row(&mut group.rows[place], stop);
+    /// Adds a transaction after those of its station.
+    pub fn start(&mut self, op: &Text, station: &Text, number: u32, start: &Start) -> Mem<()>
+        requires { AreNext (greatest (map (λ r. r.number) (txs_in op.now station.now (all_rows self.old.rows.items)))) number 1 }
+        ensures ok { OnOk result (all_rows self.new.rows.items ≡ put (by_key tx_key) (tx_row op.now station.now number start.now) (all_rows self.old.rows.items)) }
+        ensures err { OnErr result (all_rows self.new.rows.items ≡ all_rows self.old.rows.items) }
+    {
+        let row = started(op, station, number, start)?;
+        let start_row = start_of(&row)?;
+        let open_row = open_of(&row)?;
+        let used_row = open_of(&row)?;
+        let counts = row.counts();
+        let key = start.id.key.as_str();
+        make_room_at(self.alloc, &mut self.starts, op.as_str(), station.as_str())?;
+        make_room_if(self.alloc, &mut self.opens, op.as_str(), key, counts)?;
+        make_room_at(self.alloc, &mut self.open_at, op.as_str(), station.as_str())?;
+        start_tx(self.alloc, &mut self.rows, op, station, row)?;
+        let (op, station) = (op.as_str(), station.as_str());
+        put_at(&mut self.starts, op, station, start_row);
+        put_counted(&mut self.opens, op, key, used_row, counts);
+        put_at(&mut self.open_at, op, station, open_row);
+        Ok(())
     }
-}
 
-fn stop_row(row: &mut TxRow, stop: Stop)
-    ensures { row.new ≡ with_stop stop row.old }
-{
-    row.stop = Some(stop);
+    /// Stops a transaction, if it is there.
+    pub fn stop(&mut self, op: &str, station: &str, number: u32, stop: Stop)
+        ensures { all_rows self.new.rows.items ≡ changed (λ r. r.op) op.now (is_tx station.now number) (with_stop stop) (all_rows self.old.rows.items) }
+    {
+        close(&mut self.open_at, op, station, station, number);
+        close_tag(&mut self.opens, &self.rows, op, station, number);
+        stop_tx(&mut self.rows, op, station, number, stop);
+    }
+
+    /// Whether the tag of a key is in use, by another transaction than the one left out.
+    pub fn is_used(&self, op: &str, key: &str, except: &Option<TxKey>) -> bool
+        ensures { result ≡ is_used_in op.now key.now except.now (all_rows self.now.rows.items) }
+    {
+        has_other(rows_at(&self.opens, op, key), except)
+    }
+
+    /// The number of the first transaction of a station with that start.
+    pub fn same_start(&self, op: &str, station: &str, start: &StartKey) -> Option<u32>
+        ensures { result ≡ same_start_in op.now station.now start.now (all_rows self.now.rows.items) }
+    {
+        number_of(rows_at(&self.starts, op, station), start)
+    }
+
+    /// Whether a transaction of a station is open.
+    pub fn has_open(&self, op: &str, station: &str) -> bool
+        ensures { result ≡ has_open_in op.now station.now (all_rows self.now.rows.items) }
+    {
+        has_any(rows_at(&self.open_at, op, station))
+    }
+
+    /// A transaction of a station, by its number.
+    pub fn state(&self, op: &str, station: &str, number: u32) -> Option<TxState>
+        ensures { result ≡ tx_in op.now station.now number (all_rows self.now.rows.items) }
+    {
+        tx_state(&self.rows, op, station, number)
+    }
+
+    /// The transactions of a station.
+    pub fn of_station(&self, op: &str, station: &str) -> &[TxRow]
+        ensures { result.now ≡ txs_in op.now station.now (all_rows self.now.rows.items) }
+    {
+        rows_of(&self.rows, op, station)
+    }
+
+    /// The number of a station's last transaction, 0 where there is none.
+    pub fn last_number(&self, op: &str, station: &str) -> u32
+        ensures { result ≡ greatest (map (λ r. r.number) (txs_in op.now station.now (all_rows self.now.rows.items))) }
+    {
+        last_number(rows_of(&self.rows, op, station))
+    }
 }

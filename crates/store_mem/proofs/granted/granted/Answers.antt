@@ -9,7 +9,7 @@ use Rattle.store_mem.proofs.granted.granted.Goals as goal
 pub returns : goal.returns
 returns c =
     let a = c.args.op.now in
-    let tags = all_of c.args.tags.now in
+    let tags = all_of c.args.tags.now.groups.items in
     let grants = c.args.grants.now in
     let rows = c.rows_of_group.ensures.rows ∙ ap (λ gs. own (λ r. r.grant.to) a (all_of gs)) c.deref.ensures.value in
     subst (λ xs. IfOk c.entries_by.result (λ l. l ≡ xs))

@@ -3,7 +3,7 @@ use Rattle.std.specs.List.Sorted.{IsStrictlySortedBy}
 use Rattle.hub_rows.specs.Keyed.{by_key}
 use Rattle.store_mem.specs.declared.open.OpenRow.{OpenRow}
 use Rattle.store_mem.specs.Open.{open_key, is_open_tx}
-use Rattle.store_mem.proofs.IndexedLaws.{rows-found, set-in_place, set-rows, none-changed}
+use Rattle.store_mem.proofs.NamedGroupLaws.{rows-found, set-in_place, set-rows, none-changed}
 use Rattle.store_mem.proofs.open.close.Goals as goal
 
 pub close_in-requires : goal.close_in-requires

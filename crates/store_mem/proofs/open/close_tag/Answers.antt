@@ -6,7 +6,7 @@ use Rattle.hub_rows.specs.Changes.{with_stop}
 use Rattle.hub_rows.specs.Keyed.{by_key}
 use Rattle.hub_rows.specs.Transactions.{counts, is_tx}
 use Rattle.hub_rows.proofs.PlaceLaws.{map-none}
-use Rattle.store_mem.specs.ByStation.{all_rows}
+use Rattle.store_mem.specs.NamedGroups.{all_rows}
 use Rattle.store_mem.specs.Open.{open_key, is_open_tx, opens_of}
 use Rattle.store_mem.proofs.OpenLaws.{sorted-opens, opens-ended, named-found, none-found}
 use Rattle.store_mem.proofs.open.close_tag.Goals as goal

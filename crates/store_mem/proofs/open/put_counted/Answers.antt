@@ -2,7 +2,7 @@ use Rattle.std.proofs.Common.{List, cond, ◌&&◌, ap, sym, ◌∙◌}
 use Rattle.std.specs.Str.{bytes_eq}
 use Rattle.hub_rows.specs.Keyed.{by_key, put}
 use Rattle.store_mem.specs.declared.open.OpenRow.{OpenRow}
-use Rattle.store_mem.specs.Indexed.{rows_at}
+use Rattle.store_mem.specs.NamedGroups.{rows_at}
 use Rattle.store_mem.specs.Open.{open_key}
 use Rattle.store_mem.proofs.OpenLaws.{and_false}
 use Rattle.store_mem.proofs.open.put_counted.Goals as goal

@@ -4,7 +4,7 @@ use Rattle.std.specs.Str.{bytes_eq}
 use Rattle.hub_rows.specs.declared.tx_row.TxRow.{TxRow}
 use Rattle.hub_rows.proofs.ListLaws.{one_part}
 use Rattle.hub_rows.proofs.PlaceLaws.{find-found, find-gap}
-use Rattle.store_mem.specs.ByStation.{number_key, all_rows}
+use Rattle.store_mem.specs.NamedGroups.{number_key, all_rows}
 use Rattle.store_mem.proofs.StationRowsLaws.{found-those}
 use Rattle.store_mem.proofs.open.tag_of.Goals as goal
 

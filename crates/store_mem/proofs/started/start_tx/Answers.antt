@@ -1,4 +1,4 @@
-use Rattle.store_mem.specs.ByStation.{all_rows}
+use Rattle.store_mem.specs.NamedGroups.{all_rows}
 use Rattle.store_mem.proofs.NewRows.{one_tx, one_behind}
 use Rattle.store_mem.proofs.started.start_tx.Goals as goal
 

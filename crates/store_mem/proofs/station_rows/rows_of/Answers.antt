@@ -1,6 +1,6 @@
 use Rattle.std.proofs.Common.{[], ◌+◌, take, drop, ap, sym, ◌∙◌}
 use Rattle.std.specs.List.Sorted.{IsStrictlySortedBy}
-use Rattle.store_mem.specs.ByStation.{all_rows}
+use Rattle.store_mem.specs.NamedGroups.{all_rows}
 use Rattle.store_mem.proofs.StationRowsLaws.{those-parts, parts-found, parts-gap}
 use Rattle.store_mem.proofs.station_rows.rows_of.Goals as goal
 

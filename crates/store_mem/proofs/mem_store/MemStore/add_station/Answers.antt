@@ -13,9 +13,4 @@ invariant_of-self c =
       good = by_result (λ xs. WellFormedRows (record rows { stations = xs })) c.put_row.result _ _ _
           (station-put c.args.op.now rows s.good _)
           s.good c.put_row.ensures.ok c.put_row.ensures.err;
-      by_station = s.by_station;
-      by_operator = s.by_operator;
-      in_use = s.in_use;
-      started = s.started;
-      opened = s.opened;
     }

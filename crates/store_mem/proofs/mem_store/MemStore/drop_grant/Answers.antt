@@ -9,9 +9,4 @@ invariant_of-self c =
     let rows : Rows = rows_in s.lists in
     record {
       good = rw (c.drop_one.ensures, c.as_str.ensures, c.as_str-2.ensures, c.as_str-3.ensures) (grant-dropped c.args.op.now rows s.good c.args.key.now c.args.to.now);
-      by_station = s.by_station;
-      by_operator = s.by_operator;
-      in_use = s.in_use;
-      started = s.started;
-      opened = s.opened;
     }

@@ -10,9 +10,4 @@ invariant_of-self c =
     let rows : Rows = rows_in s.lists in
     record {
       good = rw (c.drop_reservation.ensures, c.as_str.ensures, c.as_str-2.ensures) (reservations-without c.args.op.now rows s.good (is_reservation c.args.station.now c.args.id));
-      by_station = s.by_station;
-      by_operator = s.by_operator;
-      in_use = s.in_use;
-      started = s.started;
-      opened = s.opened;
     }

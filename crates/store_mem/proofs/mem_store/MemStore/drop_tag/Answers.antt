@@ -8,10 +8,5 @@ invariant_of-self c =
     let s = c.args.self.now in
     let rows : Rows = rows_in s.lists in
     record {
-      good = rw (c.drop_of_tag.ensures, c.drop_tag.ensures.rows, c.as_str-op.ensures, c.as_str-key.ensures) (tag-dropped c.args.op.now rows s.good c.args.key.now);
-      by_station = s.by_station;
-      by_operator = c.drop_tag.ensures.groups;
-      in_use = s.in_use;
-      started = s.started;
-      opened = s.opened;
+      good = rw (c.drop_of_tag.ensures, c.drop_one.ensures, c.as_str-op.ensures, c.as_str-key.ensures) (tag-dropped c.args.op.now rows s.good c.args.key.now);
     }

@@ -13,9 +13,4 @@ invariant_of-self c =
       good = by_result (λ xs. WellFormedRows (record rows { connectors = xs })) c.put_row.result _ _ _
           (connector-put c.args.op.now rows s.good _ (rw (c.in_ok-clone.ensures.cases, c.in_ok-clone-2.ensures.cases) (on_record c.args.op.now c.args.station.now rows.stations c.requires)))
           s.good c.put_row.ensures.ok c.put_row.ensures.err;
-      by_station = s.by_station;
-      by_operator = s.by_operator;
-      in_use = s.in_use;
-      started = s.started;
-      opened = s.opened;
     }

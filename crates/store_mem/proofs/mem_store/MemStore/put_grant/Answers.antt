@@ -13,9 +13,4 @@ invariant_of-self c =
       good = by_result (λ xs. WellFormedRows (record rows { grants = xs })) c.put.result _ _ _
           (grant-put c.in_ok-clone.field-0 rows s.good c.in_ok-clone-2.field-0 c.in_ok-clone-3.field-0 c.args.until (rw (c.in_ok-clone.ensures.cases, c.in_ok-clone-2.ensures.cases, c.in_ok-clone-3.ensures.cases) c.requires))
           s.good c.put.ensures.ok c.put.ensures.err;
-      by_station = s.by_station;
-      by_operator = s.by_operator;
-      in_use = s.in_use;
-      started = s.started;
-      opened = s.opened;
     }

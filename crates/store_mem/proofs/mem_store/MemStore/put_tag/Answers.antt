@@ -10,12 +10,7 @@ invariant_of-self c =
     let s = c.args.self.now in
     let rows : Rows = rows_in s.lists in
     record {
-      good = by_result (λ xs. WellFormedRows (record rows { tags = xs })) c.put_in_group.result _ _ _
+      good = by_result (λ xs. WellFormedRows (record rows { tags = xs })) c.put.result _ _ _
           (tag-put c.args.op.now rows s.good _ (record { key = rw (c.in_ok-clone-2.ensures.cases, c.in_ok-clone-3.ensures.cases) c.requires }))
-          s.good c.put_in_group.ensures.ok c.put_in_group.ensures.err;
-      by_station = s.by_station;
-      by_operator = c.put_in_group.ensures.groups;
-      in_use = s.in_use;
-      started = s.started;
-      opened = s.opened;
+          s.good c.put.ensures.ok c.put.ensures.err;
     }

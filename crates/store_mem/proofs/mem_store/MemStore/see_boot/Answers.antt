@@ -11,9 +11,4 @@ invariant_of-self c =
     let rows : Rows = rows_in s.lists in
     record {
       good = rw c.change_station.ensures (station-changed c.args.op.now rows s.good c.args.station.now (with_boot c.in_ok-boot.boot c.args.state) (λ r. (refl, refl)));
-      by_station = s.by_station;
-      by_operator = s.by_operator;
-      in_use = s.in_use;
-      started = s.started;
-      opened = s.opened;
     }

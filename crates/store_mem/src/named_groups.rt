@@ -1,0 +1,108 @@
+//! Rows that are kept in groups, each of an operator and a name, so that a change of one group
+//! moves no row of another.
+ghost use Rattle.std.specs.Prelude.{◌≡◌, ℕ, ◌<◌, List, ◌&&◌, if◌then◌else◌, OnOk, vec_len, vec_capacity};
+ghost use Rattle.std.specs.List.Sorted.{IsStrictlySortedBy};
+ghost use Rattle.std.specs.Str.{bytes_eq};
+ghost use Rattle.hub_rows.specs.Keyed.{by_key, put};
+ghost use Rattle.store_mem.specs.NamedGroups.{rows_at, AreInPlace, HasRoomAt};
+
+use hub_rows::{Keyed, NamedRow, place_of_name, put_ready};
+use ocpp_types::{Mem, Text};
+use std::alloc::Global;
+
+/// The rows of an operator under one name.
+#[derive(Drop)]
+pub struct NamedGroup<R> {
+    pub op: Text,
+    pub name: Text,
+    pub rows: Vec<R>,
+}
+
+impl<R: Drop> NamedRow for NamedGroup<R> {
+    ghost op = { λ s. s.op };
+
+    ghost name = { λ s. s.name };
+
+    fn op(&self) -> &str {
+        self.op.as_str()
+    }
+
+    fn name(&self) -> &str {
+        self.name.as_str()
+    }
+}
+
+/// The rows of an operator under a name.
+pub fn rows_at<'a, R: Drop>(groups: &'a [NamedGroup<R>], op: &str, name: &str) -> &'a [R]
+    requires { AreInPlace groups.now }
+    ensures { result.now ≡ rows_at op.now name.now groups.now }
+{
+    match place_of_name(groups, op, name) {
+        Ok(place) => groups[place].rows.as_slice(),
+        Err(_) => &[],
+    }
+}
+
+/// Makes room for one more row under a name, whose group may be made for it.
+pub fn make_room_at<R: Drop>(
+    alloc: Global,
+    groups: &mut Vec<NamedGroup<R>>,
+    op: &str,
+    name: &str,
+) -> Mem<()>
+    requires { AreInPlace groups.old.items }
+    ensures in_place { AreInPlace groups.new.items }
+    ensures rows { (b n : List ℕ) → rows_at b n groups.new.items ≡ rows_at b n groups.old.items }
+    ensures room { OnOk result (HasRoomAt op.now name.now groups.new.items) }
+{
+    match place_of_name(groups.as_slice(), op, name) {
+        Ok(place) => make_room_in(&mut groups[place])?,
+        Err(place) => {
+            let group = NamedGroup {
+                op: Text::copy_of(alloc, op)?,
+                name: Text::copy_of(alloc, name)?,
+                rows: Vec::with_capacity(alloc, 1)?,
+            };
+            groups.insert(place, group)?;
+        }
+    }
+    Ok(())
+}
+
+fn make_room_in<R: Drop>(group: &mut NamedGroup<R>) -> Mem<()>
+    ensures op { group.new.op ≡ group.old.op }
+    ensures name { group.new.name ≡ group.old.name }
+    ensures rows { group.new.rows.items ≡ group.old.rows.items }
+    ensures room { OnOk result (vec_len group.new.rows < vec_capacity group.new.rows) }
+{
+    group.rows.reserve(1)?;
+    Ok(())
+}
+
+/// Puts a row at its place among those under its name. There is room for it, so that it can't fail.
+pub fn put_at<R: Keyed>(groups: &mut Vec<NamedGroup<R>>, op: &str, name: &str, row: R)
+    requires in_place { AreInPlace groups.old.items }
+    requires room { HasRoomAt op.now name.now groups.old.items }
+    requires sorted { IsStrictlySortedBy (by_key R.key) (rows_at op.now name.now groups.old.items) }
+    ensures in_place { AreInPlace groups.new.items }
+    ensures rows { (b n : List ℕ) → rows_at b n groups.new.items
+        ≡ (if bytes_eq op.now b && bytes_eq name.now n then put (by_key R.key) row (rows_at b n groups.old.items) else rows_at b n groups.old.items) }
+{
+    match place_of_name(groups.as_slice(), op, name) {
+        Ok(place) => put_ready(&mut groups[place].rows, row),
+        Err(_) => unreachable!(),
+    }
+}
+
+/// Removes the group of a name, if no row is left in it.
+pub fn drop_if_empty<R: Drop>(groups: &mut Vec<NamedGroup<R>>, op: &str, name: &str)
+    requires { AreInPlace groups.old.items }
+    ensures in_place { AreInPlace groups.new.items }
+    ensures rows { (b n : List ℕ) → rows_at b n groups.new.items ≡ rows_at b n groups.old.items }
+{
+    if let Ok(place) = place_of_name(groups.as_slice(), op, name) {
+        if groups[place].rows.is_empty() {
+            let _empty = groups.remove(place);
+        }
+    }
+}

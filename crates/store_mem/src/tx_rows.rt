@@ -1,0 +1,64 @@
+//! The rows of transactions, kept station by station: found, and stopped.
+ghost use Rattle.std.specs.Prelude.{◌≡◌, ◌==◌, if◌then◌else◌, map};
+ghost use Rattle.std.specs.List.Sorted.{IsStrictlySortedBy};
+ghost use Rattle.hub_rows.specs.Changes.{with_stop};
+ghost use Rattle.hub_rows.specs.Keyed.{by_key, changed};
+ghost use Rattle.hub_rows.specs.Transactions.{tx_in, is_tx};
+ghost use Rattle.store_mem.specs.NamedGroups.{number_key, all_rows, AreGrouped};
+
+use crate::named_groups::NamedGroup;
+use crate::station_rows::{place_of_number, rows_of};
+use hub_rows::{Stop, TxRow, TxState, place_of_name};
+
+/// A transaction of a station, by its number.
+pub fn tx_state(
+    groups: &[NamedGroup<TxRow>],
+    op: &str,
+    station: &str,
+    number: u32,
+) -> Option<TxState>
+    requires { AreGrouped (λ r. r.op) (λ r. r.station) (λ r. r.number) groups.now }
+    ensures { result ≡ tx_in op.now station.now number (all_rows groups.now) }
+{
+    let rows = rows_of(groups, op, station);
+    match place_of_number(rows, number) {
+        Ok(place) => Some(rows[place].state()),
+        Err(_) => None,
+    }
+}
+
+/// Stops a transaction, if it is there.
+pub fn stop_tx(
+    groups: &mut Vec<NamedGroup<TxRow>>,
+    op: &str,
+    station: &str,
+    number: u32,
+    stop: Stop,
+)
+    requires { AreGrouped (λ r. r.op) (λ r. r.station) (λ r. r.number) groups.old.items }
+    ensures groups { AreGrouped (λ r. r.op) (λ r. r.station) (λ r. r.number) groups.new.items }
+    ensures rows { all_rows groups.new.items
+        ≡ changed (λ r. r.op) op.now (is_tx station.now number) (with_stop stop) (all_rows groups.old.items) }
+{
+    if let Ok(place) = place_of_name(groups.as_slice(), op, station) {
+        stop_in_group(&mut groups[place], number, stop);
+    }
+}
+
+fn stop_in_group(group: &mut NamedGroup<TxRow>, number: u32, stop: Stop)
+    requires { IsStrictlySortedBy (by_key (number_key (λ r. r.number))) group.old.rows.items }
+    ensures op { group.new.op ≡ group.old.op }
+    ensures name { group.new.name ≡ group.old.name }
+    ensures rows { group.new.rows.items
+        ≡ map (λ r. if r.number == number then with_stop stop r else r) group.old.rows.items }
+{
+    if let Ok(place) = place_of_number(group.rows.as_slice(), number) {
+        stop_row(&mut group.rows[place], stop);
+    }
+}
+
+fn stop_row(row: &mut TxRow, stop: Stop)
+    ensures { row.new ≡ with_stop stop row.old }
+{
+    row.stop = Some(stop);
+}
