@@ -42,9 +42,6 @@ module _ {R : Type 0} (key : R → List (List ℕ)) (group : R → List ℕ) (re
     pub kept : filter stays (all_of gs) ≡ filter stays (all_of old)
     pub done : AllByRecursion (λ r. stays r ≡ true) (all_of (take i gs))
 
-  pub none-dropped : (gs : List (Group R)) → AreGroups key group gs → AreDropped gs gs 0
-  none-dropped gs good = record { good = good; kept = refl; done = tt }
-
   stays-without : (b : List ℕ) (xs : List R) → filter stays (without group b test xs) ≡ filter stays xs
   stays-without b [] = refl
   stays-without b (x ∷ xs) = grind (arith, stays-without b xs)

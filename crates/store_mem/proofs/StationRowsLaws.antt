@@ -9,16 +9,17 @@ use Rattle.std.specs.declared.cmp.Ordering.{Ordering}
 use Rattle.std.specs.declared.cmp.Ordering.TheVariants.{Less, Equal, Greater}
 use Rattle.std.proofs.Common.{refl, sym, ◌∙◌, ap, subst, arith, append_assoc, append-nil}
 use Rattle.std.proofs.Math.ListN.{set}
+use Rattle.std.proofs.lemmas.Bool.{and_parts}
 use Rattle.std.proofs.lemmas.List.{take-append-drop}
 use Rattle.std.proofs.lemmas.List.Elements.{filter-append}
 use Rattle.std.proofs.Math.Nat.{le-max_left, le-max_right, max-zero, max-eq_right}
 use Rattle.std.proofs.lemmas.Cmp.{tied_itself, nat_list_cmp_total}
 use Rattle.hub_rows.specs.Keyed.{text_cmp, key_cmp, by_key, put_all, found, those, any_of, numbered_key, greatest}
 use Rattle.hub_rows.specs.Places.{AllBelow, AllAbove, IsFoundAt, IsGapAt}
-use Rattle.hub_rows.proofs.ListLaws.{keys_total, by_key_total, all-weaker, put-front, sorted-put, set_here, two_parts, head}
+use Rattle.hub_rows.proofs.ListLaws.{keys_total, by_key_total, all-weaker, put-front, sorted-put, set_here, two_parts, head, same_text}
 use Rattle.hub_rows.proofs.PlaceLaws.{all-back, map-append, map-none, put-passed, put-gap}
 use Rattle.store_mem.specs.declared.named_groups.NamedGroup.{NamedGroup}
-use Rattle.store_mem.specs.NamedGroups.{number_key, group_key, all_rows, AreOf, AreGrouped}
+use Rattle.store_mem.specs.NamedGroups.{number_key, group_key, is_at, rows_or_none, rows_at, all_rows, AreOf, AreGrouped}
 use Rattle.store_mem.proofs.RowLaws.{all-append, all-front, all-both, filter-all, filter-no, sorted-kept, sorted-swap}
 
 -- ---- lists
@@ -232,6 +233,36 @@ module _ {R : Type 0} (op station : R → List ℕ) (number : R → ℕ) (b st :
       ap (filter mine) parts.split ∙ filter-append mine front (rows ++ back) ∙ ap (λ xs. filter mine front ++ xs) (filter-append mine rows back)
       ∙ (λ i. filter-no mine front parts.front_not i ++ (filter-all mine rows (all_mine rows parts.of_station.mine) i ++ filter-no mine back parts.back_not i))
       ∙ append-nil rows
+
+  -- the same by a search for the group
+  pub rows-those : (ss : List (NamedGroup R)) → AreGrouped op station number ss → rows_at b st ss ≡ those op b (λ r. bytes_eq (station r) st) (all_rows ss)
+  unfolding IsStrictlySortedBy
+  rows-those [] are = refl
+  rows-those (s ∷ ss) are =
+      let rest : AreGrouped op station number ss = record { sorted = are.sorted.1; each = are.each.1 } in
+      elim (is_at b st s) as (λ t. is_at b st s ≡ t → rows_or_none (cond t (Some s) (find (is_at b st) ss)) ≡ filter mine (s.rows.items ++ all_rows ss)) [
+        | true ↦ λ e.
+            let same = and_parts (bytes_eq s.op b) (bytes_eq s.name st) e in
+            let its_op = same_text s.op b same.0 in
+            let its_name = same_text s.name st same.1 in
+            let its_rows = all-weaker (λ r. (op r ≡ s.op) × (station r ≡ s.name)) (λ r. mine r ≡ true) (λ r m. is_mine r (m.0 ∙ its_op, m.1 ∙ its_name)) s.rows.items are.each.0.mine in
+            let above = all-weaker (λ t. by_key group_key s t ≡ Less) (λ t. key_cmp (group_key t) k ≡ Greater)
+            (λ t less. keys_total.antisymm (group_key t) k ∙ ap ordering_reverse ((λ i. key_cmp (sym its_op i ∷ sym its_name i ∷ []) (group_key t)) ∙ less)) ss are.sorted.0 in
+            sym (filter-append mine s.rows.items (all_rows ss)
+            ∙ (λ i. filter-all mine s.rows.items its_rows i ++ filter-no mine (all_rows ss) (groups_not Greater refl ss are.each.1 above) i) ∙ append-nil s.rows.items)
+        | false ↦ λ e.
+            let not_mine = all-weaker (λ r. (op r ≡ s.op) × (station r ≡ s.name)) (λ r. mine r ≡ false) (λ r m. (λ i. bytes_eq (m.0 i) b && bytes_eq (m.1 i) st) ∙ e) s.rows.items are.each.0.mine in
+            rows-those ss rest ∙ sym (filter-append mine s.rows.items (all_rows ss) ∙ (λ i. filter-no mine s.rows.items not_mine i ++ filter mine (all_rows ss)))
+      ] refl
+
+  pub rows-sorted : (ss : List (NamedGroup R)) → AreGrouped op station number ss → IsStrictlySortedBy (by_key (number_key number)) (rows_at b st ss)
+  unfolding IsStrictlySortedBy
+  rows-sorted [] are = tt
+  rows-sorted (s ∷ ss) are =
+      elim (is_at b st s) as (λ t. IsStrictlySortedBy (by_key (number_key number)) (rows_or_none (cond t (Some s) (find (is_at b st) ss)))) [
+        | true ↦ are.each.0.sorted
+        | false ↦ rows-sorted ss (record { sorted = are.sorted.1; each = are.each.1 })
+      ]
 
   -- a change of the row of a number
   pub changed-parts : (ss : List (NamedGroup R)) (front rows back : List R) (n : ℕ) (f : R → R) → Parts ss front rows back

@@ -7,7 +7,7 @@ ghost use Rattle.hub_rows.specs.Keyed.{by_key, greatest, numbered_key, put_all, 
 ghost use Rattle.hub_rows.specs.Places.{IsPlace};
 ghost use Rattle.store_mem.specs.NamedGroups.{number_key, all_rows, AreOf, AreGrouped};
 
-use crate::named_groups::NamedGroup;
+use crate::named_groups::{NamedGroup, rows_at};
 use hub_rows::{ReadingRow, TxRow, place_of_name};
 use ocpp_types::{Mem, Text};
 use std::alloc::{AllocError, Global};
@@ -55,10 +55,7 @@ pub fn rows_of<'a, R: NumberedRow>(groups: &'a [NamedGroup<R>], op: &str, statio
     ensures rows { result.now ≡ those R.op op.now (λ r. bytes_eq (R.station r) station.now) (all_rows groups.now) }
     ensures sorted { IsStrictlySortedBy (by_key (number_key R.number)) result.now }
 {
-    match place_of_name(groups, op, station) {
-        Ok(place) => groups[place].rows.as_slice(),
-        Err(_) => &[],
-    }
+    rows_at(groups, op, station)
 }
 
 /// The index of the row of a number among those of a station, or else its place.

@@ -1,39 +1,15 @@
-use Rattle.std.proofs.Common.{[], ◌+◌, take, drop, ap, sym, ◌∙◌}
+use Rattle.std.proofs.Common.{sym, subst, ◌∙◌}
 use Rattle.std.specs.List.Sorted.{IsStrictlySortedBy}
-use Rattle.store_mem.specs.NamedGroups.{all_rows}
-use Rattle.store_mem.proofs.StationRowsLaws.{those-parts, parts-found, parts-gap}
+use Rattle.hub_rows.specs.Keyed.{by_key}
+use Rattle.store_mem.specs.NamedGroups.{number_key}
+use Rattle.store_mem.proofs.StationRowsLaws.{rows-those, rows-sorted}
 use Rattle.store_mem.proofs.station_rows.rows_of.Goals as goal
 
-pub returns-in-Ok-clause-rows : goal.returns-in-Ok-clause-rows
-returns-in-Ok-clause-rows g c =
-    let op = g.R.NumberedRow.op in
-    let station = g.R.NumberedRow.station in
-    let number = g.R.NumberedRow.number in
-    let b = c.args.op.now in
-    let st = c.args.station.now in
-    let ss = c.args.groups.now in
-    let i = c.in-Ok.place in
-    let at = c.in-Ok.ensures in
-    c.as_slice.ensures.value ∙ ap (λ s. s.rows.items) (at.here c.index-groups-place.result)
-    ∙ sym (those-parts op station number b st ss (all_rows (take i ss)) at.row.rows.items (all_rows (drop (i + 1) ss)) (parts-found op station number b st ss i c.requires at))
+pub returns-clause-rows : goal.returns-clause-rows
+returns-clause-rows g c =
+    c.rows_at.ensures ∙ rows-those g.R.NumberedRow.op g.R.NumberedRow.station g.R.NumberedRow.number c.args.op.now c.args.station.now c.args.groups.now c.requires
 
-pub returns-in-Ok-clause-sorted : goal.returns-in-Ok-clause-sorted
-returns-in-Ok-clause-sorted g c =
-    let at = c.in-Ok.ensures in
-    let parts = parts-found g.R.NumberedRow.op g.R.NumberedRow.station g.R.NumberedRow.number c.args.op.now c.args.station.now c.args.groups.now c.in-Ok.place c.requires at in
-    rw (c.as_slice.ensures.value, at.here c.index-groups-place.result) parts.of_station.sorted
-
-pub returns-in-Err-clause-rows : goal.returns-in-Err-clause-rows
-returns-in-Err-clause-rows g c =
-    let op = g.R.NumberedRow.op in
-    let station = g.R.NumberedRow.station in
-    let number = g.R.NumberedRow.number in
-    let b = c.args.op.now in
-    let st = c.args.station.now in
-    let ss = c.args.groups.now in
-    let i = c.in-Err.field-0 in
-    sym (those-parts op station number b st ss (all_rows (take i ss)) [] (all_rows (drop i ss)) (parts-gap op station number b st ss i c.requires c.in-Err.ensures))
-
-pub returns-in-Err-clause-sorted : goal.returns-in-Err-clause-sorted
-unfolding IsStrictlySortedBy
-returns-in-Err-clause-sorted g c = tt
+pub returns-clause-sorted : goal.returns-clause-sorted
+returns-clause-sorted g c =
+    subst (IsStrictlySortedBy (by_key (number_key g.R.NumberedRow.number))) (sym c.rows_at.ensures)
+    (rows-sorted g.R.NumberedRow.op g.R.NumberedRow.station g.R.NumberedRow.number c.args.op.now c.args.station.now c.args.groups.now c.requires)
