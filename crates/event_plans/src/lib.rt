@@ -4,14 +4,14 @@
 mod admin;
 mod answers;
 mod commands;
+mod event_plan;
 mod frames;
 mod list;
 mod message_at;
 mod plan;
-mod plan_event;
 mod short_plans;
 mod shown;
 mod sizes;
 
+pub use event_plan::plan_event;
 pub use plan::{Effect, Plan};
-pub use plan_event::plan_event;
