@@ -2,8 +2,8 @@
 ghost use Rattle.std.specs.Prelude.{◌≡◌, IsErr, IsOk, OnErr, OnOk};
 ghost use Rattle.sqlite.specs.Held.{state};
 ghost use Rattle.hub_rows.specs.Changes.{after_change, edit};
-ghost use Rattle.hub_rows.specs.declared.change.Edit.TheVariants.{TxStopped};
 ghost use Rattle.sql_shelf.specs.Kept.{Changes, Goes, IsInside, IsMade};
+ghost use Rattle.store_sql.specs.Edits.{IsOfStations, IsOfTags, IsOfTransactions, IsOfHoldings};
 ghost use Rattle.store_sql.specs.Store.{IsReady, MayMake};
 
 use crate::columns::told;
@@ -15,26 +15,124 @@ use crate::reservations::{drop_reservation, put_reservation};
 use crate::stations::{add_station, see_boot, set_policy};
 use crate::tags::{drop_tag, put_tag};
 use crate::tx_edits::{start_tx, stop_tx};
-use hub_rows::{Change, Edit, Reading, Stop, StoreFault};
+use hub_rows::{Change, Edit, StoreFault};
 use sqlite::{Alter, Connection, Error, Transaction};
 use std::alloc::Global;
 
-/// Keeps the stop of a transaction, and the readings that came with it.
-fn end_tx<S: Alter>(
+/// Makes an edit of a station or a connector.
+fn edit_stations<S: Alter>(
+    tx: &mut Transaction<'_, S>,
+    op: &str,
+    change: &Edit,
+) -> Result<(), StoreFault>
+    requires kind { IsOfStations change.now }
+    ensures same_reference { tx.new.conn.ghost_name ≡ tx.old.conn.ghost_name }
+    ensures goes { IsInside (state S.Store tx.old.conn.now) → Goes (IsMade (edit op.now change.now)) (state S.Store tx.old.conn.now) (state S.Store tx.new.conn.now) result }
+{
+    match change {
+        Edit::StationAdded {
+            station,
+            policy,
+            interval,
+        } => add_station(tx, op, station.as_str(), *policy, *interval),
+        Edit::BootSeen {
+            station,
+            boot,
+            state,
+        } => see_boot(tx, op, station.as_str(), boot, *state),
+        Edit::PolicySet {
+            station,
+            policy,
+            interval,
+        } => set_policy(tx, op, station.as_str(), *policy, *interval),
+        Edit::ConnectorSeen {
+            station,
+            connector,
+            report,
+        } => put_connector(tx, op, station.as_str(), *connector, report),
+        _ => unreachable!(),
+    }
+}
+
+/// Makes an edit of a tag or a grant.
+fn edit_tags<S: Alter>(
     tx: &mut Transaction<'_, S>,
     alloc: Global,
     op: &str,
-    station: &str,
-    number: u32,
-    stop: &Stop,
-    first: u32,
-    readings: &[Reading],
+    change: &Edit,
 ) -> Result<(), StoreFault>
+    requires kind { IsOfTags change.now }
     ensures same_reference { tx.new.conn.ghost_name ≡ tx.old.conn.ghost_name }
-    ensures goes { IsInside (state S.Store tx.old.conn.now) → Goes (IsMade (edit op.now (TxStopped station.now number stop.now first readings.now))) (state S.Store tx.old.conn.now) (state S.Store tx.new.conn.now) result }
+    ensures goes { IsInside (state S.Store tx.old.conn.now) → Goes (IsMade (edit op.now change.now)) (state S.Store tx.old.conn.now) (state S.Store tx.new.conn.now) result }
 {
-    stop_tx(tx, alloc, op, station, number, stop)?;
-    add_readings(tx, op, station, first, readings)
+    match change {
+        Edit::TagPut { key, tag } => put_tag(tx, alloc, op, key.as_str(), tag),
+        Edit::TagDropped { key } => drop_tag(tx, op, key.as_str()),
+        Edit::GrantPut { key, to, until } => put_grant(tx, op, key.as_str(), to.as_str(), until),
+        Edit::GrantDropped { key, to } => drop_grant(tx, op, key.as_str(), to.as_str()),
+        _ => unreachable!(),
+    }
+}
+
+/// Makes an edit of a transaction or of readings.
+fn edit_transactions<S: Alter>(
+    tx: &mut Transaction<'_, S>,
+    op: &str,
+    change: &Edit,
+) -> Result<(), StoreFault>
+    requires kind { IsOfTransactions change.now }
+    ensures same_reference { tx.new.conn.ghost_name ≡ tx.old.conn.ghost_name }
+    ensures goes { IsInside (state S.Store tx.old.conn.now) → Goes (IsMade (edit op.now change.now)) (state S.Store tx.old.conn.now) (state S.Store tx.new.conn.now) result }
+{
+    match change {
+        Edit::TxStarted {
+            station,
+            number,
+            start,
+        } => start_tx(tx, op, station.as_str(), *number, start),
+        Edit::TxStopped {
+            station,
+            number,
+            stop,
+            first,
+            readings,
+        } => {
+            let station = station.as_str();
+            stop_tx(tx, op, station, *number, stop)?;
+            add_readings(tx, op, station, *first, readings.as_slice())
+        }
+        Edit::ReadingsAdded {
+            station,
+            first,
+            readings,
+        } => add_readings(tx, op, station.as_str(), *first, readings.as_slice()),
+        _ => unreachable!(),
+    }
+}
+
+/// Makes an edit of what a station holds, that fits: of a reservation or the local list.
+fn edit_holdings<S: Alter>(
+    tx: &mut Transaction<'_, S>,
+    alloc: Global,
+    op: &str,
+    change: &Edit,
+) -> Result<(), StoreFault>
+    requires kind { IsOfHoldings change.now }
+    ensures same_reference { tx.new.conn.ghost_name ≡ tx.old.conn.ghost_name }
+    ensures goes { MayMake op.now change.now (state S.Store tx.old.conn.now) → IsInside (state S.Store tx.old.conn.now) → Goes (IsMade (edit op.now change.now)) (state S.Store tx.old.conn.now) (state S.Store tx.new.conn.now) result }
+{
+    match change {
+        Edit::ReservationPut {
+            station,
+            id,
+            reservation,
+        } => put_reservation(tx, op, station.as_str(), *id, reservation),
+        Edit::ReservationDropped { station, id } => {
+            drop_reservation(tx, op, station.as_str(), *id)
+        }
+        Edit::ListSet { station, list } => set_list(tx, alloc, op, station.as_str(), list),
+        _ => unreachable!(),
+    }
 }
 
 /// Makes an edit that fits, inside a transaction.
@@ -48,65 +146,19 @@ fn make<S: Alter>(
     ensures goes { MayMake op.now change.now (state S.Store tx.old.conn.now) → IsInside (state S.Store tx.old.conn.now) → Goes (IsMade (edit op.now change.now)) (state S.Store tx.old.conn.now) (state S.Store tx.new.conn.now) result }
 {
     match change {
-        Edit::StationAdded {
-            station,
-            policy,
-            interval,
-        } => add_station(tx, op, station.as_str(), *policy, *interval),
-        Edit::BootSeen {
-            station,
-            boot,
-            state,
-        } => see_boot(tx, alloc, op, station.as_str(), boot, *state),
-        Edit::PolicySet {
-            station,
-            policy,
-            interval,
-        } => set_policy(tx, alloc, op, station.as_str(), *policy, *interval),
-        Edit::ConnectorSeen {
-            station,
-            connector,
-            report,
-        } => put_connector(tx, op, station.as_str(), *connector, report),
-        Edit::TagPut { key, tag } => put_tag(tx, alloc, op, key.as_str(), tag),
-        Edit::TagDropped { key } => drop_tag(tx, op, key.as_str()),
-        Edit::GrantPut { key, to, until } => put_grant(tx, op, key.as_str(), to.as_str(), until),
-        Edit::GrantDropped { key, to } => drop_grant(tx, op, key.as_str(), to.as_str()),
-        Edit::TxStarted {
-            station,
-            number,
-            start,
-        } => start_tx(tx, op, station.as_str(), *number, start),
-        Edit::TxStopped {
-            station,
-            number,
-            stop,
-            first,
-            readings,
-        } => end_tx(
-            tx,
-            alloc,
-            op,
-            station.as_str(),
-            *number,
-            stop,
-            *first,
-            readings.as_slice(),
-        ),
-        Edit::ReadingsAdded {
-            station,
-            first,
-            readings,
-        } => add_readings(tx, op, station.as_str(), *first, readings.as_slice()),
-        Edit::ReservationPut {
-            station,
-            id,
-            reservation,
-        } => put_reservation(tx, op, station.as_str(), *id, reservation),
-        Edit::ReservationDropped { station, id } => {
-            drop_reservation(tx, op, station.as_str(), *id)
+        Edit::StationAdded { .. }
+        | Edit::BootSeen { .. }
+        | Edit::PolicySet { .. }
+        | Edit::ConnectorSeen { .. } => edit_stations(tx, op, change),
+        Edit::TagPut { .. }
+        | Edit::TagDropped { .. }
+        | Edit::GrantPut { .. }
+        | Edit::GrantDropped { .. } => edit_tags(tx, alloc, op, change),
+        Edit::TxStarted { .. } | Edit::TxStopped { .. } | Edit::ReadingsAdded { .. } => {
+            edit_transactions(tx, op, change)
         }
-        Edit::ListSet { station, list } => set_list(tx, alloc, op, station.as_str(), list),
+        Edit::ReservationPut { .. } | Edit::ReservationDropped { .. } | Edit::ListSet { .. } =>
+            edit_holdings(tx, alloc, op, change),
     }
 }
 

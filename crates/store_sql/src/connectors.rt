@@ -53,7 +53,6 @@ fn list<S: Alter>(conn: &mut Connection<S>, op: &str, station: &str) -> Result<V
 /// The connectors of a station.
 pub(crate) fn connectors<S: Alter>(
     conn: &mut Connection<S>,
-    alloc: Global,
     op: &str,
     station: &str,
 ) -> Result<Listed<ConnectorRow>, StoreFault>
@@ -61,7 +60,7 @@ pub(crate) fn connectors<S: Alter>(
     ensures same { Rests (state S.Store conn.old) (state S.Store conn.new) }
     ensures stops { CommitsNothing (state S.Store conn.old) (state S.Store conn.new) result }
 {
-    listed(alloc, list(conn, op, station))
+    listed(list(conn, op, station))
 }
 
 /// Puts the row of a connector.
@@ -71,11 +70,7 @@ fn put_row<S: Alter>(
     station: &str,
     connector: u8,
     report: &ConnectorReport,
-    number: u32,
-    at: i64,
 ) -> Result<usize, Error>
-    requires number { number ≡ connector }
-    requires at { at ≡ report.now.at }
     ensures same_reference { tx.new.conn.ghost_name ≡ tx.old.conn.ghost_name }
     ensures goes { IsInside (state S.Store tx.old.conn.now) → Goes (IsMade (edit op.now (ConnectorSeen station.now connector report.now))) (state S.Store tx.old.conn.now) (state S.Store tx.new.conn.now) result }
 {
@@ -84,10 +79,10 @@ fn put_row<S: Alter>(
         params![
             op,
             station,
-            number,
+            u32::from(connector),
             report.status.name(),
             report.error_code.name(),
-            at,
+            report.at,
             lent(&report.info),
             lent(&report.vendor_id),
             lent(&report.vendor_error_code)
@@ -106,6 +101,5 @@ pub(crate) fn put_connector<S: Alter>(
     ensures same_reference { tx.new.conn.ghost_name ≡ tx.old.conn.ghost_name }
     ensures goes { IsInside (state S.Store tx.old.conn.now) → Goes (IsMade (edit op.now (ConnectorSeen station.now connector report.now))) (state S.Store tx.old.conn.now) (state S.Store tx.new.conn.now) result }
 {
-    let number = u32::from(connector);
-    done(put_row(tx, op, station, connector, report, number, report.at))
+    done(put_row(tx, op, station, connector, report))
 }

@@ -68,14 +68,13 @@ impl Received {
 /// The grants to an operator, in the order of the tags' keys, then of the owners.
 fn grants_received<S: Alter>(
     conn: &mut Connection<S>,
-    alloc: Global,
     to: &str,
 ) -> Result<Listed<Received>, StoreFault>
     ensures found { Finds (state S.Store conn.old) (state S.Store conn.new) result (λ rows list. list ≡ in_order (by_key received_key) (grants_to to.now rows.grants)) }
     ensures same { Rests (state S.Store conn.old) (state S.Store conn.new) }
     ensures stops { CommitsNothing (state S.Store conn.old) (state S.Store conn.new) result }
 {
-    listed(alloc, list_received(conn, to))
+    listed(list_received(conn, to))
 }
 
 /// The tag of a grant, as it counts for the receiver.
@@ -172,7 +171,7 @@ pub(crate) fn granted_tag<S: Alter>(
     ensures same { Rests (state S.Store conn.old) (state S.Store conn.new) }
     ensures stops { CommitsNothing (state S.Store conn.old) (state S.Store conn.new) result }
 {
-    let grants = received_of_key(conn, alloc, op, key)?;
+    let grants = received_of_key(conn, op, key)?;
     first_info(conn, alloc, grants.as_slice())
 }
 
@@ -186,6 +185,6 @@ pub(crate) fn granted<S: Alter>(
     ensures same { Rests (state S.Store conn.old) (state S.Store conn.new) }
     ensures stops { CommitsNothing (state S.Store conn.old) (state S.Store conn.new) result }
 {
-    let grants = grants_received(conn, alloc, op)?;
+    let grants = grants_received(conn, op)?;
     entries(conn, alloc, grants.as_slice())
 }

@@ -1,5 +1,5 @@
 //! Grants of id tags in their table.
-ghost use Rattle.std.specs.Prelude.{◌≡◌, ◌&&◌, true, filter, option_map, pos};
+ghost use Rattle.std.specs.Prelude.{◌≡◌, ◌&&◌, true};
 ghost use Rattle.std.specs.Str.{bytes_eq};
 ghost use Rattle.sqlite.specs.Held.{state};
 ghost use Rattle.hub_rows.specs.Grants.{grants_in, grants_of_key, has_grant_in, is_grant};
@@ -79,7 +79,6 @@ pub(crate) fn list_received<S: Alter>(conn: &mut Connection<S>, to: &str) -> Res
 /// The grant of a tag to an operator.
 fn find_grant<S: Alter>(
     conn: &mut Connection<S>,
-    alloc: Global,
     op: &str,
     key: &str,
     to: &str,
@@ -88,13 +87,12 @@ fn find_grant<S: Alter>(
     ensures same { Rests (state S.Store conn.old) (state S.Store conn.new) }
     ensures stops { CommitsNothing (state S.Store conn.old) (state S.Store conn.new) result }
 {
-    first_row(alloc, find(conn, op, key, to))
+    first_row(find(conn, op, key, to))
 }
 
 /// Whether an operator granted its tag of a key to another.
 pub(crate) fn has_grant<S: Alter>(
     conn: &mut Connection<S>,
-    alloc: Global,
     op: &str,
     key: &str,
     to: &str,
@@ -103,26 +101,24 @@ pub(crate) fn has_grant<S: Alter>(
     ensures same { Rests (state S.Store conn.old) (state S.Store conn.new) }
     ensures stops { CommitsNothing (state S.Store conn.old) (state S.Store conn.new) result }
 {
-    is_found(find_grant(conn, alloc, op, key, to))
+    is_found(find_grant(conn, op, key, to))
 }
 
 /// What an operator granted.
 pub(crate) fn grants_out<S: Alter>(
     conn: &mut Connection<S>,
-    alloc: Global,
     op: &str,
 ) -> Result<Listed<GrantRow>, StoreFault>
     ensures found { Finds (state S.Store conn.old) (state S.Store conn.new) result (λ rows list. list ≡ grants_in op.now rows.grants) }
     ensures same { Rests (state S.Store conn.old) (state S.Store conn.new) }
     ensures stops { CommitsNothing (state S.Store conn.old) (state S.Store conn.new) result }
 {
-    listed(alloc, list(conn, op))
+    listed(list(conn, op))
 }
 
 /// The grants of the tags of a key to an operator, in the order of the owners.
 pub(crate) fn received_of_key<S: Alter>(
     conn: &mut Connection<S>,
-    alloc: Global,
     to: &str,
     key: &str,
 ) -> Result<Listed<GrantRow>, StoreFault>
@@ -130,7 +126,7 @@ pub(crate) fn received_of_key<S: Alter>(
     ensures same { Rests (state S.Store conn.old) (state S.Store conn.new) }
     ensures stops { CommitsNothing (state S.Store conn.old) (state S.Store conn.new) result }
 {
-    listed(alloc, find_received(conn, to, key))
+    listed(find_received(conn, to, key))
 }
 
 /// Puts the row of a grant.
@@ -140,13 +136,11 @@ fn put_row<S: Alter>(
     key: &str,
     to: &str,
     until: &Option<Moment>,
-    seconds: Option<i64>,
 ) -> Result<usize, Error>
-    requires { seconds ≡ option_map pos until.now }
     ensures same_reference { tx.new.conn.ghost_name ≡ tx.old.conn.ghost_name }
     ensures goes { IsInside (state S.Store tx.old.conn.now) → Goes (IsMade (edit op.now (GrantPut key.now to.now until.now))) (state S.Store tx.old.conn.now) (state S.Store tx.new.conn.now) result }
 {
-    tx.execute(PUT, params![op, key, to, seconds])
+    tx.execute(PUT, params![op, key, to, seconds_if_any(until)])
 }
 
 /// Drops the row of a grant.
@@ -173,7 +167,7 @@ pub(crate) fn put_grant<S: Alter>(
     ensures same_reference { tx.new.conn.ghost_name ≡ tx.old.conn.ghost_name }
     ensures goes { IsInside (state S.Store tx.old.conn.now) → Goes (IsMade (edit op.now (GrantPut key.now to.now until.now))) (state S.Store tx.old.conn.now) (state S.Store tx.new.conn.now) result }
 {
-    done(put_row(tx, op, key, to, until, seconds_if_any(until)))
+    done(put_row(tx, op, key, to, until))
 }
 
 /// Drops a grant of a tag.

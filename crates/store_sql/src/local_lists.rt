@@ -1,5 +1,5 @@
 //! Local lists in their tables: the version of each in one, the entries in another.
-ghost use Rattle.std.specs.Prelude.{◌≡◌, ◌&&◌, filter, find, map, option_map, pos, IfOk, IsTrue};
+ghost use Rattle.std.specs.Prelude.{◌≡◌, ◌&&◌, filter, find, map, IfOk, IsTrue};
 ghost use Rattle.std.specs.Str.{bytes_eq};
 ghost use Rattle.sqlite.specs.Held.{state};
 ghost use Rattle.ocpp_types.specs.TagKey.{key_of};
@@ -87,7 +87,6 @@ fn find_entries<S: Alter>(
 /// The list of a station, without its entries.
 fn head<S: Alter>(
     conn: &mut Connection<S>,
-    alloc: Global,
     op: &str,
     station: &str,
 ) -> Result<Option<ListHead>, StoreFault>
@@ -95,13 +94,12 @@ fn head<S: Alter>(
     ensures same { Rests (state S.Store conn.old) (state S.Store conn.new) }
     ensures stops { CommitsNothing (state S.Store conn.old) (state S.Store conn.new) result }
 {
-    first_row(alloc, find_one(conn, op, station))
+    first_row(find_one(conn, op, station))
 }
 
 /// The rows of the entries of a station's list.
 fn entry_rows<S: Alter>(
     conn: &mut Connection<S>,
-    alloc: Global,
     op: &str,
     station: &str,
 ) -> Result<Listed<EntryRow>, StoreFault>
@@ -109,7 +107,7 @@ fn entry_rows<S: Alter>(
     ensures same { Rests (state S.Store conn.old) (state S.Store conn.new) }
     ensures stops { CommitsNothing (state S.Store conn.old) (state S.Store conn.new) result }
 {
-    listed(alloc, find_entries(conn, op, station))
+    listed(find_entries(conn, op, station))
 }
 
 /// The entries in some rows.
@@ -135,10 +133,10 @@ pub(crate) fn local_list<S: Alter>(
     ensures same { Rests (state S.Store conn.old) (state S.Store conn.new) }
     ensures stops { CommitsNothing (state S.Store conn.old) (state S.Store conn.new) result }
 {
-    match head(conn, alloc, op, station)? {
+    match head(conn, op, station)? {
         None => Ok(None),
         Some(head) => {
-            let rows = entry_rows(conn, alloc, op, station)?;
+            let rows = entry_rows(conn, op, station)?;
             Ok(Some(LocalList {
                 version: head.version,
                 entries: entries_of(alloc, rows)?,
@@ -200,10 +198,8 @@ fn put_entry_row<S: Alter>(
     station: &str,
     key: &str,
     entry: &LocalTag,
-    expiry: Option<i64>,
 ) -> Result<usize, Error>
-    requires key { key.now ≡ key_of entry.now.tag }
-    requires expiry { expiry ≡ option_map pos entry.now.info.expiry_date }
+    requires { key.now ≡ key_of entry.now.tag }
     ensures same_reference { tx.new.conn.ghost_name ≡ tx.old.conn.ghost_name }
     ensures goes { IsInside (state S.Store tx.old.conn.now) → Goes (IsPutIn entries (entry_row op.now station.now entry.now)) (state S.Store tx.old.conn.now) (state S.Store tx.new.conn.now) result }
 {
@@ -214,7 +210,7 @@ fn put_entry_row<S: Alter>(
             station,
             key,
             entry.tag.as_str(),
-            expiry,
+            seconds_if_any(&entry.info.expiry_date),
             lent(&entry.info.parent_id_tag),
             entry.info.status.name()
         ],
@@ -233,8 +229,7 @@ fn put_entry<S: Alter>(
     ensures goes { IsInside (state S.Store tx.old.conn.now) → Goes (IsPutIn entries (entry_row op.now station.now entry.now)) (state S.Store tx.old.conn.now) (state S.Store tx.new.conn.now) result }
 {
     let key = TagKey::of(alloc, entry.tag.as_str())?;
-    let expiry = seconds_if_any(&entry.info.expiry_date);
-    done(put_entry_row(tx, op, station, key.as_str(), entry, expiry))
+    done(put_entry_row(tx, op, station, key.as_str(), entry))
 }
 
 /// Puts the entries of a list.

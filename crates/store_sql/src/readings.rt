@@ -1,14 +1,13 @@
 //! Meter readings in their table.
-ghost use Rattle.std.specs.Prelude.{◌≡◌, ◌&&◌, pos, None, Some, IfOk, filter, ◌+◌, length, option_map};
+ghost use Rattle.std.specs.Prelude.{◌≡◌, ◌&&◌, ◌<◌, ◌^◌, None, Some, IfOk, filter};
 ghost use Rattle.std.specs.Str.{bytes_eq};
 ghost use Rattle.sqlite.specs.Held.{state};
 ghost use Rattle.hub_rows.specs.Keyed.{greatest, by_key, put};
 ghost use Rattle.hub_rows.specs.Transactions.{is_reading, is_sent_with, numbers_of, readings_in};
-ghost use Rattle.sql_shelf.specs.Kept.{IsServing, Finds, Rests, CommitsNothing, Shows, ShowsLast, IsInside, IsMade, Goes, Inside};
+ghost use Rattle.sql_shelf.specs.Kept.{IsServing, Finds, Rests, CommitsNothing, Shows, ShowsLast, IsInside, IsMade, Goes};
 ghost use Rattle.sql_shelf.specs.Shelves.{readings};
 ghost use Rattle.hub_rows.specs.Rows.{reading_key};
-ghost use Rattle.hub_rows.specs.Changes.{edit, with_readings};
-ghost use Rattle.hub_rows.specs.declared.change.Edit.TheVariants.{ReadingsAdded};
+ghost use Rattle.hub_rows.specs.Changes.{with_readings};
 
 use crate::binds::{done, name_if_any};
 use crate::columns::{connector, count, named, named_if_any, number, number_if_any, text};
@@ -74,12 +73,11 @@ fn list_of_tx<S: Alter>(
     op: &str,
     station: &str,
     transaction: u64,
-    number: i64,
 ) -> Result<Vec<Row>, Error>
-    requires { number ≡ pos transaction }
+    requires { transaction < 2 ^ 63 }
     ensures shows { IsServing (state S.Store conn.old) → Shows (λ v. v.items) readings (λ r. bytes_eq r.op op.now && is_reading station.now (Some transaction) r) (state S.Store conn.old) (state S.Store conn.new) result }
 {
-    conn.query_all(LIST_OF_TX, params![op, station, number])
+    conn.query_all(LIST_OF_TX, params![op, station, transaction as i64])
 }
 
 fn find_last<S: Alter>(conn: &mut Connection<S>, op: &str, station: &str) -> Result<Vec<Row>, Error>
@@ -91,7 +89,6 @@ fn find_last<S: Alter>(conn: &mut Connection<S>, op: &str, station: &str) -> Res
 /// All readings of a station.
 fn all_readings<S: Alter>(
     conn: &mut Connection<S>,
-    alloc: Global,
     op: &str,
     station: &str,
 ) -> Result<Listed<ReadingRow>, StoreFault>
@@ -99,24 +96,22 @@ fn all_readings<S: Alter>(
     ensures same { Rests (state S.Store conn.old) (state S.Store conn.new) }
     ensures stops { CommitsNothing (state S.Store conn.old) (state S.Store conn.new) result }
 {
-    listed(alloc, list(conn, op, station))
+    listed(list(conn, op, station))
 }
 
 /// The readings of a station that were sent with the number of a transaction.
 fn tx_readings<S: Alter>(
     conn: &mut Connection<S>,
-    alloc: Global,
     op: &str,
     station: &str,
     transaction: u64,
-    number: i64,
 ) -> Result<Listed<ReadingRow>, StoreFault>
-    requires { number ≡ pos transaction }
+    requires { transaction < 2 ^ 63 }
     ensures found { Finds (state S.Store conn.old) (state S.Store conn.new) result (λ rows list. list ≡ readings_in op.now station.now (Some transaction) rows.readings) }
     ensures same { Rests (state S.Store conn.old) (state S.Store conn.new) }
     ensures stops { CommitsNothing (state S.Store conn.old) (state S.Store conn.new) result }
 {
-    listed(alloc, list_of_tx(conn, op, station, transaction, number))
+    listed(list_of_tx(conn, op, station, transaction))
 }
 
 fn is_sent_with(wanted: u64, transaction: Option<i32>) -> bool
@@ -158,13 +153,13 @@ pub(crate) fn readings<S: Alter>(
     ensures stops { CommitsNothing (state S.Store conn.old) (state S.Store conn.new) result }
 {
     let wanted = match transaction {
-        None => return all_readings(conn, alloc, op, station),
+        None => return all_readings(conn, op, station),
         Some(wanted) => wanted,
     };
     if wanted <= i64::MAX as u64 {
-        return tx_readings(conn, alloc, op, station, wanted, wanted as i64);
+        return tx_readings(conn, op, station, wanted);
     }
-    let all = all_readings(conn, alloc, op, station)?;
+    let all = all_readings(conn, op, station)?;
     sent_with(alloc, all, wanted)
 }
 
@@ -188,11 +183,7 @@ fn put_row<S: Alter>(
     station: &str,
     number: u32,
     reading: &Reading,
-    connector: u32,
-    at: i64,
 ) -> Result<usize, Error>
-    requires connector { connector ≡ reading.now.connector }
-    requires at { at ≡ reading.now.at }
     ensures same_reference { tx.new.conn.ghost_name ≡ tx.old.conn.ghost_name }
     ensures goes { IsInside (state S.Store tx.old.conn.now) → Goes (IsMade (λ rows. record rows { readings = put (by_key reading_key) (record { op = op.now; station = station.now; number = number; reading = reading.now }) rows.readings })) (state S.Store tx.old.conn.now) (state S.Store tx.new.conn.now) result }
 {
@@ -202,9 +193,9 @@ fn put_row<S: Alter>(
             op,
             station,
             number,
-            connector,
+            u32::from(reading.connector),
             reading.transaction,
-            at,
+            reading.at,
             reading.context.name(),
             reading.format.name(),
             reading.measurand.name(),
@@ -227,8 +218,7 @@ fn put_reading<S: Alter>(
     ensures same_reference { tx.new.conn.ghost_name ≡ tx.old.conn.ghost_name }
     ensures goes { IsInside (state S.Store tx.old.conn.now) → Goes (IsMade (λ rows. record rows { readings = put (by_key reading_key) (record { op = op.now; station = station.now; number = number; reading = reading.now }) rows.readings })) (state S.Store tx.old.conn.now) (state S.Store tx.new.conn.now) result }
 {
-    let connector = u32::from(reading.connector);
-    done(put_row(tx, op, station, number, reading, connector, reading.at))
+    done(put_row(tx, op, station, number, reading))
 }
 
 /// Puts readings of a station, numbered from the first number on. The last number is within 32

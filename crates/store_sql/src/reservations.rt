@@ -1,9 +1,9 @@
 //! Reservations in their table.
-ghost use Rattle.std.specs.Prelude.{◌≡◌, ◌&&◌, option_map, pos};
+ghost use Rattle.std.specs.Prelude.{◌≡◌, ◌&&◌};
 ghost use Rattle.std.specs.Str.{bytes_eq};
 ghost use Rattle.sqlite.specs.Held.{state};
 ghost use Rattle.hub_rows.specs.Keyed.{found};
-ghost use Rattle.hub_rows.specs.Reservations.{is_reservation, reservations_in, reserved_until_in, unshifted, without_named};
+ghost use Rattle.hub_rows.specs.Reservations.{is_reservation, reservations_in, reserved_until_in, without_named};
 ghost use Rattle.sql_shelf.specs.Kept.{IsServing, Finds, Rests, CommitsNothing, Shows, IsInside, IsMade, Goes};
 ghost use Rattle.sql_shelf.specs.Shelves.{reservations};
 ghost use Rattle.hub_rows.specs.Changes.{edit};
@@ -54,11 +54,10 @@ fn find_one<S: Alter>(
     op: &str,
     station: &str,
     id: ReservationId,
-    number: i32,
 ) -> Result<Vec<Row>, Error>
-    requires { number ≡ unshifted id }
     ensures shows { IsServing (state S.Store conn.old) → Shows (λ v. v.items) reservations (λ r. bytes_eq r.op op.now && is_reservation station.now id r) (state S.Store conn.old) (state S.Store conn.new) result }
 {
+    let number = id.get();
     conn.query_all(FIND, params![op, station, number, number])
 }
 
@@ -72,7 +71,6 @@ fn find_all<S: Alter>(conn: &mut Connection<S>, op: &str, station: &str) -> Resu
 /// The reservation of an id at a station.
 fn find_reservation<S: Alter>(
     conn: &mut Connection<S>,
-    alloc: Global,
     op: &str,
     station: &str,
     id: ReservationId,
@@ -81,13 +79,12 @@ fn find_reservation<S: Alter>(
     ensures same { Rests (state S.Store conn.old) (state S.Store conn.new) }
     ensures stops { CommitsNothing (state S.Store conn.old) (state S.Store conn.new) result }
 {
-    first_row(alloc, find_one(conn, op, station, id, id.get()))
+    first_row(find_one(conn, op, station, id))
 }
 
 /// When the reservation of an id at a station expires.
 pub(crate) fn reserved_until<S: Alter>(
     conn: &mut Connection<S>,
-    alloc: Global,
     op: &str,
     station: &str,
     id: ReservationId,
@@ -96,7 +93,7 @@ pub(crate) fn reserved_until<S: Alter>(
     ensures same { Rests (state S.Store conn.old) (state S.Store conn.new) }
     ensures stops { CommitsNothing (state S.Store conn.old) (state S.Store conn.new) result }
 {
-    let found = find_reservation(conn, alloc, op, station, id)?;
+    let found = find_reservation(conn, op, station, id)?;
     match &found {
         Some(row) => Ok(Some(row.reservation.expiry)),
         None => Ok(None),
@@ -106,7 +103,6 @@ pub(crate) fn reserved_until<S: Alter>(
 /// The reservations at a station.
 pub(crate) fn reservations<S: Alter>(
     conn: &mut Connection<S>,
-    alloc: Global,
     op: &str,
     station: &str,
 ) -> Result<Listed<ReservationRow>, StoreFault>
@@ -114,7 +110,7 @@ pub(crate) fn reservations<S: Alter>(
     ensures same { Rests (state S.Store conn.old) (state S.Store conn.new) }
     ensures stops { CommitsNothing (state S.Store conn.old) (state S.Store conn.new) result }
 {
-    listed(alloc, find_all(conn, op, station))
+    listed(find_all(conn, op, station))
 }
 
 /// Puts the row of a reservation.
@@ -124,13 +120,7 @@ fn put_row<S: Alter>(
     station: &str,
     id: ReservationId,
     reservation: &Reservation,
-    number: i32,
-    connector: u32,
-    expiry: i64,
 ) -> Result<usize, Error>
-    requires number { number ≡ unshifted id }
-    requires connector { connector ≡ reservation.now.connector }
-    requires expiry { expiry ≡ pos reservation.now.expiry }
     ensures same_reference { tx.new.conn.ghost_name ≡ tx.old.conn.ghost_name }
     ensures goes { IsInside (state S.Store tx.old.conn.now) → Goes (IsMade (edit op.now (ReservationPut station.now id reservation.now))) (state S.Store tx.old.conn.now) (state S.Store tx.new.conn.now) result }
 {
@@ -139,11 +129,11 @@ fn put_row<S: Alter>(
         params![
             op,
             station,
-            number,
-            connector,
+            id.get(),
+            u32::from(reservation.connector),
             reservation.tag.as_str(),
             lent(&reservation.parent),
-            expiry
+            seconds(reservation.expiry)
         ],
     )
 }
@@ -154,13 +144,11 @@ fn drop_row<S: Alter>(
     op: &str,
     station: &str,
     id: ReservationId,
-    number: i32,
 ) -> Result<usize, Error>
-    requires { number ≡ unshifted id }
     ensures same_reference { tx.new.conn.ghost_name ≡ tx.old.conn.ghost_name }
     ensures goes { IsInside (state S.Store tx.old.conn.now) → Goes (IsMade (edit op.now (ReservationDropped station.now id))) (state S.Store tx.old.conn.now) (state S.Store tx.new.conn.now) result }
 {
-    tx.execute(DROP, params![op, station, number])
+    tx.execute(DROP, params![op, station, id.get()])
 }
 
 /// Puts a reservation, in place of the one with its id.
@@ -174,18 +162,7 @@ pub(crate) fn put_reservation<S: Alter>(
     ensures same_reference { tx.new.conn.ghost_name ≡ tx.old.conn.ghost_name }
     ensures goes { IsInside (state S.Store tx.old.conn.now) → Goes (IsMade (edit op.now (ReservationPut station.now id reservation.now))) (state S.Store tx.old.conn.now) (state S.Store tx.new.conn.now) result }
 {
-    let connector = u32::from(reservation.connector);
-    let expiry = seconds(reservation.expiry);
-    done(put_row(
-        tx,
-        op,
-        station,
-        id,
-        reservation,
-        id.get(),
-        connector,
-        expiry,
-    ))
+    done(put_row(tx, op, station, id, reservation))
 }
 
 /// Drops the reservation of an id.
@@ -198,7 +175,7 @@ pub(crate) fn drop_reservation<S: Alter>(
     ensures same_reference { tx.new.conn.ghost_name ≡ tx.old.conn.ghost_name }
     ensures goes { IsInside (state S.Store tx.old.conn.now) → Goes (IsMade (edit op.now (ReservationDropped station.now id))) (state S.Store tx.old.conn.now) (state S.Store tx.new.conn.now) result }
 {
-    done(drop_row(tx, op, station, id, id.get()))
+    done(drop_row(tx, op, station, id))
 }
 
 /// Drops the reservation that a start names, if it names one.

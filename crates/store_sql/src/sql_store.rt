@@ -172,7 +172,7 @@ impl<A: Alter> Store for SqlStore<A> {
     ghost well_formed = { λ s clean. clean.good };
 
     fn station(&mut self, op: &str, station: &str) -> Result<Option<Registration>, StoreFault> {
-        let found = stations::registration(&mut self.conn, self.alloc, op, station);
+        let found = stations::registration(&mut self.conn, op, station);
         self.counted(found)
     }
 
@@ -187,7 +187,7 @@ impl<A: Alter> Store for SqlStore<A> {
     }
 
     fn has_grant(&mut self, op: &str, key: &TagKey, to: &str) -> Result<bool, StoreFault> {
-        let found = grants::has_grant(&mut self.conn, self.alloc, op, key.as_str(), to);
+        let found = grants::has_grant(&mut self.conn, op, key.as_str(), to);
         self.counted(found)
     }
 
@@ -197,7 +197,7 @@ impl<A: Alter> Store for SqlStore<A> {
         key: &TagKey,
         except: &Option<TxKey>,
     ) -> Result<bool, StoreFault> {
-        let found = txs::is_used(&mut self.conn, self.alloc, op, key.as_str(), except);
+        let found = txs::is_used(&mut self.conn, op, key.as_str(), except);
         self.counted(found)
     }
 
@@ -207,17 +207,17 @@ impl<A: Alter> Store for SqlStore<A> {
         station: &str,
         start: &StartKey,
     ) -> Result<Option<u32>, StoreFault> {
-        let found = txs::same_start(&mut self.conn, self.alloc, op, station, start);
+        let found = txs::same_start(&mut self.conn, op, station, start);
         self.counted(found)
     }
 
     fn tx(&mut self, op: &str, station: &str, number: u32) -> Result<Option<TxState>, StoreFault> {
-        let found = txs::tx(&mut self.conn, self.alloc, op, station, number);
+        let found = txs::tx(&mut self.conn, op, station, number);
         self.counted(found)
     }
 
     fn has_open(&mut self, op: &str, station: &str) -> Result<bool, StoreFault> {
-        let found = txs::has_open(&mut self.conn, self.alloc, op, station);
+        let found = txs::has_open(&mut self.conn, op, station);
         self.counted(found)
     }
 
@@ -232,7 +232,7 @@ impl<A: Alter> Store for SqlStore<A> {
         station: &str,
         id: ReservationId,
     ) -> Result<Option<Moment>, StoreFault> {
-        let found = reservations::reserved_until(&mut self.conn, self.alloc, op, station, id);
+        let found = reservations::reserved_until(&mut self.conn, op, station, id);
         self.counted(found)
     }
 
@@ -242,17 +242,17 @@ impl<A: Alter> Store for SqlStore<A> {
     }
 
     fn stations(&mut self, op: &str) -> Result<Listed<StationRow>, StoreFault> {
-        let found = stations::stations(&mut self.conn, self.alloc, op);
+        let found = stations::stations(&mut self.conn, op);
         self.counted(found)
     }
 
     fn tags(&mut self, op: &str) -> Result<Listed<TagRow>, StoreFault> {
-        let found = tags::tags(&mut self.conn, self.alloc, op);
+        let found = tags::tags(&mut self.conn, op);
         self.counted(found)
     }
 
     fn grants_out(&mut self, op: &str) -> Result<Listed<GrantRow>, StoreFault> {
-        let found = grants::grants_out(&mut self.conn, self.alloc, op);
+        let found = grants::grants_out(&mut self.conn, op);
         self.counted(found)
     }
 
@@ -262,12 +262,12 @@ impl<A: Alter> Store for SqlStore<A> {
     }
 
     fn connectors(&mut self, op: &str, station: &str) -> Result<Listed<ConnectorRow>, StoreFault> {
-        let found = connectors::connectors(&mut self.conn, self.alloc, op, station);
+        let found = connectors::connectors(&mut self.conn, op, station);
         self.counted(found)
     }
 
     fn txs(&mut self, op: &str, station: &str) -> Result<Listed<TxRow>, StoreFault> {
-        let found = txs::txs(&mut self.conn, self.alloc, op, station);
+        let found = txs::txs(&mut self.conn, op, station);
         self.counted(found)
     }
 
@@ -286,7 +286,7 @@ impl<A: Alter> Store for SqlStore<A> {
         op: &str,
         station: &str,
     ) -> Result<Listed<ReservationRow>, StoreFault> {
-        let found = reservations::reservations(&mut self.conn, self.alloc, op, station);
+        let found = reservations::reservations(&mut self.conn, op, station);
         self.counted(found)
     }
 

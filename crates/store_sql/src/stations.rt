@@ -1,5 +1,5 @@
 //! Stations in their table.
-ghost use Rattle.std.specs.Prelude.{◌≡◌, ◌&&◌, true, IfOk, IsTrue, pos, None, Some};
+ghost use Rattle.std.specs.Prelude.{◌≡◌, ◌&&◌, true, IfOk, IsTrue, None, Some};
 ghost use Rattle.std.specs.Str.{bytes_eq};
 ghost use Rattle.sqlite.specs.Held.{state};
 ghost use Rattle.hub_rows.specs.Lookups.{stations_in};
@@ -82,7 +82,6 @@ fn find_all<S: Alter>(conn: &mut Connection<S>, op: &str) -> Result<Vec<Row>, Er
 /// A station of an operator.
 fn find_station<S: Alter>(
     conn: &mut Connection<S>,
-    alloc: Global,
     op: &str,
     station: &str,
 ) -> Result<Option<StationRow>, StoreFault>
@@ -90,13 +89,12 @@ fn find_station<S: Alter>(
     ensures same { Rests (state S.Store conn.old) (state S.Store conn.new) }
     ensures stops { CommitsNothing (state S.Store conn.old) (state S.Store conn.new) result }
 {
-    first_row(alloc, find_one(conn, op, station))
+    first_row(find_one(conn, op, station))
 }
 
 /// How a station is registered.
 pub(crate) fn registration<S: Alter>(
     conn: &mut Connection<S>,
-    alloc: Global,
     op: &str,
     station: &str,
 ) -> Result<Option<Registration>, StoreFault>
@@ -104,7 +102,7 @@ pub(crate) fn registration<S: Alter>(
     ensures same { Rests (state S.Store conn.old) (state S.Store conn.new) }
     ensures stops { CommitsNothing (state S.Store conn.old) (state S.Store conn.new) result }
 {
-    match find_station(conn, alloc, op, station)? {
+    match find_station(conn, op, station)? {
         Some(row) => Ok(Some(row.registration())),
         None => Ok(None),
     }
@@ -113,50 +111,44 @@ pub(crate) fn registration<S: Alter>(
 /// All stations of an operator.
 pub(crate) fn stations<S: Alter>(
     conn: &mut Connection<S>,
-    alloc: Global,
     op: &str,
 ) -> Result<Listed<StationRow>, StoreFault>
     ensures found { Finds (state S.Store conn.old) (state S.Store conn.new) result (λ rows list. list ≡ stations_in op.now rows.stations) }
     ensures same { Rests (state S.Store conn.old) (state S.Store conn.new) }
     ensures stops { CommitsNothing (state S.Store conn.old) (state S.Store conn.new) result }
 {
-    listed(alloc, find_all(conn, op))
+    listed(find_all(conn, op))
 }
 
-/// Puts the row of a station that hasn't booted. No number and no text are given for its boot.
+/// Puts the row of a station that hasn't booted.
 fn put_unbooted<S: Alter>(
     tx: &mut Transaction<'_, S>,
     op: &str,
     station: &str,
-    policy: Policy,
-    interval: u32,
-    answered: State,
-    number: Option<i64>,
-    text: Option<&str>,
+    registered: Registration,
 ) -> Result<usize, Error>
-    requires none { number ≡ None }
-    requires text { text ≡ None }
     ensures same_reference { tx.new.conn.ghost_name ≡ tx.old.conn.ghost_name }
-    ensures goes { IsInside (state S.Store tx.old.conn.now) → Goes (IsMade (λ rows. record rows { stations = put (by_key station_key) (record { op = op.now; station = station.now; policy = policy; interval = interval; state = answered; boot = None }) rows.stations })) (state S.Store tx.old.conn.now) (state S.Store tx.new.conn.now) result }
+    ensures goes { IsInside (state S.Store tx.old.conn.now) → Goes (IsMade (λ rows. record rows { stations = put (by_key station_key) (record { op = op.now; station = station.now; policy = registered.policy; interval = registered.interval; state = registered.state; boot = None }) rows.stations })) (state S.Store tx.old.conn.now) (state S.Store tx.new.conn.now) result }
 {
+    let null: Option<i64> = None;
     tx.execute(
         PUT,
         params![
             op,
             station,
-            policy.name(),
-            interval,
-            answered.name(),
-            number,
-            text,
-            text,
-            text,
-            text,
-            text,
-            text,
-            text,
-            text,
-            text
+            registered.policy.name(),
+            registered.interval,
+            registered.state.name(),
+            null,
+            null,
+            null,
+            null,
+            null,
+            null,
+            null,
+            null,
+            null,
+            null
         ],
     )
 }
@@ -166,15 +158,11 @@ fn put_booted<S: Alter>(
     tx: &mut Transaction<'_, S>,
     op: &str,
     station: &str,
-    policy: Policy,
-    interval: u32,
-    answered: State,
+    registered: Registration,
     boot: &Boot,
-    booted: i64,
 ) -> Result<usize, Error>
-    requires { booted ≡ pos boot.now.moment }
     ensures same_reference { tx.new.conn.ghost_name ≡ tx.old.conn.ghost_name }
-    ensures goes { IsInside (state S.Store tx.old.conn.now) → Goes (IsMade (λ rows. record rows { stations = put (by_key station_key) (record { op = op.now; station = station.now; policy = policy; interval = interval; state = answered; boot = Some boot.now }) rows.stations })) (state S.Store tx.old.conn.now) (state S.Store tx.new.conn.now) result }
+    ensures goes { IsInside (state S.Store tx.old.conn.now) → Goes (IsMade (λ rows. record rows { stations = put (by_key station_key) (record { op = op.now; station = station.now; policy = registered.policy; interval = registered.interval; state = registered.state; boot = Some boot.now }) rows.stations })) (state S.Store tx.old.conn.now) (state S.Store tx.new.conn.now) result }
 {
     let texts = boot.texts.as_ref();
     tx.execute(
@@ -182,10 +170,10 @@ fn put_booted<S: Alter>(
         params![
             op,
             station,
-            policy.name(),
-            interval,
-            answered.name(),
-            booted,
+            registered.policy.name(),
+            registered.interval,
+            registered.state.name(),
+            seconds(boot.moment),
             texts.charge_point_model.as_str(),
             texts.charge_point_vendor.as_str(),
             lent(&texts.charge_box_serial_number),
@@ -213,7 +201,6 @@ fn find_inside<S: Alter>(
 /// A station of an operator, inside a transaction.
 fn station_inside<S: Alter>(
     tx: &mut Transaction<'_, S>,
-    alloc: Global,
     op: &str,
     station: &str,
 ) -> Result<Option<StationRow>, StoreFault>
@@ -221,7 +208,7 @@ fn station_inside<S: Alter>(
     ensures found { IsInside (state S.Store tx.old.conn.now) → IsTrue (state S.Store tx.new.conn.now).is_open → IfOk result (λ r. r ≡ station_in op.now station.now (rows_of (state S.Store tx.old.conn.now).now.trees).stations) }
     ensures goes { IsInside (state S.Store tx.old.conn.now) → Goes IsSame (state S.Store tx.old.conn.now) (state S.Store tx.new.conn.now) result }
 {
-    first_row(alloc, find_inside(tx, op, station))
+    first_row(find_inside(tx, op, station))
 }
 
 /// Puts a station, which is Fresh.
@@ -235,7 +222,12 @@ pub(crate) fn add_station<S: Alter>(
     ensures same_reference { tx.new.conn.ghost_name ≡ tx.old.conn.ghost_name }
     ensures goes { IsInside (state S.Store tx.old.conn.now) → Goes (IsMade (edit op.now (StationAdded station.now policy interval))) (state S.Store tx.old.conn.now) (state S.Store tx.new.conn.now) result }
 {
-    done(put_unbooted(tx, op, station, policy, interval, State::Fresh, None, None))
+    let registered = Registration {
+        policy,
+        interval,
+        state: State::Fresh,
+    };
+    done(put_unbooted(tx, op, station, registered))
 }
 
 /// Puts a station.
@@ -245,27 +237,10 @@ fn put_station<S: Alter>(tx: &mut Transaction<'_, S>, row: &StationRow) -> Resul
 {
     let op = row.op.as_str();
     let station = row.station.as_str();
+    let registered = row.registration();
     match &row.boot {
-        None => done(put_unbooted(
-            tx,
-            op,
-            station,
-            row.policy,
-            row.interval,
-            row.state,
-            None,
-            None,
-        )),
-        Some(boot) => done(put_booted(
-            tx,
-            op,
-            station,
-            row.policy,
-            row.interval,
-            row.state,
-            boot,
-            seconds(boot.moment),
-        )),
+        None => done(put_unbooted(tx, op, station, registered)),
+        Some(boot) => done(put_booted(tx, op, station, registered, boot)),
     }
 }
 
@@ -273,7 +248,6 @@ fn put_station<S: Alter>(tx: &mut Transaction<'_, S>, row: &StationRow) -> Resul
 /// is on record, or else this answers Failed.
 pub(crate) fn see_boot<S: Alter>(
     tx: &mut Transaction<'_, S>,
-    alloc: Global,
     op: &str,
     station: &str,
     boot: &Boot,
@@ -282,21 +256,16 @@ pub(crate) fn see_boot<S: Alter>(
     ensures same_reference { tx.new.conn.ghost_name ≡ tx.old.conn.ghost_name }
     ensures goes { IsInside (state S.Store tx.old.conn.now) → Goes (IsMade (edit op.now (BootSeen station.now boot.now answered))) (state S.Store tx.old.conn.now) (state S.Store tx.new.conn.now) result }
 {
-    match station_inside(tx, alloc, op, station)? {
+    match station_inside(tx, op, station)? {
         Some(row) => {
             let op = row.op.as_str();
             let station = row.station.as_str();
-            let booted = seconds(boot.moment);
-            done(put_booted(
-                tx,
-                op,
-                station,
-                row.policy,
-                row.interval,
-                answered,
-                boot,
-                booted,
-            ))
+            let registered = Registration {
+                policy: row.policy,
+                interval: row.interval,
+                state: answered,
+            };
+            done(put_booted(tx, op, station, registered, boot))
         }
         None => Err(StoreFault::Failed),
     }
@@ -306,7 +275,6 @@ pub(crate) fn see_boot<S: Alter>(
 /// Failed.
 pub(crate) fn set_policy<S: Alter>(
     tx: &mut Transaction<'_, S>,
-    alloc: Global,
     op: &str,
     station: &str,
     policy: Policy,
@@ -315,7 +283,7 @@ pub(crate) fn set_policy<S: Alter>(
     ensures same_reference { tx.new.conn.ghost_name ≡ tx.old.conn.ghost_name }
     ensures goes { IsInside (state S.Store tx.old.conn.now) → Goes (IsMade (edit op.now (PolicySet station.now policy interval))) (state S.Store tx.old.conn.now) (state S.Store tx.new.conn.now) result }
 {
-    match station_inside(tx, alloc, op, station)? {
+    match station_inside(tx, op, station)? {
         Some(row) => put_station(
             tx,
             &StationRow {

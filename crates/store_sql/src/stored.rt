@@ -32,29 +32,23 @@ pub(crate) fn rows_of<R: Stored>(alloc: Global, rows: &[Row]) -> Result<Vec<R>, 
 }
 
 /// The rows of an answer, or its fault.
-pub(crate) fn listed<R: Stored>(
-    alloc: Global,
-    answer: Result<Vec<Row>, Error>,
-) -> Result<Listed<R>, StoreFault>
+pub(crate) fn listed<R: Stored>(answer: Result<Vec<Row>, Error>) -> Result<Listed<R>, StoreFault>
     ensures ok { OnOk result (IsOk answer) }
     ensures rows { IfOk answer (λ rows. IfOk result (λ list. list ≡ put_all (by_key R.Keyed.key) (map R.read rows.items) [])) }
 {
     match answer {
-        Ok(rows) => Ok(Listed::from(rows_of(alloc, &rows)?)),
+        Ok(rows) => Ok(Listed::from(rows_of(*rows.allocator(), &rows)?)),
         Err(error) => Err(told(error)),
     }
 }
 
 /// The first row of an answer, or its fault.
-pub(crate) fn first_row<R: Stored>(
-    alloc: Global,
-    answer: Result<Vec<Row>, Error>,
-) -> Result<Option<R>, StoreFault>
+pub(crate) fn first_row<R: Stored>(answer: Result<Vec<Row>, Error>) -> Result<Option<R>, StoreFault>
     ensures ok { OnOk result (IsOk answer) }
     ensures row { IfOk answer (λ rows. IfOk result (λ row. row ≡ first (put_all (by_key R.Keyed.key) (map R.read rows.items) []))) }
 {
     match answer {
-        Ok(rows) => Ok(rows_of(alloc, &rows)?.into_iter().next()),
+        Ok(rows) => Ok(rows_of(*rows.allocator(), &rows)?.into_iter().next()),
         Err(error) => Err(told(error)),
     }
 }

@@ -1,5 +1,5 @@
 //! Id tags in their table.
-ghost use Rattle.std.specs.Prelude.{◌≡◌, ◌&&◌, true, option_map, pos};
+ghost use Rattle.std.specs.Prelude.{◌≡◌, ◌&&◌, true, option_map};
 ghost use Rattle.std.specs.Str.{bytes_eq};
 ghost use Rattle.sqlite.specs.Held.{state};
 ghost use Rattle.hub_rows.specs.Lookups.{tags_in};
@@ -61,7 +61,6 @@ fn find_all<S: Alter>(conn: &mut Connection<S>, op: &str) -> Result<Vec<Row>, Er
 /// The tag of a key.
 fn find_tag<S: Alter>(
     conn: &mut Connection<S>,
-    alloc: Global,
     op: &str,
     key: &str,
 ) -> Result<Option<TagRow>, StoreFault>
@@ -69,20 +68,19 @@ fn find_tag<S: Alter>(
     ensures same { Rests (state S.Store conn.old) (state S.Store conn.new) }
     ensures stops { CommitsNothing (state S.Store conn.old) (state S.Store conn.new) result }
 {
-    first_row(alloc, find_one(conn, op, key))
+    first_row(find_one(conn, op, key))
 }
 
 /// All tags of an operator.
 pub(crate) fn tags<S: Alter>(
     conn: &mut Connection<S>,
-    alloc: Global,
     op: &str,
 ) -> Result<Listed<TagRow>, StoreFault>
     ensures found { Finds (state S.Store conn.old) (state S.Store conn.new) result (λ rows list. list ≡ tags_in op.now rows.tags) }
     ensures same { Rests (state S.Store conn.old) (state S.Store conn.new) }
     ensures stops { CommitsNothing (state S.Store conn.old) (state S.Store conn.new) result }
 {
-    listed(alloc, find_all(conn, op))
+    listed(find_all(conn, op))
 }
 
 /// Whether the tag of a tag's parent is blocked.
@@ -100,7 +98,7 @@ fn is_parent_blocked<S: Alter>(
         None => Ok(false),
         Some(parent) => {
             let key = TagKey::of(alloc, parent.as_str())?;
-            match find_tag(conn, alloc, op, key.as_str())? {
+            match find_tag(conn, op, key.as_str())? {
                 Some(row) => Ok(row.tag.blocked),
                 None => Ok(false),
             }
@@ -119,7 +117,7 @@ pub(crate) fn own_tag<S: Alter>(
     ensures same { Rests (state S.Store conn.old) (state S.Store conn.new) }
     ensures stops { CommitsNothing (state S.Store conn.old) (state S.Store conn.new) result }
 {
-    match find_tag(conn, alloc, op, key)? {
+    match find_tag(conn, op, key)? {
         None => Ok(None),
         Some(row) => {
             let tag = row.tag;
@@ -141,10 +139,8 @@ fn put_row<S: Alter>(
     key: &str,
     tag: &Tag,
     parent_key: Option<&str>,
-    expiry: Option<i64>,
 ) -> Result<usize, Error>
-    requires parent { option_map (λ k. k.now) parent_key ≡ option_map key_of tag.now.parent }
-    requires expiry { expiry ≡ option_map pos tag.now.expiry }
+    requires { option_map (λ k. k.now) parent_key ≡ option_map key_of tag.now.parent }
     ensures same_reference { tx.new.conn.ghost_name ≡ tx.old.conn.ghost_name }
     ensures goes { IsInside (state S.Store tx.old.conn.now) → Goes (IsMade (edit op.now (TagPut key.now tag.now))) (state S.Store tx.old.conn.now) (state S.Store tx.new.conn.now) result }
 {
@@ -157,7 +153,7 @@ fn put_row<S: Alter>(
             lent(&tag.parent),
             parent_key,
             tag.blocked,
-            expiry
+            seconds_if_any(&tag.expiry)
         ],
     )
 }
@@ -182,8 +178,7 @@ pub(crate) fn put_tag<S: Alter>(
     ensures goes { IsInside (state S.Store tx.old.conn.now) → Goes (IsMade (edit op.now (TagPut key.now tag.now))) (state S.Store tx.old.conn.now) (state S.Store tx.new.conn.now) result }
 {
     let parent_key = key_if_any(alloc, &tag.parent)?;
-    let expiry = seconds_if_any(&tag.expiry);
-    done(put_row(tx, op, key, tag, lent_key(&parent_key), expiry))
+    done(put_row(tx, op, key, tag, lent_key(&parent_key)))
 }
 
 /// Drops a tag and its grants.

@@ -1,12 +1,12 @@
 //! Transactions of stations, put in their table and changed there.
-ghost use Rattle.std.specs.Prelude.{◌≡◌, ◌&&◌, IfOk, IsTrue, pos, None, Some};
+ghost use Rattle.std.specs.Prelude.{◌≡◌, ◌&&◌, IfOk, IsTrue};
 ghost use Rattle.std.specs.Str.{bytes_eq};
 ghost use Rattle.sqlite.specs.Held.{state};
 ghost use Rattle.hub_rows.specs.Keyed.{found, by_key, changed, put};
 ghost use Rattle.hub_rows.specs.Transactions.{is_open, is_tx, is_accepted};
 ghost use Rattle.sql_shelf.specs.Kept.{IsInside, IsMade, IsSame, Goes, ShowsInside};
 ghost use Rattle.sql_shelf.specs.Shelves.{txs, rows_of};
-ghost use Rattle.hub_rows.specs.Changes.{edit, with_stop};
+ghost use Rattle.hub_rows.specs.Changes.{edit, tx_row, with_stop};
 ghost use Rattle.hub_rows.specs.declared.change.Edit.TheVariants.{TxStarted};
 ghost use Rattle.hub_rows.specs.Rows.{tx_key};
 
@@ -17,7 +17,6 @@ use crate::txs::FIND;
 use hub_rows::{Start, Stop, StoreFault, TxRow};
 use ocpp_types::{AuthorizationStatus, Named};
 use sqlite::{Alter, Error, Row, Transaction, params};
-use std::alloc::Global;
 
 const ADD: &str =
     "INSERT INTO hub_tx (op, station, number, connector, tag_key, meter_start, start_at, id_tag, reservation_id, status, begun, is_open, in_use, meter_stop, stop_at, stop_reason, stop_id_tag, ended) VALUES (?1, ?2, ?3, ?4, ?5, ?6, ?7, ?8, ?9, ?10, ?11, ?12, ?13, ?14, ?15, ?16, ?17, ?18)";
@@ -25,103 +24,80 @@ const ADD: &str =
 const PUT: &str =
     "INSERT INTO hub_tx (op, station, number, connector, tag_key, meter_start, start_at, id_tag, reservation_id, status, begun, is_open, in_use, meter_stop, stop_at, stop_reason, stop_id_tag, ended) VALUES (?1, ?2, ?3, ?4, ?5, ?6, ?7, ?8, ?9, ?10, ?11, ?12, ?13, ?14, ?15, ?16, ?17, ?18) ON CONFLICT (op, station, number) DO UPDATE SET connector = excluded.connector, tag_key = excluded.tag_key, meter_start = excluded.meter_start, start_at = excluded.start_at, id_tag = excluded.id_tag, reservation_id = excluded.reservation_id, status = excluded.status, begun = excluded.begun, is_open = excluded.is_open, in_use = excluded.in_use, meter_stop = excluded.meter_stop, stop_at = excluded.stop_at, stop_reason = excluded.stop_reason, stop_id_tag = excluded.stop_id_tag, ended = excluded.ended";
 
-/// Adds the row of an open transaction. No number and no text are given for its stop.
+fn is_accepted(status: AuthorizationStatus) -> bool
+    ensures { result ≡ is_accepted status }
+{
+    matches!(status, AuthorizationStatus::Accepted)
+}
+
+/// Adds the row of an open transaction.
 fn put_open<S: Alter>(
     tx: &mut Transaction<'_, S>,
     op: &str,
     station: &str,
     number: u32,
     start: &Start,
-    connector: u32,
-    meter_start: i64,
-    at: i64,
-    begun: i64,
-    in_use: bool,
-    number_of_stop: Option<i64>,
-    text_of_stop: Option<&str>,
 ) -> Result<usize, Error>
-    requires none { number_of_stop ≡ None }
-    requires text { text_of_stop ≡ None }
-    requires connector { connector ≡ start.now.id.connector }
-    requires meter { meter_start ≡ start.now.id.meter_start }
-    requires at { at ≡ start.now.id.at }
-    requires begun { begun ≡ pos start.now.begun }
-    requires in_use { in_use ≡ is_accepted start.now.status }
     ensures same_reference { tx.new.conn.ghost_name ≡ tx.old.conn.ghost_name }
-    ensures goes { IsInside (state S.Store tx.old.conn.now) → Goes (IsMade (λ rows. record rows { transactions = put (by_key tx_key) (record { op = op.now; station = station.now; number = number; start = start.now; stop = None }) rows.transactions })) (state S.Store tx.old.conn.now) (state S.Store tx.new.conn.now) result }
+    ensures goes { IsInside (state S.Store tx.old.conn.now) → Goes (IsMade (λ rows. record rows { transactions = put (by_key tx_key) (tx_row op.now station.now number start.now) rows.transactions })) (state S.Store tx.old.conn.now) (state S.Store tx.new.conn.now) result }
 {
+    let null: Option<i64> = None;
     tx.execute(
         ADD,
         params![
             op,
             station,
             number,
-            connector,
+            u32::from(start.id.connector),
             start.id.key.as_str(),
-            meter_start,
-            at,
+            start.id.meter_start,
+            start.id.at,
             start.tag.as_str(),
             start.reservation,
             start.status.name(),
-            begun,
+            seconds(start.begun),
             true,
-            in_use,
-            number_of_stop,
-            number_of_stop,
-            text_of_stop,
-            text_of_stop,
-            number_of_stop
+            is_accepted(start.status),
+            null,
+            null,
+            null,
+            null,
+            null
         ],
     )
 }
 
-/// Puts the row of a transaction that has ended.
+/// Puts the row of a transaction with its stop.
 fn put_stopped<S: Alter>(
     tx: &mut Transaction<'_, S>,
-    op: &str,
-    station: &str,
-    number: u32,
-    start: &Start,
-    connector: u32,
-    meter_start: i64,
-    at: i64,
-    begun: i64,
+    row: &TxRow,
     stop: &Stop,
-    meter_stop: i64,
-    stop_at: i64,
-    ended: i64,
 ) -> Result<usize, Error>
-    requires connector { connector ≡ start.now.id.connector }
-    requires meter { meter_start ≡ start.now.id.meter_start }
-    requires at { at ≡ start.now.id.at }
-    requires begun { begun ≡ pos start.now.begun }
-    requires meter_stop { meter_stop ≡ stop.now.meter_stop }
-    requires stop_at { stop_at ≡ stop.now.at }
-    requires ended { ended ≡ pos stop.now.moment }
     ensures same_reference { tx.new.conn.ghost_name ≡ tx.old.conn.ghost_name }
-    ensures goes { IsInside (state S.Store tx.old.conn.now) → Goes (IsMade (λ rows. record rows { transactions = put (by_key tx_key) (record { op = op.now; station = station.now; number = number; start = start.now; stop = Some stop.now }) rows.transactions })) (state S.Store tx.old.conn.now) (state S.Store tx.new.conn.now) result }
+    ensures goes { IsInside (state S.Store tx.old.conn.now) → Goes (IsMade (λ rows. record rows { transactions = put (by_key tx_key) (with_stop stop.now row.now) rows.transactions })) (state S.Store tx.old.conn.now) (state S.Store tx.new.conn.now) result }
 {
+    let start = &row.start;
     tx.execute(
         PUT,
         params![
-            op,
-            station,
-            number,
-            connector,
+            row.op.as_str(),
+            row.station.as_str(),
+            row.number,
+            u32::from(start.id.connector),
             start.id.key.as_str(),
-            meter_start,
-            at,
+            start.id.meter_start,
+            start.id.at,
             start.tag.as_str(),
             start.reservation,
             start.status.name(),
-            begun,
+            seconds(start.begun),
             false,
             false,
-            meter_stop,
-            stop_at,
+            stop.meter_stop,
+            stop.at,
             stop.reason.name(),
             lent(&stop.tag),
-            ended
+            seconds(stop.moment)
         ],
     )
 }
@@ -141,7 +117,6 @@ fn find_inside<S: Alter>(
 /// A transaction of a station, inside a transaction of the database.
 fn tx_inside<S: Alter>(
     tx: &mut Transaction<'_, S>,
-    alloc: Global,
     op: &str,
     station: &str,
     number: u32,
@@ -150,7 +125,7 @@ fn tx_inside<S: Alter>(
     ensures found { IsInside (state S.Store tx.old.conn.now) → IsTrue (state S.Store tx.new.conn.now).is_open → IfOk result (λ r. r ≡ found (λ r. r.op) op.now (is_tx station.now number) (rows_of (state S.Store tx.old.conn.now).now.trees).transactions) }
     ensures goes { IsInside (state S.Store tx.old.conn.now) → Goes IsSame (state S.Store tx.old.conn.now) (state S.Store tx.new.conn.now) result }
 {
-    first_row(alloc, find_inside(tx, op, station, number))
+    first_row(find_inside(tx, op, station, number))
 }
 
 /// Puts a transaction that has begun.
@@ -162,59 +137,21 @@ fn put_started<S: Alter>(
     start: &Start,
 ) -> Result<(), StoreFault>
     ensures same_reference { tx.new.conn.ghost_name ≡ tx.old.conn.ghost_name }
-    ensures goes { IsInside (state S.Store tx.old.conn.now) → Goes (IsMade (λ rows. record rows { transactions = put (by_key tx_key) (record { op = op.now; station = station.now; number = number; start = start.now; stop = None }) rows.transactions })) (state S.Store tx.old.conn.now) (state S.Store tx.new.conn.now) result }
+    ensures goes { IsInside (state S.Store tx.old.conn.now) → Goes (IsMade (λ rows. record rows { transactions = put (by_key tx_key) (tx_row op.now station.now number start.now) rows.transactions })) (state S.Store tx.old.conn.now) (state S.Store tx.new.conn.now) result }
 {
-    let connector = u32::from(start.id.connector);
-    let begun = seconds(start.begun);
-    let in_use = matches!(start.status, AuthorizationStatus::Accepted);
-    let id = &start.id;
-    done(put_open(
-        tx,
-        op,
-        station,
-        number,
-        start,
-        connector,
-        id.meter_start,
-        id.at,
-        begun,
-        in_use,
-        None,
-        None,
-    ))
+    done(put_open(tx, op, station, number, start))
 }
 
 /// Puts a transaction that has ended.
 fn put_ended<S: Alter>(
     tx: &mut Transaction<'_, S>,
-    op: &str,
-    station: &str,
-    number: u32,
-    start: &Start,
+    row: &TxRow,
     stop: &Stop,
 ) -> Result<(), StoreFault>
     ensures same_reference { tx.new.conn.ghost_name ≡ tx.old.conn.ghost_name }
-    ensures goes { IsInside (state S.Store tx.old.conn.now) → Goes (IsMade (λ rows. record rows { transactions = put (by_key tx_key) (record { op = op.now; station = station.now; number = number; start = start.now; stop = Some stop.now }) rows.transactions })) (state S.Store tx.old.conn.now) (state S.Store tx.new.conn.now) result }
+    ensures goes { IsInside (state S.Store tx.old.conn.now) → Goes (IsMade (λ rows. record rows { transactions = put (by_key tx_key) (with_stop stop.now row.now) rows.transactions })) (state S.Store tx.old.conn.now) (state S.Store tx.new.conn.now) result }
 {
-    let connector = u32::from(start.id.connector);
-    let begun = seconds(start.begun);
-    let ended = seconds(stop.moment);
-    let id = &start.id;
-    done(put_stopped(
-        tx,
-        op,
-        station,
-        number,
-        start,
-        connector,
-        id.meter_start,
-        id.at,
-        begun,
-        stop,
-        stop.meter_stop,
-        stop.at,
-        ended,
-    ))
+    done(put_stopped(tx, row, stop))
 }
 
 /// Puts a new transaction, and drops the reservation that it names.
@@ -235,7 +172,6 @@ pub(crate) fn start_tx<S: Alter>(
 /// Keeps the stop of a transaction. The transaction is on record, or else this answers Failed.
 pub(crate) fn stop_tx<S: Alter>(
     tx: &mut Transaction<'_, S>,
-    alloc: Global,
     op: &str,
     station: &str,
     number: u32,
@@ -244,15 +180,8 @@ pub(crate) fn stop_tx<S: Alter>(
     ensures same_reference { tx.new.conn.ghost_name ≡ tx.old.conn.ghost_name }
     ensures goes { IsInside (state S.Store tx.old.conn.now) → Goes (IsMade (λ rows. record rows { transactions = changed (λ r. r.op) op.now (is_tx station.now number) (with_stop stop.now) rows.transactions })) (state S.Store tx.old.conn.now) (state S.Store tx.new.conn.now) result }
 {
-    match tx_inside(tx, alloc, op, station, number)? {
-        Some(row) => put_ended(
-            tx,
-            row.op.as_str(),
-            row.station.as_str(),
-            row.number,
-            &row.start,
-            stop,
-        ),
+    match tx_inside(tx, op, station, number)? {
+        Some(row) => put_ended(tx, &row, stop),
         None => Err(StoreFault::Failed),
     }
 }

@@ -127,25 +127,25 @@ fn list_same<S: Alter>(
     op: &str,
     station: &str,
     start: &StartKey,
-    connector: u32,
-    meter_start: i64,
-    at: i64,
 ) -> Result<Vec<Row>, Error>
-    requires connector { connector ≡ start.now.connector }
-    requires meter { meter_start ≡ start.now.meter_start }
-    requires at { at ≡ start.now.at }
     ensures shows { IsServing (state S.Store conn.old) → Shows (λ v. v.items) txs (λ r. bytes_eq r.op op.now && is_started station.now start.now r) (state S.Store conn.old) (state S.Store conn.new) result }
 {
     conn.query_all(
         SAME_STARTS,
-        params![op, station, connector, start.key.as_str(), meter_start, at],
+        params![
+            op,
+            station,
+            u32::from(start.connector),
+            start.key.as_str(),
+            start.meter_start,
+            start.at
+        ],
     )
 }
 
 /// A transaction of a station.
 fn find_tx<S: Alter>(
     conn: &mut Connection<S>,
-    alloc: Global,
     op: &str,
     station: &str,
     number: u32,
@@ -154,13 +154,12 @@ fn find_tx<S: Alter>(
     ensures same { Rests (state S.Store conn.old) (state S.Store conn.new) }
     ensures stops { CommitsNothing (state S.Store conn.old) (state S.Store conn.new) result }
 {
-    first_row(alloc, find_one(conn, op, station, number))
+    first_row(find_one(conn, op, station, number))
 }
 
 /// What rules ask of a transaction of a station.
 pub(crate) fn tx<S: Alter>(
     conn: &mut Connection<S>,
-    alloc: Global,
     op: &str,
     station: &str,
     number: u32,
@@ -169,7 +168,7 @@ pub(crate) fn tx<S: Alter>(
     ensures same { Rests (state S.Store conn.old) (state S.Store conn.new) }
     ensures stops { CommitsNothing (state S.Store conn.old) (state S.Store conn.new) result }
 {
-    match find_tx(conn, alloc, op, station, number)? {
+    match find_tx(conn, op, station, number)? {
         Some(row) => Ok(Some(row.state())),
         None => Ok(None),
     }
@@ -178,7 +177,6 @@ pub(crate) fn tx<S: Alter>(
 /// The transactions of a station.
 pub(crate) fn txs<S: Alter>(
     conn: &mut Connection<S>,
-    alloc: Global,
     op: &str,
     station: &str,
 ) -> Result<Listed<TxRow>, StoreFault>
@@ -186,13 +184,12 @@ pub(crate) fn txs<S: Alter>(
     ensures same { Rests (state S.Store conn.old) (state S.Store conn.new) }
     ensures stops { CommitsNothing (state S.Store conn.old) (state S.Store conn.new) result }
 {
-    listed(alloc, find_all(conn, op, station))
+    listed(find_all(conn, op, station))
 }
 
 /// The transactions by which a tag is in use.
 fn txs_in_use<S: Alter>(
     conn: &mut Connection<S>,
-    alloc: Global,
     op: &str,
     key: &str,
 ) -> Result<Listed<TxRow>, StoreFault>
@@ -200,7 +197,7 @@ fn txs_in_use<S: Alter>(
     ensures same { Rests (state S.Store conn.old) (state S.Store conn.new) }
     ensures stops { CommitsNothing (state S.Store conn.old) (state S.Store conn.new) result }
 {
-    listed(alloc, list_in_use(conn, op, key))
+    listed(list_in_use(conn, op, key))
 }
 
 fn is_left_out(except: &Option<TxKey>, row: &TxRow) -> bool
@@ -222,7 +219,6 @@ fn has_other(rows: &[TxRow], except: &Option<TxKey>) -> bool
 /// Whether the tag of a key is in use by another transaction than the one left out.
 pub(crate) fn is_used<S: Alter>(
     conn: &mut Connection<S>,
-    alloc: Global,
     op: &str,
     key: &str,
     except: &Option<TxKey>,
@@ -231,14 +227,13 @@ pub(crate) fn is_used<S: Alter>(
     ensures same { Rests (state S.Store conn.old) (state S.Store conn.new) }
     ensures stops { CommitsNothing (state S.Store conn.old) (state S.Store conn.new) result }
 {
-    let rows = txs_in_use(conn, alloc, op, key)?;
+    let rows = txs_in_use(conn, op, key)?;
     Ok(has_other(rows.as_slice(), except))
 }
 
 /// An open transaction of a station.
 fn open_tx<S: Alter>(
     conn: &mut Connection<S>,
-    alloc: Global,
     op: &str,
     station: &str,
 ) -> Result<Option<TxRow>, StoreFault>
@@ -246,13 +241,12 @@ fn open_tx<S: Alter>(
     ensures same { Rests (state S.Store conn.old) (state S.Store conn.new) }
     ensures stops { CommitsNothing (state S.Store conn.old) (state S.Store conn.new) result }
 {
-    first_row(alloc, list_open(conn, op, station))
+    first_row(list_open(conn, op, station))
 }
 
 /// Whether a transaction of a station is open.
 pub(crate) fn has_open<S: Alter>(
     conn: &mut Connection<S>,
-    alloc: Global,
     op: &str,
     station: &str,
 ) -> Result<bool, StoreFault>
@@ -260,36 +254,26 @@ pub(crate) fn has_open<S: Alter>(
     ensures same { Rests (state S.Store conn.old) (state S.Store conn.new) }
     ensures stops { CommitsNothing (state S.Store conn.old) (state S.Store conn.new) result }
 {
-    is_found(open_tx(conn, alloc, op, station))
+    is_found(open_tx(conn, op, station))
 }
 
 /// The first transaction of a station with that start.
 fn tx_of_start<S: Alter>(
     conn: &mut Connection<S>,
-    alloc: Global,
     op: &str,
     station: &str,
     start: &StartKey,
-    meter_start: i64,
-    at: i64,
 ) -> Result<Option<TxRow>, StoreFault>
-    requires meter { meter_start ≡ start.now.meter_start }
-    requires at { at ≡ start.now.at }
     ensures found { Finds (state S.Store conn.old) (state S.Store conn.new) result (λ rows r. r ≡ found (λ r. r.op) op.now (is_started station.now start.now) rows.transactions) }
     ensures same { Rests (state S.Store conn.old) (state S.Store conn.new) }
     ensures stops { CommitsNothing (state S.Store conn.old) (state S.Store conn.new) result }
 {
-    let connector = u32::from(start.connector);
-    first_row(
-        alloc,
-        list_same(conn, op, station, start, connector, meter_start, at),
-    )
+    first_row(list_same(conn, op, station, start))
 }
 
 /// The number of the first transaction of a station with that start.
 pub(crate) fn same_start<S: Alter>(
     conn: &mut Connection<S>,
-    alloc: Global,
     op: &str,
     station: &str,
     start: &StartKey,
@@ -298,7 +282,7 @@ pub(crate) fn same_start<S: Alter>(
     ensures same { Rests (state S.Store conn.old) (state S.Store conn.new) }
     ensures stops { CommitsNothing (state S.Store conn.old) (state S.Store conn.new) result }
 {
-    match tx_of_start(conn, alloc, op, station, start, start.meter_start, start.at)? {
+    match tx_of_start(conn, op, station, start)? {
         Some(row) => Ok(Some(row.number)),
         None => Ok(None),
     }

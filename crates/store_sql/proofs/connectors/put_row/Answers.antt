@@ -1,9 +1,8 @@
-use Rattle.std.proofs.Common.{refl}
+use Rattle.std.proofs.Common.{refl, rules, SFits, w64}
 use Rattle.sqlite.specs.Held.{state}
 use Rattle.sql_shelf.proofs.Edits.{puts_connector}
 use Rattle.sql_shelf.proofs.StoreLemmas.{open_is_clean}
 use Rattle.sql_shelf.proofs.TxLemmas.{step}
-use Rattle.std.proofs.Common.{w64}
 use Rattle.std.proofs.lemmas.Int.{to_z-of_z}
 use Rattle.hub_rows.specs.Changes.{connector_row}
 use Rattle.sql_shelf.proofs.ValueLaws.{optional}
@@ -12,5 +11,6 @@ use Rattle.store_sql.proofs.connectors.put_row.Goals as goal
 pub returns-clause-goes : goal.returns-clause-goes
 returns-clause-goes g c =
     let new = c.execute.new.self.conn.now in
+    let at : SFits w64 c.args.report.now.at = search rules in
     step (puts_connector (connector_row c.args.op.now c.args.station.now c.args.connector c.args.report.now)) (state g.S.Store) c.args.tx.now.conn.now new _ c.execute.result c.execute.ensures.runs c.execute.ensures.ended c.execute.ensures.survives
-    (rw (c.params-to_sql.ensures, c.params-to_sql-2.ensures, c.params-to_sql-3.ensures, c.params-to_sql-4.ensures, c.params-to_sql-5.ensures, c.params-to_sql-6.ensures, c.params-to_sql-7.ensures, c.params-to_sql-8.ensures, c.params-to_sql-9.ensures, c.requires.number, to_z-of_z w64 c.args.at c.ranges.at, c.requires.at, c.name.ensures.value, c.name-2.ensures.value, optional (λ t. t.now) c.lent.result, c.lent.ensures, optional (λ t. t.now) c.lent-2.result, c.lent-2.ensures, optional (λ t. t.now) c.lent-3.result, c.lent-3.ensures) refl) (open_is_clean _ _ (g.met.S.Store.shut_if_dirty new.store))
+    (rw (c.params-to_sql.ensures, c.params-to_sql-2.ensures, c.params-to_sql-3.ensures, c.params-to_sql-4.ensures, c.params-to_sql-5.ensures, c.params-to_sql-6.ensures, c.params-to_sql-7.ensures, c.params-to_sql-8.ensures, c.params-to_sql-9.ensures, c.from.ensures, to_z-of_z w64 c.args.report.now.at at, c.name.ensures.value, c.name-2.ensures.value, optional (λ t. t.now) c.lent.result, c.lent.ensures, optional (λ t. t.now) c.lent-2.result, c.lent-2.ensures, optional (λ t. t.now) c.lent-3.result, c.lent-3.ensures) refl) (open_is_clean _ _ (g.met.S.Store.shut_if_dirty new.store))

@@ -10,4 +10,4 @@ pub returns-clause-goes : goal.returns-clause-goes
 returns-clause-goes g c =
     let new = c.execute.new.self.conn.now in
     step (puts_grant (grant_row c.args.op.now c.args.key.now c.args.to.now c.args.until.now)) (state g.S.Store) c.args.tx.now.conn.now new _ c.execute.result c.execute.ensures.runs c.execute.ensures.ended c.execute.ensures.survives
-    (rw (c.params-to_sql.ensures, c.params-to_sql-2.ensures, c.params-to_sql-3.ensures, c.params-to_sql-4.ensures, c.requires) refl) (open_is_clean _ _ (g.met.S.Store.shut_if_dirty new.store))
+    (rw (c.params-to_sql.ensures, c.params-to_sql-2.ensures, c.params-to_sql-3.ensures, c.params-to_sql-4.ensures, c.seconds_if_any.ensures) refl) (open_is_clean _ _ (g.met.S.Store.shut_if_dirty new.store))

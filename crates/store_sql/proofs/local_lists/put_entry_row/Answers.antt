@@ -11,4 +11,4 @@ pub returns-clause-goes : goal.returns-clause-goes
 returns-clause-goes g c =
     let new = c.execute.new.self.conn.now in
     step (adds_entry (entry_row c.args.op.now c.args.station.now c.args.entry.now)) (state g.S.Store) c.args.tx.now.conn.now new _ c.execute.result c.execute.ensures.runs c.execute.ensures.ended c.execute.ensures.survives
-    (rw (c.params-to_sql.ensures, c.params-to_sql-2.ensures, c.params-to_sql-3.ensures, c.params-to_sql-4.ensures, c.params-to_sql-5.ensures, c.params-to_sql-6.ensures, c.params-to_sql-7.ensures, c.requires.key, c.requires.expiry, c.as_str.ensures, c.name.ensures.value, optional (λ t. t.now) c.lent.result, c.lent.ensures) refl) (open_is_clean _ _ (g.met.S.Store.shut_if_dirty new.store))
+    (rw (c.params-to_sql.ensures, c.params-to_sql-2.ensures, c.params-to_sql-3.ensures, c.params-to_sql-4.ensures, c.params-to_sql-5.ensures, c.params-to_sql-6.ensures, c.params-to_sql-7.ensures, c.requires, c.seconds_if_any.ensures, c.as_str.ensures, c.name.ensures.value, optional (λ t. t.now) c.lent.result, c.lent.ensures) refl) (open_is_clean _ _ (g.met.S.Store.shut_if_dirty new.store))

@@ -4,7 +4,7 @@ use Rattle.sql_shelf.proofs.Listings.{reads_tx_readings}
 use Rattle.sql_shelf.proofs.Selects.{shows}
 use Rattle.sql_shelf.proofs.StoreLemmas.{open_is_clean}
 use Rattle.std.proofs.Common.{w64}
-use Rattle.std.proofs.lemmas.Int.{to_z-of_z}
+use Rattle.std.proofs.lemmas.Int.{to_z_pos}
 use Rattle.store_sql.proofs.readings.list_of_tx.Goals as goal
 
 pub returns : goal.returns
@@ -12,5 +12,5 @@ returns g c =
     let new = c.query_all.new.self in
     record {
       shows = λ serves. shows (reads_tx_readings c.args.op.now c.args.station.now c.args.transaction) (λ v. v.items) (state g.S.Store c.args.conn.now) (state g.S.Store new) _ c.query_all.result c.query_all.ensures.ok c.query_all.ensures.err c.query_all.ensures.survives
-          (rw (c.params-to_sql.ensures, c.params-to_sql-2.ensures, c.params-to_sql-3.ensures, to_z-of_z w64 c.args.number c.ranges.number, c.requires) refl) serves (open_is_clean _ _ (g.met.S.Store.shut_if_dirty new.store));
+          (rw (c.params-to_sql.ensures, c.params-to_sql-2.ensures, c.params-to_sql-3.ensures, to_z_pos w64 c.args.transaction c.requires) refl) serves (open_is_clean _ _ (g.met.S.Store.shut_if_dirty new.store));
     }

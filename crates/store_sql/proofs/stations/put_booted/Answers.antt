@@ -1,4 +1,4 @@
-use Rattle.std.proofs.Common.{[], ◌∷◌, ◌∙◌, ap, Some, w64}
+use Rattle.std.proofs.Common.{[], ◌∷◌, ◌∙◌, ap, rules, Some, SFits, w64}
 use Rattle.std.proofs.lemmas.Int.{to_z-of_z}
 use Rattle.sqlite.specs.Held.{state}
 use Rattle.sqlite.specs.Values.{bound_value}
@@ -13,13 +13,15 @@ use Rattle.store_sql.proofs.stations.put_booted.Goals as goal
 pub returns-clause-goes : goal.returns-clause-goes
 returns-clause-goes g c =
     let new = c.execute.new.self.conn.now in
-    step (puts_station (record { op = c.args.op.now; station = c.args.station.now; policy = c.args.policy; interval = c.args.interval; state = c.args.answered; boot = Some c.args.boot.now })) (state g.S.Store) c.args.tx.now.conn.now new _ c.execute.result c.execute.ensures.runs c.execute.ensures.ended c.execute.ensures.survives
+    let registered = c.args.registered in
+    let booted : SFits w64 c.seconds.result = search rules in
+    step (puts_station (record { op = c.args.op.now; station = c.args.station.now; policy = registered.policy; interval = registered.interval; state = registered.state; boot = Some c.args.boot.now })) (state g.S.Store) c.args.tx.now.conn.now new _ c.execute.result c.execute.ensures.runs c.execute.ensures.ended c.execute.ensures.survives
     (λ i. (ap bound_value c.params-to_sql.ensures) i ∷
     (ap bound_value c.params-to_sql-2.ensures) i ∷
     (ap bound_value c.params-to_sql-3.ensures ∙ ap Text c.name.ensures.value) i ∷
     (ap bound_value c.params-to_sql-4.ensures) i ∷
     (ap bound_value c.params-to_sql-5.ensures ∙ ap Text c.name-2.ensures.value) i ∷
-    (ap bound_value c.params-to_sql-6.ensures ∙ ap Int (to_z-of_z w64 c.args.booted c.ranges.booted ∙ c.requires)) i ∷
+    (ap bound_value c.params-to_sql-6.ensures ∙ ap Int (to_z-of_z w64 c.seconds.result booted ∙ c.seconds.ensures)) i ∷
     (ap bound_value c.params-to_sql-7.ensures ∙ ap Text c.as_str.ensures ∙ ap (λ b. Text b.charge_point_model) c.as_ref-texts.ensures) i ∷
     (ap bound_value c.params-to_sql-8.ensures ∙ ap Text c.as_str-2.ensures ∙ ap (λ b. Text b.charge_point_vendor) c.as_ref-texts.ensures) i ∷
     (ap bound_value c.params-to_sql-9.ensures ∙ optional (λ t. t.now) c.lent.result ∙ ap text_or_null c.lent.ensures ∙ ap (λ b. text_or_null b.charge_box_serial_number) c.as_ref-texts.ensures) i ∷
