@@ -110,7 +110,7 @@ fn edit_transactions<S: Alter>(
     }
 }
 
-/// Makes an edit of a reservation or a local list, which fits.
+/// Makes an edit of what a station holds, that fits: of a reservation or the local list.
 fn edit_holdings<S: Alter>(
     tx: &mut Transaction<'_, S>,
     alloc: Global,

@@ -3,7 +3,7 @@ ghost use Rattle.std.specs.Prelude.{◌≡◌, ◌&&◌, IfOk, IsTrue};
 ghost use Rattle.std.specs.Str.{bytes_eq};
 ghost use Rattle.sqlite.specs.Held.{state};
 ghost use Rattle.hub_rows.specs.Keyed.{found, by_key, changed, put};
-ghost use Rattle.hub_rows.specs.Transactions.{is_tx, is_accepted};
+ghost use Rattle.hub_rows.specs.Transactions.{is_open, is_tx, is_accepted};
 ghost use Rattle.sql_shelf.specs.Kept.{IsInside, IsMade, IsSame, Goes, ShowsInside};
 ghost use Rattle.sql_shelf.specs.Shelves.{txs, rows_of};
 ghost use Rattle.hub_rows.specs.Changes.{edit, tx_row, with_stop};
