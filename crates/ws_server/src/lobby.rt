@@ -30,10 +30,11 @@ const GRACE: u64 = 1;
 /// The most connections that wait at once.
 const MAX_WAITING: usize = 4096;
 
-/// A connection that waits, and the moment at which it was accepted.
+/// A connection that was accepted.
 #[derive(Drop)]
 struct Waiting<T> {
-    client: Client<T>,
+    stream: T,
+    address: Option<SocketAddr>,
     since: Moment,
 }
 
@@ -102,15 +103,16 @@ impl<T: Peek + Read + Write + Served + Drop> Lobby<T> {
     /// Takes a connection that was accepted at that moment, from that address. Where 4,096 wait, the
     /// one that was accepted first is dropped. Without memory for the new one, that is dropped too.
     pub fn enter(&mut self, stream: T, address: Option<SocketAddr>, moment: Moment) -> Mem<()>
-        ensures entered { OnOk result (self.new.waiting.items ≡ with_room self.old.waiting.items ++ record { client = record { stream = stream; address = address }; since = moment } ∷ []) }
+        ensures entered { OnOk result (self.new.waiting.items ≡ with_room self.old.waiting.items ++ record { stream = stream; address = address; since = moment } ∷ []) }
         ensures dropped { OnErr result (self.new.waiting.items ≡ with_room self.old.waiting.items) }
     {
         if self.waiting.len() >= MAX_WAITING {
             let first = self.waiting.remove(0);
-            self.refuse(first.client.address, Refusal::Crowded);
+            self.refuse(first.address, Refusal::Crowded);
         }
         self.waiting.push(Waiting {
-            client: Client { stream, address },
+            stream,
+            address,
             since: moment,
         })?;
         Ok(())
@@ -185,20 +187,24 @@ impl<T: Peek + Read + Write + Served + Drop> Lobby<T> {
             }
             Ok(Next::Drop(refusal)) => {
                 let dropped = self.waiting.remove(*n);
-                self.refuse(dropped.client.address, refusal);
+                self.refuse(dropped.address, refusal);
                 Ok(())
             }
             Ok(Next::Refuse(seen, answer)) => {
                 let one = self.waiting.remove(*n);
                 if let Some(refusal) = Refusal::of(answer) {
-                    self.refuse(one.client.address, refusal);
+                    self.refuse(one.address, refusal);
                 }
-                let _closed = refuse(one.client.stream, seen, answer);
+                let _closed = refuse(one.stream, seen, answer);
                 Ok(())
             }
             Ok(Next::Welcome(upgrade)) => {
                 let one = self.waiting.remove(*n);
-                gateway.welcome(hub, one.client, upgrade, moment)
+                let client = Client {
+                    stream: one.stream,
+                    address: one.address,
+                };
+                gateway.welcome(hub, client, upgrade, moment)
             }
             Err(fault) => {
                 let _dropped = self.waiting.remove(*n);
@@ -211,11 +217,11 @@ impl<T: Peek + Read + Write + Served + Drop> Lobby<T> {
         requires { n < length self.old.waiting.items }
         ensures waiting { self.new.waiting.items ≡ self.old.waiting.items }
         ensures asks { IfOk result (λ next. IfWelcome next (λ upgrade. (other : Waiting T)
-            → AsksFor T.remaining (slice_index_or self.old.waiting.items n other).client.stream upgrade)) }
+            → AsksFor T.remaining (slice_index_or self.old.waiting.items n other).stream upgrade)) }
     {
         let one = &self.waiting[n];
         let is_late = one.is_late(moment, PATIENCE);
-        next_of(alloc, &one.client.stream, self.head.as_mut_slice(), is_late)
+        next_of(alloc, &one.stream, self.head.as_mut_slice(), is_late)
     }
 }
 
