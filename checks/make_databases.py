@@ -2,7 +2,8 @@
 """Makes the databases in crates/check_scripts/data: files of other programs, of later versions and of odd shapes.
 
 Run it at the top of the repository, after a change of the tables. It reads their texts from
-crates/sql_tables/specs/Statements.antt. The files are written by SQLite itself.
+crates/sql_tables/specs/Statements.antt. The files are written by SQLite itself, all but records_in_each_list.db: that
+is what `central replay --db` made of records_in_each_list.script, with rows in each table.
 """
 import os
 import re
