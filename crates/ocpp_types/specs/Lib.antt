@@ -11,6 +11,8 @@ pub mod AuthorizationStatus
 pub mod ChargePointErrorCode
 pub mod ChargePointStatus
 pub mod DataTransferStatus
+pub mod DiagnosticsStatus
+pub mod FirmwareStatus
 pub mod Location
 pub mod Measurand
 pub mod Phase
