@@ -7,8 +7,8 @@ use Rattle.std.specs.List.{AllByRecursion, list_any}
 use Rattle.std.specs.Option.{option_map}
 use Rattle.std.specs.Str.{bytes_eq}
 use Rattle.hub_rows.specs.declared.change.Edit.{Edit}
-use Rattle.hub_rows.specs.declared.change.Edit.TheVariants.{StationAdded, BootSeen, PolicySet, ConnectorSeen, TagPut, TagDropped, GrantPut, GrantDropped, TxStarted, TxStopped, ReadingsAdded, ReservationPut, ReservationDropped, ListSet}
-use Rattle.hub_rows.specs.Rows.{Rows, station_rest, connector_rest, tag_rest, grant_rest, tx_rest, reading_rest, reservation_rest, list_rest}
+use Rattle.hub_rows.specs.declared.change.Edit.TheVariants.{StationAdded, BootSeen, PolicySet, ConnectorSeen, TagPut, TagDropped, GrantPut, GrantDropped, TxStarted, TxStopped, ReadingsAdded, ReservationPut, ReservationDropped, ListSet, ReportSeen}
+use Rattle.hub_rows.specs.Rows.{Rows, station_rest, connector_rest, tag_rest, grant_rest, tx_rest, reading_rest, reservation_rest, list_rest, report_rest}
 use Rattle.hub_rows.specs.declared.tx_row.TxRow.{TxRow}
 use Rattle.hub_rows.specs.declared.tx_row.TxKey.{TxKey}
 use Rattle.hub_rows.specs.declared.reading_row.Reading.{Reading}
@@ -18,7 +18,7 @@ use Rattle.ocpp_types.specs.declared.authorization_status.AuthorizationStatus.{A
 use Rattle.ocpp_types.specs.declared.authorization_status.AuthorizationStatus.TheVariants.{Accepted, Blocked, Expired, Invalid, ConcurrentTx}
 use Rattle.hub_rows.specs.Keyed.{by_key, put_all, own, those, greatest}
 use Rattle.hub_rows.specs.WellFormed.{WellFormedRows}
-use Rattle.hub_rows.specs.Changes.{edit, new_station, with_boot, with_policy, connector_row, tag_row, grant_row, tx_row, with_stop, with_readings, reservation_row, list_row}
+use Rattle.hub_rows.specs.Changes.{edit, new_station, with_boot, with_policy, connector_row, tag_row, grant_row, tx_row, with_stop, with_readings, reservation_row, list_row, report_row}
 use Rattle.hub_rows.specs.Grants.{granted_in, is_grant}
 use Rattle.hub_rows.specs.Own.{own_rows, own_edit, own_named, own_readings, own_shifted}
 use Rattle.hub_rows.specs.Reservations.{is_named, is_reservation, shifted, without_named}
@@ -89,6 +89,8 @@ own_rows-edit a (ReservationDropped station id) rows good =
     λ i. record (own_rows a rows) { reservations = own-without (λ r. r.op) a (is_reservation station id) rows.reservations i }
 own_rows-edit a (ListSet station list) rows good =
     λ i. record (own_rows a rows) { local_lists = own-put (λ r. r.op) list_rest a (list_row a station list) rows.local_lists good.local_lists.sorted refl i }
+own_rows-edit a (ReportSeen station status moment) rows good =
+    λ i. record (own_rows a rows) { reports = own-put (λ r. r.op) report_rest a (report_row a station status moment) rows.reports good.reports.sorted refl i }
 
 -- the edit of another isn't seen
 pub own_rows-edit_other : (a b : List ℕ) (e : Edit) (rows : Rows) → b ≢ a → own_rows a (edit b e rows) ≡ own_rows a rows
@@ -120,6 +122,8 @@ own_rows-edit_other a b (ReservationDropped station id) rows other =
     λ i. record (own_rows a rows) { reservations = own-without_other (λ r. r.op) a b (is_reservation station id) rows.reservations other i }
 own_rows-edit_other a b (ListSet station list) rows other =
     λ i. record (own_rows a rows) { local_lists = own-put_other (λ r. r.op) list_rest a (list_row b station list) rows.local_lists other i }
+own_rows-edit_other a b (ReportSeen station status moment) rows other =
+    λ i. record (own_rows a rows) { reports = own-put_other (λ r. r.op) report_rest a (report_row b station status moment) rows.reports other i }
 
 -- ---- look-ups
 
@@ -190,4 +194,5 @@ same_lookups a rows good =
       txs = λ station. those-own (λ r. r.op) a (λ r. bytes_eq r.station station) rows.transactions i;
       readings = λ station n. those_readings station n i;
       reservations = λ station. those-own (λ r. r.op) a (λ r. bytes_eq r.station station) rows.reservations i;
+      reports = λ station. those-own (λ r. r.op) a (λ r. bytes_eq r.station station) rows.reports i;
     }

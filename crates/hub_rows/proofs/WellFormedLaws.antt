@@ -9,7 +9,7 @@ use Rattle.std.specs.Str.{bytes_eq}
 use Rattle.std.proofs.lemmas.Bool.{and_parts}
 use Rattle.std.proofs.lemmas.List.Kept.{IsStrictlySortedBy-filter}
 use Rattle.hub_rows.specs.declared.change.Edit.{Edit}
-use Rattle.hub_rows.specs.declared.change.Edit.TheVariants.{StationAdded, BootSeen, PolicySet, ConnectorSeen, TagPut, TagDropped, GrantPut, GrantDropped, TxStarted, TxStopped, ReadingsAdded, ReservationPut, ReservationDropped, ListSet}
+use Rattle.hub_rows.specs.declared.change.Edit.TheVariants.{StationAdded, BootSeen, PolicySet, ConnectorSeen, TagPut, TagDropped, GrantPut, GrantDropped, TxStarted, TxStopped, ReadingsAdded, ReservationPut, ReservationDropped, ListSet, ReportSeen}
 use Rattle.hub_rows.specs.declared.station_row.StationRow.{StationRow}
 use Rattle.hub_rows.specs.declared.connector_row.ConnectorRow.{ConnectorRow}
 use Rattle.hub_rows.specs.declared.tag_row.TagRow.{TagRow}
@@ -23,11 +23,12 @@ use Rattle.hub_rows.specs.declared.reading_row.Reading.{Reading}
 use Rattle.hub_rows.specs.declared.reading_row.ReadingRow.{ReadingRow}
 use Rattle.hub_rows.specs.declared.reservation_row.ReservationRow.{ReservationRow}
 use Rattle.hub_rows.specs.declared.list_row.ListRow.{ListRow}
-use Rattle.hub_rows.specs.Rows.{Rows, no_rows, station_in, registration_in, registration_of, station_key, connector_key, tag_key, grant_key, tx_key, reading_key, reservation_key, list_key}
+use Rattle.hub_rows.specs.declared.report_row.ReportRow.{ReportRow}
+use Rattle.hub_rows.specs.Rows.{Rows, no_rows, station_in, registration_in, registration_of, station_key, connector_key, tag_key, grant_key, tx_key, reading_key, reservation_key, list_key, report_key}
 use Rattle.hub_rows.specs.Keyed.{key_cmp, by_key, put, put_all, changed, without}
 use Rattle.hub_rows.specs.Transactions.{is_tx, tx_in, state_of, reading_rows, AreNext, last_of_all}
-use Rattle.hub_rows.specs.WellFormed.{IsOnRecord, IsNumber, IsGoodConnector, IsGoodTag, IsGoodGrant, IsGoodTx, IsGoodReading, IsGoodReservation, IsGoodList, AreGood, WellFormedRows}
-use Rattle.hub_rows.specs.Changes.{edit, new_station, with_boot, with_policy, connector_row, tag_row, grant_row, tx_row, with_stop, with_readings, reservation_row, list_row, IsOpen, EditFits}
+use Rattle.hub_rows.specs.WellFormed.{IsOnRecord, IsNumber, IsGoodConnector, IsGoodTag, IsGoodGrant, IsGoodTx, IsGoodReading, IsGoodReservation, IsGoodList, IsGoodReport, AreGood, WellFormedRows}
+use Rattle.hub_rows.specs.Changes.{edit, new_station, with_boot, with_policy, connector_row, tag_row, grant_row, tx_row, with_stop, with_readings, reservation_row, list_row, report_row, IsOpen, EditFits}
 use Rattle.hub_rows.specs.Reservations.{is_named, is_reservation}
 use Rattle.hub_rows.proofs.ListLaws.{by_key_total, same_key, same_text, two_parts, all-put, all-put_all, all-filter, all-changed, all-weaker, sorted-put, sorted-put_all, sorted-changed, some-put, some-map, found_all}
 
@@ -142,28 +143,32 @@ module _ (rows : Rows) (good : WellFormedRows rows) where
     readings = good-weaker reading_key (IsGoodReading rows.stations) (IsGoodReading rs) (λ r g. record { station = keeps r.op r.station g.station; number = g.number }) rows.readings good.readings;
     reservations = good-weaker reservation_key (IsGoodReservation rows.stations) (IsGoodReservation rs) (λ r on. keeps r.op r.station on) rows.reservations good.reservations;
     local_lists = good-weaker list_key (IsGoodList rows.stations) (IsGoodList rs) (λ r g. record { station = keeps r.op r.station g.station; entries = g.entries }) rows.local_lists good.local_lists;
+    reports = good-weaker report_key (IsGoodReport rows.stations) (IsGoodReport rs) (λ r on. keeps r.op r.station on) rows.reports good.reports;
   }
 
   pub well_formed-connectors : (rs : List ConnectorRow) → AreGood connector_key (IsGoodConnector rows.stations) rs → WellFormedRows (record rows { connectors = rs })
-  well_formed-connectors rs new = record { stations = good.stations; connectors = new; tags = good.tags; grants = good.grants; transactions = good.transactions; readings = good.readings; reservations = good.reservations; local_lists = good.local_lists }
+  well_formed-connectors rs new = record { stations = good.stations; connectors = new; tags = good.tags; grants = good.grants; transactions = good.transactions; readings = good.readings; reservations = good.reservations; local_lists = good.local_lists; reports = good.reports }
 
   pub well_formed-tags : (rs : List TagRow) (gs : List GrantRow) → AreGood tag_key IsGoodTag rs → AreGood grant_key (IsGoodGrant rs) gs → WellFormedRows (record rows { tags = rs; grants = gs })
-  well_formed-tags rs gs new granted = record { stations = good.stations; connectors = good.connectors; tags = new; grants = granted; transactions = good.transactions; readings = good.readings; reservations = good.reservations; local_lists = good.local_lists }
+  well_formed-tags rs gs new granted = record { stations = good.stations; connectors = good.connectors; tags = new; grants = granted; transactions = good.transactions; readings = good.readings; reservations = good.reservations; local_lists = good.local_lists; reports = good.reports }
 
   pub well_formed-grants : (gs : List GrantRow) → AreGood grant_key (IsGoodGrant rows.tags) gs → WellFormedRows (record rows { grants = gs })
-  well_formed-grants gs new = record { stations = good.stations; connectors = good.connectors; tags = good.tags; grants = new; transactions = good.transactions; readings = good.readings; reservations = good.reservations; local_lists = good.local_lists }
+  well_formed-grants gs new = record { stations = good.stations; connectors = good.connectors; tags = good.tags; grants = new; transactions = good.transactions; readings = good.readings; reservations = good.reservations; local_lists = good.local_lists; reports = good.reports }
 
   pub well_formed-transactions : (rs : List TxRow) → AreGood tx_key (IsGoodTx rows.stations) rs → WellFormedRows (record rows { transactions = rs })
-  well_formed-transactions rs new = record { stations = good.stations; connectors = good.connectors; tags = good.tags; grants = good.grants; transactions = new; readings = good.readings; reservations = good.reservations; local_lists = good.local_lists }
+  well_formed-transactions rs new = record { stations = good.stations; connectors = good.connectors; tags = good.tags; grants = good.grants; transactions = new; readings = good.readings; reservations = good.reservations; local_lists = good.local_lists; reports = good.reports }
 
   pub well_formed-readings : (rs : List ReadingRow) → AreGood reading_key (IsGoodReading rows.stations) rs → WellFormedRows (record rows { readings = rs })
-  well_formed-readings rs new = record { stations = good.stations; connectors = good.connectors; tags = good.tags; grants = good.grants; transactions = good.transactions; readings = new; reservations = good.reservations; local_lists = good.local_lists }
+  well_formed-readings rs new = record { stations = good.stations; connectors = good.connectors; tags = good.tags; grants = good.grants; transactions = good.transactions; readings = new; reservations = good.reservations; local_lists = good.local_lists; reports = good.reports }
 
   pub well_formed-reservations : (rs : List ReservationRow) → AreGood reservation_key (IsGoodReservation rows.stations) rs → WellFormedRows (record rows { reservations = rs })
-  well_formed-reservations rs new = record { stations = good.stations; connectors = good.connectors; tags = good.tags; grants = good.grants; transactions = good.transactions; readings = good.readings; reservations = new; local_lists = good.local_lists }
+  well_formed-reservations rs new = record { stations = good.stations; connectors = good.connectors; tags = good.tags; grants = good.grants; transactions = good.transactions; readings = good.readings; reservations = new; local_lists = good.local_lists; reports = good.reports }
 
   pub well_formed-local_lists : (rs : List ListRow) → AreGood list_key (IsGoodList rows.stations) rs → WellFormedRows (record rows { local_lists = rs })
-  well_formed-local_lists rs new = record { stations = good.stations; connectors = good.connectors; tags = good.tags; grants = good.grants; transactions = good.transactions; readings = good.readings; reservations = good.reservations; local_lists = new }
+  well_formed-local_lists rs new = record { stations = good.stations; connectors = good.connectors; tags = good.tags; grants = good.grants; transactions = good.transactions; readings = good.readings; reservations = good.reservations; local_lists = new; reports = good.reports }
+
+  pub well_formed-reports : (rs : List ReportRow) → AreGood report_key (IsGoodReport rows.stations) rs → WellFormedRows (record rows { reports = rs })
+  well_formed-reports rs new = record { stations = good.stations; connectors = good.connectors; tags = good.tags; grants = good.grants; transactions = good.transactions; readings = good.readings; reservations = good.reservations; local_lists = good.local_lists; reports = new }
 
 -- ---- new numbers
 
@@ -245,6 +250,9 @@ module _ (b : List ℕ) (rows : Rows) (good : WellFormedRows rows) where
   pub list-put : (r : ListRow) → IsGoodList rows.stations r → WellFormedRows (record rows { local_lists = put (by_key list_key) r rows.local_lists })
   list-put r new = well_formed-local_lists rows good _ (good-put list_key (IsGoodList rows.stations) r rows.local_lists new good.local_lists)
 
+  pub report-put : (r : ReportRow) → IsGoodReport rows.stations r → WellFormedRows (record rows { reports = put (by_key report_key) r rows.reports })
+  report-put r new = well_formed-reports rows good _ (good-put report_key (IsGoodReport rows.stations) r rows.reports new good.reports)
+
 -- rows that are well formed are so after an edit that fits
 pub well_formed-edit : (b : List ℕ) (e : Edit) (rows : Rows) → WellFormedRows rows → EditFits b e rows → WellFormedRows (edit b e rows)
 well_formed-edit b (StationAdded station policy interval) rows good fits = station-put b rows good (new_station b station policy interval)
@@ -265,6 +273,7 @@ well_formed-edit b (ReadingsAdded station first readings) rows good fits = readi
 well_formed-edit b (ReservationPut station id reservation) rows good fits = reservation-put b rows good (reservation_row b station id reservation) (on_record b station rows.stations fits)
 well_formed-edit b (ReservationDropped station id) rows good fits = reservations-without b rows good (is_reservation station id)
 well_formed-edit b (ListSet station list) rows good fits = list-put b rows good (list_row b station list) (record { station = on_record b station rows.stations fits.0; entries = fits.1 })
+well_formed-edit b (ReportSeen station status moment) rows good fits = report-put b rows good (report_row b station status moment) (on_record b station rows.stations fits)
 
 pub well_formed-no_rows : WellFormedRows no_rows
 unfolding IsStrictlySortedBy
@@ -277,4 +286,5 @@ well_formed-no_rows = record {
   readings = record { sorted = tt; each = tt };
   reservations = record { sorted = tt; each = tt };
   local_lists = record { sorted = tt; each = tt };
+  reports = record { sorted = tt; each = tt };
 }

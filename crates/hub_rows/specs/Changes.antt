@@ -22,14 +22,16 @@ use Rattle.hub_rows.specs.declared.reservation_row.Reservation.{Reservation}
 use Rattle.hub_rows.specs.declared.reservation_row.ReservationRow.{ReservationRow}
 use Rattle.hub_rows.specs.declared.list_row.ListRow.{ListRow}
 use Rattle.hub_rows.specs.declared.list_row.LocalList.{LocalList}
+use Rattle.hub_rows.specs.declared.report_row.ReportRow.{ReportRow}
+use Rattle.hub_rows.specs.declared.report_row.ReportedStatus.{ReportedStatus}
 use Rattle.hub_rows.specs.declared.change.Change.{Change}
 use Rattle.hub_rows.specs.declared.change.Edit.{Edit}
-use Rattle.hub_rows.specs.declared.change.Edit.TheVariants.{StationAdded, BootSeen, PolicySet, ConnectorSeen, TagPut, TagDropped, GrantPut, GrantDropped, TxStarted, TxStopped, ReadingsAdded, ReservationPut, ReservationDropped, ListSet}
+use Rattle.hub_rows.specs.declared.change.Edit.TheVariants.{StationAdded, BootSeen, PolicySet, ConnectorSeen, TagPut, TagDropped, GrantPut, GrantDropped, TxStarted, TxStopped, ReadingsAdded, ReservationPut, ReservationDropped, ListSet, ReportSeen}
 use Rattle.hub_rows.specs.Keyed.{put, put_all, by_key, changed, without}
 use Rattle.hub_rows.specs.Grants.{is_grant}
 use Rattle.hub_rows.specs.LocalLists.{AreEntries}
 use Rattle.hub_rows.specs.Reservations.{is_reservation, without_named}
-use Rattle.hub_rows.specs.Rows.{Rows, station_key, connector_key, tag_key, grant_key, tx_key, reading_key, reservation_key, list_key, registration_at}
+use Rattle.hub_rows.specs.Rows.{Rows, station_key, connector_key, tag_key, grant_key, tx_key, reading_key, reservation_key, list_key, report_key, registration_at}
 use Rattle.hub_rows.specs.Tags.{own_tag_in}
 use Rattle.hub_rows.specs.Transactions.{is_tx, tx_in, reading_rows, last_numbers_in, AreNext}
 
@@ -77,6 +79,10 @@ reservation_row b station id reservation = record { op = b; station = station; i
 abbrev pub list_row : List ℕ → List ℕ → LocalList → ListRow
 list_row b station list = record { op = b; station = station; list = list }
 
+-- the report of a station
+abbrev pub report_row : List ℕ → List ℕ → ReportedStatus → ℕ → ReportRow
+report_row b station status moment = record { op = b; station = station; status = status; moment = moment }
+
 -- an edit of the rows of operator b; a tag is dropped with its grants, and a start ends the reservation that
 -- it names
 abbrev pub edit : List ℕ → Edit → Rows → Rows
@@ -94,6 +100,7 @@ edit b (ReadingsAdded station first readings) rows = record rows { readings = wi
 edit b (ReservationPut station id reservation) rows = record rows { reservations = put (by_key reservation_key) (reservation_row b station id reservation) rows.reservations }
 edit b (ReservationDropped station id) rows = record rows { reservations = without (λ r. r.op) b (is_reservation station id) rows.reservations }
 edit b (ListSet station list) rows = record rows { local_lists = put (by_key list_key) (list_row b station list) rows.local_lists }
+edit b (ReportSeen station status moment) rows = record rows { reports = put (by_key report_key) (report_row b station status moment) rows.reports }
 
 abbrev pub after_change : Change → Rows → Rows
 after_change change = edit change.op change.edit
@@ -121,6 +128,7 @@ EditFits b (ReadingsAdded station first readings) rows = IsSome (registration_at
 EditFits b (ReservationPut station id reservation) rows = IsSome (registration_at b station rows)
 EditFits b (ReservationDropped station id) rows = Unit {0}
 EditFits b (ListSet station list) rows = IsSome (registration_at b station rows) × AreEntries list.entries
+EditFits b (ReportSeen station status moment) rows = IsSome (registration_at b station rows)
 
 abbrev pub Fits : Change → Rows → Type 0
 Fits change = EditFits change.op change.edit

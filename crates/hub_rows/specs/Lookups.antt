@@ -16,9 +16,11 @@ use Rattle.hub_rows.specs.declared.tx_row.LastNumbers.{LastNumbers}
 use Rattle.hub_rows.specs.declared.reading_row.ReadingRow.{ReadingRow}
 use Rattle.hub_rows.specs.declared.reservation_row.ReservationRow.{ReservationRow}
 use Rattle.hub_rows.specs.declared.list_row.LocalList.{LocalList}
+use Rattle.hub_rows.specs.declared.report_row.ReportRow.{ReportRow}
 use Rattle.hub_rows.specs.Keyed.{those}
 use Rattle.hub_rows.specs.Grants.{granted_in, granted_tag_in, grants_in, has_grant_in}
 use Rattle.hub_rows.specs.LocalLists.{local_list_in}
+use Rattle.hub_rows.specs.Reports.{reports_in}
 use Rattle.hub_rows.specs.Reservations.{reservations_in, reserved_until_in}
 use Rattle.hub_rows.specs.Rows.{Rows, registration_at}
 use Rattle.hub_rows.specs.Tags.{own_tag_in}
@@ -60,6 +62,7 @@ pub record Lookups : Type 0 where
   -- of all transactions, or of those sent with a number
   pub readings : List ℕ → Option ℕ → List ReadingRow
   pub reservations : List ℕ → List ReservationRow
+  pub reports : List ℕ → List ReportRow
 
 -- the stations of operator b, among those of all
 abbrev pub stations_in : List ℕ → List StationRow → List StationRow
@@ -96,4 +99,5 @@ lookups_at b rows = record {
   txs = λ station. txs_in b station rows.transactions;
   readings = λ station n. readings_in b station n rows.readings;
   reservations = λ station. reservations_in b station rows.reservations;
+  reports = λ station. reports_in b station rows.reports;
 }

@@ -4,14 +4,14 @@ use Rattle.std.specs.Prelude.{ℕ, ◌+◌, ◌-◌, ℤ, pos, negsuc, List, [],
 use Rattle.std.specs.Str.{bytes_eq}
 use Rattle.ocpp_types.specs.declared.state.State.TheVariants.{Fresh}
 use Rattle.hub_rows.specs.declared.change.Edit.{Edit}
-use Rattle.hub_rows.specs.declared.change.Edit.TheVariants.{StationAdded, BootSeen, PolicySet, ConnectorSeen, TagPut, TagDropped, GrantPut, GrantDropped, TxStarted, TxStopped, ReadingsAdded, ReservationPut, ReservationDropped, ListSet}
+use Rattle.hub_rows.specs.declared.change.Edit.TheVariants.{StationAdded, BootSeen, PolicySet, ConnectorSeen, TagPut, TagDropped, GrantPut, GrantDropped, TxStarted, TxStopped, ReadingsAdded, ReservationPut, ReservationDropped, ListSet, ReportSeen}
 use Rattle.hub_rows.specs.declared.reading_row.Reading.{Reading}
 use Rattle.hub_rows.specs.declared.reading_row.ReadingRow.{ReadingRow}
 use Rattle.hub_rows.specs.declared.reservation_row.ReservationRow.{ReservationRow}
 use Rattle.hub_rows.specs.declared.station_row.StationRow.{StationRow}
 use Rattle.hub_rows.specs.declared.tx_row.TxRow.{TxRow}
 use Rattle.hub_rows.specs.Keyed.{put, put_all, by_key, own}
-use Rattle.hub_rows.specs.Rows.{Rows, station_rest, connector_rest, tag_rest, grant_rest, tx_rest, reading_rest, reservation_rest, list_rest}
+use Rattle.hub_rows.specs.Rows.{Rows, station_rest, connector_rest, tag_rest, grant_rest, tx_rest, reading_rest, reservation_rest, list_rest, report_rest}
 
 -- how far a signed number is from the least one of 32 bits
 abbrev pub own_shifted : ℤ → ℕ
@@ -29,7 +29,7 @@ own_readings a station first [] = []
 own_readings a station first (r ∷ rs) = record { op = a; station = station; number = first; reading = r } ∷ own_readings a station (first + 1) rs
 
 abbrev pub own_rows : List ℕ → Rows → Rows
-own_rows a rows = record { stations = own (λ r. r.op) a rows.stations; connectors = own (λ r. r.op) a rows.connectors; tags = own (λ r. r.op) a rows.tags; grants = own (λ r. r.op) a rows.grants; transactions = own (λ r. r.op) a rows.transactions; readings = own (λ r. r.op) a rows.readings; reservations = own (λ r. r.op) a rows.reservations; local_lists = own (λ r. r.op) a rows.local_lists }
+own_rows a rows = record { stations = own (λ r. r.op) a rows.stations; connectors = own (λ r. r.op) a rows.connectors; tags = own (λ r. r.op) a rows.tags; grants = own (λ r. r.op) a rows.grants; transactions = own (λ r. r.op) a rows.transactions; readings = own (λ r. r.op) a rows.readings; reservations = own (λ r. r.op) a rows.reservations; local_lists = own (λ r. r.op) a rows.local_lists; reports = own (λ r. r.op) a rows.reports }
 
 -- an edit of the rows of one operator, by what tells them apart
 abbrev pub own_edit : List ℕ → Edit → Rows → Rows
@@ -47,3 +47,4 @@ own_edit a (ReadingsAdded station first readings) rows = record rows { readings 
 own_edit a (ReservationPut station id reservation) rows = record rows { reservations = put (by_key reservation_rest) (record { op = a; station = station; id = id; reservation = reservation }) rows.reservations }
 own_edit a (ReservationDropped station id) rows = record rows { reservations = filter (λ r. not (bytes_eq r.station station && r.id == id)) rows.reservations }
 own_edit a (ListSet station list) rows = record rows { local_lists = put (by_key list_rest) (record { op = a; station = station; list = list }) rows.local_lists }
+own_edit a (ReportSeen station status moment) rows = record rows { reports = put (by_key report_rest) (record { op = a; station = station; status = status; moment = moment }) rows.reports }

@@ -118,4 +118,5 @@ own_lookups a rows granted = record {
   txs = λ station. filter (λ r. bytes_eq r.station station) rows.transactions;
   readings = λ station n. filter (own_reading station n) rows.readings;
   reservations = λ station. filter (λ r. bytes_eq r.station station) rows.reservations;
+  reports = λ station. filter (λ r. bytes_eq r.station station) rows.reports;
 }

@@ -11,7 +11,9 @@ use Rattle.hub_rows.specs.declared.tx_row.TxRow.{TxRow}
 use Rattle.hub_rows.specs.declared.reading_row.ReadingRow.{ReadingRow}
 use Rattle.hub_rows.specs.declared.reservation_row.ReservationRow.{ReservationRow}
 use Rattle.hub_rows.specs.declared.list_row.ListRow.{ListRow}
+use Rattle.hub_rows.specs.declared.report_row.ReportRow.{ReportRow}
 use Rattle.hub_rows.specs.Keyed.{found}
+use Rattle.hub_rows.specs.Reports.{kind_of}
 
 -- the lists of rows
 pub record Rows : Type 0 where
@@ -23,10 +25,11 @@ pub record Rows : Type 0 where
   pub readings : List ReadingRow
   pub reservations : List ReservationRow
   pub local_lists : List ListRow
+  pub reports : List ReportRow
 
 -- no rows
 abbrev pub no_rows : Rows
-no_rows = record { stations = []; connectors = []; tags = []; grants = []; transactions = []; readings = []; reservations = []; local_lists = [] }
+no_rows = record { stations = []; connectors = []; tags = []; grants = []; transactions = []; readings = []; reservations = []; local_lists = []; reports = [] }
 
 -- what tells an operator's rows of a kind apart, and the key
 abbrev pub station_rest : StationRow → List (List ℕ)
@@ -76,6 +79,12 @@ list_rest r = r.station ∷ []
 
 abbrev pub list_key : ListRow → List (List ℕ)
 list_key r = r.op ∷ list_rest r
+
+abbrev pub report_rest : ReportRow → List (List ℕ)
+report_rest r = r.station ∷ kind_of r.status ∷ []
+
+abbrev pub report_key : ReportRow → List (List ℕ)
+report_key r = r.op ∷ report_rest r
 
 abbrev pub registration_of : StationRow → Registration
 registration_of r = record { policy = r.policy; interval = r.interval; state = r.state }

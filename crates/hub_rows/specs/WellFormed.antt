@@ -11,9 +11,10 @@ use Rattle.hub_rows.specs.declared.tx_row.TxRow.{TxRow}
 use Rattle.hub_rows.specs.declared.reading_row.ReadingRow.{ReadingRow}
 use Rattle.hub_rows.specs.declared.reservation_row.ReservationRow.{ReservationRow}
 use Rattle.hub_rows.specs.declared.list_row.ListRow.{ListRow}
+use Rattle.hub_rows.specs.declared.report_row.ReportRow.{ReportRow}
 use Rattle.hub_rows.specs.Keyed.{by_key}
 use Rattle.hub_rows.specs.LocalLists.{AreEntries}
-use Rattle.hub_rows.specs.Rows.{Rows, station_in, station_key, connector_key, tag_key, grant_key, tx_key, reading_key, reservation_key, list_key}
+use Rattle.hub_rows.specs.Rows.{Rows, station_in, station_key, connector_key, tag_key, grant_key, tx_key, reading_key, reservation_key, list_key, report_key}
 use Rattle.hub_rows.specs.Tags.{tag_in}
 use Rattle.hub_rows.specs.Transactions.{last_of_all}
 
@@ -60,6 +61,9 @@ pub record IsGoodList (stations : List StationRow) (r : ListRow) : Type 0 where
   pub station : IsOnRecord r.op r.station stations
   pub entries : AreEntries r.list.entries
 
+abbrev pub IsGoodReport : List StationRow → ReportRow → Type 0
+IsGoodReport stations r = IsOnRecord r.op r.station stations
+
 -- ---- the lists
 
 -- rows in the order of their keys, each key once, and each row good
@@ -77,3 +81,4 @@ pub record WellFormedRows (rows : Rows) : Type 0 where
   pub readings : AreGood reading_key (IsGoodReading rows.stations) rows.readings
   pub reservations : AreGood reservation_key (IsGoodReservation rows.stations) rows.reservations
   pub local_lists : AreGood list_key (IsGoodList rows.stations) rows.local_lists
+  pub reports : AreGood report_key (IsGoodReport rows.stations) rows.reports

@@ -3,6 +3,7 @@
 use crate::connector_row::ConnectorReport;
 use crate::list_row::LocalList;
 use crate::reading_row::Reading;
+use crate::report_row::ReportedStatus;
 use crate::reservation_row::{Reservation, ReservationId};
 use crate::station_row::Boot;
 use crate::tag_row::Tag;
@@ -98,5 +99,11 @@ pub enum Edit {
     ListSet {
         station: Text,
         list: LocalList,
+    },
+    /// A report of an upload or an update, in place of the one of its kind.
+    ReportSeen {
+        station: Text,
+        status: ReportedStatus,
+        moment: Moment,
     },
 }

@@ -8,6 +8,7 @@ ghost use Rattle.hub_rows.specs.Transactions.{is_used_in, same_start_in, tx_in, 
 ghost use Rattle.hub_rows.specs.Changes.{after_change, Fits};
 ghost use Rattle.hub_rows.specs.Grants.{granted_in, granted_tag_in, grants_in, has_grant_in};
 ghost use Rattle.hub_rows.specs.LocalLists.{local_list_in};
+ghost use Rattle.hub_rows.specs.Reports.{reports_in};
 ghost use Rattle.hub_rows.specs.Reservations.{reservations_in, reserved_until_in};
 ghost use Rattle.hub_rows.specs.Reads.{OnlyReads, IsCounted};
 ghost use Rattle.hub_rows.specs.Stops.{IsKept, FindsOldOr};
@@ -19,6 +20,7 @@ use crate::grant_row::GrantRow;
 use crate::info::{GrantedTag, Info};
 use crate::list_row::LocalList;
 use crate::reading_row::ReadingRow;
+use crate::report_row::ReportRow;
 use crate::reservation_row::{ReservationId, ReservationRow};
 use crate::station_row::{Registration, StationRow};
 use crate::tag_row::TagRow;
@@ -218,6 +220,12 @@ pub trait Store {
         ensures reads { OnlyReads view self.old self.new result }
         ensures found { (view self.new).clean
             → IfOk result (λ r. r ≡ reservations_in op.now station.now (view self.old).rows.reservations) };
+
+    /// The last reports of a station, in the order of the names of their kinds.
+    fn reports(&mut self, op: &str, station: &str) -> Result<Listed<ReportRow>, StoreFault>
+        ensures reads { OnlyReads view self.old self.new result }
+        ensures found { (view self.new).clean
+            → IfOk result (λ r. r ≡ reports_in op.now station.now (view self.old).rows.reports) };
 
     /// Makes a change that fits.
     fn apply(&mut self, change: &Change) -> Result<(), StoreFault>

@@ -1,0 +1,75 @@
+//! The record of what a station reported of an upload or an update.
+ghost use Rattle.std.specs.Prelude.{◌≡◌};
+ghost use Rattle.hub_rows.specs.Reports.{kind_of, reported_name};
+
+use crate::ordered::Keyed;
+use ocpp_types::{DiagnosticsStatus, FirmwareStatus, Moment, Named, Text};
+use std::alloc::AllocError;
+use std::cmp::Ordering;
+
+/// The last report of a kind. Its key is `op`, `station` and the kind of `status`.
+#[derive(Drop)]
+pub struct ReportRow {
+    /// The operator that hosts the station.
+    pub op: Text,
+    pub station: Text,
+    pub status: ReportedStatus,
+    /// When it came.
+    pub moment: Moment,
+}
+
+/// What a station reports of an upload of diagnostics or of a firmware update (OCPP 1.6,
+/// DiagnosticsStatusNotification.req and FirmwareStatusNotification.req).
+#[derive(Clone, Copy, Debug, PartialEq, Eq)]
+pub enum ReportedStatus {
+    Diagnostics(DiagnosticsStatus),
+    Firmware(FirmwareStatus),
+}
+
+impl ReportedStatus {
+    /// The name of its kind, which tells the reports of a station apart.
+    pub fn kind(&self) -> &'static str
+        ensures { result.now ≡ kind_of self.now }
+    {
+        match self {
+            ReportedStatus::Diagnostics(_) => "Diagnostics",
+            ReportedStatus::Firmware(_) => "Firmware",
+        }
+    }
+
+    /// The name of the status (OCPP 1.6, types DiagnosticsStatus and FirmwareStatus).
+    pub fn name(&self) -> &'static str
+        ensures { result.now ≡ reported_name self.now }
+    {
+        match self {
+            ReportedStatus::Diagnostics(status) => status.name(),
+            ReportedStatus::Firmware(status) => status.name(),
+        }
+    }
+}
+
+impl Clone for ReportRow {
+    ghost is_clone = { λ row copy. copy ≡ row };
+
+    fn clone(&self) -> Result<ReportRow, AllocError> {
+        Ok(ReportRow {
+            op: self.op.clone()?,
+            station: self.station.clone()?,
+            status: self.status,
+            moment: self.moment,
+        })
+    }
+}
+
+impl Keyed for ReportRow {
+    ghost use Rattle.hub_rows.specs.Rows.{report_key};
+
+    ghost key = { report_key };
+
+    fn compare(&self, other: &ReportRow) -> Ordering {
+        self.op
+            .cmp(&other.op)
+            .then(self.station.cmp(&other.station))
+            .then(self.status.kind().cmp(other.status.kind()))
+    }
+}
