@@ -2,12 +2,14 @@
 use Rattle.std.specs.Prelude.{ℕ, List, [], ◌∷◌, codes}
 use Rattle.ocpp_types.specs.Named.{names_of}
 use Rattle.ocpp_payload.specs.declared.action.Action.{Action}
-use Rattle.ocpp_payload.specs.declared.action.Action.TheVariants.{Authorize, BootNotification, DataTransfer, Heartbeat, MeterValues, StartTransaction, StatusNotification, StopTransaction}
+use Rattle.ocpp_payload.specs.declared.action.Action.TheVariants.{Authorize, BootNotification, DataTransfer, DiagnosticsStatusNotification, FirmwareStatusNotification, Heartbeat, MeterValues, StartTransaction, StatusNotification, StopTransaction}
 
 abbrev pub action_name : Action → List ℕ
 action_name Authorize = codes "Authorize"
 action_name BootNotification = codes "BootNotification"
 action_name DataTransfer = codes "DataTransfer"
+action_name DiagnosticsStatusNotification = codes "DiagnosticsStatusNotification"
+action_name FirmwareStatusNotification = codes "FirmwareStatusNotification"
 action_name Heartbeat = codes "Heartbeat"
 action_name MeterValues = codes "MeterValues"
 action_name StartTransaction = codes "StartTransaction"
@@ -15,4 +17,4 @@ action_name StatusNotification = codes "StatusNotification"
 action_name StopTransaction = codes "StopTransaction"
 
 abbrev pub actions : List (List ℕ × Action)
-actions = names_of action_name (Authorize ∷ BootNotification ∷ DataTransfer ∷ Heartbeat ∷ MeterValues ∷ StartTransaction ∷ StatusNotification ∷ StopTransaction ∷ [])
+actions = names_of action_name (Authorize ∷ BootNotification ∷ DataTransfer ∷ DiagnosticsStatusNotification ∷ FirmwareStatusNotification ∷ Heartbeat ∷ MeterValues ∷ StartTransaction ∷ StatusNotification ∷ StopTransaction ∷ [])

@@ -3,6 +3,8 @@ use Rattle.std.specs.Prelude.{[], codes, Result, Ok}
 use Rattle.serde_json.specs.Data.{Data}
 use Rattle.ocpp_types.specs.ChargePointErrorCode.{charge_point_error_codes}
 use Rattle.ocpp_types.specs.ChargePointStatus.{charge_point_statuses}
+use Rattle.ocpp_types.specs.DiagnosticsStatus.{diagnostics_statuses}
+use Rattle.ocpp_types.specs.FirmwareStatus.{firmware_statuses}
 use Rattle.ocpp_types.specs.Reason.{reasons}
 use Rattle.ocpp_types.specs.declared.boot_notification.BootNotification.{BootNotification}
 use Rattle.ocpp_types.specs.declared.reason.Reason.TheVariants as reason
@@ -11,6 +13,8 @@ use Rattle.ocpp_payload.specs.declared.action.Action.TheVariants as action
 use Rattle.ocpp_payload.specs.declared.fault.FieldFault.{FieldFault}
 use Rattle.ocpp_payload.specs.declared.request.Authorize.{Authorize}
 use Rattle.ocpp_payload.specs.declared.request.DataTransfer.{DataTransfer}
+use Rattle.ocpp_payload.specs.declared.request.DiagnosticsStatusNotification.{DiagnosticsStatusNotification}
+use Rattle.ocpp_payload.specs.declared.request.FirmwareStatusNotification.{FirmwareStatusNotification}
 use Rattle.ocpp_payload.specs.declared.request.MeterValues.{MeterValues}
 use Rattle.ocpp_payload.specs.declared.request.StartTransaction.{StartTransaction}
 use Rattle.ocpp_payload.specs.declared.request.StatusNotification.{StatusNotification}
@@ -73,6 +77,24 @@ data_transfer_fields =
 abbrev pub data_transfer : Data → Result DataTransfer FieldFault
 data_transfer = reads data_transfer_fields
     (λ vendor message content. record { vendor_id = vendor; message_id = message; content = content })
+
+-- ---- DiagnosticsStatusNotification and FirmwareStatusNotification
+
+abbrev pub diagnostics_status_notification_fields : Fields
+diagnostics_status_notification_fields =
+    field (codes "status") (required (choice diagnostics_statuses))
+    end
+
+abbrev pub diagnostics_status_notification : Data → Result DiagnosticsStatusNotification FieldFault
+diagnostics_status_notification = reads diagnostics_status_notification_fields (λ status. record { status = status })
+
+abbrev pub firmware_status_notification_fields : Fields
+firmware_status_notification_fields =
+    field (codes "status") (required (choice firmware_statuses))
+    end
+
+abbrev pub firmware_status_notification : Data → Result FirmwareStatusNotification FieldFault
+firmware_status_notification = reads firmware_status_notification_fields (λ status. record { status = status })
 
 -- ---- MeterValues
 
@@ -162,6 +184,8 @@ abbrev pub request : Action → Data → Result Request FieldFault
 request action.Authorize d = authorize d >>= (λ r. Ok (request_of.Authorize r))
 request action.BootNotification d = boot_notification d >>= (λ r. Ok (request_of.BootNotification r))
 request action.DataTransfer d = data_transfer d >>= (λ r. Ok (request_of.DataTransfer r))
+request action.DiagnosticsStatusNotification d = diagnostics_status_notification d >>= (λ r. Ok (request_of.DiagnosticsStatusNotification r))
+request action.FirmwareStatusNotification d = firmware_status_notification d >>= (λ r. Ok (request_of.FirmwareStatusNotification r))
 request action.Heartbeat d = Ok request_of.Heartbeat
 request action.MeterValues d = meter_values d >>= (λ r. Ok (request_of.MeterValues r))
 request action.StartTransaction d = start_transaction d >>= (λ r. Ok (request_of.StartTransaction r))

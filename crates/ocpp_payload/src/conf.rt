@@ -22,7 +22,7 @@ pub enum Conf {
     Heartbeat {
         current_time: Moment,
     },
-    /// The answer to a MeterValues and to a StatusNotification, which has no members.
+    /// An answer with no members, as that to a MeterValues or to a notification of a status.
     Empty,
     StartTransaction {
         id_tag_info: IdTagInfo,

@@ -31,8 +31,8 @@ pub use kind::{
 pub use lists::{ListOf, ObjectOf, Readable, SomeOf};
 pub use readings::{MeterValue, SampledValue};
 pub use request::{
-    Authorize, DataTransfer, MeterValues, Request, StartTransaction, StatusNotification,
-    StopTransaction,
+    Authorize, DataTransfer, DiagnosticsStatusNotification, FirmwareStatusNotification,
+    MeterValues, Request, StartTransaction, StatusNotification, StopTransaction,
 };
 pub use request_reader::read_request;
 pub use written::{Bounded, Checked, Tabled, Written, bad_may, put_may, put_must};

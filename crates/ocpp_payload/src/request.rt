@@ -2,7 +2,8 @@
 
 use crate::readings::MeterValue;
 use ocpp_types::{
-    BootNotification, Boxed, ChargePointErrorCode, ChargePointStatus, Listed, Reason, Text,
+    BootNotification, Boxed, ChargePointErrorCode, ChargePointStatus, DiagnosticsStatus,
+    FirmwareStatus, Listed, Reason, Text,
 };
 
 /// A request of a station (OCPP 1.6, section 6).
@@ -11,6 +12,8 @@ pub enum Request {
     Authorize(Authorize),
     BootNotification(Boxed<BootNotification>),
     DataTransfer(DataTransfer),
+    DiagnosticsStatusNotification(DiagnosticsStatusNotification),
+    FirmwareStatusNotification(FirmwareStatusNotification),
     Heartbeat,
     MeterValues(MeterValues),
     StartTransaction(StartTransaction),
@@ -31,6 +34,18 @@ pub struct DataTransfer {
     pub message_id: Option<Text>,
     /// The member `data`.
     pub content: Option<Text>,
+}
+
+/// What became of an upload of diagnostics (OCPP 1.6, DiagnosticsStatusNotification.req).
+#[derive(Drop)]
+pub struct DiagnosticsStatusNotification {
+    pub status: DiagnosticsStatus,
+}
+
+/// What became of a firmware update (OCPP 1.6, FirmwareStatusNotification.req).
+#[derive(Drop)]
+pub struct FirmwareStatusNotification {
+    pub status: FirmwareStatus,
 }
 
 /// Readings of a connector's meter (OCPP 1.6, MeterValues.req).

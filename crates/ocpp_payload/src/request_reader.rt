@@ -2,7 +2,7 @@
 ghost use Rattle.std.specs.Prelude.{◌≡◌, IfOk};
 ghost use Rattle.serde_json.specs.View.{view};
 ghost use Rattle.ocpp_payload.specs.Gives.{Gives};
-ghost use Rattle.ocpp_payload.specs.Request.{authorize, boot_notification, data_transfer, meter_values, start_transaction, status_notification, stop_transaction, request};
+ghost use Rattle.ocpp_payload.specs.Request.{authorize, boot_notification, data_transfer, diagnostics_status_notification, firmware_status_notification, meter_values, start_transaction, status_notification, stop_transaction, request};
 
 use crate::action::Action;
 use crate::fault::{FieldFault, ReadError};
@@ -10,8 +10,8 @@ use crate::fields::{optional, required, with_default};
 use crate::kind::{AnyText, ConnectorFrom, Int32, Int64, NameOf, TextOf, Time};
 use crate::lists::{ListOf, ObjectOf, SomeOf};
 use crate::request::{
-    Authorize, DataTransfer, MeterValues, Request, StartTransaction, StatusNotification,
-    StopTransaction,
+    Authorize, DataTransfer, DiagnosticsStatusNotification, FirmwareStatusNotification,
+    MeterValues, Request, StartTransaction, StatusNotification, StopTransaction,
 };
 use ocpp_types::{BootNotification, Boxed, Listed, Mem, NoMemory, Reason};
 use serde_json::Value;
@@ -40,6 +40,12 @@ fn read_any(alloc: Global, action: Action, payload: &Value) -> Result<Request, R
         Action::Authorize => Request::Authorize(authorize(alloc, payload)?),
         Action::BootNotification => Request::BootNotification(boot_notification(alloc, payload)?),
         Action::DataTransfer => Request::DataTransfer(data_transfer(alloc, payload)?),
+        Action::DiagnosticsStatusNotification => Request::DiagnosticsStatusNotification(
+            diagnostics_status_notification(alloc, payload)?,
+        ),
+        Action::FirmwareStatusNotification => {
+            Request::FirmwareStatusNotification(firmware_status_notification(alloc, payload)?)
+        }
         Action::Heartbeat => Request::Heartbeat,
         Action::MeterValues => Request::MeterValues(meter_values(alloc, payload)?),
         Action::StartTransaction => Request::StartTransaction(start_transaction(alloc, payload)?),
@@ -87,6 +93,26 @@ fn data_transfer(alloc: Global, payload: &Value) -> Result<DataTransfer, ReadErr
         message_id: optional(alloc, payload, "messageId", TextOf(50))?,
         content: optional(alloc, payload, "data", AnyText)?,
     })
+}
+
+fn diagnostics_status_notification(
+    alloc: Global,
+    payload: &Value,
+) -> Result<DiagnosticsStatusNotification, ReadError>
+    ensures { Gives result (diagnostics_status_notification (view payload.now)) }
+{
+    let status = required(alloc, payload, "status", NameOf::new())?;
+    Ok(DiagnosticsStatusNotification { status })
+}
+
+fn firmware_status_notification(
+    alloc: Global,
+    payload: &Value,
+) -> Result<FirmwareStatusNotification, ReadError>
+    ensures { Gives result (firmware_status_notification (view payload.now)) }
+{
+    let status = required(alloc, payload, "status", NameOf::new())?;
+    Ok(FirmwareStatusNotification { status })
 }
 
 fn meter_values(alloc: Global, payload: &Value) -> Result<MeterValues, ReadError>
