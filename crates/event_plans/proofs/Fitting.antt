@@ -17,11 +17,11 @@ use Rattle.ocpp_payload.specs.declared.class_of_action.ActionClass.{ActionClass}
 use Rattle.ocpp_payload.specs.declared.class_of_action.ActionClass.TheVariants.{Known, NotSupported, NotImplemented}
 use Rattle.ocpp_payload.specs.declared.fault.FieldFault.{FieldFault}
 use Rattle.ocpp_payload.specs.declared.request.Request.{Request}
-use Rattle.ocpp_payload.specs.declared.request.Request.TheVariants.{Authorize, BootNotification, DataTransfer, Heartbeat, MeterValues, StartTransaction, StatusNotification, StopTransaction}
+use Rattle.ocpp_payload.specs.declared.request.Request.TheVariants.{Authorize, BootNotification, DataTransfer, DiagnosticsStatusNotification, FirmwareStatusNotification, Heartbeat, MeterValues, StartTransaction, StatusNotification, StopTransaction}
 use Rattle.ocpp_payload.specs.ActionClass.{action_class}
 use Rattle.ocpp_payload.specs.Request.{request}
 use Rattle.hub_rows.specs.declared.change.Edit.{Edit}
-use Rattle.hub_rows.specs.declared.change.Edit.TheVariants.{StationAdded, BootSeen, PolicySet, ConnectorSeen, TagPut, TagDropped, GrantPut, GrantDropped, TxStarted, TxStopped, ReadingsAdded, ReservationPut, ReservationDropped, ListSet}
+use Rattle.hub_rows.specs.declared.change.Edit.TheVariants.{StationAdded, BootSeen, PolicySet, ConnectorSeen, TagPut, TagDropped, GrantPut, GrantDropped, TxStarted, TxStopped, ReadingsAdded, ReservationPut, ReservationDropped, ListSet, ReportSeen}
 use Rattle.hub_rows.specs.declared.change.Edit.TheVariants as edit_to
 use Rattle.hub_rows.specs.declared.station_row.Registration.{Registration}
 use Rattle.hub_rows.specs.Lookups.{Lookups, lookups_at}
@@ -97,6 +97,7 @@ FitsLookups l (ReadingsAdded station first readings) = IsSome (l.registration st
 FitsLookups l (ReservationPut station id reservation) = IsSome (l.registration station)
 FitsLookups l (ReservationDropped station id) = Unit {0}
 FitsLookups l (ListSet station list) = IsSome (l.registration station) × AreEntries list.entries
+FitsLookups l (ReportSeen station status moment) = IsSome (l.registration station)
 
 -- an effect that an operator's facts allow
 abbrev pub EffectFits : Facts → Effect → Type 0
@@ -165,6 +166,8 @@ payload_fits : (answers : Answers) (station : List ℕ) (g : Registration) (id :
 payload_fits answers station g id (Ok (Authorize r)) m f here = tt
 payload_fits answers station g id (Ok (BootNotification texts)) m f here = here
 payload_fits answers station g id (Ok (DataTransfer r)) m f here = tt
+payload_fits answers station g id (Ok (DiagnosticsStatusNotification r)) m f here = here
+payload_fits answers station g id (Ok (FirmwareStatusNotification r)) m f here = here
 payload_fits answers station g id (Ok Heartbeat) m f here = tt
 payload_fits answers station g id (Ok (MeterValues r)) m f here = edit_fits_as f (meter_values_rule station r f.lookups).edit (meter_values_fit station r f.lookups here)
 payload_fits answers station g id (Ok (StartTransaction r)) m f here = edit_fits_as f (start_rule station r m f.lookups).edit (start_fits station r m f.lookups here)
@@ -323,6 +326,7 @@ edit_fits b rows (ReadingsAdded station first readings) fits = fits
 edit_fits b rows (ReservationPut station id reservation) fits = fits
 edit_fits b rows (ReservationDropped station id) fits = tt
 edit_fits b rows (ListSet station list) fits = fits
+edit_fits b rows (ReportSeen station status moment) fits = fits
 
 -- the same of an edit that may be none
 pub option_fits : (b : List ℕ) (rows : Rows) (o : Option Edit) → IfSome o (FitsLookups (lookups_at b rows)) → ForSome o (λ d. EditFits b d rows)

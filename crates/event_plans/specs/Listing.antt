@@ -43,6 +43,7 @@ rows_rule (listing.Transactions station) m l = of_station (l.registration statio
 rows_rule (listing.Readings station n) m l = of_station (l.registration station) (map row.Reading (l.readings station n))
 rows_rule (listing.Reservations station) m l = of_station (l.registration station) (map row.Reservation (current m (l.reservations station)))
 rows_rule (listing.LocalList station) m l = of_station (l.registration station) (list_rows station (l.local_list station))
+rows_rule (listing.Reports station) m l = of_station (l.registration station) (map row.Report (l.reports station))
 
 -- an operator's listing, whose rows or refusal are those of a rule: it only reads, and it submits no
 -- command

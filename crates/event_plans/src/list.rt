@@ -36,6 +36,7 @@ pub fn plan_list<S: Store>(
         } => readings(alloc, store, op, station, *transaction),
         Listing::Reservations { station } => reservations(alloc, store, op, station, moment),
         Listing::LocalList { station } => local_list(alloc, store, op, station),
+        Listing::Reports { station } => reports(alloc, store, op, station),
     }
 }
 
@@ -203,6 +204,21 @@ fn add_entries(
         said.push(Said::Row(row))?;
     }
     Ok(())
+}
+
+fn reports<S: Store>(
+    alloc: Global,
+    store: &mut S,
+    op: &Text,
+    station: &Text,
+) -> Result<Plan, StoreFault>
+    ensures { Lists S.view op.now (λ l. of_station (l.registration station.now) (map row.Report (l.reports station.now))) store.old store.new result }
+{
+    if store.station(op.as_str(), station.as_str())?.is_none() {
+        return Ok(no_station(alloc)?);
+    }
+    let rows = store.reports(op.as_str(), station.as_str())?;
+    Ok(show(alloc, rows)?)
 }
 
 fn no_station(alloc: Global) -> Mem<Plan>

@@ -5,7 +5,8 @@ ghost use Rattle.hub_events.specs.declared.row.Row.TheVariants as shown;
 
 use hub_events::Row;
 use hub_rows::{
-    ConnectorRow, GrantRow, GrantedTag, ReadingRow, ReservationRow, StationRow, TagRow, TxRow,
+    ConnectorRow, GrantRow, GrantedTag, ReadingRow, ReportRow, ReservationRow, StationRow, TagRow,
+    TxRow,
 };
 
 /// A record that listings show.
@@ -78,5 +79,13 @@ impl Shown for ReservationRow {
 
     fn into_row(self) -> Row {
         Row::Reservation(self)
+    }
+}
+
+impl Shown for ReportRow {
+    ghost as_row = { shown.Report };
+
+    fn into_row(self) -> Row {
+        Row::Report(self)
     }
 }

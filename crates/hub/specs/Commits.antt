@@ -24,7 +24,7 @@ pub record Edits {S T : Type 0} (view : S → StoreView) (op : List ℕ) (edit :
   pub stopped : FindsOldOr (rows_after op edit (view old).rows) (view old) (view new)
   pub kept : IsKept (view old) → OnOk result (IsKept (view new))
 
--- the slots go an effect's step at moment m, or stay
+-- the slots are those after an effect at moment m, or those before it
 pub record Moves {T : Type 0} (op : List ℕ) (m : ℕ) (e : Effect) (old new : Slots Command) (result : Result T Fault) : Type 0 where
   pub slots : OnOk result (all_slots new ≡ slots_after (first_number old) op m e (all_slots old))
   pub err_slots : OnErr result (all_slots new ≡ all_slots old)

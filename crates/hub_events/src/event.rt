@@ -23,8 +23,11 @@ pub enum Event {
 /// What happens at an operator, and when.
 #[derive(Clone, Copy, Drop)]
 pub struct OperatorEvent<'a> {
+    /// The operator.
     pub op: &'a Text,
+    /// The moment of the event.
     pub moment: Moment,
+    /// What happens.
     pub what: &'a What,
 }
 
@@ -85,6 +88,10 @@ pub enum Listing {
     },
     /// The local list of a station.
     LocalList {
+        station: Text,
+    },
+    /// The last reports of a station on an upload and on an update.
+    Reports {
         station: Text,
     },
 }

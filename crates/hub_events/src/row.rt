@@ -1,8 +1,8 @@
 //! Rows of listings.
 
 use hub_rows::{
-    ConnectorRow, GrantRow, GrantedTag, LocalTag, ReadingRow, ReservationRow, StationRow, TagRow,
-    TxRow,
+    ConnectorRow, GrantRow, GrantedTag, LocalTag, ReadingRow, ReportRow, ReservationRow,
+    StationRow, TagRow, TxRow,
 };
 use ocpp_types::Text;
 
@@ -23,4 +23,5 @@ pub enum Row {
     LocalList { station: Text, version: u32 },
     /// An entry of a station's local list.
     LocalTag { station: Text, entry: LocalTag },
+    Report(ReportRow),
 }

@@ -147,9 +147,15 @@ local_list_form rest = do
   station ← only_word rest
   Some (what.List (listing.LocalList station))
 
+-- `reports ST`
+abbrev pub reports_form : List ℕ → Option What
+reports_form rest = do
+  station ← only_word rest
+  Some (what.List (listing.Reports station))
+
 -- the listings of a station
 abbrev pub station_list_form : List ℕ → Option What
-station_list_form = by_word ((codes "connectors", connectors_form) ∷ (codes "transactions", transactions_form) ∷ (codes "readings", readings_form) ∷ (codes "reservations", reservations_form) ∷ (codes "locallist", local_list_form) ∷ [])
+station_list_form = by_word ((codes "connectors", connectors_form) ∷ (codes "transactions", transactions_form) ∷ (codes "readings", readings_form) ∷ (codes "reservations", reservations_form) ∷ (codes "locallist", local_list_form) ∷ (codes "reports", reports_form) ∷ [])
 
 -- the listings of an operator
 abbrev pub plain_list : List ℕ → Option Listing

@@ -34,7 +34,9 @@ use Rattle.hub_rows.specs.declared.tx_row.Stop.{Stop}
 use Rattle.hub_rows.specs.declared.tx_row.TxRow.{TxRow}
 use Rattle.hub_rows.specs.declared.reading_row.Reading.{Reading}
 use Rattle.hub_rows.specs.declared.reading_row.ReadingRow.{ReadingRow}
+use Rattle.hub_rows.specs.Reports.{kind_of, reported_name}
 use Rattle.hub_rows.specs.Reservations.{unshifted}
+use Rattle.hub_rows.specs.declared.report_row.ReportRow.{ReportRow}
 use Rattle.hub_rows.specs.declared.list_row.LocalTag.{LocalTag}
 use Rattle.hub_rows.specs.declared.reservation_row.Reservation.{Reservation}
 use Rattle.hub_rows.specs.declared.reservation_row.ReservationRow.{ReservationRow}
@@ -155,6 +157,10 @@ entry_data e = object (put (codes "idTagInfo") (written id_tag_info e.info) (put
 abbrev pub local_tag_line : List ℕ → List ℕ → LocalTag → List ℕ
 local_tag_line op station e = op ++ (codes " row localtag " ++ (station ++ (codes " " ++ compact_text (entry_data e))))
 
+-- `OP row report ST KIND STATUS MOMENT`
+abbrev pub report_line : List ℕ → ReportRow → List ℕ
+report_line op r = op ++ (codes " row report " ++ (r.station ++ (codes " " ++ (kind_of r.status ++ (codes " " ++ (reported_name r.status ++ (codes " " ++ decimal r.moment)))))))
+
 abbrev pub row_line : List ℕ → Row → List ℕ
 row_line op (row.Station r) = station_line op r
 row_line op (row.Tag r) = tag_line op r
@@ -166,3 +172,4 @@ row_line op (row.Reading r) = reading_line op r
 row_line op (row.Reservation r) = reservation_line op r
 row_line op (row.LocalList station version) = local_list_line op station version
 row_line op (row.LocalTag station entry) = local_tag_line op station entry
+row_line op (row.Report r) = report_line op r

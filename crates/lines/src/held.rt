@@ -1,13 +1,14 @@
-//! Lines of what a station holds: reservations and local lists (docs/TABLES.md, Listing lines).
+//! Lines of what a station holds: reservations, local lists and reports (docs/TABLES.md, Listing
+//! lines).
 ghost use Rattle.std.specs.Prelude.{◌≡◌, IfOk, false, string_bytes};
 ghost use Rattle.serde_json.specs.View.{view};
 ghost use Rattle.serde_json.specs.Written.{has_float};
 ghost use Rattle.std.specs.Fmt.{signed_decimal};
 ghost use Rattle.hub_rows.specs.Reservations.{unshifted};
-ghost use Rattle.lines.specs.RowLines.{entry_data, local_tag_line, reservation_fields, reservation_line};
+ghost use Rattle.lines.specs.RowLines.{entry_data, local_tag_line, report_line, reservation_fields, reservation_line};
 
 use crate::fields::{quoted, signed_field, text_field, widened};
-use hub_rows::{LocalTag, Reservation, ReservationId, ReservationRow};
+use hub_rows::{LocalTag, ReportRow, Reservation, ReservationId, ReservationRow};
 use ocpp_payload::Tabled;
 use ocpp_types::{Mem, Text};
 use serde_json::{Map, Value, put};
@@ -66,4 +67,15 @@ fn entry_object(alloc: Global, entry: &LocalTag) -> Mem<Value>
     let info = entry.info.write(alloc)?;
     put(&mut members, alloc, "idTagInfo", info)?;
     Ok(Value::Object(members))
+}
+
+/// The line of a report.
+pub fn print_report(alloc: Global, op: &Text, row: &ReportRow) -> Mem<String>
+    ensures { IfOk result (λ s. string_bytes s ≡ report_line op.now row.now) }
+{
+    let station = row.station.as_str();
+    let kind = row.status.kind();
+    let status = row.status.name();
+    let moment = row.moment.seconds();
+    Ok(format!(in alloc; "{op} row report {station} {kind} {status} {moment}")?)
 }

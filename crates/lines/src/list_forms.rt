@@ -1,6 +1,6 @@
 //! The forms of listings (docs/RULES.md, Lines).
 ghost use Rattle.std.specs.Prelude.{◌≡◌, IfOk};
-ghost use Rattle.lines.specs.Forms.{list_form, plain_list, station_list_form, connectors_form, transactions_form, readings_form, numbered_readings_form, reservations_form, local_list_form};
+ghost use Rattle.lines.specs.Forms.{list_form, plain_list, station_list_form, connectors_form, transactions_form, readings_form, numbered_readings_form, reservations_form, local_list_form, reports_form};
 
 use crate::words::{first_word, name_of, number_of};
 use hub_events::{Listing, What};
@@ -42,6 +42,7 @@ fn station_list_form(alloc: Global, rest: &str) -> Mem<Option<What>>
         "readings" => readings(alloc, rest),
         "reservations" => reservations(alloc, rest),
         "locallist" => local_list(alloc, rest),
+        "reports" => reports(alloc, rest),
         _ => Ok(None),
     }
 }
@@ -108,4 +109,13 @@ fn local_list(alloc: Global, rest: &str) -> Mem<Option<What>>
         return Ok(None);
     };
     Ok(Some(What::List(Listing::LocalList { station })))
+}
+
+fn reports(alloc: Global, rest: &str) -> Mem<Option<What>>
+    ensures { IfOk result (λ w. w ≡ reports_form rest.now) }
+{
+    let Some(station) = name_of(alloc, rest)? else {
+        return Ok(None);
+    };
+    Ok(Some(What::List(Listing::Reports { station })))
 }

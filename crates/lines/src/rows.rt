@@ -5,7 +5,7 @@ ghost use Rattle.ocpp_types.specs.UnitOfMeasure.{unit_of_measure_name};
 ghost use Rattle.lines.specs.RowLines.{row_line, station_line, tag_line, grant_line, granted_line, connector_line, tx_line, reading_line, reading_fields, report_fields, start_fields, stop_fields, taken_fields, sampled_fields, value_fields, name_field, micro_of};
 
 use crate::fields::{boot_field, mark, moment_field, quoted, signed_field, text_field, widened};
-use crate::held::{print_local_tag, print_reservation};
+use crate::held::{print_local_tag, print_report, print_reservation};
 use hub_events::Row;
 use hub_rows::{
     ConnectorReport, ConnectorRow, GrantRow, GrantedTag, Reading, ReadingRow, Start, StationRow,
@@ -31,6 +31,7 @@ pub fn print_row(alloc: Global, op: &Text, row: &Row) -> Mem<String>
             Ok(format!(in alloc; "{op} row locallist {station} {version}")?)
         }
         Row::LocalTag { station, entry } => print_local_tag(alloc, op, station, entry),
+        Row::Report(row) => print_report(alloc, op, row),
     }
 }
 
@@ -80,11 +81,11 @@ fn print_connector(alloc: Global, op: &Text, row: &ConnectorRow) -> Mem<String>
 {
     let station = row.station.as_str();
     let connector = row.connector;
-    let report = print_report(alloc, &row.report)?;
+    let report = print_reported(alloc, &row.report)?;
     Ok(format!(in alloc; "{op} row connector {station} {connector} {report}")?)
 }
 
-fn print_report(alloc: Global, report: &ConnectorReport) -> Mem<String>
+fn print_reported(alloc: Global, report: &ConnectorReport) -> Mem<String>
     ensures { IfOk result (λ s. string_bytes s ≡ report_fields report.now) }
 {
     let status = report.status.name();

@@ -4,3 +4,4 @@ pub mod Boot
 pub mod PolicySet
 pub mod StationAdded
 pub mod Status
+pub mod Report

@@ -1,11 +1,12 @@
-//! The rules on stations: which are registered, what they may send, how boots, heartbeats and
-//! reports on connectors are answered.
+//! The rules on stations: which are registered, what they may send, how boots, heartbeats, reports
+//! on connectors and reports of uploads and updates are answered.
 #![tactic(auto)]
 
 mod allowed;
 mod boot;
 mod decision;
 mod policy_set;
+mod report;
 mod station_added;
 mod station_at;
 mod status;
@@ -14,6 +15,7 @@ pub use allowed::is_allowed;
 pub use boot::{on_boot, on_heartbeat};
 pub use decision::{Decision, Reply, internal_error};
 pub use policy_set::plan_policy;
+pub use report::on_report;
 pub use station_added::{MAX_INTERVAL, MAX_STATION, Terms, plan_add};
 pub use station_at::StationAt;
 pub use status::on_status;

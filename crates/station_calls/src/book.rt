@@ -5,14 +5,14 @@ ghost use Rattle.station_calls.specs.Book.{book_view, book_answers};
 use crate::core_handler::CoreHandler;
 use crate::vendor::{VendorHandler, ask, lent};
 use charging::{on_meter_values, on_start, on_stop};
-use hub_rows::{Registration, Store, StoreFault};
+use hub_rows::{Registration, ReportedStatus, Store, StoreFault};
 use id_tags::{Purpose, judge};
 use ocpp_payload::{
-    Authorize, Conf, DataTransfer, MeterValues, StartTransaction, StatusNotification,
-    StopTransaction,
+    Authorize, Conf, DataTransfer, DiagnosticsStatusNotification, FirmwareStatusNotification,
+    MeterValues, StartTransaction, StatusNotification, StopTransaction,
 };
 use ocpp_types::{BootNotification, Boxed, TagKey};
-use registry::{Decision, Reply, StationAt, on_boot, on_heartbeat, on_status};
+use registry::{Decision, Reply, StationAt, on_boot, on_heartbeat, on_report, on_status};
 use std::alloc::Global;
 
 /// A store and the handlers of vendors' messages.
@@ -78,6 +78,26 @@ impl<S: Store, V: VendorHandler> CoreHandler for Book<S, V> {
             }),
             edit: None,
         })
+    }
+
+    fn on_diagnostics_status_notification(
+        &mut self,
+        alloc: Global,
+        at: &StationAt<'_>,
+        request: DiagnosticsStatusNotification,
+    ) -> Result<Decision, StoreFault> {
+        let status = ReportedStatus::Diagnostics(request.status);
+        Ok(on_report(alloc, at, status)?)
+    }
+
+    fn on_firmware_status_notification(
+        &mut self,
+        alloc: Global,
+        at: &StationAt<'_>,
+        request: FirmwareStatusNotification,
+    ) -> Result<Decision, StoreFault> {
+        let status = ReportedStatus::Firmware(request.status);
+        Ok(on_report(alloc, at, status)?)
     }
 
     fn on_heartbeat(&mut self, _alloc: Global, at: &StationAt<'_>) -> Result<Decision, StoreFault> {

@@ -32,6 +32,12 @@ pub fn decide<S: Store, V: VendorHandler>(
             book.on_boot_notification(alloc, at, registration, request)
         }
         Request::DataTransfer(request) => book.on_data_transfer(alloc, at, request),
+        Request::DiagnosticsStatusNotification(request) => {
+            book.on_diagnostics_status_notification(alloc, at, request)
+        }
+        Request::FirmwareStatusNotification(request) => {
+            book.on_firmware_status_notification(alloc, at, request)
+        }
         Request::Heartbeat => book.on_heartbeat(alloc, at),
         Request::MeterValues(request) => book.on_meter_values(alloc, at, request),
         Request::StartTransaction(request) => book.on_start_transaction(alloc, at, request),

@@ -5,6 +5,8 @@ ghost use Rattle.hub_rows.specs.Lookups.{lookups_at};
 ghost use Rattle.hub_rows.specs.StoreView.{StoreView};
 ghost use Rattle.registry.specs.Boot.{boot_rule, heartbeat_rule};
 ghost use Rattle.registry.specs.Status.{status_rule};
+ghost use Rattle.registry.specs.Report.{report_rule};
+ghost use Rattle.hub_rows.specs.declared.report_row.ReportedStatus.TheVariants as reported;
 ghost use Rattle.charging.specs.MeterValues.{meter_values_rule};
 ghost use Rattle.charging.specs.Start.{start_rule};
 ghost use Rattle.charging.specs.Stop.{stop_rule};
@@ -14,7 +16,8 @@ ghost use Rattle.station_calls.specs.Vendors.{Answers};
 
 use hub_rows::{Registration, StoreFault};
 use ocpp_payload::{
-    Authorize, DataTransfer, MeterValues, StartTransaction, StatusNotification, StopTransaction,
+    Authorize, DataTransfer, DiagnosticsStatusNotification, FirmwareStatusNotification,
+    MeterValues, StartTransaction, StatusNotification, StopTransaction,
 };
 use ocpp_types::{BootNotification, Boxed};
 use registry::{Decision, StationAt};
@@ -63,6 +66,28 @@ pub trait CoreHandler {
     ) -> Result<Decision, StoreFault>
         ensures reads { OnlyReads view self.old self.new result }
         ensures decision { IfOk result (λ d. d ≡ transfer_rule (answers self.old) request) }
+        ensures answers { answers self.new ≡ answers self.old };
+
+    /// What became of an upload of diagnostics (OCPP 1.6, section 4.4).
+    fn on_diagnostics_status_notification(
+        &mut self,
+        alloc: Global,
+        at: &StationAt<'_>,
+        request: DiagnosticsStatusNotification,
+    ) -> Result<Decision, StoreFault>
+        ensures reads { OnlyReads view self.old self.new result }
+        ensures decision { IfOk result (λ d. d ≡ report_rule at.now.station.now (reported.Diagnostics request.status) at.now.moment) }
+        ensures answers { answers self.new ≡ answers self.old };
+
+    /// What became of a firmware update (OCPP 1.6, section 4.5).
+    fn on_firmware_status_notification(
+        &mut self,
+        alloc: Global,
+        at: &StationAt<'_>,
+        request: FirmwareStatusNotification,
+    ) -> Result<Decision, StoreFault>
+        ensures reads { OnlyReads view self.old self.new result }
+        ensures decision { IfOk result (λ d. d ≡ report_rule at.now.station.now (reported.Firmware request.status) at.now.moment) }
         ensures answers { answers self.new ≡ answers self.old };
 
     /// A heartbeat (OCPP 1.6, section 4.6).
