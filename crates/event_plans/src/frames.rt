@@ -6,15 +6,15 @@ ghost use Rattle.pending_calls.specs.Slots.{slot_at};
 ghost use Rattle.ocpp_frame.specs.Frame.{frame};
 ghost use Rattle.station_calls.specs.Book.{book_view, book_rows, book_answers, IsCleanBook};
 ghost use Rattle.event_plans.specs.Effects.{StationSlot, IsReady};
-ghost use Rattle.event_plans.specs.Table.{frame_plan, call_plan, state_plan, payload_plan};
+ghost use Rattle.event_plans.specs.Table.{frame_plan, call_plan, state_plan};
 
 use crate::answers::{plan_error, plan_result};
 use crate::message_at::MessageAt;
 use crate::plan::Plan;
 use crate::short_plans::{decided_plan, error_plan};
-use hub_rows::{Registration, Store, StoreFault};
+use hub_rows::{Store, StoreFault};
 use ocpp_frame::{Frame, Payload, read_frame};
-use ocpp_payload::{Action, ActionClass, FieldFault, Request, action_class, read_request};
+use ocpp_payload::{Action, ActionClass, action_class, read_request};
 use ocpp_types::{Boxed, ErrorCode, Text};
 use operator_cmds::Command;
 use pending_calls::Slots;
@@ -91,7 +91,9 @@ fn plan_call<S: Store, V: VendorHandler>(
     Ok(error_plan(alloc, call.at.station, call.id, code, "")?)
 }
 
-/// The plan for a call of a supported action: first the station's state, then the payload.
+/// The plan for a call of a supported action: first the station's state, then the payload. Its request is
+/// decided, or its first faulty member is told.
+#[tactic(auto, using(crate::proofs::Readiness::decided_ready))]
 fn plan_known<S: Store, V: VendorHandler>(
     alloc: Global,
     book: &mut Book<S, V>,
@@ -113,28 +115,7 @@ fn plan_known<S: Store, V: VendorHandler>(
     if !is_allowed(registration.state, action) {
         return Ok(error_plan(alloc, station, call.id, ErrorCode::SecurityError, "")?);
     }
-    let request = read_request(alloc, action, payload.as_value())?;
-    plan_request(alloc, book, call, registration, request)
-}
-
-/// The plan for a call that the station's state allows: its request is decided, or its first faulty
-/// member is told.
-#[tactic(auto, using(crate::proofs::Readiness::decided_ready))]
-fn plan_request<S: Store, V: VendorHandler>(
-    alloc: Global,
-    book: &mut Book<S, V>,
-    call: &MessageAt<'_>,
-    registration: Registration,
-    request: Result<Request, FieldFault>,
-) -> Result<Plan, StoreFault>
-    ensures reads { OnlyReads (book_view S.view) book.old book.new result }
-    ensures plan { IsCleanBook S.view book.new → IfOk result (λ p. p
-        ≡ payload_plan (book_answers V.view book.old) call.now.at.now.station.now registration call.now.id.now request call.now.at.now.moment (lookups_at call.now.at.now.op.now (book_rows S.view book.old))) }
-    ensures answers { book_answers V.view book.new ≡ book_answers V.view book.old }
-    ensures ready { IfOk result (λ p. (slot : List ℕ → StationSlot) → IsReady slot p.effect) }
-{
-    let station = call.at.station;
-    match request {
+    match read_request(alloc, action, payload.as_value())? {
         Ok(request) => {
             let decision = decide(alloc, book, call.at, registration, request)?;
             Ok(decided_plan(alloc, station, call.id, decision)?)

@@ -1,6 +1,5 @@
 //! Plans from facts: one small function for each kind of event (docs/RULES.md).
-ghost use Rattle.std.specs.Prelude.{◌≡◌, [], ◌∷◌, IfOk};
-ghost use Rattle.hub_events.specs.declared.out.Said.TheVariants as said;
+ghost use Rattle.std.specs.Prelude.{◌≡◌, IfOk};
 ghost use Rattle.event_plans.specs.Plans.{turned_plan, connect_plan, disconnect_plan, sent_plan, error_plan, error_text, conf_text, reply_text, decided_plan, edit_plan};
 
 use crate::plan::{Effect, Plan, one};
@@ -8,7 +7,7 @@ use hub_events::Said;
 use hub_rows::{Edit, Registration};
 use ocpp_frame::{write_error, write_result};
 use ocpp_payload::{Conf, write_conf};
-use ocpp_types::{Boxed, ErrorCode, Listed, Mem, Named, Refusal, Text};
+use ocpp_types::{Boxed, ErrorCode, Mem, Named, Refusal, Text};
 use registry::{Decision, Reply};
 use std::alloc::Global;
 
@@ -95,27 +94,14 @@ pub fn error_plan(
     sent_plan(alloc, station, text)
 }
 
-/// The text of a reply goes to the station.
-fn sent(alloc: Global, station: &Text, id: &Text, reply: &Reply) -> Mem<Listed<Said>>
-    ensures { IfOk result (λ list. list ≡ said.Send station.now (reply_text id.now reply.now) ∷ []) }
-{
-    let text = reply_text(alloc, id, reply)?;
-    one(
-        alloc,
-        Said::Send {
-            station: station.clone()?,
-            text,
-        },
-    )
-}
-
 /// A call is answered as a rule decided.
 pub fn decided_plan(alloc: Global, station: &Text, id: &Text, decision: Decision) -> Mem<Plan>
     ensures { IfOk result (λ p. p ≡ decided_plan station.now id.now decision) }
 {
-    let said = sent(alloc, station, id, &decision.reply)?;
+    let text = reply_text(alloc, id, &decision.reply)?;
+    let station = station.clone()?;
     Ok(Plan {
-        said,
+        said: one(alloc, Said::Send { station, text })?,
         effect: Effect::from(decision.edit),
     })
 }
