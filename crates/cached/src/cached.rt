@@ -14,8 +14,8 @@ use crate::tag_answer::{LookUp, TagAnswer};
 use crate::{station_answer, tag_answer};
 use hub_rows::{
     Change, ConnectorRow, GrantRow, GrantedTag, Info, LastNumbers, LocalList, ReadingRow,
-    Registration, ReservationId, ReservationRow, StartKey, StationRow, Store, StoreFault, TagRow,
-    TxKey, TxRow, TxState,
+    Registration, ReportRow, ReservationId, ReservationRow, StartKey, StationRow, Store,
+    StoreFault, TagRow, TxKey, TxRow, TxState,
 };
 use ocpp_types::{Listed, Moment, TagKey};
 use std::alloc::Global;
@@ -241,6 +241,10 @@ impl<S: Store> Store for Cached<S> {
         station: &str,
     ) -> Result<Listed<ReservationRow>, StoreFault> {
         self.store.reservations(op, station)
+    }
+
+    fn reports(&mut self, op: &str, station: &str) -> Result<Listed<ReportRow>, StoreFault> {
+        self.store.reports(op, station)
     }
 
     fn apply(&mut self, change: &Change) -> Result<(), StoreFault> {

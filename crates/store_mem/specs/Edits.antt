@@ -1,14 +1,15 @@
 -- The kinds of edits.
 use Rattle.hub_rows.specs.declared.change.Edit.{Edit}
-use Rattle.hub_rows.specs.declared.change.Edit.TheVariants.{StationAdded, BootSeen, PolicySet, ConnectorSeen, TagPut, TagDropped, GrantPut, GrantDropped, TxStarted, TxStopped, ReadingsAdded, ReservationPut, ReservationDropped, ListSet}
+use Rattle.hub_rows.specs.declared.change.Edit.TheVariants.{StationAdded, BootSeen, PolicySet, ConnectorSeen, TagPut, TagDropped, GrantPut, GrantDropped, TxStarted, TxStopped, ReadingsAdded, ReservationPut, ReservationDropped, ListSet, ReportSeen}
 
--- of a station, its connectors or its local list
+-- of a station, its connectors, its reports or its local list
 abbrev pub IsOfStations : Edit → Type 0
 IsOfStations (StationAdded station policy interval) = Unit {0}
 IsOfStations (BootSeen station boot state) = Unit {0}
 IsOfStations (PolicySet station policy interval) = Unit {0}
 IsOfStations (ConnectorSeen station connector report) = Unit {0}
 IsOfStations (ListSet station list) = Unit {0}
+IsOfStations (ReportSeen station status moment) = Unit {0}
 IsOfStations other = ⊥
 
 -- of an id tag or its grants

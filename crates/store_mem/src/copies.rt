@@ -1,10 +1,8 @@
 //! Copies of rows, for lists that are asked for whole.
 ghost use Rattle.std.specs.Prelude.{◌≡◌, true, IfOk};
-ghost use Rattle.std.specs.Str.{bytes_eq};
 ghost use Rattle.hub_rows.specs.Keyed.{those};
-ghost use Rattle.hub_rows.specs.Lookups.{connectors_in};
 
-use hub_rows::{ConnectorRow, NamedRow};
+use hub_rows::NamedRow;
 use ocpp_types::{Listed, Mem};
 use std::alloc::Global;
 
@@ -30,25 +28,6 @@ pub fn own_copies<R: NamedRow + Clone>(alloc: Global, rows: &[R], op: &str) -> M
     let mut list = Listed::new(alloc);
     for row in rows {
         if row.op() == op {
-            list.push(row.clone()?)?;
-        }
-    }
-    Ok(list)
-}
-
-/// Copies of the connectors of one station.
-#[tactic(auto, using(hub_rows::proofs::Steps::drop_here))]
-pub fn connectors_of(
-    alloc: Global,
-    rows: &[ConnectorRow],
-    op: &str,
-    station: &str,
-) -> Mem<Listed<ConnectorRow>>
-    ensures { IfOk result (λ l. l ≡ connectors_in op.now station.now rows.now) }
-{
-    let mut list = Listed::new(alloc);
-    for row in rows {
-        if row.op.as_str() == op && row.station.as_str() == station {
             list.push(row.clone()?)?;
         }
     }

@@ -3,8 +3,8 @@ ghost use Rattle.std.specs.Prelude.{◌≡◌, ◌+◌, Some, OnOk, OnErr};
 
 use hub_rows::{
     Change, ConnectorRow, GrantRow, GrantedTag, Info, LastNumbers, LocalList, ReadingRow,
-    Registration, ReservationId, ReservationRow, StartKey, StationRow, Store, StoreFault, TagRow,
-    TxKey, TxRow, TxState,
+    Registration, ReportRow, ReservationId, ReservationRow, StartKey, StationRow, Store,
+    StoreFault, TagRow, TxKey, TxRow, TxState,
 };
 use ocpp_types::{Listed, Moment, TagKey};
 
@@ -172,6 +172,11 @@ impl<S: Store> Store for Failing<S> {
     ) -> Result<Listed<ReservationRow>, StoreFault> {
         self.count_call()?;
         self.store.reservations(op, station)
+    }
+
+    fn reports(&mut self, op: &str, station: &str) -> Result<Listed<ReportRow>, StoreFault> {
+        self.count_call()?;
+        self.store.reports(op, station)
     }
 
     fn apply(&mut self, change: &Change) -> Result<(), StoreFault> {

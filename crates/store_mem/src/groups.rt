@@ -3,14 +3,13 @@
 ghost use Rattle.std.specs.Prelude.{◌≡◌, ℕ, ◌<◌, List, [], ◌∷◌, OnOk, OnErr, vec_len, vec_capacity};
 ghost use Rattle.std.specs.List.{AllByRecursion};
 ghost use Rattle.std.specs.List.Sorted.{IsStrictlySortedBy};
-ghost use Rattle.hub_rows.specs.Keyed.{by_key, key_cmp, own, put};
+ghost use Rattle.hub_rows.specs.Keyed.{by_key, own, put};
 ghost use Rattle.hub_rows.specs.Places.{IsPlace};
 ghost use Rattle.store_mem.specs.Groups.{name_key, all_of, AreGroups, HasRoom};
 
 use hub_rows::{Keyed, TagRow, put_ready};
 use ocpp_types::{Mem, Text};
 use std::alloc::Global;
-use std::cmp::Ordering;
 
 /// A row that is kept in the group of the first part of its key.
 pub trait GroupedRow: Keyed {
@@ -23,10 +22,6 @@ pub trait GroupedRow: Keyed {
     /// The name of its group.
     fn group(&self) -> &str
         ensures { result.now ≡ group self.now };
-
-    /// How the rest of its key is to two texts.
-    fn compare_rest(&self, second: &str, third: &str) -> Ordering
-        ensures { result ≡ key_cmp (rest self.now) (second.now ∷ third.now ∷ []) };
 
     /// The key is the name of the group, and the rest.
     ghost splits: { (r : Self) → Self.key r ≡ group r ∷ rest r };
@@ -42,11 +37,6 @@ impl GroupedRow for TagRow {
 
     fn group(&self) -> &str {
         self.op.as_str()
-    }
-
-    /// A rest of one text is less than two texts that begin with it.
-    fn compare_rest(&self, second: &str, _third: &str) -> Ordering {
-        self.key.as_str().cmp(second).then(Ordering::Less)
     }
 
     ghost splits = { λ r. refl };

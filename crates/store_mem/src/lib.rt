@@ -2,6 +2,7 @@
 #![tactic(auto)]
 
 mod copies;
+mod edits;
 mod failing;
 mod granted;
 mod grants;
@@ -16,6 +17,7 @@ mod received;
 mod reservations;
 mod started;
 mod starts;
+mod station_copies;
 mod station_rows;
 mod stations;
 mod tags;

@@ -7,7 +7,7 @@ use crate::grants::Grants;
 use crate::readings::Readings;
 use crate::tags::Tags;
 use crate::transactions::Transactions;
-use hub_rows::{ConnectorRow, ListRow, ReservationRow, StationRow};
+use hub_rows::{ConnectorRow, ListRow, ReportRow, ReservationRow, StationRow};
 use std::alloc::Global;
 
 /// The records of all operators, each kind in the order of its keys or in groups.
@@ -21,6 +21,7 @@ pub struct Lists {
     pub readings: Readings,
     pub reservations: Vec<ReservationRow>,
     pub local_lists: Vec<ListRow>,
+    pub reports: Vec<ReportRow>,
 }
 
 impl Lists {
@@ -37,6 +38,7 @@ impl Lists {
             readings: Readings::new(alloc),
             reservations: Vec::new(alloc),
             local_lists: Vec::new(alloc),
+            reports: Vec::new(alloc),
         }
     }
 }

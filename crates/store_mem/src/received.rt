@@ -9,7 +9,7 @@ ghost use Rattle.store_mem.specs.Groups.{all_of, AreGroups};
 ghost use Rattle.store_mem.specs.Received.{receiver_key, receiver_rest, is_of, least_key, IsFrom};
 
 use crate::groups::{Group, GroupedRow};
-use crate::triples::{drop_in_group, place_of_row};
+use crate::triples::{TripleRow, drop_in_group, place_of_row};
 use hub_rows::{GrantRow, Keyed};
 use std::cmp::Ordering;
 
@@ -43,12 +43,14 @@ impl GroupedRow for Received {
         self.grant.to.as_str()
     }
 
+    ghost splits = { λ r. refl };
+}
+
+impl TripleRow for Received {
     fn compare_rest(&self, second: &str, third: &str) -> Ordering {
         let GrantRow { key, op, .. } = &self.grant;
         key.as_str().cmp(second).then(op.as_str().cmp(third))
     }
-
-    ghost splits = { λ r. refl };
 }
 
 impl GroupedRow for GrantRow {
@@ -63,14 +65,16 @@ impl GroupedRow for GrantRow {
         self.op.as_str()
     }
 
+    ghost splits = { λ r. refl };
+}
+
+impl TripleRow for GrantRow {
     fn compare_rest(&self, second: &str, third: &str) -> Ordering {
         self.key
             .as_str()
             .cmp(second)
             .then(self.to.as_str().cmp(third))
     }
-
-    ghost splits = { λ r. refl };
 }
 
 /// The first of the grants of one receiver that is of the tag of a key, by a binary search.

@@ -1,14 +1,13 @@
 //! Reservations in the order of their stations and ids.
-ghost use Rattle.std.specs.Prelude.{◌≡◌, [], ◌∷◌, IfOk};
+ghost use Rattle.std.specs.Prelude.{◌≡◌, [], ◌∷◌};
 ghost use Rattle.std.specs.List.Sorted.{IsStrictlySortedBy};
 ghost use Rattle.hub_rows.specs.Keyed.{by_key, without};
 ghost use Rattle.hub_rows.specs.Places.{IsPlace};
-ghost use Rattle.hub_rows.specs.Reservations.{is_reservation, reservations_in, reserved_until_in, without_named};
+ghost use Rattle.hub_rows.specs.Reservations.{is_reservation, reserved_until_in, without_named};
 ghost use Rattle.hub_rows.specs.Rows.{reservation_key};
 
 use hub_rows::{ReservationId, ReservationRow};
-use ocpp_types::{Listed, Mem, Moment};
-use std::alloc::Global;
+use ocpp_types::Moment;
 
 /// When the reservation of an id at a station expires.
 pub fn reserved_until(
@@ -24,25 +23,6 @@ pub fn reserved_until(
         Ok(place) => Some(rows[place].reservation.expiry),
         Err(_) => None,
     }
-}
-
-/// Copies of the reservations at a station.
-#[tactic(auto, using(hub_rows::proofs::Steps::drop_here))]
-pub fn reservations_of(
-    alloc: Global,
-    rows: &[ReservationRow],
-    op: &str,
-    station: &str,
-) -> Mem<Listed<ReservationRow>>
-    ensures { IfOk result (λ l. l ≡ reservations_in op.now station.now rows.now) }
-{
-    let mut list = Listed::new(alloc);
-    for row in rows {
-        if row.op.as_str() == op && row.station.as_str() == station {
-            list.push(row.clone()?)?;
-        }
-    }
-    Ok(list)
 }
 
 /// Removes the reservation of an id, if it is there.

@@ -1,0 +1,9 @@
+use Rattle.std.proofs.Common.{◌≡◌, ◌++◌, drop}
+use Rattle.std.specs.Str.{bytes_eq}
+use Rattle.hub_rows.specs.Keyed.{those}
+use Rattle.store_mem.proofs.station_copies.copies_of_station.Given as goal
+
+abbrev pub invariant-loop-row : goal.invariant-loop-row
+invariant-loop-row g l =
+    l.list ++ those g.R.OfStation.op l.op (λ r. bytes_eq (g.R.OfStation.station r) l.station) (drop l.row-index l.rows)
+    ≡ those g.R.OfStation.op l.op (λ r. bytes_eq (g.R.OfStation.station r) l.station) l.rows
