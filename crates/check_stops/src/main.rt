@@ -23,6 +23,7 @@ const SCRIPTS: &[&str] = &[
     "reservations",
     "local_list_of_a_station",
     "stop_with_a_reading",
+    "reports_of_a_station",
 ];
 
 /// What is tried of each script.
