@@ -1,6 +1,6 @@
-"""Checks that a refused allocation costs no more than the event that met it. Each allocation of replays and of a
-session at the server is refused once, by refusing_malloc.c under the built program, and each of scripts whose events
-are handed once more, under the program of the scripts. Prints a line for each scenario, then `N passed, M failed`.
+"""Checks that a refused allocation costs no more than the event that met it. Each allocation of replays, of the opening
+of a file of schema 1 and of a session at the server is refused once, by refusing_malloc.c under the built program, and
+each of scripts whose events are handed once more, under the program of the scripts. Prints a line for each scenario, then `N passed, M failed`.
 With --small it refuses fewer.
 
     python3 checks/allocations.py crates/central/out/central crates/check_scripts/out/check_scripts [--small]
@@ -27,7 +27,14 @@ from programs import SCRIPTS, TIME, listening
 
 PORT = 9287
 SOURCE = Path(__file__).with_name("refusing_malloc.c")
-REPLAYED = ("boot_and_heartbeat", "start_repeated", "calls_of_a_station", "reservations", "local_list_of_a_station")
+REPLAYED = (
+    "boot_and_heartbeat",
+    "start_repeated",
+    "calls_of_a_station",
+    "reservations",
+    "local_list_of_a_station",
+    "reports_of_a_station",
+)
 NEVER, ALWAYS = 0, (1 << 64) - 1
 ANSWER = re.compile(r'(.* frame \S+ \[3,")(\d+)(".*)', re.DOTALL)
 SERVED_LINE = re.compile(r"\[(INFO |WARN |ERROR) .*|fault NoMemory")
@@ -48,6 +55,7 @@ TEXTS = (
     f'[2,"3","StartTransaction",{{"connectorId":1,"idTag":"SIM1","meterStart":0,{AT}}}]',
     f'[2,"4","MeterValues",{{"connectorId":1,"meterValue":[{{"sampledValue":[{{"value":"5"}}],{AT}}}],"transactionId":1}}]',
     f'[2,"5","StopTransaction",{{"idTag":"SIM1","meterStop":9,{AT},"transactionId":1}}]',
+    '[2,"6","FirmwareStatusNotification",{"status":"Installed"}]',
 )
 
 
@@ -248,6 +256,40 @@ def check_replays(checks):
         check_over_a_file(checks, script, start)
         checks.replay("", checks.new_file())
         start = checks.allocator.count
+
+
+def schema(db):
+    """The number of the schema of a database, and whether it has a table of reports."""
+    rows = records(db)[0]
+    return rows["hub_meta"][0][1], "hub_report" in rows
+
+
+def check_first_schema(checks):
+    """Copies of a file of schema 1 are opened, each with one allocation refused. Each has schema 1 or 2 then, whole, and
+    a replay over it lists what was on record."""
+    scenario = "a file of schema 1 is opened, one refused"
+    script = SCRIPTS / "records_in_each_list"
+    lines, wanted = (script.with_suffix(end).read_text() for end in (".opened", ".opened_expected"))
+
+    def opened(number):
+        db = checks.new_file()
+        shutil.copy(script.with_suffix(".db"), db)
+        return db, checks.replay("", db, number, number)
+
+    _, ran = opened(NEVER)
+    checks.check(scenario, ran != (0, "", "") and "a run that isn't refused", ran)
+    count = checks.allocator.count
+    endings = collections.Counter()
+    for number in numbers_of(checks, 1, count):
+        db, ran = opened(number)
+        how, found = ending(ran, ""), schema(db)
+        endings[f"{how or 'OTHERWISE'}, schema {found[0]}"] += 1
+        checks.check(f"{scenario}, allocation {number}", not how and "another end", ran)
+        checks.check(f"{scenario}, allocation {number}", found not in ((1, False), (2, True)) and "the schema", found)
+        again = checks.replay(lines, db)
+        checks.check(f"{scenario}, allocation {number}", again != (0, wanted, "") and "other records", again)
+        remove(db)
+    told(scenario, count, endings)
 
 
 HANDED = (*REPLAYED, "reservations_follow_the_answer", "day_of_two_operators")
@@ -456,6 +498,7 @@ def main():
             for name in HANDED:
                 check_handed_again(checks, kind, name)
         check_replays(checks)
+        check_first_schema(checks)
         check_serve(checks)
     print(f"{checks.passed} passed, {checks.failed} failed")
     sys.exit(1 if checks.failed else 0)

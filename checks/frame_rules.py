@@ -8,16 +8,18 @@ from datetime import datetime, timedelta, timezone
 
 TYPE, BOUND, OCCURS = "TypeConstraintViolation", "PropertyConstraintViolation", "OccurenceConstraintViolation"
 
+# The kind of each report.
+KINDS = {"DiagnosticsStatusNotification": "Diagnostics", "FirmwareStatusNotification": "Firmware"}
+
 # No answer, and no change.
 SILENT = [(None, None)]
 
 POLICIES = ("Accepted", "Pending", "Rejected")
 
 NOT_SUPPORTED = (
-    "DiagnosticsStatusNotification FirmwareStatusNotification CancelReservation ChangeAvailability ChangeConfiguration "
-    "ClearCache ClearChargingProfile GetCompositeSchedule GetConfiguration GetDiagnostics GetLocalListVersion "
-    "RemoteStartTransaction RemoteStopTransaction ReserveNow Reset SendLocalList SetChargingProfile TriggerMessage "
-    "UnlockConnector UpdateFirmware"
+    "CancelReservation ChangeAvailability ChangeConfiguration ClearCache ClearChargingProfile GetCompositeSchedule "
+    "GetConfiguration GetDiagnostics GetLocalListVersion RemoteStartTransaction RemoteStopTransaction ReserveNow Reset "
+    "SendLocalList SetChargingProfile TriggerMessage UnlockConnector UpdateFirmware"
 ).split()
 
 STRICT_TIME = re.compile(r"(\d{4}-\d\d-\d\dT\d\d:\d\d:\d\d)(?:\.(\d{1,9}))?(?:Z|([+-])(\d\d):(\d\d))", re.ASCII)
@@ -254,6 +256,14 @@ REQUESTS = {
         ("meterType", text(25), False),
     ],
     "DataTransfer": [("vendorId", text(255), True), ("messageId", text(50), False), ("data", text(), False)],
+    "DiagnosticsStatusNotification": [("status", choice("Idle Uploaded UploadFailed Uploading"), True)],
+    "FirmwareStatusNotification": [
+        (
+            "status",
+            choice("Downloaded DownloadFailed Downloading Idle InstallationFailed Installing Installed"),
+            True,
+        ),
+    ],
     "Heartbeat": [],
     "MeterValues": [
         ("connectorId", FROM_0, True),
@@ -365,6 +375,7 @@ class Station:
         self.last = self.readings = 0
         self.starts = {}
         self.open = set()
+        self.reports = {}
         self.called = 0
         self.flight = None
 
@@ -436,6 +447,8 @@ class Operator:
             tag = payload.get("idTag")
             answer = {} if tag is None else {"idTagInfo": self.judged(tag, moment)}
             return [(answer, lambda: self.stop(name, payload))]
+        if action in KINDS:
+            return [({}, lambda: station.reports.update({KINDS[action]: (payload["status"], moment)}))]
         more = readings_in(payload["meterValue"]) if action == "MeterValues" else 0
         return [({}, lambda: setattr(station, "readings", station.readings + more))]
 

@@ -20,12 +20,21 @@ PORT = 9288
 AT = '"timestamp":"2024-01-01T00:00:00Z"'
 AUTHORIZE = '[2,"3","Authorize",{"idTag":"SIM1"}]'
 STATUS = '[2,"6","StatusNotification",{"connectorId":1,"errorCode":"NoError","status":"Available"}]'
-LISTS = "list transactions CP01", "list tags", "list readings CP01", "list connectors CP01", "list stations"
+REPORT = '[2,"8","FirmwareStatusNotification",{"status":"Installed"}]'
+LISTS = (
+    "list transactions CP01",
+    "list tags",
+    "list readings CP01",
+    "list connectors CP01",
+    "list reports CP01",
+    "list stations",
+)
 MOST_TAGS = 5000
 ANSWERS = {
     HEARTBEAT: '[3,"2",{"currentTime":"T"}]',
     AUTHORIZE: '[3,"3",{"idTagInfo":{"status":"Accepted"}}]',
     STATUS: '[3,"6",{}]',
+    REPORT: '[3,"8",{}]',
 }
 
 
@@ -113,12 +122,13 @@ def check_full(checks, server, size):
     before = [lines(operator(), line) for line in LISTS]
     server.limit(size)
     for text, wanted in ANSWERS.items():
-        if text != STATUS:
+        if text not in (STATUS, REPORT):
             checks.check("a read while the disk is full", answer(station(), text), wanted)
     checks.check("listings while the disk is full", [lines(operator(), line) for line in LISTS], before)
     number = len(before[0]) + 1
     refused(checks, server, "a start", station(), start(number))
-    refused(checks, server, "a report", station(), STATUS)
+    refused(checks, server, "a report on a connector", station(), STATUS)
+    refused(checks, server, "a report on an update", station(), REPORT)
     refused(checks, server, "a boot", station(), BOOT)
     refused(checks, server, "a tag", operator(), "tag put SIM2 - 0 -")
     refused(checks, server, "a station", operator(), "station add CP09 Accepted 300")

@@ -2,7 +2,7 @@
 
 BOOT = '[2,"b","BootNotification",{"chargePointModel":"M","chargePointVendor":"V"}]'
 WHEN = "2024-01-01T00:00:00Z"
-LISTINGS = ("connectors", "transactions", "readings", "reservations", "locallist")
+LISTINGS = ("connectors", "transactions", "readings", "reservations", "locallist", "reports")
 
 
 class Script:
@@ -89,6 +89,10 @@ class Script:
         values = f'[{{"timestamp":"{WHEN}","sampledValue":[{{"value":"{turn}.5","unit":"kWh"}},{{"value":"é"}}]}}]'
         status = '"errorCode":"NoError","status":"Charging","info":"\\u00e9","timestamp":"2024-01-01T01:00:00+01:00"'
         self.frame(operator, station, "StatusNotification", f'{{"connectorId":{turn % 4},{status}}}')
+        uploaded = ("Uploading", "UploadFailed", "Uploaded", "Idle")[turn % 4]
+        self.frame(operator, station, "DiagnosticsStatusNotification", f'{{"status":"{uploaded}"}}')
+        if turn % 2:
+            self.frame(operator, station, "FirmwareStatusNotification", '{"status":"Installed"}')
         for tag in (f"K{turn % 4}", other, "BLOCKED", "nobody"):
             self.frame(operator, station, "Authorize", f'{{"idTag":"{tag}"}}')
         reserve = f'"connectorId":1,"expiryDate":"2030-01-01T00:00:00Z","idTag":"K0","reservationId":{turn}'

@@ -45,6 +45,7 @@ ROWS = [
     rf"reservation \S+ -?\d+ \d+ {TEXT} {MAYBE} \d+",
     r"locallist \S+ \d+",
     r"localtag \S+ \{.*\}",
+    r"report \S+ (Diagnostics|Firmware) [A-Za-z]+ \d+",
 ]
 OUTCOME = rf"(Answer \{{.*\}}|BadAnswer [A-Za-z]+ [A-Za-z]+|Error \[{TEXT},{TEXT}\]|Timeout|Disconnected)"
 FORMS = [
@@ -288,7 +289,8 @@ def matching(world, station, data, moment, bad, got):
 
 
 def check_rows(checks, world, lines):
-    """GAMMA has the records that the frames made: the numbers of its transactions, readings and open transactions."""
+    """GAMMA has the records that the frames made: the numbers of its transactions, readings and open transactions, and
+    the reports of its stations."""
     rows = Counter(" ".join(line.split(" ", 4)[2:4]) for line in lines if line.startswith("GAMMA row "))
     begun = [line for line in lines if re.match("GAMMA row transaction .* - - - -$", line)]
     still = Counter(line.split(" ", 4)[3] for line in begun)
@@ -296,6 +298,10 @@ def check_rows(checks, world, lines):
         for what, number in (("transaction", station.last), ("reading", station.readings)):
             checks.check(f"{what}s of {name}", rows[f"{what} {name}"] == number, rows[f"{what} {name}"], number)
         checks.check(f"open transactions of {name}", still[name] == len(station.open), still[name], station.open)
+        wanted = [f"{kind} {status} {moment}" for kind, (status, moment) in sorted(station.reports.items())]
+        front = f"GAMMA row report {name} "
+        listed = [line.removeprefix(front) for line in lines if line.startswith(front)]
+        checks.check(f"reports of {name}", listed == wanted, listed, wanted)
         state = f"GAMMA row station {name} {station.state} {station.policy} "
         checks.check(f"the state of {name}", any(line.startswith(state) for line in lines), state)
 
@@ -303,7 +309,7 @@ def check_rows(checks, world, lines):
 def listings_of(world, moment):
     for what in ("stations", "tags", "grants", "granted"):
         yield f"{moment} GAMMA list {what}"
-    for what in ("connectors", "transactions", "readings", "reservations", "locallist"):
+    for what in ("connectors", "transactions", "readings", "reservations", "locallist", "reports"):
         for name in world.stations:
             yield f"{moment} GAMMA list {what} {name}"
 

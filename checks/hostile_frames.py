@@ -47,6 +47,8 @@ GOOD = [
         },
     ),
     ("DataTransfer", {"vendorId": "org.example.echo", "messageId": "echo", "data": "\u0000é\n"}),
+    ("DiagnosticsStatusNotification", {"status": "Uploading"}),
+    ("FirmwareStatusNotification", {"status": "Installed"}),
     ("Heartbeat", {}),
     ("MeterValues", {"connectorId": 1, "transactionId": 1, "meterValue": VALUES}),
     ("StartTransaction", {"connectorId": 1, "idTag": "K2", "meterStart": 0, "reservationId": 5, "timestamp": TIME}),

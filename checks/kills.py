@@ -1,6 +1,8 @@
 """Kills the server at random moments under a load of eight stations and two operators, opens its file again each time,
 and checks that all that was acknowledged is on record, that what was in flight is there whole or not at all, and that
-numbers go on. Prints how many of the changes in flight were found made, then `N passed, M failed`.
+numbers go on. Then kills it as it opens copies of a file of schema 1, and checks that each has schema 1 or 2, whole, and
+its records. Prints how many of the changes in flight were found made, how many of the copies were found with schema 2,
+then `N passed, M failed`.
 
     python3 checks/kills.py crates/central/out/central [KILLS] [SEED]
 """
@@ -9,6 +11,7 @@ import contextlib
 import json
 import os
 import random
+import re
 import shutil
 import sqlite3
 import subprocess
@@ -18,7 +21,7 @@ import threading
 import time
 
 from peer import BOOT, Peer
-from programs import listening
+from programs import SCRIPTS, listening
 
 PORT = 9289
 OPERATORS = {"ACME": "BETA", "BETA": "ACME"}
@@ -27,6 +30,12 @@ AT = '"timestamp":"2024-01-01T00:00:00Z"'
 MS = 1704067200000
 EXPIRY = 4070908800
 GONE = (SystemExit, OSError)
+STATUSES = {
+    "Diagnostics": ("Idle", "Uploaded", "UploadFailed", "Uploading"),
+    "Firmware": ("Downloaded", "DownloadFailed", "Installing", "Installed"),
+}
+# The number of the schema, and whether there is a table of reports.
+WHOLE = [(1, False), (2, True)]
 
 
 class Load:
@@ -62,12 +71,13 @@ class Load:
 
 
 class Station(Load):
-    """Starts and stops transactions, and sends readings. A stop has a reading too."""
+    """Starts and stops transactions, and sends readings and reports. A stop has a reading too."""
 
     def __init__(self, op, name, seed):
-        super().__init__(op, [f"transactions {name}", f"readings {name}", f"connectors {name}"], seed)
+        lists = [f"{what} {name}" for what in ("transactions", "readings", "connectors", "reports")]
+        super().__init__(op, lists, seed)
         self.op, self.name, self.path = op, name, f"/ocpp/{op}/{name}"
-        self.transactions, self.readings, self.connectors = self.rows
+        self.transactions, self.readings, self.connectors, self.reports = self.rows
 
     def begin(self):
         self.ask(BOOT)
@@ -92,8 +102,15 @@ class Station(Load):
         rows = self.rows[self.transactions]
         number = len(rows)
         is_open = bool(rows) and rows[-1].endswith(" - - - -")
-        what = self.random.choice(("turn", "turn", "meter", "status"))
-        if what == "status":
+        what = self.random.choice(("turn", "turn", "meter", "status", "report"))
+        if what == "report":
+            kind = self.random.choice(list(STATUSES))
+            status = self.random.choice(STATUSES[kind])
+            front = f"{self.op} row report {self.name} {kind} "
+            others = [row for row in self.rows[self.reports] if not row.startswith(front)]
+            flight = {self.reports: sorted([*others, f"{front}{status} T"])}
+            text = f'[2,"r","{kind}StatusNotification",{{"status":"{status}"}}]'
+        elif what == "status":
             status = self.random.choice(("Available", "Charging", "Faulted"))
             flight = {self.connectors: [f"{self.op} row connector {self.name} 1 {status} NoError {MS} - - -"]}
             text = f'[2,"n","StatusNotification",{{"connectorId":1,"errorCode":"NoError","status":"{status}",{AT}}}]'
@@ -196,10 +213,13 @@ class Operator(Load):
         return {name: []}, f'call {station} CancelReservation {{"reservationId":1}}'
 
 
+def server_words(program, db):
+    return [program, "serve", "--port", str(PORT), "--db", db, "--operators", "ACME,BETA", "--log", "none"]
+
+
 class Server:
     def __init__(self, program, db):
-        words = [program, "serve", "--port", str(PORT), "--db", db, "--operators", "ACME,BETA", "--log", "none"]
-        self.process = subprocess.Popen(words)
+        self.process = subprocess.Popen(server_words(program, db))
         while self.process.poll() is None and not list(listening(PORT)):
             time.sleep(0.002)
         if self.process.poll() is not None:
@@ -211,26 +231,48 @@ class Server:
 
 
 def listing(peer, name):
-    """The rows of a listing."""
+    """The rows of a listing, with T for the moment of a report."""
     peer.send(f"list {name}")
     rows = []
     while not (line := peer.next()).endswith(" ok"):
-        rows.append(line)
+        rows.append(re.sub(r"^(\S+ row report .*) \d+$", r"\1 T", line))
     return rows
 
 
-def whole(db, folder):
-    """What SQLite finds wrong in a copy of the database, if anything."""
+@contextlib.contextmanager
+def copied(db, folder):
+    """SQLite over a copy of the database."""
     copy = os.path.join(folder, "copy.db")
     for end in ("", "-wal"):
         if os.path.exists(db + end):
             shutil.copy(db + end, copy + end)
     with contextlib.closing(sqlite3.connect(copy)) as database:
-        found = database.execute("PRAGMA integrity_check").fetchall()
+        yield database
     for end in ("", "-wal", "-shm"):
         with contextlib.suppress(FileNotFoundError):
             os.remove(copy + end)
-    return found
+
+
+def whole(db, folder):
+    """What SQLite finds wrong in a copy of the database, if anything."""
+    with copied(db, folder) as database:
+        return database.execute("PRAGMA integrity_check").fetchall()
+
+
+def schema(db, folder):
+    """The number of the schema of a database, and whether it has a table of reports."""
+    with copied(db, folder) as database:
+        tables = {name for (name,) in database.execute("SELECT name FROM sqlite_master WHERE type = 'table'")}
+        return database.execute("SELECT number FROM hub_meta").fetchone()[0], "hub_report" in tables
+
+
+def first_records():
+    """The listings of the file of schema 1: operator, name and rows of each."""
+    script = SCRIPTS / "records_in_each_list"
+    asked = re.findall(r"^\d+ (\S+) list (.*)$", script.with_suffix(".script").read_text(), re.M)
+    blocks = re.split(r"^\S+ ok\n", script.with_suffix(".expected").read_text(), flags=re.M)[:-1]
+    rows = [[line for line in block.splitlines() if line.split(" ")[1] == "row"] for block in blocks[-len(asked) :]]
+    return [(op, name, listed) for (op, name), listed in zip(asked, rows)]
 
 
 class Checks:
@@ -287,6 +329,26 @@ class Checks:
             load.rows.update(listed)
         server.kill()
 
+    def kill_as_it_opens(self, number, records):
+        """Kills the server as it opens a copy of a file of schema 1. Whether the copy has schema 2 then."""
+        db = os.path.join(self.folder, f"first{number}.db")
+        shutil.copy(SCRIPTS / "records_in_each_list.db", db)
+        process = subprocess.Popen(server_words(self.program, db))
+        time.sleep(self.random.uniform(0, 0.02))
+        process.kill()
+        process.wait()
+        found = schema(db, self.folder)
+        self.check(f"kill {number} at the start: the schema", found in WHOLE, found)
+        self.check(f"kill {number} at the start: the database", whole(db, self.folder) == [("ok",)])
+        server = Server(self.program, db)
+        peers = {op: Peer(PORT, f"/operator/{op}") for op in OPERATORS}
+        listed = [(op, name, listing(peers[op], name)) for op, name, _ in records]
+        self.check(f"kill {number} at the start: the records", listed == records, listed)
+        reports = listing(peers["ACME"], "reports CP01")
+        self.check(f"kill {number} at the start: no reports", reports == [], reports)
+        server.kill()
+        return found == WHOLE[1]
+
 
 def main():
     kills = int(sys.argv[2]) if len(sys.argv) > 2 else 200
@@ -298,6 +360,9 @@ def main():
             checks.one_kill(number)
         steps = sum(load.steps for load in checks.loads)
         print(f"{kills} kills, {steps} changes acknowledged, {checks.made} of {checks.in_flight} in flight found made")
+        records = first_records()
+        migrated = sum(checks.kill_as_it_opens(number, records) for number in range(1, kills + 1))
+        print(f"{kills} kills at the start, {migrated} files found with schema 2")
     print(f"{checks.passed} passed, {checks.failed} failed")
     sys.exit(checks.failed > 0)
 

@@ -2,8 +2,9 @@
 """Makes the databases in crates/check_scripts/data: files of other programs, of later versions and of odd shapes.
 
 Run it at the top of the repository, after a change of the tables. It reads their texts from
-crates/sql_tables/specs/Statements.antt. The files are written by SQLite itself, all but records_in_each_list.db: that
-is what `central replay --db` made of records_in_each_list.script, with rows in each table.
+crates/sql_tables/specs/Statements.antt. The files are written by SQLite itself, all but records_in_each_list.db. That
+one has schema 1: it is what `central replay --db` of that version made of records_in_each_list.script, with rows in each
+table. It is never made anew.
 """
 import os
 import re
@@ -12,8 +13,17 @@ import sqlite3
 FOLDER = "crates/check_scripts/data"
 TEXTS = dict(re.findall(r'^(create_\w+) = codes "(.*)"$', open("crates/sql_tables/specs/Statements.antt").read(), re.M))
 META = TEXTS["create_meta"]
-NUMBER = "INSERT INTO hub_meta VALUES ('schema', 1)"
-OURS = list(TEXTS.values()) + [NUMBER]
+NUMBER = "INSERT INTO hub_meta VALUES ('schema', %d)"
+# the tables and indexes of each schema, in their order
+FIRST_TABLES = [text for name, text in TEXTS.items() if name != "create_report"]
+TABLES = list(TEXTS.values())
+FIRST = FIRST_TABLES + [NUMBER % 1]
+OURS = TABLES + [NUMBER % 2]
+STATION = (
+    "INSERT INTO hub_station VALUES"
+    " ('ACME', 'CP01', 'Accepted', 300, 'Fresh', NULL, NULL, NULL, NULL, NULL, NULL, NULL, NULL, NULL, NULL)"
+)
+TAG = "INSERT INTO hub_tag VALUES ('ACME', 'k1', 'K1', NULL, NULL, 0, NULL)"
 
 
 def database(name, statements):
@@ -45,24 +55,31 @@ raw("no_database", b"T ACME add CP01\n" * 64)
 raw("half_a_header", b"SQLite format 3\0")
 database("no_table", ["CREATE TABLE t (a)", "DROP TABLE t"])
 database("tag_without_meta", [TEXTS["create_tag"]])
+database("report_without_meta", [TEXTS["create_report"]])
 database("other_program", ["CREATE TABLE person (name TEXT)", "INSERT INTO person VALUES ('A')"])
-database("later_version", [META, "INSERT INTO hub_meta VALUES ('schema', 9)"])
-database("later_version_with_other_tables", [META, "INSERT INTO hub_meta VALUES ('schema', 2)", "CREATE TABLE person (name TEXT)"])
+database("later_version", [META, NUMBER % 9])
+database("later_version_with_other_tables", [META, NUMBER % 3, "CREATE TABLE person (name TEXT)"])
+database("later_version_with_our_tables", TABLES + [NUMBER % 3])
 database("meta_without_row", [META])
-database("meta_with_two_rows", meta("'schema', 1", "'other', 1"))
+database("meta_with_two_rows", meta("'schema', 2", "'other', 2"))
 database("meta_with_0", meta("'schema', 0"))
 database("meta_with_a_negative_number", meta("'schema', -1"))
 database("meta_with_a_text", meta("'schema', 'one'"))
 database("meta_with_null", meta("'schema', NULL"))
-database("meta_with_two_numbers", meta("1, 1", columns="version INTEGER, number INTEGER"))
+database("meta_with_two_numbers", meta("2, 2", columns="version INTEGER, number INTEGER"))
 database("meta_of_one_column", meta("9", columns="version INTEGER"))
-database("meta_as_a_view", ["CREATE TABLE t (number INTEGER)", "INSERT INTO t VALUES (1)", "CREATE VIEW hub_meta AS SELECT number FROM t"])
+database("meta_as_a_view", ["CREATE TABLE t (number INTEGER)", "INSERT INTO t VALUES (2)", "CREATE VIEW hub_meta AS SELECT number FROM t"])
 database("ours", OURS)
-database("ours_with_rows", OURS + [
-    "INSERT INTO hub_station VALUES ('ACME', 'CP01', 'Accepted', 300, 'Fresh', NULL, NULL, NULL, NULL, NULL, NULL, NULL, NULL, NULL, NULL)",
-    "INSERT INTO hub_tag VALUES ('ACME', 'k1', 'K1', NULL, NULL, 0, NULL)",
-])
+database("ours_with_rows", OURS + [STATION, TAG, "INSERT INTO hub_report VALUES ('ACME', 'CP01', 'Firmware', 'Installed', 1704067200)"])
 database("ours_without_a_table", [text for text in OURS if text != TEXTS["create_reservation"]])
 database("ours_without_an_index", [text for text in OURS if text != TEXTS["create_tx_in_use"]])
 database("ours_with_another_table", OURS + ["CREATE TABLE person (name TEXT)"])
 database("ours_with_another_column", [text.replace("until INTEGER", "until INTEGER, note TEXT") for text in OURS])
+database("ours_with_the_number_1", TABLES + [NUMBER % 1])
+database("first", FIRST)
+database("first_with_rows", FIRST + [STATION, TAG])
+database("first_without_a_table", [text for text in FIRST if text != TEXTS["create_reservation"]])
+database("first_without_an_index", [text for text in FIRST if text != TEXTS["create_tx_in_use"]])
+database("first_with_another_table", FIRST + ["CREATE TABLE person (name TEXT)"])
+database("first_with_another_column", [text.replace("until INTEGER", "until INTEGER, note TEXT") for text in FIRST])
+database("first_with_the_number_2", FIRST_TABLES + [NUMBER % 2])

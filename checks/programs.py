@@ -8,6 +8,7 @@ import contextlib
 import os
 import re
 import resource
+import shutil
 import signal
 import socket
 import sqlite3
@@ -141,7 +142,7 @@ def made(checks, *statements):
 def check_databases(checks):
     """A file that can't be used is named before the operators are looked at, and stays as it is."""
     meta = "CREATE TABLE hub_meta (name TEXT, number INTEGER)"
-    later = made(checks, meta, "INSERT INTO hub_meta VALUES ('schema', 9)")
+    later = made(checks, meta, "INSERT INTO hub_meta VALUES ('schema', 3)")
     other = made(checks, "CREATE TABLE hub_tag (op TEXT)")
     text = checks.new_file()
     Path(text).write_text("no database\n" * 100)
@@ -159,6 +160,33 @@ def check_databases(checks):
             checks.check(f"{command[0]} over {path}", got, (2, "", f"fault Store: {fault}\n"))
         after = os.path.isfile(path) and Path(path).read_bytes()
         checks.check(f"{path} stays", before == after, True)
+
+
+def check_first_schema(checks):
+    """A file of schema 1 is served and replayed: its records are as they were, and it has schema 2 then."""
+    script = SCRIPTS / "records_in_each_list"
+    served, replayed = checks.new_file(), checks.new_file()
+    for path in (served, replayed):
+        shutil.copy(script.with_suffix(".db"), path)
+    words = ["replay", "--operators", "ACME,BETA", "--db", replayed]
+    for part in ("opened", "again"):
+        wanted = script.with_suffix(f".{part}_expected").read_text()
+        got = checks.run(*words, lines=script.with_suffix(f".{part}").read_bytes())
+        checks.check(f"a file of schema 1, {part}", got, (0, wanted, ""))
+    with checks.serve("--operators", "ACME,BETA", db=served):
+        acme, station = Peer(PORT, "/operator/ACME"), Peer(PORT, "/ocpp/ACME/CP01")
+        checks.check("no reports", acme.ask("list reports CP01"), "ACME ok")
+        report = '[2,"1","FirmwareStatusNotification",{"status":"Installed"}]'
+        checks.check("a report is taken", station.ask(report), '[3,"1",{}]')
+        row = re.sub(r"\d+$", "T", acme.ask("list reports CP01"))
+        checks.check("it is listed", [row, acme.next()], ["ACME row report CP01 Firmware Installed T", "ACME ok"])
+        row = acme.ask("list locallist CP01")
+        checks.check("the version of the local list", row, "ACME row locallist CP01 7")
+    with contextlib.closing(sqlite3.connect(served)) as database:
+        checks.check("the number", database.execute("SELECT * FROM hub_meta").fetchall(), [("schema", 2)])
+        rows = database.execute("SELECT op, station, kind, status FROM hub_report").fetchall()
+        checks.check("the report in SQL", rows, [("ACME", "CP01", "Firmware", "Installed")])
+        checks.check("integrity_check", database.execute("PRAGMA integrity_check").fetchall(), [("ok",)])
 
 
 def check_replays(checks):
@@ -570,6 +598,7 @@ def main():
 def check_all(checks):
     check_statuses(checks)
     check_databases(checks)
+    check_first_schema(checks)
     check_replays(checks)
     check_two_runs(checks)
     check_restart(checks)

@@ -47,12 +47,16 @@ class Records:
         text = "-" if boot is None else json.dumps(boot, ensure_ascii=False, separators=(",", ":"))
         self.rows["stations"].append(f"station {name} {state} {policy} 300 {text}")
         self.rows[f"connectors {name}"] = []
+        self.rows[f"reports {name}"] = []
         self.rows[f"transactions {name}"] = []
         self.rows[f"readings {name}"] = []
 
     def connector(self, name, number, status="Available", error="NoError", info=None, vendor=None, code=None):
         texts = " ".join(quoted(text) for text in (info, vendor, code))
         self.rows[f"connectors {name}"].append(f"connector {name} {number} {status} {error} {START} {texts}")
+
+    def report(self, name, kind, status, moment=START // 1000):
+        self.rows[f"reports {name}"].append(f"report {name} {kind} {status} {moment}")
 
     def transaction(self, name, number, tag, at=START, stop=None, status="Accepted"):
         end = "- - - -" if stop is None else f"{stop[0]} {stop[1]} {stop[2]} {quoted(stop[3])}"
@@ -287,6 +291,9 @@ def small_records():
     records.connector("NORTH-01", 1, "Charging")
     records.connector("NORTH-01", 2, "Faulted", "GroundFailure", "checked at 08:00", "Vendor", "E-17")
     records.connector("NORTH-02", 1, "Available")
+    records.report("NORTH-01", "Diagnostics", "Uploading", START // 1000 + 59)
+    records.report("NORTH-01", "Firmware", "Installed")
+    records.report("NORTH-02", "Firmware", "InstallationFailed")
     records.transaction("NORTH-01", 1, "K1", START - 7200000, (131500, START - 3600000, "Local", "K1"))
     records.transaction("NORTH-01", 2, "K2", START)
     records.transaction("NORTH-02", 1, "k9", START - 86400000, (120000, START - 86390000, "DeAuthorized", None), "Invalid")
@@ -308,6 +315,7 @@ def many_records(count=1000):
     for index in range(count):
         name = f"SITE{index // 20:02d}-{index % 20:02d}"
         records.station(name, boot={"chargePointModel": f"M{index % 7}", "chargePointVendor": "Vendor"})
+        records.report(name, "Firmware", ("Installed", "Installing", "Idle")[index % 3])
         for connector in (1, 2):
             records.connector(name, connector, ("Available", "Charging", "Faulted")[(index + connector) % 3])
         for number in range(1, 6):
@@ -322,6 +330,8 @@ def nasty_records():
     records.station(NASTY_WORD, boot={name: NASTY for name in members})
     records.connector(NASTY_WORD, 1, "Available", "OtherError", NASTY, NASTY, NASTY)
     records.rows[f"connectors {NASTY_WORD}"].append(f"connector {NASTY_WORD} x X Y 99999999999999999999 - - -")
+    records.report(NASTY_WORD, NASTY_WORD, NASTY_WORD)
+    records.report(NASTY_WORD, "constructor", "__proto__", "x")
     records.transaction(NASTY_WORD, 1, NASTY, START, (130000, START + 1, "Local", NASTY))
     records.rows[f"transactions {NASTY_WORD}"].append(f"transaction {NASTY_WORD} 2 x - Y x y z 5 z - -")
     records.reading(NASTY_WORD, 1, START, "Voltage", "-", "V", 230000000, NASTY)
@@ -400,9 +410,8 @@ def check_tables(cases):
     browser.open(f"127.0.0.1:{mock.port}", "ACME")
     cases.check("connects", browser.wait("document.getElementById('status').textContent.startsWith('Connected')"))
     cases.check("the first refresh ends", cases.is_idle())
-    cases.check("asks for each station", mock.heard[:7] == [
-        "list stations", "list connectors NORTH-01", "list transactions NORTH-01", "list connectors NORTH-02",
-        "list transactions NORTH-02", "list connectors ok", "list transactions ok"], mock.heard[:7])
+    lists = [f"list {what} {name}" for name in ("NORTH-01", "NORTH-02", "ok") for what in ("connectors", "reports", "transactions")]
+    cases.check("asks for each station", mock.heard[:10] == ["list stations", *lists], mock.heard[:10])
     browser.wait("document.querySelectorAll('#transactions tbody tr').length === 3")
     stations = cases.rows("stations")
     cases.check("stations", [row[:4] for row in stations] == [
@@ -411,6 +420,10 @@ def check_tables(cases):
     connectors = cases.rows("connectors")
     cases.check("connectors", len(connectors) == 4 and connectors[2] == [
         "NORTH-01", "2", "Faulted", "GroundFailure", "2024-01-01 00:00:00", "checked at 08:00", "Vendor", "E-17"], connectors)
+    reports = cases.rows("reports")
+    cases.check("reports", reports == [
+        ["NORTH-01", "Diagnostics", "Uploading", "2024-01-01 00:00:59"], ["NORTH-01", "Firmware", "Installed", "2024-01-01 00:00:00"],
+        ["NORTH-02", "Firmware", "InstallationFailed", "2024-01-01 00:00:00"]], reports)
     transactions = cases.rows("transactions")
     cases.check("transactions, the latest first", [row[0] for row in transactions] == ["NORTH-01 / 2", "NORTH-01 / 1", "NORTH-02 / 1"])
     cases.check("energy of a transaction", [row[6] for row in transactions] == ["–", "11.5", "0"], transactions)
@@ -518,7 +531,7 @@ def check_others(cases, mock):
     browser.run("document.getElementById('refresh').click()")
     browser.wait("!refreshed.isRunning && link.asked.length === 0")
     emptied = set(browser.run("emptied"))
-    cases.check("an answer to another empties no table", emptied <= {"list connectors ok", "list transactions ok"}, emptied)
+    cases.check("an answer to another empties no table", emptied <= {"list connectors ok", "list reports ok", "list transactions ok"}, emptied)
     time.sleep(0.3)
     seen = [[row[0], row[2]] for row in cases.rows("connectors")]
     cases.check("and leaves the tables right", seen == [
@@ -623,7 +636,7 @@ def check_one_refresh(cases, mock):
     heard = [line for line in mock.heard if line.startswith("list")]
     starts = [index for index, line in enumerate(heard) if line == "list stations"]
     sizes = [end - start for start, end in zip(starts, starts[1:] + [len(heard)])]
-    cases.check("one refresh at a time", len(sizes) >= 2 and all(size == 2001 for size in sizes), sizes)
+    cases.check("one refresh at a time", len(sizes) >= 2 and all(size == 3001 for size in sizes), sizes)
     cases.browser.run("{ const pace = document.getElementById('pace'); pace.value = '0'; pace.dispatchEvent(new Event('change')); }")
     before = len(mock.heard)
     time.sleep(6)
@@ -640,7 +653,7 @@ def check_address(cases):
     cases.check("no connection unasked", browser.run("link.socket === null") and not mock.heard, mock.heard)
     cases.check("the button is at hand", browser.run("document.activeElement.id") == "open")
     empty = browser.run("[...document.querySelectorAll('section .hint')].map(one => one.textContent).filter(text => text === 'Not loaded.').length")
-    cases.check("what isn't loaded is told", empty == 3, empty)
+    cases.check("what isn't loaded is told", empty == 4, empty)
     for name, value, fault in (("port", "65536", "Enter a port from 1 to 65535."), ("host", "a b", "Enter a host name or an IP address.")):
         browser.run(f"{{ const field = document.getElementById('connect').elements.{name}; field.before = field.value; field.value = {json.dumps(value)}; }}")
         browser.run("document.getElementById('open').click()")
@@ -663,8 +676,9 @@ def check_first(cases):
     cases.is_idle()
     browser.run("document.getElementById('refresh').click()")
     browser.wait("!refreshed.isRunning && link.asked.length === 0")
-    shown = "['stations', 'connectors', 'transactions'].map(name => document.querySelectorAll(`#${name} tbody tr`).length).join()"
-    cases.check("the tables come right", browser.wait(f"{shown} === '3,4,3'", 3), browser.run(shown))
+    names = "['stations', 'connectors', 'reports', 'transactions']"
+    shown = f"{names}.map(name => document.querySelectorAll(`#${{name}} tbody tr`).length).join()"
+    cases.check("the tables come right", browser.wait(f"{shown} === '3,4,3,3'", 3), browser.run(shown))
     mock.stop()
 
 
@@ -697,6 +711,8 @@ def check_nasty(cases):
     time.sleep(0.5)
     cases.check("nasty texts: a boot is shown as it is", cases.rows("stations")[0][4:7] == [NASTY] * 3, cases.rows("stations"))
     cases.check("nasty texts: a connector is shown as it is", cases.rows("connectors")[0][5:] == [NASTY] * 3, cases.rows("connectors"))
+    reports = [[NASTY_WORD, NASTY_WORD, NASTY_WORD, "2024-01-01 00:00:00"], [NASTY_WORD, "constructor", "__proto__", "x"]]
+    cases.check("nasty texts: a report is shown as it is", cases.rows("reports") == reports, cases.rows("reports"))
     cases.check("nasty texts: an end is shown as it is", f"Done: {NASTY}" in [row[1] for row in cases.rows("calls")], cases.rows("calls"))
     check_dump(cases, "nasty texts")
     cases.fits("nasty texts, wide", 1440)

@@ -18,6 +18,7 @@ const SCRIPTS: &[&str] = &[
     "reservations",
     "local_list_of_a_station",
     "reservations_follow_the_answer",
+    "reports_of_a_station",
     "day_of_two_operators",
 ];
 

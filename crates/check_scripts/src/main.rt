@@ -6,7 +6,8 @@
 //!
 //! `NAME.later` has the lines of a script over the file that `NAME.script` has left.
 //!
-//! `data/` has databases too, `NAME.db`, which are opened.
+//! `data/` has databases too, `NAME.db`, which are opened. `NAME.opened` has the lines of a script over a copy of one that
+//! an earlier version of the program made, and `NAME.again` those of a script after it.
 //!
 //! Some of the scripts are tried over stores of which each call fails in turn. `check_scripts memory NAME` and `check_scripts cache
 //! NAME` print what one script is answered over a store in memory, and over a cache before a database. An event that
@@ -21,6 +22,7 @@ mod failures;
 mod handed_again;
 mod kept;
 mod later;
+mod opened;
 mod replayed;
 mod script;
 mod stores;
@@ -31,6 +33,7 @@ use databases::open_all;
 use failures::{Kind, Met, answered, try_failures};
 use kept::fill;
 use later::check_later;
+use opened::check_opened;
 use std::env;
 use std::process::ExitCode;
 use stores::{InCache, InCachedDatabase, InDatabase, InFile, InMemory, Replays};
@@ -86,6 +89,7 @@ fn hand_again(rt: &HostRuntime, kind: Kind, name: &str) -> anyhow::Result<()> {
 /// Checks all. Whether all is as it is to be.
 fn check(rt: &HostRuntime) -> anyhow::Result<bool> {
     let alloc = rt.alloc();
+    let opened = told(rt, "over a database of schema 1", check_opened(rt)?)?;
     open_all(rt)?;
     let in_memory = checks(rt, "in memory", &InMemory { alloc })?;
     let in_database = checks(rt, "in a database in memory", &InDatabase { alloc })?;
@@ -101,7 +105,8 @@ fn check(rt: &HostRuntime) -> anyhow::Result<bool> {
     let memory = check_failures(rt, "in memory", Kind::Memory)?;
     let small = check_failures(rt, "in a cache of 1 of a database", Kind::Cache(1))?;
     let large = check_failures(rt, "in a cache of a database", Kind::Cache(1024))?;
-    Ok(in_memory && in_database && in_cache && in_file && later && memory && small && large)
+    let replayed = opened && in_memory && in_database && in_cache && in_file && later;
+    Ok(replayed && memory && small && large)
 }
 
 /// Statuses: 0 where each script is answered as it is to be over each kind of store, 1 otherwise.

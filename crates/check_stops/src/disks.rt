@@ -3,7 +3,7 @@
 use crate::stop::Stop;
 use anyhow::{Context, Result};
 use sqlite::{Connection, FileStore, Files, Options};
-use sqlite_disk::{Crash, Fuse, Memory};
+use sqlite_disk::{Crash, Disk as AnyDisk, Fuse, Memory};
 use std::alloc::Global;
 use store_sql::{SqlStore, prepare};
 
@@ -44,6 +44,20 @@ pub enum Opened {
 
 /// Opens empty files that stop there.
 pub fn open_new(alloc: Global, at: At) -> Result<Opened> {
+    open_at(alloc, at, Memory::new(alloc))
+}
+
+/// Opens the file of a database that stops there.
+pub fn open_file(alloc: Global, at: At, database: &[u8]) -> Result<Opened> {
+    let mut file = Memory::new(alloc);
+    file.write_at(0, database)?;
+    if file.may_be_used() {
+        file.sync()?;
+    }
+    open_at(alloc, at, file)
+}
+
+fn open_at(alloc: Global, at: At, file: Memory) -> Result<Opened> {
     let (log, db) = match at.file {
         File::Log => (at.calls, u64::MAX),
         File::Database => (u64::MAX, at.calls),
@@ -53,7 +67,7 @@ pub fn open_new(alloc: Global, at: At) -> Result<Opened> {
         alloc,
         Files {
             log: Fuse::new(Stop::new(Memory::new(alloc), keeps), log),
-            db: Fuse::new(Stop::new(Memory::new(alloc), keeps), db),
+            db: Fuse::new(Stop::new(file, keeps), db),
         },
     )
 }

@@ -1,10 +1,12 @@
 //! Scripts that are stopped at each call on the files of a database, which is opened again: whether the records found are
 //! those after the events taken, or with the one in progress.
 //!
-//! `data/` has the lines of each script, `NAME.script`, and the lines that list all records, `lists.txt`.
+//! `data/` has the lines of each script, `NAME.script`, and the lines that list all records, `lists.txt`. The opening of
+//! `records_in_each_list.db`, a database of schema 1, is stopped in the same way. It is that of crates/check_scripts.
 #![tactic(auto)]
 
 mod disks;
+mod migration;
 mod runs;
 mod script;
 mod stop;
@@ -12,7 +14,10 @@ mod tries;
 
 use anyhow::{Context, Result};
 use disks::{File, Leaves};
+use migration::{First, Stops};
+use runs::events;
 use script::Script;
+use std::fs;
 use std::process::ExitCode;
 use tries::{Tally, try_files, try_in_place};
 
@@ -23,6 +28,7 @@ const SCRIPTS: &[&str] = &[
     "reservations",
     "local_list_of_a_station",
     "stop_with_a_reading",
+    "reports_of_a_station",
 ];
 
 /// What is tried of each script.
@@ -59,9 +65,24 @@ fn try_script(rt: &HostRuntime, name: &str) -> Result<u64> {
     Ok(wrong.saturating_add(told(rt, name, "opened in place", tally)?))
 }
 
+/// Stops the opening of a database of schema 1 in all ways. How many stops were wrong.
+fn try_first(rt: &HostRuntime) -> Result<u64> {
+    let alloc = rt.alloc();
+    let database = fs::read(rt, "records_in_each_list.db")?;
+    let lists = events(alloc, fs::read(rt, "lists.txt")?.as_slice())?;
+    let first = First::new(alloc, database, lists)?;
+    let mut all = 0u64;
+    for (kind, file, leaves) in KINDS {
+        let Stops { stops, wrong } = first.try_stops(alloc, *file, *leaves).context(*kind)?;
+        println!(rt; "a database of schema 1 is opened, {kind}: {stops} stops, {wrong} wrong")?;
+        all = all.saturating_add(wrong);
+    }
+    Ok(all)
+}
+
 /// Statuses: 0 where no stop left other records, 1 otherwise.
 fn main(rt: HostRuntime) -> Result<ExitCode> {
-    let mut wrong = 0u64;
+    let mut wrong = try_first(&rt).context("a database of schema 1")?;
     for name in SCRIPTS {
         wrong = wrong.saturating_add(try_script(&rt, name).context(format_args!("script {name}"))?);
     }

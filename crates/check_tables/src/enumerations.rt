@@ -3,9 +3,9 @@
 use anyhow::{Result, bail};
 use ocpp_payload::{Action, ActionClass, action_class};
 use ocpp_types::{
-    AuthorizationStatus, ChargePointErrorCode, ChargePointStatus, DataTransferStatus, ErrorCode,
-    Location, Measurand, Named, Phase, Policy, ReadingContext, Reason, State, UnitOfMeasure,
-    ValueFormat,
+    AuthorizationStatus, ChargePointErrorCode, ChargePointStatus, DataTransferStatus,
+    DiagnosticsStatus, ErrorCode, FirmwareStatus, Location, Measurand, Named, Phase, Policy,
+    ReadingContext, Reason, State, UnitOfMeasure, ValueFormat,
 };
 use std::alloc::Global;
 
@@ -17,7 +17,9 @@ pub fn name_read(alloc: Global, enumeration: &str, name: &str) -> Result<String>
         "ChargePointErrorCode" => name_of::<ChargePointErrorCode>(alloc, name),
         "ChargePointStatus" => name_of::<ChargePointStatus>(alloc, name),
         "DataTransferStatus" => name_of::<DataTransferStatus>(alloc, name),
+        "DiagnosticsStatus" => name_of::<DiagnosticsStatus>(alloc, name),
         "ErrorCode" => name_of::<ErrorCode>(alloc, name),
+        "FirmwareStatus" => name_of::<FirmwareStatus>(alloc, name),
         "Location" => name_of::<Location>(alloc, name),
         "Measurand" => name_of::<Measurand>(alloc, name),
         "Phase" => name_of::<Phase>(alloc, name),
