@@ -1,5 +1,5 @@
 -- An earlier schema is raised in one transaction: the tables that it lacks, and the number.
-use Rattle.std.proofs.Common.{map, ◌≡◌, ◌≤◌, ◌⊎◌, ℕ, List, [], ◌∷◌, true, false, Ok, Err, Result, IsTrue, IfErr, OnOk, refl, sym, ap, ◌∙◌, subst, inl, inr, true≢false, arith, nat_lt, Less, Equal, Greater, Ordering, zero, suc, ◌<◌}
+use Rattle.std.proofs.Common.{map, ◌≡◌, ◌≤◌, ◌⊎◌, ℕ, List, [], ◌∷◌, true, false, Ok, Err, Result, IsTrue, IfErr, OnOk, refl, sym, ap, ◌∙◌, subst, inl, inr, true≢false, arith, nat_lt, Less, Equal, Greater, Ordering, zero, suc, ◌+◌, ◌<◌}
 use Rattle.std.specs.Ordering.{match_ordering}
 use Rattle.std.proofs.lemmas.Bool.Decides.{nat_tests}
 use Rattle.std.specs.List.{AllByRecursion}
@@ -7,6 +7,7 @@ use Rattle.sqlite_value.specs.Order.{Row}
 use Rattle.sqlite_trees.specs.Tree.{Trees, IsTable}
 use Rattle.sqlite_trees.specs.View.{doubt}
 use Rattle.sqlite_schema.specs.declared.schema.Table.{Table}
+use Rattle.sqlite_schema.specs.declared.schema.Schema.{Schema}
 use Rattle.sqlite_catalog.specs.Change.{next_tree, KeepsRows}
 use Rattle.sqlite.specs.declared.error.Error.{Error}
 use Rattle.sqlite.specs.Effect.{Database, IsDatabase}
@@ -97,14 +98,13 @@ kept_at zero earlier db = tt
 kept_at (suc zero) earlier db = (refl, (refl, (refl, (refl, (refl, (refl, (refl, (refl, (refl, (refl, tt))))))))))
 kept_at (suc (suc n)) earlier db = absurd (omega (arith, earlier))
 
--- below that, none is below
 not_below : (t k : ℕ) → k ≤ t → nat_lt t k ≡ false
 not_below t k over = grind (arith, nat_tests)
 
 pub cut_at : (n : ℕ) (db : Trees) → IsCut n (trees_at n db)
 cut_at n db t over = rw (not_below t (next_tree (schema_at n)) over) refl
 
-pub cut_later : (n : ℕ) → n < our_number → (rows : Trees) → IsCut n rows → IsCut (suc n) rows
+pub cut_later : (n : ℕ) → n < our_number → (rows : Trees) → IsCut n rows → IsCut (n + 1) rows
 cut_later zero earlier rows cut t over = cut t (omega arith)
 cut_later (suc zero) earlier rows cut t over = cut t (omega (arith, over))
 cut_later (suc (suc n)) earlier rows cut t over = absurd (omega (arith, earlier))
@@ -204,3 +204,9 @@ module _ {S : Type 0} (g : Ghosts S) (old tx mid end : Held S) (n : ℕ) (lower 
         clean = doubts;
         up = λ sure. (ok sure).1.is_open;
       }
+
+-- a commit leaves the schema that was made
+pub made_as : (rows : Trees) (schema : Schema) (mid end : State) (r : Result (Unit {0}) Error) → IsInsideAs rows schema mid → (IsTrue end.is_open → HasCleanDisk end)
+    → (HasCleanDisk end → OnOk r (IsTrue mid.in_transaction × Shows mid end mid.now mid.now false × KeepsCounts mid end × (end.marks ≡ []))) → IsTrue end.is_open → OnOk r (end.now.schema ≡ schema)
+made_as rows schema mid end (Ok x) inside clean ok up = let shows = (ok (clean up)).1 in ap (λ (d : Database). d.schema) shows.now_is ∙ (inside shows.was_open).schema_is
+made_as rows schema mid end (Err e) inside clean ok up = tt
