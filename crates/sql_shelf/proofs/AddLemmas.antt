@@ -1,5 +1,5 @@
 -- An INSERT of one row into any table whose first columns are its key.
-use Rattle.std.proofs.Common.{◌≡◌, ℕ, ℤ, ◌+◌, ◌&&◌, not, List, [], ◌∷◌, length, Bool, true, false, Option, Some, None, Ok, refl, sym, ap, ◌∙◌, subst, inl, inr, true≢false, Equal}
+use Rattle.std.proofs.Common.{◌≡◌, ℕ, ℤ, ◌+◌, not, List, [], ◌∷◌, length, true, false, Option, None, Ok, refl, sym, ap, ◌∙◌, subst, inl, inr, true≢false, Equal}
 use Rattle.std.specs.Ordering.{is_eq}
 use Rattle.std.proofs.lemmas.Bool.{and_parts, not-true}
 use Rattle.sqlite_value.specs.declared.value.Value.TheVariants.{Null, Int}
@@ -20,7 +20,7 @@ use Rattle.sqlite.specs.Does.{Tally, Does, OnRows, AtPlace}
 use Rattle.sqlite.specs.State.{State, mode_of}
 use Rattle.sqlite.specs.Command.{Command}
 use Rattle.sqlite.proofs.Callers.{one_step}
-use Rattle.sql_shelf.specs.Shelf.{Shelf, typed, cmp, AreShelved}
+use Rattle.sql_shelf.specs.Shelf.{Shelf, cmp, AreShelved}
 use Rattle.sql_tables.specs.Forms.{add_command}
 use Rattle.sql_shelf.proofs.TableLemmas.{table_put_all, cast_null}
 use Rattle.sql_shelf.proofs.ShelfLemmas as shelf

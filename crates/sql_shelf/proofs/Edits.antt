@@ -13,19 +13,20 @@ use Rattle.hub_rows.specs.declared.grant_row.GrantRow.{GrantRow}
 use Rattle.hub_rows.specs.declared.tx_row.TxRow.{TxRow}
 use Rattle.hub_rows.specs.declared.reading_row.ReadingRow.{ReadingRow}
 use Rattle.hub_rows.specs.declared.reservation_row.ReservationRow.{ReservationRow}
+use Rattle.hub_rows.specs.declared.report_row.ReportRow.{ReportRow}
 use Rattle.hub_rows.specs.Grants.{is_grant}
 use Rattle.hub_rows.specs.Keyed.{by_key, put, put_all}
 use Rattle.hub_rows.specs.Reservations.{unshifted, is_reservation}
-use Rattle.hub_rows.specs.Rows.{station_key, connector_key, tag_key, grant_key, tx_key, reading_key, reservation_key}
+use Rattle.hub_rows.specs.Rows.{station_key, connector_key, tag_key, grant_key, tx_key, reading_key, reservation_key, report_key}
 use Rattle.sql_tables.specs.Tables.{hub_schema}
 use Rattle.sql_tables.specs.Statements as sql
 use Rattle.sql_tables.proofs.Texts as texts
 use Rattle.sql_shelf.specs.Shelf.{Shelf, cmp, typed, rows_in, Spares}
 use Rattle.sql_shelf.specs.declared.list_rows.ListHead.{ListHead}
 use Rattle.sql_shelf.specs.declared.list_rows.EntryRow.{EntryRow}
-use Rattle.sql_shelf.specs.Shelves.{MetaRow, metas, stations, connectors, tags, grants, txs, readings, reservations, lists, entries, list_of, rows_of}
+use Rattle.sql_shelf.specs.Shelves.{MetaRow, metas, stations, connectors, tags, grants, txs, readings, reservations, lists, entries, reports, list_of, rows_of}
 use Rattle.sql_shelf.specs.Kept.{IsPutIn, IsDropped, IsMade}
-use Rattle.sql_shelf.proofs.Instances.{on_metas, put_metas, on_stations, put_stations, on_connectors, put_connectors, on_tags, put_tags, on_grants, put_grants, frees_grants, on_txs, put_txs, on_readings, put_readings, on_reservations, put_reservations, frees_reservations, on_lists, put_lists, on_entries, put_entries, frees_entries}
+use Rattle.sql_shelf.proofs.Instances.{on_metas, put_metas, on_stations, put_stations, on_connectors, put_connectors, on_tags, put_tags, on_grants, put_grants, frees_grants, on_txs, put_txs, on_readings, put_readings, on_reservations, put_reservations, frees_reservations, on_lists, put_lists, on_entries, put_entries, frees_entries, on_reports, put_reports}
 use Rattle.sql_shelf.proofs.StoreLemmas.{Means, means_as}
 use Rattle.sql_shelf.proofs.Tests.{of_grant, of_reservation, of_entries}
 use Rattle.sql_shelf.proofs.Writes.{adds, puts, drops}
@@ -44,6 +45,7 @@ stations_made old new made rows frame = λ i. record {
   readings = same_in readings 2 old new on_readings.listed frame (λ e. cc) i;
   reservations = same_in reservations 2 old new on_reservations.listed frame (λ e. cc) i;
   local_lists = map (list_of (same_in entries 2 old new on_entries.listed frame (λ e. cc) i)) (same_in lists 2 old new on_lists.listed frame (λ e. cc) i);
+  reports = same_in reports 2 old new on_reports.listed frame (λ e. cc) i;
 }
 
 pub connectors_made : (old new : Trees) (made : List ConnectorRow) → rows_in connectors new ≡ made → Spares hub_schema 4 old new → rows_of new ≡ record (rows_of old) { connectors = made }
@@ -56,6 +58,7 @@ connectors_made old new made rows frame = λ i. record {
   readings = same_in readings 4 old new on_readings.listed frame (λ e. cc) i;
   reservations = same_in reservations 4 old new on_reservations.listed frame (λ e. cc) i;
   local_lists = map (list_of (same_in entries 4 old new on_entries.listed frame (λ e. cc) i)) (same_in lists 4 old new on_lists.listed frame (λ e. cc) i);
+  reports = same_in reports 4 old new on_reports.listed frame (λ e. cc) i;
 }
 
 pub tags_made : (old new : Trees) (made : List TagRow) → rows_in tags new ≡ made → Spares hub_schema 6 old new → rows_of new ≡ record (rows_of old) { tags = made }
@@ -68,6 +71,7 @@ tags_made old new made rows frame = λ i. record {
   readings = same_in readings 6 old new on_readings.listed frame (λ e. cc) i;
   reservations = same_in reservations 6 old new on_reservations.listed frame (λ e. cc) i;
   local_lists = map (list_of (same_in entries 6 old new on_entries.listed frame (λ e. cc) i)) (same_in lists 6 old new on_lists.listed frame (λ e. cc) i);
+  reports = same_in reports 6 old new on_reports.listed frame (λ e. cc) i;
 }
 
 pub grants_made : (old new : Trees) (made : List GrantRow) → rows_in grants new ≡ made → Spares hub_schema 8 old new → rows_of new ≡ record (rows_of old) { grants = made }
@@ -80,6 +84,7 @@ grants_made old new made rows frame = λ i. record {
   readings = same_in readings 8 old new on_readings.listed frame (λ e. cc) i;
   reservations = same_in reservations 8 old new on_reservations.listed frame (λ e. cc) i;
   local_lists = map (list_of (same_in entries 8 old new on_entries.listed frame (λ e. cc) i)) (same_in lists 8 old new on_lists.listed frame (λ e. cc) i);
+  reports = same_in reports 8 old new on_reports.listed frame (λ e. cc) i;
 }
 
 pub transactions_made : (old new : Trees) (made : List TxRow) → rows_in txs new ≡ made → Spares hub_schema 10 old new → rows_of new ≡ record (rows_of old) { transactions = made }
@@ -92,6 +97,7 @@ transactions_made old new made rows frame = λ i. record {
   readings = same_in readings 10 old new on_readings.listed frame (λ e. cc) i;
   reservations = same_in reservations 10 old new on_reservations.listed frame (λ e. cc) i;
   local_lists = map (list_of (same_in entries 10 old new on_entries.listed frame (λ e. cc) i)) (same_in lists 10 old new on_lists.listed frame (λ e. cc) i);
+  reports = same_in reports 10 old new on_reports.listed frame (λ e. cc) i;
 }
 
 pub readings_made : (old new : Trees) (made : List ReadingRow) → rows_in readings new ≡ made → Spares hub_schema 12 old new → rows_of new ≡ record (rows_of old) { readings = made }
@@ -104,6 +110,7 @@ readings_made old new made rows frame = λ i. record {
   readings = rows i;
   reservations = same_in reservations 12 old new on_reservations.listed frame (λ e. cc) i;
   local_lists = map (list_of (same_in entries 12 old new on_entries.listed frame (λ e. cc) i)) (same_in lists 12 old new on_lists.listed frame (λ e. cc) i);
+  reports = same_in reports 12 old new on_reports.listed frame (λ e. cc) i;
 }
 
 pub reservations_made : (old new : Trees) (made : List ReservationRow) → rows_in reservations new ≡ made → Spares hub_schema 14 old new → rows_of new ≡ record (rows_of old) { reservations = made }
@@ -116,6 +123,20 @@ reservations_made old new made rows frame = λ i. record {
   readings = same_in readings 14 old new on_readings.listed frame (λ e. cc) i;
   reservations = rows i;
   local_lists = map (list_of (same_in entries 14 old new on_entries.listed frame (λ e. cc) i)) (same_in lists 14 old new on_lists.listed frame (λ e. cc) i);
+  reports = same_in reports 14 old new on_reports.listed frame (λ e. cc) i;
+}
+
+pub reports_made : (old new : Trees) (made : List ReportRow) → rows_in reports new ≡ made → Spares hub_schema 25 old new → rows_of new ≡ record (rows_of old) { reports = made }
+reports_made old new made rows frame = λ i. record {
+  stations = same_in stations 25 old new on_stations.listed frame (λ e. cc) i;
+  connectors = same_in connectors 25 old new on_connectors.listed frame (λ e. cc) i;
+  tags = same_in tags 25 old new on_tags.listed frame (λ e. cc) i;
+  grants = same_in grants 25 old new on_grants.listed frame (λ e. cc) i;
+  transactions = same_in txs 25 old new on_txs.listed frame (λ e. cc) i;
+  readings = same_in readings 25 old new on_readings.listed frame (λ e. cc) i;
+  reservations = same_in reservations 25 old new on_reservations.listed frame (λ e. cc) i;
+  local_lists = map (list_of (same_in entries 25 old new on_entries.listed frame (λ e. cc) i)) (same_in lists 25 old new on_lists.listed frame (λ e. cc) i);
+  reports = rows i;
 }
 
 -- ---- a row is put
@@ -143,6 +164,9 @@ adds_reading r = means_as (adds 6 readings on_readings sql.add_reading 10 put_re
 
 pub puts_reservation : (r : ReservationRow) → Means sql.put_reservation (reservations.row r) (IsMade (λ rows. record rows { reservations = put (by_key reservation_key) r rows.reservations }))
 puts_reservation r = means_as (puts 7 reservations on_reservations sql.put_reservation 4 put_reservations texts.put_reservation_is r) (λ old new h. reservations_made old new _ h.rows h.frame)
+
+pub puts_report : (r : ReportRow) → Means sql.put_report (reports.row r) (IsMade (λ rows. record rows { reports = put (by_key report_key) r rows.reports }))
+puts_report r = means_as (puts 10 reports on_reports sql.put_report 2 put_reports texts.put_report_is r) (λ old new h. reports_made old new _ h.rows h.frame)
 
 pub puts_meta : (m : MetaRow) → Means sql.put_meta (metas.row m) (IsPutIn metas m)
 puts_meta m = puts 0 metas on_metas sql.put_meta 1 put_metas texts.put_meta_is m

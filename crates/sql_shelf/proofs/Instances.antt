@@ -9,7 +9,7 @@ use Rattle.std.specs.List.{AllByRecursion}
 use Rattle.sqlite_rules.specs.Action.{works}
 use Rattle.sql_tables.specs.Tables.{hub_schema, hub_station, hub_tx}
 use Rattle.sql_tables.specs.Forms.{cols}
-use Rattle.sql_shelf.specs.Shelves.{hub_good, metas, tags, grants, stations, connectors, txs, readings, reservations, lists, entries, boot_option, stop_tag}
+use Rattle.sql_shelf.specs.Shelves.{hub_good, metas, tags, grants, stations, connectors, txs, readings, reservations, lists, entries, reports, boot_option, stop_tag}
 use Rattle.sql_shelf.proofs.TableLemmas.{cast_int}
 use Rattle.sql_shelf.proofs.ValueLaws.{text_cast, number_cast, count_cast, flag_cast, text_back, number_back, count_back, flag_back, shifted_back}
 use Rattle.sql_shelf.proofs.ShelfLemmas.{IsShelf}
@@ -26,12 +26,15 @@ use Rattle.sqlite_rules.specs.Cast.{cast, cast_all}
 use Rattle.ocpp_types.specs.Phase.{phase_name}
 use Rattle.ocpp_types.specs.Reason.{reason_name}
 use Rattle.ocpp_types.specs.UnitOfMeasure.{unit_of_measure_name}
-use Rattle.sql_shelf.proofs.NameLaws.{status_back, judged_back, policy_back, state_back, reason_back, context_back, format_back, location_back, error_back, measurand_back, phase_back, unit_back}
+use Rattle.sql_shelf.proofs.NameLaws.{status_back, judged_back, policy_back, state_back, reason_back, context_back, format_back, location_back, error_back, measurand_back, phase_back, unit_back, diagnostics_back, firmware_back}
 use Rattle.hub_rows.specs.Reservations.{unshifted}
 use Rattle.hub_rows.specs.declared.reservation_row.ReservationRow.{ReservationRow}
+use Rattle.hub_rows.specs.declared.report_row.ReportRow.{ReportRow}
+use Rattle.hub_rows.specs.declared.report_row.ReportedStatus.{ReportedStatus}
+use Rattle.hub_rows.specs.declared.report_row.ReportedStatus.TheVariants.{Diagnostics, Firmware}
 
 pub all_plain : AllByRecursion (λ (i : Index). i.order ≡ plain) hub_schema.indexes
-all_plain = (refl, (refl, (refl, (refl, (refl, (refl, (refl, (refl, (refl, (refl, (refl, (refl, (refl, (refl, (refl, tt)))))))))))))))
+all_plain = (refl, (refl, (refl, (refl, (refl, (refl, (refl, (refl, (refl, (refl, (refl, (refl, (refl, (refl, (refl, (refl, tt))))))))))))))))
 
 pub on_metas : IsShelf hub_schema hub_good 0 metas
 on_metas = record {
@@ -356,6 +359,40 @@ put_entries = record { source = λ s. refl; filter = λ s v i r. refl; project =
 
 pub whole_entries : IsWhole entries (cols 1 1 7)
 whole_entries s v params = refl
+
+report_round : (s : ReportRow) → reports.read (reports.row s) ≡ s
+report_round s = go s.status
+  where
+    go : (status : ReportedStatus) → reports.read (reports.row (record s { status = status })) ≡ record s { status = status }
+    go (Diagnostics status) = rw (diagnostics_back status) refl
+    go (Firmware status) = rw (firmware_back status) refl
+
+pub on_reports : IsShelf hub_schema hub_good 10 reports
+on_reports = record {
+  key_row = λ s. refl;
+  row_key = λ s. refl;
+  long = λ s. refl;
+  round = λ s. report_round s;
+  casts = λ s. rw (cast_int (pos s.moment)) refl;
+  good_is = refl;
+  here = refl;
+  listed = inr (inr (inr (inr (inr (inr (inr (inr (inr (inr (inl refl))))))))));
+  index = _;
+  guarded = inr (inr (inr (inr (inr (inr (inr (inr (inr (inr (inr (inr (inr (inr (inr (inl refl)))))))))))))));
+  guards_it = refl;
+  columns = refl;
+  order = refl;
+  orders = all_plain;
+  base = λ db. refl;
+  counted = refl;
+  still = λ olds news some. rw some refl;
+}
+
+pub put_reports : IsPutForm reports 2
+put_reports = record { source = λ s. refl; filter = λ s v i r. refl; project = λ s u v i j. refl }
+
+pub whole_reports : IsWhole reports (cols 1 1 5)
+whole_reports s v params = refl
 
 -- what a delete in these tables sets off: nothing
 

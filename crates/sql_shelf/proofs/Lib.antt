@@ -25,4 +25,6 @@ pub mod Edits
 pub mod RowEdits
 pub mod ListEdits
 pub mod OrderedLaws
+pub mod CreateLemmas
+pub mod RaisingLemmas
 pub mod OpeningLemmas

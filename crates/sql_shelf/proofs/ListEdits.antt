@@ -1,19 +1,18 @@
 -- A local list and its entries: how they are read, and what it makes of them to drop the entries, to put the list and
 -- to put each entry.
-use Rattle.std.proofs.Common.{◌≡◌, ◌≢◌, ℕ, ◌&&◌, List, [], ◌∷◌, ◌++◌, Bool, true, false, cond, not, map, filter, find, option_map, Option, Some, Ordering, Less, Equal, Greater, refl, sym, ap, ap₂, ◌∙◌, inl, inr, arith}
+use Rattle.std.proofs.Common.{◌≡◌, ◌≢◌, ℕ, ◌&&◌, List, [], ◌∷◌, ◌++◌, Bool, true, false, not, map, filter, find, option_map, Some, Ordering, Less, Equal, Greater, refl, sym, ap, ap₂, ◌∙◌, inl, inr, arith}
 use Rattle.std.specs.Str.{bytes_eq}
 use Rattle.std.specs.Cmp.{IsTotalOrder}
-use Rattle.std.specs.Ordering.{match_ordering, ordering_then}
+use Rattle.std.specs.Ordering.{match_ordering}
 use Rattle.std.specs.List.{AllByRecursion}
 use Rattle.std.specs.List.Sorted.{IsStrictlySortedBy}
-use Rattle.std.proofs.lemmas.Bool.{cases_Bool, and_parts, false_from_ne_true, cond-true, cond-false}
+use Rattle.std.proofs.lemmas.Bool.{cases_Bool, and_parts, false_from_ne_true}
 use Rattle.std.proofs.lemmas.Cmp.{tied_itself, nat_list_cmp_total}
 use Rattle.std.proofs.lemmas.List.{map-append}
 use Rattle.sqlite_trees.specs.Tree.{Trees}
 use Rattle.sqlite_schema.specs.declared.schema.Table.{Table}
 use Rattle.sqlite_rules.specs.Lists.{Has}
 use Rattle.sqlite_rules.proofs.ListLemmas.{all_has, all_from}
-use Rattle.hub_rows.specs.declared.list_row.ListRow.{ListRow}
 use Rattle.hub_rows.specs.declared.list_row.LocalList.{LocalList}
 use Rattle.hub_rows.specs.declared.list_row.LocalTag.{LocalTag}
 use Rattle.hub_rows.specs.declared.change.Edit.TheVariants.{ListSet}
@@ -27,10 +26,10 @@ use Rattle.sql_tables.specs.Tables.{hub_schema}
 use Rattle.sql_shelf.specs.declared.list_rows.ListHead.{ListHead}
 use Rattle.sql_shelf.specs.declared.list_rows.EntryRow.{EntryRow}
 use Rattle.sql_shelf.specs.Shelf.{Shelf, cmp, typed, rows_in, Spares}
-use Rattle.sql_shelf.specs.Shelves.{stations, connectors, tags, grants, txs, readings, reservations, lists, entries, entry_row, is_entry_of, list_of, rows_of}
+use Rattle.sql_shelf.specs.Shelves.{stations, connectors, tags, grants, txs, readings, reservations, lists, entries, reports, entry_row, is_entry_of, list_of}
 use Rattle.sql_shelf.specs.Kept.{IsPutIn, ArePutIn, IsDropped, IsMade}
 use Rattle.sql_shelf.proofs.Edits.{same_in}
-use Rattle.sql_shelf.proofs.Instances.{on_stations, on_connectors, on_tags, on_grants, on_txs, on_readings, on_reservations, on_lists, on_entries}
+use Rattle.sql_shelf.proofs.Instances.{on_stations, on_connectors, on_tags, on_grants, on_txs, on_readings, on_reservations, on_lists, on_entries, on_reports}
 use Rattle.sql_shelf.proofs.MemberLaws.{same_elements, sorted_single, sorted_filter, is_arranged, arranged_from, arranged_has, put_all-last}
 
 -- ---- a list is read by its head and its entries
@@ -191,6 +190,7 @@ module _ (op station : List ℕ) where
         readings = still readings on_readings.listed (λ e. cc) (λ e. cc) i;
         reservations = still reservations on_reservations.listed (λ e. cc) (λ e. cc) i;
         local_lists = (ap₂ (λ l h. map (list_of l) h) entries_now heads_now ∙ lists_set (rows_in lists a) (rows_in entries a) (is_arranged (cmp lists) (by_key_total lists.key) (map (typed lists) (a 16))) (is_arranged (cmp entries) (by_key_total entries.key) (map (typed entries) (a 18)))) i;
+        reports = still reports on_reports.listed (λ e. cc) (λ e. cc) i;
       }
 
 -- ---- one more entry

@@ -9,7 +9,7 @@ use Rattle.hub_rows.specs.declared.tx_row.StartKey.{StartKey}
 use Rattle.sql_tables.specs.Forms.{where_is, range_is, cols, by_column}
 use Rattle.sql_tables.specs.Statements as sql
 use Rattle.sql_tables.proofs.Texts as texts
-use Rattle.sql_shelf.specs.Shelves.{stations, connectors, tags, grants, txs, readings, reservations, lists, entries}
+use Rattle.sql_shelf.specs.Shelves.{stations, connectors, tags, grants, txs, readings, reservations, lists, entries, reports}
 use Rattle.sql_shelf.proofs.Instances as shelf
 use Rattle.sql_shelf.proofs.Selects.{ReadsRows, ReadsLast}
 use Rattle.sql_shelf.proofs.Tests as tests
@@ -79,3 +79,6 @@ reads_list op station = record { at = 8; is = shelf.on_lists; wanted = where_is 
 
 pub reads_entries : (op station : List ℕ) → ReadsRows sql.list_entries (Text op ∷ Text station ∷ []) entries (λ e. bytes_eq e.op op && bytes_eq e.station station)
 reads_entries op station = record { at = 9; is = shelf.on_entries; wanted = where_is 0 (1 ∷ 2 ∷ []); project = cols 1 1 7; whole = shelf.whole_entries; order = by_column 3 ∷ []; names = sql.list_entry_columns; text = texts.list_entries_is; test = tests.of_entries op station }
+
+pub reads_reports : (op station : List ℕ) → ReadsRows sql.list_reports (Text op ∷ Text station ∷ []) reports (λ r. bytes_eq r.op op && bytes_eq r.station station)
+reads_reports op station = record { at = 10; is = shelf.on_reports; wanted = where_is 0 (1 ∷ 2 ∷ []); project = cols 1 1 5; whole = shelf.whole_reports; order = by_column 3 ∷ []; names = sql.report_columns; text = texts.list_reports_is; test = tests.of_reports op station }

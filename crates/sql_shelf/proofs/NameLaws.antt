@@ -37,6 +37,12 @@ use Rattle.ocpp_types.specs.declared.phase.Phase.TheVariants as phase
 use Rattle.ocpp_types.specs.UnitOfMeasure.{units_of_measure, unit_of_measure_name}
 use Rattle.ocpp_types.specs.declared.unit_of_measure.UnitOfMeasure.{UnitOfMeasure}
 use Rattle.ocpp_types.specs.declared.unit_of_measure.UnitOfMeasure.TheVariants as unit
+use Rattle.ocpp_types.specs.DiagnosticsStatus.{diagnostics_statuses, diagnostics_status_name}
+use Rattle.ocpp_types.specs.declared.diagnostics_status.DiagnosticsStatus.{DiagnosticsStatus}
+use Rattle.ocpp_types.specs.declared.diagnostics_status.DiagnosticsStatus.TheVariants as diagnostics
+use Rattle.ocpp_types.specs.FirmwareStatus.{firmware_statuses, firmware_status_name}
+use Rattle.ocpp_types.specs.declared.firmware_status.FirmwareStatus.{FirmwareStatus}
+use Rattle.ocpp_types.specs.declared.firmware_status.FirmwareStatus.TheVariants as firmware
 use Rattle.sql_shelf.specs.Values.{name_in, name_if_any, text_or_null}
 
 pub status_back : (x : ChargePointStatus) → name_in charge_point_statuses status.Available (Text (charge_point_status_name x)) ≡ x
@@ -175,3 +181,18 @@ unit_back (Some unit.Celsius) = refl
 unit_back (Some unit.Fahrenheit) = refl
 unit_back (Some unit.K) = refl
 unit_back (Some unit.Percent) = refl
+
+pub diagnostics_back : (x : DiagnosticsStatus) → name_in diagnostics_statuses diagnostics.Idle (Text (diagnostics_status_name x)) ≡ x
+diagnostics_back diagnostics.Idle = refl
+diagnostics_back diagnostics.Uploaded = refl
+diagnostics_back diagnostics.UploadFailed = refl
+diagnostics_back diagnostics.Uploading = refl
+
+pub firmware_back : (x : FirmwareStatus) → name_in firmware_statuses firmware.Downloaded (Text (firmware_status_name x)) ≡ x
+firmware_back firmware.Downloaded = refl
+firmware_back firmware.DownloadFailed = refl
+firmware_back firmware.Downloading = refl
+firmware_back firmware.Idle = refl
+firmware_back firmware.InstallationFailed = refl
+firmware_back firmware.Installing = refl
+firmware_back firmware.Installed = refl

@@ -19,7 +19,7 @@ use Rattle.sql_tables.specs.Forms.{drop_query, drop_command}
 use Rattle.sql_tables.specs.Statements as sql
 use Rattle.sql_tables.proofs.Texts as texts
 use Rattle.sql_shelf.specs.Shelf.{Shelf, cmp, typed, rows_in, AreShelved}
-use Rattle.sql_shelf.specs.Shelves.{tags, grants, stations, connectors, txs, readings, reservations, lists, entries, list_of, hub_good, rows_of}
+use Rattle.sql_shelf.specs.Shelves.{tags, grants, stations, connectors, txs, readings, reservations, lists, entries, reports, list_of, hub_good, rows_of}
 use Rattle.sql_shelf.specs.Kept.{IsMade}
 use Rattle.sql_shelf.proofs.DropLemmas.{deletes, drop_means}
 use Rattle.sql_shelf.proofs.Instances.{on_tags, on_grants}
@@ -45,6 +45,7 @@ module _ (op key : List ℕ) (db mid final : Trees) (kept : AreShelved hub_schem
     readings = same_rows readings (inr (inr (inr (inr (inr (inr (inl refl))))))) (λ e. cc) (λ e. cc) i;
     reservations = same_rows reservations (inr (inr (inr (inr (inr (inr (inr (inl refl)))))))) (λ e. cc) (λ e. cc) i;
     local_lists = map (list_of (same_rows entries (inr (inr (inr (inr (inr (inr (inr (inr (inr (inl refl)))))))))) (λ e. cc) (λ e. cc) i)) (same_rows lists (inr (inr (inr (inr (inr (inr (inr (inr (inl refl))))))))) (λ e. cc) (λ e. cc) i);
+    reports = same_rows reports (inr (inr (inr (inr (inr (inr (inr (inr (inr (inr (inl refl))))))))))) (λ e. cc) (λ e. cc) i;
   }
 
 pub drops_tag : (op key : List ℕ) → Means sql.drop_tag (Text op ∷ Text key ∷ []) (IsMade (edit op (TagDropped key)))

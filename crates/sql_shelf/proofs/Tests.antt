@@ -23,7 +23,7 @@ use Rattle.hub_rows.specs.Reservations.{shifted, unshifted, is_reservation}
 use Rattle.hub_rows.specs.Transactions.{is_open, counts, is_tx, is_started, is_reading, is_sent_with}
 use Rattle.hub_rows.specs.declared.tx_row.StartKey.{StartKey}
 use Rattle.sql_tables.specs.Forms.{where_is, range_is}
-use Rattle.sql_shelf.specs.Shelves.{stations, connectors, tags, grants, txs, readings, reservations, lists, entries}
+use Rattle.sql_shelf.specs.Shelves.{stations, connectors, tags, grants, txs, readings, reservations, lists, entries, reports}
 use Rattle.sql_shelf.specs.Values.{flag, number_or_null}
 use Rattle.sql_shelf.proofs.ReadLaws.{IsTest}
 use Rattle.sql_shelf.proofs.TableLemmas.{equal_is}
@@ -154,6 +154,9 @@ module _ (op station : List ℕ) where
 
   pub of_entries : IsTest entries (where_is 0 (1 ∷ 2 ∷ [])) (Text op ∷ Text station ∷ []) (λ e. bytes_eq e.op op && bytes_eq e.station station)
   of_entries = λ id e. ap₂ ◌&&◌ (text_test e.op op) (last_text e.station station)
+
+  pub of_reports : IsTest reports (where_is 0 (1 ∷ 2 ∷ [])) (Text op ∷ Text station ∷ []) (λ r. bytes_eq r.op op && bytes_eq r.station station)
+  of_reports = λ id r. ap₂ ◌&&◌ (text_test r.op op) (last_text r.station station)
 
   pub one_reservation : (n : ℕ) → IsTest reservations (where_is 0 (1 ∷ 2 ∷ []) ++ range_is 2 3) (Text op ∷ Text station ∷ Int (unshifted n) ∷ Int (unshifted n) ∷ []) (λ r. bytes_eq r.op op && is_reservation station n r)
   one_reservation n = λ id r. ap₂ ◌&&◌ (text_test r.op op) (ap₂ ◌&&◌ (text_test r.station station) (one_number (unshifted r.id) (unshifted n) ∙ same_signed r.id n))

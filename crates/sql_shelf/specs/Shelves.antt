@@ -1,11 +1,11 @@
 -- The rows of the hub, and how each is kept.
-use Rattle.std.specs.Prelude.{ℕ, zero, suc, pos, Bool, ◌&&◌, List, [], ◌∷◌, Option, Some, None, option_map, map, filter, ⊤}
+use Rattle.std.specs.Prelude.{ℕ, zero, suc, pos, Bool, ◌&&◌, if◌then◌else◌, List, [], ◌∷◌, Option, Some, None, option_map, map, filter, codes, ⊤}
 use Rattle.std.specs.Str.{bytes_eq}
 use Rattle.sqlite_value.specs.declared.value.Value.{Value}
 use Rattle.sqlite_value.specs.declared.value.Value.TheVariants.{Int, Text}
 use Rattle.sqlite_value.specs.Order.{Row, column}
 use Rattle.sqlite_trees.specs.Tree.{Trees}
-use Rattle.sql_tables.specs.Tables.{hub_meta, hub_station, hub_connector, hub_tag, hub_grant, hub_tx, hub_reading, hub_reservation, hub_list, hub_list_entry}
+use Rattle.sql_tables.specs.Tables.{hub_meta, hub_station, hub_connector, hub_tag, hub_grant, hub_tx, hub_reading, hub_reservation, hub_list, hub_list_entry, hub_report}
 use Rattle.ocpp_types.specs.TagKey.{key_of}
 use Rattle.ocpp_types.specs.Policy.{policy_name, policies}
 use Rattle.ocpp_types.specs.State.{state_name, states}
@@ -19,6 +19,8 @@ use Rattle.ocpp_types.specs.Measurand.{measurand_name, measurands}
 use Rattle.ocpp_types.specs.Phase.{phase_name, phases}
 use Rattle.ocpp_types.specs.Location.{location_name, locations}
 use Rattle.ocpp_types.specs.UnitOfMeasure.{unit_of_measure_name, units_of_measure}
+use Rattle.ocpp_types.specs.DiagnosticsStatus.{diagnostics_statuses}
+use Rattle.ocpp_types.specs.FirmwareStatus.{firmware_statuses}
 use Rattle.ocpp_types.specs.declared.boot_notification.BootNotification.{BootNotification}
 use Rattle.ocpp_types.specs.declared.policy.Policy.TheVariants as policy
 use Rattle.ocpp_types.specs.declared.state.State.TheVariants as state
@@ -30,6 +32,8 @@ use Rattle.ocpp_types.specs.declared.reading_context.ReadingContext.TheVariants 
 use Rattle.ocpp_types.specs.declared.value_format.ValueFormat.TheVariants as format
 use Rattle.ocpp_types.specs.declared.measurand.Measurand.TheVariants as measurand
 use Rattle.ocpp_types.specs.declared.location.Location.TheVariants as location
+use Rattle.ocpp_types.specs.declared.diagnostics_status.DiagnosticsStatus.TheVariants as diagnostics
+use Rattle.ocpp_types.specs.declared.firmware_status.FirmwareStatus.TheVariants as firmware
 use Rattle.hub_rows.specs.declared.station_row.StationRow.{StationRow}
 use Rattle.hub_rows.specs.declared.station_row.Boot.{Boot}
 use Rattle.hub_rows.specs.declared.connector_row.ConnectorRow.{ConnectorRow}
@@ -41,9 +45,13 @@ use Rattle.hub_rows.specs.declared.reading_row.ReadingRow.{ReadingRow}
 use Rattle.hub_rows.specs.declared.reservation_row.ReservationRow.{ReservationRow}
 use Rattle.hub_rows.specs.declared.list_row.ListRow.{ListRow}
 use Rattle.hub_rows.specs.declared.list_row.LocalTag.{LocalTag}
+use Rattle.hub_rows.specs.declared.report_row.ReportRow.{ReportRow}
+use Rattle.hub_rows.specs.declared.report_row.ReportedStatus.{ReportedStatus}
+use Rattle.hub_rows.specs.declared.report_row.ReportedStatus.TheVariants.{Diagnostics, Firmware}
 use Rattle.sql_shelf.specs.declared.list_rows.ListHead.{ListHead}
 use Rattle.sql_shelf.specs.declared.list_rows.EntryRow.{EntryRow}
-use Rattle.hub_rows.specs.Rows.{Rows, station_key, connector_key, tag_key, grant_key, tx_key, reading_key, reservation_key}
+use Rattle.hub_rows.specs.Rows.{Rows, station_key, connector_key, tag_key, grant_key, tx_key, reading_key, reservation_key, report_key}
+use Rattle.hub_rows.specs.Reports.{kind_of, reported_name}
 use Rattle.hub_rows.specs.Transactions.{is_open, counts}
 use Rattle.hub_rows.specs.Reservations.{shifted, unshifted}
 use Rattle.sql_shelf.specs.Shelf.{Shelf, text_part, count_part, signed_part, IsRowOf, rows_in}
@@ -246,6 +254,22 @@ is_entry_of l e = bytes_eq e.op l.op && bytes_eq e.station l.station
 abbrev pub list_of : List EntryRow → ListHead → ListRow
 list_of all l = record { op = l.op; station = l.station; list = record { version = l.version; entries = map (λ e. e.entry) (filter (is_entry_of l) all) } }
 
+-- ---- reports
+
+-- a status by the names of its kind and of itself
+abbrev pub status_in : Value → Value → ReportedStatus
+status_in kind name =
+    if bytes_eq (text_in kind) (codes "Diagnostics") then Diagnostics (name_in diagnostics_statuses diagnostics.Idle name) else Firmware (name_in firmware_statuses firmware.Downloaded name)
+
+abbrev pub reports : Shelf ReportRow
+reports = record {
+  table = hub_report;
+  parts = text_part ∷ text_part ∷ text_part ∷ [];
+  key = report_key;
+  row = λ r. Text r.op ∷ Text r.station ∷ Text (kind_of r.status) ∷ Text (reported_name r.status) ∷ Int (pos r.moment) ∷ [];
+  read = λ r. record { op = text_in (column r 0); station = text_in (column r 1); status = status_in (column r 2) (column r 3); moment = count_in (column r 4) };
+}
+
 -- ---- the number of the schema
 
 pub record MetaRow : Type 0 where
@@ -273,6 +297,7 @@ rows_of db = record {
   readings = rows_in readings db;
   reservations = rows_in reservations db;
   local_lists = map (list_of (rows_in entries db)) (rows_in lists db);
+  reports = rows_in reports db;
 }
 
 abbrev pub Good : Type 1
@@ -290,4 +315,5 @@ any_row r = ⊤
 -- what the rows of each tree are
 abbrev pub hub_good : ℕ → Row → Type 0
 hub_good = good_at (IsRowOf metas ∷ any_row ∷ IsRowOf stations ∷ any_row ∷ IsRowOf connectors ∷ any_row ∷ IsRowOf tags ∷ any_row ∷ IsRowOf grants ∷ any_row ∷ IsRowOf txs ∷ any_row ∷ IsRowOf readings ∷ any_row
-    ∷ IsRowOf reservations ∷ any_row ∷ IsRowOf lists ∷ any_row ∷ IsRowOf entries ∷ [])
+    ∷ IsRowOf reservations ∷ any_row ∷ IsRowOf lists ∷ any_row ∷ IsRowOf entries
+    ∷ any_row ∷ any_row ∷ any_row ∷ any_row ∷ any_row ∷ any_row ∷ IsRowOf reports ∷ [])

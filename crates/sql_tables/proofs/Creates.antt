@@ -5,8 +5,8 @@ use Rattle.sqlite_schema.specs.declared.schema.Schema.{Schema}
 use Rattle.sqlite_catalog.specs.Change.{created, indexed}
 use Rattle.sqlite_tied.specs.Compute.{everything}
 use Rattle.sqlite.specs.Listing.{understood}
-use Rattle.sql_tables.specs.Tables.{hub_schema, hub_meta, hub_station, hub_connector, hub_tag, hub_grant, hub_tx, hub_reading, hub_reservation, hub_list, hub_list_entry, hub_grant_to, hub_tx_in_use, hub_tx_is_open, hub_tx_start_at, hub_reading_transaction}
-use Rattle.sql_tables.specs.Statements.{create_meta, create_station, create_connector, create_tag, create_grant, create_tx, create_reading, create_reservation, create_list, create_list_entry, create_grant_to, create_tx_in_use, create_tx_is_open, create_tx_start_at, create_reading_transaction}
+use Rattle.sql_tables.specs.Tables.{first_schema, hub_schema, hub_meta, hub_station, hub_connector, hub_tag, hub_grant, hub_tx, hub_reading, hub_reservation, hub_list, hub_list_entry, hub_report, hub_grant_to, hub_tx_in_use, hub_tx_is_open, hub_tx_start_at, hub_reading_transaction}
+use Rattle.sql_tables.specs.Statements.{create_meta, create_station, create_connector, create_tag, create_grant, create_tx, create_reading, create_reservation, create_list, create_list_entry, create_grant_to, create_tx_in_use, create_tx_is_open, create_tx_start_at, create_reading_transaction, create_report}
 use Rattle.sql_tables.specs.Opening.{no_schema, IsCreate, IsIndexCreate}
 
 abbrev pub with_meta : Schema
@@ -114,7 +114,17 @@ pub reading_transaction_made : IsIndexCreate create_reading_transaction with_tx_
 unfolding understood everything digits
 reading_transaction_made = record { command = refl; plain = (refl, refl); text = refl; here = refl; defined = refl }
 
--- with all of them it is the schema of the hub
-pub all_made : with_reading_transaction ≡ hub_schema
+-- with all of them it is schema 1
+pub first_made : with_reading_transaction ≡ first_schema
 unfolding digits
-all_made = refl
+first_made = refl
+
+-- ---- from schema 1 to schema 2
+
+pub report_made : IsCreate create_report first_schema (record hub_report { tree = 0 })
+unfolding understood everything
+report_made = record { command = refl; plain = (refl, refl); text = refl; defined = refl; uncounted = refl }
+
+pub second_made : created first_schema (record hub_report { tree = 0 }) ≡ hub_schema
+unfolding digits
+second_made = refl

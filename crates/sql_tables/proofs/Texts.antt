@@ -5,7 +5,7 @@ use Rattle.sqlite.specs.Listing.{understood}
 use Rattle.sqlite_sql.specs.Query.{inner, end}
 use Rattle.sql_tables.specs.Forms.{add_command, by_column, cols, drop_command, last_query, plain_query, put_command, range_is, where_is}
 use Rattle.sql_tables.specs.Meanings.{IsRead, IsWrite}
-use Rattle.sql_tables.specs.Statements.{put_meta, put_station, put_connector, put_tag, put_grant, add_tx, put_tx, add_reading, put_reservation, put_list, add_list_entry, drop_tag, drop_grant, drop_reservation, drop_entries, find_stations, list_connectors, find_tags, find_grant, list_grants, find_received, find_txs, find_last_tx, list_txs_in_use, list_open_txs, list_same_starts, list_readings, list_tx_readings, find_last_reading, find_reservations, find_list, list_entries, station_columns, connector_columns, tag_columns, grant_columns, tx_columns, reading_columns, reservation_columns, list_columns, list_entry_columns}
+use Rattle.sql_tables.specs.Statements.{put_meta, put_station, put_connector, put_tag, put_grant, add_tx, put_tx, add_reading, put_reservation, put_list, add_list_entry, put_report, drop_tag, drop_grant, drop_reservation, drop_entries, find_stations, list_connectors, find_tags, find_grant, list_grants, find_received, find_txs, find_last_tx, list_txs_in_use, list_open_txs, list_same_starts, list_readings, list_tx_readings, find_last_reading, find_reservations, find_list, list_entries, list_reports, station_columns, connector_columns, tag_columns, grant_columns, tx_columns, reading_columns, reservation_columns, list_columns, list_entry_columns, report_columns}
 
 pub put_meta_is : IsWrite put_meta (put_command 0 0 1 1)
 unfolding understood everything
@@ -50,6 +50,10 @@ put_list_is = (refl, (refl, refl))
 pub add_list_entry_is : IsWrite add_list_entry (add_command 9 7)
 unfolding understood everything
 add_list_entry_is = (refl, (refl, refl))
+
+pub put_report_is : IsWrite put_report (put_command 10 25 3 2)
+unfolding understood everything
+put_report_is = (refl, (refl, refl))
 
 pub drop_tag_is : IsWrite drop_tag (drop_command 3 6 (1 ∷ 2 ∷ []))
 unfolding understood everything
@@ -134,3 +138,7 @@ find_list_is = (refl, (refl, refl), refl)
 pub list_entries_is : IsRead list_entries (plain_query (inner 18 end) (where_is 0 (1 ∷ 2 ∷ [])) (cols 1 1 7) (by_column 3 ∷ [])) list_entry_columns
 unfolding understood everything
 list_entries_is = (refl, (refl, refl), refl)
+
+pub list_reports_is : IsRead list_reports (plain_query (inner 25 end) (where_is 0 (1 ∷ 2 ∷ [])) (cols 1 1 5) (by_column 3 ∷ [])) report_columns
+unfolding understood everything
+list_reports_is = (refl, (refl, refl), refl)

@@ -1,5 +1,5 @@
 -- How the tables and their indexes come to be.
-use Rattle.std.specs.Prelude.{◌≡◌, ℕ, false, List, [], slice_get, Some, Result, Ok, Err}
+use Rattle.std.specs.Prelude.{◌≡◌, ℕ, zero, suc, false, List, [], slice_get, Some, Result, Ok, Err}
 use Rattle.sqlite_schema.specs.declared.schema.Schema.{Schema}
 use Rattle.sqlite_schema.specs.declared.schema.Table.{Table}
 use Rattle.sqlite_schema.specs.declared.schema.Index.{Index}
@@ -13,10 +13,21 @@ use Rattle.sqlite.specs.Does.{lacks_sequence}
 use Rattle.sqlite.specs.Given.{IsPlain}
 use Rattle.sqlite.specs.Listing.{understood}
 use Rattle.sqlite.specs.State.{text_of}
+use Rattle.sql_tables.specs.Tables.{first_schema, hub_schema}
 
 -- an empty database
 abbrev pub no_schema : Schema
 no_schema = record { tables = []; indexes = []; views = [] }
+
+-- the number of the schema of this program
+abbrev pub our_number : ℕ
+our_number = 2
+
+-- the schemas by their numbers, where 0 is an empty database
+abbrev pub schema_at : ℕ → Schema
+schema_at zero = no_schema
+schema_at (suc zero) = first_schema
+schema_at (suc (suc n)) = hub_schema
 
 abbrev pub command_in : Result Compiled CompileError → Command
 command_in (Ok c) = c.command

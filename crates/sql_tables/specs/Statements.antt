@@ -31,6 +31,9 @@ list_columns = codes "op" ∷ codes "station" ∷ codes "version" ∷ []
 abbrev pub list_entry_columns : List (List ℕ)
 list_entry_columns = codes "op" ∷ codes "station" ∷ codes "tag_key" ∷ codes "id_tag" ∷ codes "expiry_date" ∷ codes "parent_id_tag" ∷ codes "status" ∷ []
 
+abbrev pub report_columns : List (List ℕ)
+report_columns = codes "op" ∷ codes "station" ∷ codes "kind" ∷ codes "status" ∷ codes "moment" ∷ []
+
 -- ---- a row is put in place of the one with its key
 
 abbrev pub put_meta : List ℕ
@@ -65,6 +68,9 @@ put_list = codes "INSERT INTO hub_list (op, station, version) VALUES (?1, ?2, ?3
 
 abbrev pub add_list_entry : List ℕ
 add_list_entry = codes "INSERT INTO hub_list_entry (op, station, tag_key, id_tag, expiry_date, parent_id_tag, status) VALUES (?1, ?2, ?3, ?4, ?5, ?6, ?7)"
+
+abbrev pub put_report : List ℕ
+put_report = codes "INSERT INTO hub_report (op, station, kind, status, moment) VALUES (?1, ?2, ?3, ?4, ?5) ON CONFLICT (op, station, kind) DO UPDATE SET status = excluded.status, moment = excluded.moment"
 
 -- ---- rows are dropped
 
@@ -150,6 +156,10 @@ find_list = codes "SELECT op, station, version FROM hub_list WHERE op = ?1 AND s
 abbrev pub list_entries : List ℕ
 list_entries = codes "SELECT op, station, tag_key, id_tag, expiry_date, parent_id_tag, status FROM hub_list_entry WHERE op = ?1 AND station = ?2 ORDER BY tag_key"
 
+-- the reports of a station
+abbrev pub list_reports : List ℕ
+list_reports = codes "SELECT op, station, kind, status, moment FROM hub_report WHERE op = ?1 AND station = ?2 ORDER BY kind"
+
 -- ---- the tables and indexes are made
 
 abbrev pub create_meta : List ℕ
@@ -196,3 +206,6 @@ create_tx_start_at = codes "CREATE INDEX hub_tx_start_at ON hub_tx (op, station,
 
 abbrev pub create_reading_transaction : List ℕ
 create_reading_transaction = codes "CREATE INDEX hub_reading_transaction ON hub_reading (op, station, transaction_id, number)"
+
+abbrev pub create_report : List ℕ
+create_report = codes "CREATE TABLE hub_report (op TEXT NOT NULL, station TEXT NOT NULL, kind TEXT NOT NULL, status TEXT NOT NULL, moment INTEGER NOT NULL, PRIMARY KEY (op, station, kind)) STRICT"

@@ -1,5 +1,5 @@
 -- The tables. The columns of a key come first, in its order. A column is a whole number or a text.
-use Rattle.std.specs.Prelude.{Bool, true, false, [], ◌∷◌, None, codes, List, ℕ, zero, suc}
+use Rattle.std.specs.Prelude.{Bool, true, false, [], ◌∷◌, ◌++◌, None, codes, List, ℕ, zero, suc}
 use Rattle.sqlite_value.specs.declared.value.Value.TheVariants.{Null}
 use Rattle.sqlite_value.specs.declared.keys.Collation.TheVariants.{Binary}
 use Rattle.sqlite_value.specs.Keys.{plain}
@@ -103,6 +103,10 @@ hub_list = keyed_table (codes "hub_list") 16 (text (codes "op") ∷ text (codes 
 abbrev pub hub_list_entry : Table
 hub_list_entry = keyed_table (codes "hub_list_entry") 18 (text (codes "op") ∷ text (codes "station") ∷ text (codes "tag_key") ∷ text (codes "id_tag") ∷ whole_or_null (codes "expiry_date") ∷ text_or_null (codes "parent_id_tag") ∷ text (codes "status") ∷ []) 3 (of_parent (1 ∷ 2 ∷ []) (codes "hub_list") (codes "op" ∷ codes "station" ∷ []) ∷ [])
 
+-- what stations reported last of a task of theirs, by its kind; `moment` is in seconds since 1970
+abbrev pub hub_report : Table
+hub_report = keyed_table (codes "hub_report") 25 (text (codes "op") ∷ text (codes "station") ∷ text (codes "kind") ∷ text (codes "status") ∷ whole (codes "moment") ∷ []) 3 []
+
 -- ---- further indexes
 
 abbrev pub hub_grant_to : Index
@@ -120,10 +124,20 @@ hub_tx_start_at = more_index (codes "hub_tx_start_at") 23 10 (1 ∷ 2 ∷ 7 ∷ 
 abbrev pub hub_reading_transaction : Index
 hub_reading_transaction = more_index (codes "hub_reading_transaction") 24 12 (1 ∷ 2 ∷ 5 ∷ 3 ∷ [])
 
--- the tables of the hub, with the indexes of their keys and the further ones
-abbrev pub hub_schema : Schema
-hub_schema = record {
+-- ---- the schemas, by their numbers
+
+-- schema 1: the tables with the indexes of their keys, and the further indexes
+abbrev pub first_schema : Schema
+first_schema = record {
   tables = hub_meta ∷ hub_station ∷ hub_connector ∷ hub_tag ∷ hub_grant ∷ hub_tx ∷ hub_reading ∷ hub_reservation ∷ hub_list ∷ hub_list_entry ∷ [];
   indexes = key_index (codes "sqlite_autoindex_hub_meta_1") 0 1 ∷ key_index (codes "sqlite_autoindex_hub_station_1") 2 2 ∷ key_index (codes "sqlite_autoindex_hub_connector_1") 4 3 ∷ key_index (codes "sqlite_autoindex_hub_tag_1") 6 2 ∷ key_index (codes "sqlite_autoindex_hub_grant_1") 8 3 ∷ key_index (codes "sqlite_autoindex_hub_tx_1") 10 3 ∷ key_index (codes "sqlite_autoindex_hub_reading_1") 12 3 ∷ key_index (codes "sqlite_autoindex_hub_reservation_1") 14 3 ∷ key_index (codes "sqlite_autoindex_hub_list_1") 16 2 ∷ key_index (codes "sqlite_autoindex_hub_list_entry_1") 18 3 ∷ hub_grant_to ∷ hub_tx_in_use ∷ hub_tx_is_open ∷ hub_tx_start_at ∷ hub_reading_transaction ∷ [];
+  views = [];
+}
+
+-- schema 2, which is that of this program: the table of reports comes after all of schema 1
+abbrev pub hub_schema : Schema
+hub_schema = record {
+  tables = first_schema.tables ++ hub_report ∷ [];
+  indexes = first_schema.indexes ++ key_index (codes "sqlite_autoindex_hub_report_1") 25 3 ∷ [];
   views = [];
 }

@@ -1,5 +1,5 @@
 -- What a stop of the work leaves of the store, by what a call on the connection says of it.
-use Rattle.std.proofs.Common.{◌≡◌, ◌≢◌, ◌≤◌, Bool, true, false, IsTrue, Result, Ok, Err, OnOk, IfOk, refl, sym, ap, ◌∙◌, subst, subst₂, inl, inr, true≢false, arith}
+use Rattle.std.proofs.Common.{◌≡◌, ◌≢◌, ◌≤◌, ◌<◌, ℕ, Bool, true, false, IsTrue, Result, Ok, Err, OnOk, IfOk, refl, sym, ap, ◌∙◌, subst, subst₂, inl, inr, true≢false, arith}
 use Rattle.std.proofs.Math.Logic.{∥∥₁_elim}
 use Rattle.std.proofs.Props.{props}
 use Rattle.sqlite_trees.specs.Tree.{Trees}
@@ -11,7 +11,7 @@ use Rattle.sqlite.specs.State.{State, HasCleanDisk}
 use Rattle.hub_rows.specs.Rows.{Rows}
 use Rattle.hub_rows.specs.Stops.{IsKept, FindsOld, FindsOldOr}
 use Rattle.hub_rows.specs.WellFormed.{WellFormedRows}
-use Rattle.sql_tables.specs.Opening.{no_schema}
+use Rattle.sql_tables.specs.Opening.{our_number, schema_at}
 use Rattle.sql_shelf.specs.Kept.{Serves, IsServing, Rests, IsUncommitted, CommitsNothing, Changes, IsMade}
 use Rattle.sql_shelf.specs.Opening.{IsOurs, Prepares}
 use Rattle.sql_shelf.specs.Shelves.{rows_of}
@@ -154,7 +154,7 @@ under Q (Err e) said = tt
 module _ {S : Type 0} (g : Ghosts S) (shut : (s : S) → (g.view s).is_clean ≡ false → (g.view s).is_open ≡ false) (store : SqlView S) (rolled found : S) (conn : Held S)
     (quiet : IsQuiet g.view g.faults g.recovers g.is_shielded store.conn.store rolled) (crash_clean : doubt (g.view rolled).is_clean ≤ doubt (g.view found).is_clean)
     (leaves : IsClean (g.view found) → g.recovers rolled (g.view found).committed) (last : (g.view found).trees ≡ (g.view found).committed)
-    (over_clean : doubt (g.view found).is_clean ≤ doubt (state g conn).is_clean) (trees : HasCleanDisk (state g conn) → (state g conn).now.trees ≡ (g.view found).trees) (filled : (state g conn).now.schema ≢ no_schema) where
+    (over_clean : doubt (g.view found).is_clean ≤ doubt (state g conn).is_clean) (trees : HasCleanDisk (state g conn) → (state g conn).now.trees ≡ (g.view found).trees) (filled : (n : ℕ) → n < our_number → (state g conn).now.schema ≢ schema_at n) where
   -- what is found may be found
   found_at : {A E : Type 0} (x : A) (s : SqlView S) → Prepares {A = A} {E = E} (state g conn) (state g s.conn) (Ok x) → IsTrue (state g s.conn).is_open → sql_may_find g store (sql_rows g s)
   found_at x s prepared up =
@@ -164,7 +164,7 @@ module _ {S : Type 0} (g : Ghosts S) (shut : (s : S) → (g.view s).is_clean ≡
       let sure_found : IsClean (g.view found) = omega (arith, over_clean, sure) in
       let back = quiet.clean in
       let sure_before : HasCleanDisk (state g store.conn) = omega (arith, back, crash_clean, sure_found) in
-      let same : (state g s.conn).now ≡ (state g conn).now = elim (prepared.taken up) [ inl taken ↦ taken.1 | inr made ↦ absurd (filled made.0) ] in
+      let same : (state g s.conn).now ≡ (state g conn).now = elim (prepared.taken up) [ inl taken ↦ taken.1 | inr raised ↦ absurd (filled raised.from raised.earlier raised.was) ] in
       (sure_before, (g.view found).committed, quiet.outcomes _ (leaves sure_found), ap (λ (d : Database). rows_of d.trees) same ∙ ap rows_of (trees sure ∙ last))
 
   pub found_then : {A E : Type 0} (F : Type 0) (x : A) (r : Result (SqlView S) E) → IfOk r (λ s. Prepares {A = A} {E = F} (state g conn) (state g s.conn) (Ok x)) → IfOk r (λ s. IsTrue (state g s.conn).is_open → sql_may_find g store (sql_rows g s))

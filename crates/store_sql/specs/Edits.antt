@@ -1,14 +1,15 @@
 -- Which records an edit is of.
 use Rattle.std.specs.Prelude.{⊤}
 use Rattle.hub_rows.specs.declared.change.Edit.{Edit}
-use Rattle.hub_rows.specs.declared.change.Edit.TheVariants.{StationAdded, BootSeen, PolicySet, ConnectorSeen, TagPut, TagDropped, GrantPut, GrantDropped, TxStarted, TxStopped, ReadingsAdded, ReservationPut, ReservationDropped, ListSet}
+use Rattle.hub_rows.specs.declared.change.Edit.TheVariants.{StationAdded, BootSeen, PolicySet, ConnectorSeen, TagPut, TagDropped, GrantPut, GrantDropped, TxStarted, TxStopped, ReadingsAdded, ReservationPut, ReservationDropped, ListSet, ReportSeen}
 
--- it is of a station or a connector
+-- it is of a station, a connector or a report
 abbrev pub IsOfStations : Edit → Type 0
 IsOfStations (StationAdded station policy interval) = ⊤
 IsOfStations (BootSeen station boot state) = ⊤
 IsOfStations (PolicySet station policy interval) = ⊤
 IsOfStations (ConnectorSeen station connector report) = ⊤
+IsOfStations (ReportSeen station status moment) = ⊤
 IsOfStations _ = ⊥
 
 -- it is of a tag or a grant

@@ -11,6 +11,7 @@ use crate::connectors::put_connector;
 use crate::grants::{drop_grant, put_grant};
 use crate::local_lists::set_list;
 use crate::readings::add_readings;
+use crate::reports::put_report;
 use crate::reservations::{drop_reservation, put_reservation};
 use crate::stations::{add_station, see_boot, set_policy};
 use crate::tags::{drop_tag, put_tag};
@@ -19,7 +20,7 @@ use hub_rows::{Change, Edit, StoreFault};
 use sqlite::{Alter, Connection, Error, Transaction};
 use std::alloc::Global;
 
-/// Makes an edit of a station or a connector.
+/// Makes an edit of a station, a connector or a report.
 fn edit_stations<S: Alter>(
     tx: &mut Transaction<'_, S>,
     op: &str,
@@ -50,6 +51,11 @@ fn edit_stations<S: Alter>(
             connector,
             report,
         } => put_connector(tx, op, station.as_str(), *connector, report),
+        Edit::ReportSeen {
+            station,
+            status,
+            moment,
+        } => put_report(tx, op, station.as_str(), *status, *moment),
         _ => unreachable!(),
     }
 }
@@ -149,7 +155,8 @@ fn make<S: Alter>(
         Edit::StationAdded { .. }
         | Edit::BootSeen { .. }
         | Edit::PolicySet { .. }
-        | Edit::ConnectorSeen { .. } => edit_stations(tx, op, change),
+        | Edit::ConnectorSeen { .. }
+        | Edit::ReportSeen { .. } => edit_stations(tx, op, change),
         Edit::TagPut { .. }
         | Edit::TagDropped { .. }
         | Edit::GrantPut { .. }

@@ -5,13 +5,13 @@ ghost use Rattle.hub_rows.specs.declared.store.StoreFault.TheVariants as store_f
 
 use crate::opening::{PrepareFault, fault, prepare};
 use crate::{
-    changes, connectors, granted, grants, last_numbers, local_lists, readings, reservations,
-    stations, tags, txs,
+    changes, connectors, granted, grants, last_numbers, local_lists, readings, reports,
+    reservations, stations, tags, txs,
 };
 use hub_rows::{
     Change, ConnectorRow, GrantRow, GrantedTag, Info, LastNumbers, LocalList, ReadingRow,
-    Registration, ReservationId, ReservationRow, StartKey, StationRow, Store, StoreFault, TagRow,
-    TxKey, TxRow, TxState,
+    Registration, ReportRow, ReservationId, ReservationRow, StartKey, StationRow, Store,
+    StoreFault, TagRow, TxKey, TxRow, TxState,
 };
 use ocpp_types::{Listed, Moment, TagKey};
 use sqlite::{Alter, Connection, FileFrom, FileStore, MemStore, Start};
@@ -94,7 +94,7 @@ impl<A: Alter + Drop> SqlStore<A> {
     ghost use Rattle.sql_shelf.specs.Opening.{IsOurs, Prepares};
     ghost use Rattle.sqlite.specs.Held.{state};
 
-    /// The store over a connection, whose tables are made if its database is empty.
+    /// The store over a connection, whose tables are made if its database is empty or has an earlier schema.
     pub fn adopt(alloc: Global, conn: Connection<A>) -> Result<SqlStore<A>, PrepareFault>
         ensures clean { IfOk result (λ s. IsOurs (state A.Store conn) → IsTrue (state A.Store s.conn).is_open → IsCleanSql A.Store s) }
         ensures prepares { IfOk result (λ s. Prepares {A = ⊤} {E = Unfit} (state A.Store conn) (state A.Store s.conn) (Ok tt)) }
@@ -145,7 +145,7 @@ impl<S: Start> SqlStore<FileStore<FileFrom<S>>> {
     ghost use Rattle.sqlite_wal.specs.Files.{image_at};
 
     /// The store in the file of a database at a path, which is made if there is none. Errors: those of `PrepareFault`; the
-    /// file is then as it was, or has the new tables, whole.
+    /// file is then as it was, or has all tables of this schema.
     pub fn open(
         rt: &HostRuntime,
         path: &str,
@@ -287,6 +287,11 @@ impl<A: Alter> Store for SqlStore<A> {
         station: &str,
     ) -> Result<Listed<ReservationRow>, StoreFault> {
         let found = reservations::reservations(&mut self.conn, op, station);
+        self.counted(found)
+    }
+
+    fn reports(&mut self, op: &str, station: &str) -> Result<Listed<ReportRow>, StoreFault> {
+        let found = reports::reports(&mut self.conn, op, station);
         self.counted(found)
     }
 

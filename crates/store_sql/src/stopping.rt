@@ -5,7 +5,7 @@ ghost use Rattle.sql_shelf.specs.Opening.{IsOurs};
 ghost use Rattle.hub_rows.specs.Stops.{IsKept};
 ghost use Rattle.store_sql.specs.Store.{IsCleanSql, sql_rows, sql_may_find, sql_view};
 
-use crate::opening::{PrepareFault, fault, is_new};
+use crate::opening::{PrepareFault, fault, has_all_tables};
 use crate::sql_store::SqlStore;
 use sqlite::{Alter, Connection};
 use sqlite_trees::error::StoreError;
@@ -15,7 +15,7 @@ use std::alloc::Global;
 /// Opens the database again of a store whose work stops.
 ///
 /// The disk is one that can be made to crash. What it keeps of what was written is its own choice. Errors: those of
-/// `SqlStore::adopt`, and NotOurs where the database that is found has no table.
+/// `SqlStore::adopt`, and NotOurs where the database that is found lacks tables.
 pub fn stopped_and_opened<A: Alter + Reopen + Drop>(
     alloc: Global,
     store: SqlStore<A>,
@@ -30,7 +30,7 @@ pub fn stopped_and_opened<A: Alter + Reopen + Drop>(
     }
     match Connection::over(alloc, pages) {
         Ok(conn) => {
-            if is_new(&conn) {
+            if !has_all_tables(&conn) {
                 return Err(PrepareFault::NotOurs);
             }
             SqlStore::adopt(alloc, conn)

@@ -3,4 +3,4 @@ use Rattle.sql_shelf.proofs.OpeningLemmas.{prepares_as}
 use Rattle.store_sql.proofs.opening.make.Goals as goal
 
 pub returns : goal.returns
-returns g c = record { prepares = prepares_as (state g.S.Store c.args.conn.now) (state g.S.Store c.make_tables.new.conn) c.make_tables.result c.told.result c.make_tables.ensures.prepares c.told.ensures.ok c.told.ensures.err }
+returns g c = record { prepares = prepares_as (state g.S.Store c.args.conn.now) (state g.S.Store c.raise.new.conn) c.raise.result c.told.result c.raise.ensures.prepares c.told.ensures.ok c.told.ensures.err }

@@ -1,8 +1,8 @@
 use Rattle.std.proofs.Common.{[]}
 use Rattle.sqlite.specs.Held.{state}
 use Rattle.sql_shelf.proofs.StoreLemmas.{open_is_clean}
-use Rattle.sql_shelf.proofs.OpeningLemmas.{made_table, made_index, made_up, made_leaves}
-use Rattle.store_sql.proofs.opening.create.Goals as goal
+use Rattle.sql_shelf.proofs.CreateLemmas.{made_table, made_index, made_up, made_leaves}
+use Rattle.store_sql.proofs.tables.create.Goals as goal
 
 pub returns-clause-table : goal.returns-clause-table
 returns-clause-table g c =

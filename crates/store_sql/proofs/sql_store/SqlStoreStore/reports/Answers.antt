@@ -1,0 +1,13 @@
+use Rattle.sqlite.specs.Held.{state}
+use Rattle.store_sql.specs.Store.{SqlView}
+use Rattle.store_sql.proofs.StopLaws.{leaves_last}
+use Rattle.store_sql.proofs.StoreLaws.{kept_still, only_reads}
+use Rattle.store_sql.proofs.sql_store.SqlStoreStore.reports.Goals as goal
+
+pub invariant_of-self : goal.invariant_of-self
+invariant_of-self g c = kept_still (state g.A.Store c.self.inside.taken.value) (state g.A.Store c.self.inside.conn) (state g.A.Store c.reports-found.new.conn) c.self.invariant c.reports-found.ensures.same
+
+pub returns-clause-reads : goal.returns-clause-reads
+returns-clause-reads g c =
+    let inside : SqlView _ = record { conn = c.self.inside.conn; failures = c.self.inside.failures; taken = c.self.inside.taken.value } in
+    only_reads g.A.Store inside c.args.self.now c.counted.new.self c.self.view_is c.self.invariant c.reports-found.new.conn c.counted.ensures.taken c.counted.ensures.conn c.reports-found.ensures.same c.reports-found.result c.counted.result c.counted.ensures.same c.counted.ensures.failed c.counted.ensures.count c.reports-found.ensures.stops (g.met.A.Store.survives c.self.inside.conn.store) (leaves_last g.A.Store c.self.inside.conn (g.met.A.Store.shut_if_dirty c.self.inside.conn.store) (g.met.A.Store.stays c.self.inside.conn.store)) (leaves_last g.A.Store c.reports-found.new.conn (g.met.A.Store.shut_if_dirty c.reports-found.new.conn.store) (g.met.A.Store.stays c.reports-found.new.conn.store))
