@@ -12,7 +12,7 @@ use Rattle.ws_peers.specs.Peers.{key_of_peer}
 use Rattle.ws_peers.specs.Routes.{is_station, station_key, key_of}
 use Rattle.ws_peers.specs.declared.peer.Peer.{Peer}
 use Rattle.ws_peers.specs.declared.routes.Route.{Route}
-use Rattle.ws_peers.specs.declared.routes.Route.TheVariants.{Station, Operator, Nothing}
+use Rattle.ws_peers.specs.declared.routes.Route.TheVariants.{Station, Operator}
 use Rattle.ws_peers.proofs.PlaceLaws.{front_on}
 use Rattle.ws_peers.proofs.ListLaws.{none_passes}
 
@@ -71,7 +71,6 @@ same_key op station (Station o s) e =
     let parts = both_so (bytes_eq o op) (bytes_eq s station) e in
     ap (λ x. station_key x s) ((bytes_decides o op).0 parts.0) ∙ ap (station_key op) ((bytes_decides s station).0 parts.1)
 same_key op station (Operator o) e = absurd (true≢false (sym e))
-same_key op station Nothing e = absurd (true≢false (sym e))
 
 module _ {T : Type 0} where
   pub other_station : (op station keys : List ℕ) (ps : List (Peer T)) (n wanted : ℕ) (d : Peer T) → keys ≡ map key_of_peer ps → n < length ps → wanted ≡ station_key op station → (get_or keys n 0 ≡ wanted → ⊥)

@@ -15,7 +15,7 @@ use Rattle.ws_peers.specs.Peers.{is_operator_peer, key_of_peer, places_of}
 use Rattle.ws_peers.proofs.PlaceLaws.{places_set, places_zip, places_more, front_all}
 use Rattle.ws_peers.specs.declared.peer.Peer.{Peer}
 use Rattle.ws_peers.specs.declared.routes.Route.{Route}
-use Rattle.ws_peers.specs.declared.routes.Route.TheVariants.{Station, Operator, Nothing}
+use Rattle.ws_peers.specs.declared.routes.Route.TheVariants.{Station, Operator}
 use Rattle.ws_peers.specs.Routes.{is_operator, key_of, is_operator_of, is_station}
 use Rattle.ws_peers.specs.Sends.{Sent, Replaced}
 use Rattle.ws_peers.specs.Stages.{is_open}
@@ -72,7 +72,6 @@ operator_at : (op : List ℕ) (shown : Bool) (r : Route) → (shown && is_operat
 operator_at op false r e = absurd (true≢false (sym e))
 operator_at op true (Station o s) e = absurd (true≢false (sym e))
 operator_at op true (Operator o) e = refl
-operator_at op true Nothing e = absurd (true≢false (sym e))
 
 operator_is : {T : Type 0} (op : List ℕ) (p : Peer T) → is_open_for op p ≡ true → is_operator_peer p ≡ true
 operator_is op p e = operator_at op (is_open p.stage) p.route e

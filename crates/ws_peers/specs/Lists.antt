@@ -6,7 +6,7 @@ use Rattle.websocket.specs.declared.protocol.frame.coding.CloseCode.TheVariants.
 use Rattle.ws_peers.specs.declared.peer.Peer.{Peer}
 use Rattle.ws_peers.specs.declared.peers.Peers.{Peers}
 use Rattle.ws_peers.specs.declared.routes.Route.{Route}
-use Rattle.ws_peers.specs.declared.routes.Route.TheVariants.{Station, Operator, Nothing}
+use Rattle.ws_peers.specs.declared.routes.Route.TheVariants.{Station, Operator}
 use Rattle.ws_peers.specs.Routes.{is_station, is_operator_of}
 use Rattle.ws_peers.specs.Peers.{open_peer}
 use Rattle.ws_peers.specs.Sends.{Sent, Closed, Replaced}
@@ -36,7 +36,6 @@ module _ {T : Type 0} where
   abbrev pub is_connected : Route → List (Peer T) → Bool
   is_connected (Station op station) ps = list_any (is_open_at op station) ps
   is_connected (Operator op) ps = false
-  is_connected Nothing ps = false
 
   -- an open connection of that operator
   abbrev pub is_open_for : List ℕ → Peer T → Bool
@@ -65,7 +64,6 @@ module _ {T : Type 0} where
   abbrev pub GiveWay : (T → Option (List ℕ)) → Route → List (Peer T) → List (Peer T) → Type 0
   GiveWay contents (Station op station) = AllZip (GivesWay contents op station)
   GiveWay contents (Operator op) = λ old new. new ≡ old
-  GiveWay contents Nothing = λ old new. new ≡ old
 
   -- a connection that isn't admitted: its socket is closed with the code 1008 and a reason, and it is gone
   abbrev pub Shut : (T → Option (List ℕ)) → List ℕ → Socket T → Route → List (Peer T) → List (Peer T) → Type 0

@@ -8,7 +8,7 @@ use Rattle.matchit.specs.Router.{RouteOf}
 use Rattle.matchit.specs.Seek.{first}
 use Rattle.percent_encoding.specs.Percent.{percent_decode}
 use Rattle.ws_peers.specs.declared.routes.Route.{Route}
-use Rattle.ws_peers.specs.declared.routes.Route.TheVariants.{Station, Operator, Nothing}
+use Rattle.ws_peers.specs.declared.routes.Route.TheVariants.{Station, Operator}
 use Rattle.ws_peers.specs.declared.paths.Pattern.{Pattern}
 use Rattle.ws_peers.specs.declared.paths.Pattern.TheVariants as pattern
 
@@ -46,29 +46,29 @@ abbrev pub cut : List ℕ → List ℕ → Option (List ℕ)
 cut front path = if bytes_eq (take (length front) path) front then Some (drop (length front) path) else None
 
 -- a station, if its name is UTF-8
-abbrev pub station_at : List ℕ → List ℕ → Route
-station_at op station = if utf8_valid_len station == length station then Station op station else Nothing
+abbrev pub station_at : List ℕ → List ℕ → Option Route
+station_at op station = if utf8_valid_len station == length station then Some (Station op station) else None
 
 -- the operator up to the slash, and the station's name after it with its escapes decoded
-abbrev pub station_in : List ℕ → Route
+abbrev pub station_in : List ℕ → Option Route
 station_in rest =
     if nat_lt (position_or_len is_slash rest) (length rest)
     then station_at (before_first is_slash rest) (percent_decode (after_first is_slash rest))
-    else Nothing
+    else None
 
-abbrev pub station_of : Option (List ℕ) → Route
-station_of None = Nothing
+abbrev pub station_of : Option (List ℕ) → Option Route
+station_of None = None
 station_of (Some rest) = station_in rest
 
-abbrev pub operator_of : Option (List ℕ) → Route
-operator_of None = Nothing
-operator_of (Some rest) = Operator rest
+abbrev pub operator_of : Option (List ℕ) → Option Route
+operator_of None = None
+operator_of (Some rest) = Some (Operator rest)
 
-abbrev pub leads : Option Pattern → List ℕ → Route
-leads None path = Nothing
+abbrev pub leads : Option Pattern → List ℕ → Option Route
+leads None path = None
 leads (Some pattern.Station) path = station_of (cut (codes "/ocpp/") path)
 leads (Some pattern.Operator) path = operator_of (cut (codes "/operator/") path)
 
--- where a path leads
-unfoldable pub route_of : List ℕ → Route
+-- where a path leads, if anywhere
+unfoldable pub route_of : List ℕ → Option Route
 route_of path = leads (pattern_of path) path

@@ -3,25 +3,22 @@ use Rattle.std.specs.Prelude.{ℕ, List, Bool, true, false, ◌&&◌, ◌+◌, �
 use Rattle.std.specs.List.{fold}
 use Rattle.std.specs.Str.{bytes_eq}
 use Rattle.ws_peers.specs.declared.routes.Route.{Route}
-use Rattle.ws_peers.specs.declared.routes.Route.TheVariants.{Station, Operator, Nothing}
+use Rattle.ws_peers.specs.declared.routes.Route.TheVariants.{Station, Operator}
 
 -- it is that station of that operator
 abbrev pub is_station : List ℕ → List ℕ → Route → Bool
 is_station op station (Station o s) = bytes_eq o op && bytes_eq s station
 is_station op station (Operator o) = false
-is_station op station Nothing = false
 
 -- it is that operator
 abbrev pub is_operator_of : List ℕ → Route → Bool
 is_operator_of op (Operator o) = bytes_eq o op
 is_operator_of op (Station o s) = false
-is_operator_of op Nothing = false
 
 -- it is an operator
 abbrev pub is_operator : Route → Bool
 is_operator (Operator o) = true
 is_operator (Station o s) = false
-is_operator Nothing = false
 
 -- a key after one more byte
 unfoldable pub mixed : ℕ → ℕ → ℕ
@@ -35,4 +32,3 @@ station_key op station = fold mixed (fold mixed 0 op) station
 abbrev pub key_of : Route → ℕ
 key_of (Station op station) = station_key op station
 key_of (Operator op) = 0
-key_of Nothing = 0

@@ -4,7 +4,7 @@ use Rattle.tungstenite.specs.declared.error.Error.{Error}
 use Rattle.ws_peers.specs.Causes.{cause_of_send}
 use Rattle.ws_peers.specs.declared.cause.Cause.{Cause}
 use Rattle.ws_peers.specs.declared.routes.Route.{Route}
-use Rattle.ws_peers.specs.declared.routes.Route.TheVariants.{Station, Operator, Nothing}
+use Rattle.ws_peers.specs.declared.routes.Route.TheVariants.{Station, Operator}
 use Rattle.ws_peers.specs.declared.stage.Stage.{Stage}
 use Rattle.ws_peers.specs.declared.stage.Stage.TheVariants.{Open, Ended, Leaving, Gone}
 
@@ -38,7 +38,6 @@ stage_after (Err e) stage = ended (cause_of_send e) stage
 abbrev pub left : Route → Stage
 left (Station op name) = Leaving
 left (Operator op) = Gone
-left Nothing = Gone
 
 abbrev pub leaving : Route → Stage → Stage
 leaving route Open = Open

@@ -55,7 +55,7 @@ impl<T: Read + Write + Served + Drop> Peers<T> {
                 op.as_str(),
                 station.as_str(),
             ).is_some(),
-            Route::Operator(_) | Route::Nothing => false,
+            Route::Operator(_) => false,
         }
     }
 
@@ -146,7 +146,7 @@ impl<T: Read + Write + Served + Drop> Peers<T> {
     {
         match route {
             Route::Station(op, station) => self.give_way(op.as_str(), station.as_str()),
-            Route::Operator(_) | Route::Nothing => {}
+            Route::Operator(_) => {}
         }
     }
 

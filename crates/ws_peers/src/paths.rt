@@ -21,24 +21,25 @@ pub enum Pattern {
 }
 
 /// Where a path leads: `/ocpp/{operator}/{station}` to a station, `/operator/{operator}` to an
-/// operator, any other to nothing. The station's name is percent-encoded (OCPP-J 1.6, section 3.1.1)
-/// and decoded once; a name that isn't UTF-8 then leads to nothing. A query is no part of `path`.
+/// operator, any other nowhere, which is `None`. The station's name is percent-encoded (OCPP-J 1.6,
+/// section 3.1.1) and decoded once; a name that isn't UTF-8 then leads nowhere. A query is no part of
+/// `path`.
 #[tactic(auto, unfolding(crate::specs::Paths::route_of))]
-pub fn route(alloc: Global, path: &str) -> Mem<Route>
+pub fn route(alloc: Global, path: &str) -> Mem<Option<Route>>
     ensures { IfOk result (λ r. r ≡ route_of path.now) }
 {
     match pattern_at(alloc, path)? {
-        None => Ok(Route::Nothing),
+        None => Ok(None),
         Some(Pattern::Station) => match cut(path, "/ocpp/") {
             Some(rest) => match rest.split_once('/') {
                 Some((operator, name)) => station(alloc, operator, name),
-                None => Ok(Route::Nothing),
+                None => Ok(None),
             },
-            None => Ok(Route::Nothing),
+            None => Ok(None),
         },
         Some(Pattern::Operator) => match cut(path, "/operator/") {
-            Some(operator) => Ok(Route::Operator(Text::copy_of(alloc, operator)?)),
-            None => Ok(Route::Nothing),
+            Some(operator) => Ok(Some(Route::Operator(Text::copy_of(alloc, operator)?))),
+            None => Ok(None),
         },
     }
 }
@@ -85,16 +86,16 @@ fn cut<'a>(path: &'a str, front: &str) -> Option<&'a str>
 }
 
 #[tactic(auto, using(crate::proofs::PathLaws::valid_text))]
-fn station(alloc: Global, operator: &str, station: &str) -> Mem<Route>
+fn station(alloc: Global, operator: &str, station: &str) -> Mem<Option<Route>>
     ensures { IfOk result (λ r. r ≡ station_at operator.now (decoded station.now)) }
 {
     let mut bytes = Vec::new(alloc);
     percent_decode(station.as_bytes()).append_to(&mut bytes)?;
     match str::from_utf8(bytes.as_slice()) {
-        Ok(name) => Ok(Route::Station(
+        Ok(name) => Ok(Some(Route::Station(
             Text::copy_of(alloc, operator)?,
             Text::copy_of(alloc, name)?,
-        )),
-        Err(_) => Ok(Route::Nothing),
+        ))),
+        Err(_) => Ok(None),
     }
 }

@@ -167,7 +167,7 @@ impl<T: Read + Write + Drop> Peer<T> {
         if matches!(self.stage, Stage::Ended(_)) {
             self.stage = match &self.route {
                 Route::Station(_, _) => Stage::Leaving,
-                Route::Operator(_) | Route::Nothing => Stage::Gone,
+                Route::Operator(_) => Stage::Gone,
             };
         }
     }
@@ -229,7 +229,7 @@ impl<T: Read + Write + Served + Drop> Peer<T> {
     pub(crate) fn set_room(&self) {
         let room = match &self.route {
             Route::Operator(_) => OPERATOR_ROOM,
-            Route::Station(_, _) | Route::Nothing => STATION_ROOM,
+            Route::Station(_, _) => STATION_ROOM,
         };
         self.socket.get_ref().set_room(room);
     }

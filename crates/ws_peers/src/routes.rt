@@ -12,8 +12,6 @@ pub enum Route {
     Station(Text, Text),
     /// An operator.
     Operator(Text),
-    /// Neither.
-    Nothing,
 }
 
 impl Route {
@@ -23,7 +21,7 @@ impl Route {
     {
         match self {
             Route::Station(own, name) => own.as_str() == op && name.as_str() == station,
-            Route::Operator(_) | Route::Nothing => false,
+            Route::Operator(_) => false,
         }
     }
 
@@ -33,7 +31,7 @@ impl Route {
     {
         match self {
             Route::Operator(own) => own.as_str() == op,
-            Route::Station(_, _) | Route::Nothing => false,
+            Route::Station(_, _) => false,
         }
     }
 
@@ -50,7 +48,7 @@ impl Route {
     {
         match self {
             Route::Station(op, station) => station_key(op.as_str(), station.as_str()),
-            Route::Operator(_) | Route::Nothing => 0,
+            Route::Operator(_) => 0,
         }
     }
 }
