@@ -1,5 +1,5 @@
 -- Heads.
-use Rattle.std.proofs.Common.{ℕ, List, Result, Ok, Err, Bool, Option, true, false, codes, length, map, take, drop, subst, sym, inl, inr, ◌≡◌, ◌≤◌}
+use Rattle.std.proofs.Common.{ℕ, List, Result, Ok, Err, Bool, Option, Some, true, false, codes, length, map, take, drop, subst, sym, inl, inr, ◌≡◌, ◌≤◌}
 use Rattle.std.specs.Prelude.{IfOk}
 use Rattle.http.specs.Uri.{Spells, uri_path}
 use Rattle.httparse.specs.Grammar.{RequestHead, ReadsRequest, print_request}
@@ -11,7 +11,7 @@ use Rattle.httparse.specs.declared.Status.TheVariants.{Complete}
 use Rattle.httparse.specs.declared.spans.HeaderSpan.{HeaderSpan}
 use Rattle.httparse.specs.declared.spans.RequestSpans.{RequestSpans}
 use Rattle.websocket.specs.Headers.{Fields, fields_of}
-use Rattle.ws_handshake.specs.Heads.{BytesJudged, Either, Judged, PathJudged, UpgradeJudged, KeyJudged, HeadJudged, is_nothing, is_version, lacks_host, only_value}
+use Rattle.ws_handshake.specs.Heads.{BytesJudged, Either, Judged, PathJudged, UpgradeJudged, KeyJudged, HeadJudged, is_version, lacks_host, only_value}
 use Rattle.ws_handshake.specs.declared.head.Asked.{Asked}
 use Rattle.ws_peers.specs.declared.routes.Route.{Route}
 
@@ -39,12 +39,12 @@ at_head buf headers found h asked at is =
     (subst (λ x. Judged (span_bytes buf found.path) (span_bytes buf found.method) found.version x (length (print_request h)) asked) at.fields
     (subst (λ x. Judged (span_bytes buf found.path) (span_bytes buf found.method) found.version (fields_of buf (take found.headers headers)) x asked) at.len is))))
 
--- an upgrade to a known route, of the right version, is judged by its key
-pub by_key : (route : Route) (fields : Fields) (len : ℕ) (asked : Asked) (version key : Option (List ℕ)) → is_nothing route ≡ false → is_version version ≡ true
+-- an upgrade to a route, of the right version, is judged by its key
+pub by_key : (leads : Option Route) (route : Route) (fields : Fields) (len : ℕ) (asked : Asked) (version key : Option (List ℕ)) → leads ≡ Some route → is_version version ≡ true
     → version ≡ only_value (codes "Sec-WebSocket-Version") fields → key ≡ only_value (codes "Sec-WebSocket-Key") fields
-    → KeyJudged route fields len key asked → UpgradeJudged route fields len asked
-by_key route fields len asked version key known right version_is key_is judged =
-    otherwise _ _ _ known (holds _ _ _ (subst (λ v. is_version v ≡ true) version_is right) (subst (λ k. KeyJudged route fields len k asked) key_is judged))
+    → KeyJudged route fields len key asked → UpgradeJudged leads fields len asked
+by_key leads route fields len asked version key is right version_is key_is judged =
+    subst (λ r. UpgradeJudged r fields len asked) (sym is) (holds _ _ _ (subst (λ v. is_version v ≡ true) version_is right) (subst (λ k. KeyJudged route fields len k asked) key_is judged))
 
 -- a judgement of the request that the spans cover is that of each head that the bytes begin with
 pub each_head : {E : Type 0} (buf : List ℕ) (headers : List HeaderSpan) (found : RequestSpans) (status : Status RequestSpans) (r : Result Asked E)

@@ -8,7 +8,6 @@ use Rattle.websocket.specs.Headers.{Fields, eq_ignore_case, header_value}
 use Rattle.websocket.specs.Handshake.{IsValidKey, accept_key_of}
 use Rattle.ws_peers.specs.Paths.{route_of}
 use Rattle.ws_peers.specs.declared.routes.Route.{Route}
-use Rattle.ws_peers.specs.declared.routes.Route.TheVariants.{Station, Operator, Nothing}
 use Rattle.ws_handshake.specs.declared.answer.Answer.{Answer}
 use Rattle.ws_handshake.specs.declared.answer.Answer.TheVariants as answer
 use Rattle.ws_handshake.specs.declared.head.Asked.{Asked}
@@ -65,10 +64,10 @@ Either true A B = A
 Either false A B = B
 
 -- the answer to a request that asks for no upgrade, by its path
-abbrev pub plain_answer : List ℕ → List ℕ → Route → Answer
-plain_answer method path Nothing =
+abbrev pub plain_answer : List ℕ → List ℕ → Option Route → Answer
+plain_answer method path None =
     if bytes_eq path (codes "/health") then (if is_read method then answer.Healthy else answer.NotAllowed) else answer.NotFound
-plain_answer method path route = if is_read method then answer.UpgradeRequired else answer.NotAllowed
+plain_answer method path (Some route) = if is_read method then answer.UpgradeRequired else answer.NotAllowed
 
 -- the version is 13 (RFC 6455, section 4.2.2)
 abbrev pub is_version : Option (List ℕ) → Bool
@@ -82,19 +81,13 @@ KeyJudged route fields len (Some key) asked =
     (IsValidKey key × (asked ≡ Upgraded record { route = route; offers_ocpp = offers_ocpp fields; accept = accept_key_of key; len = len }))
     ⊎ (¬ (IsValidKey key) × (asked ≡ Plain answer.BadRequest))
 
--- a path of another form than those of stations and operators leads to nothing
-abbrev pub is_nothing : Route → Bool
-is_nothing (Station op station) = false
-is_nothing (Operator op) = false
-is_nothing Nothing = true
-
--- an upgrade to a route
-abbrev pub UpgradeJudged : Route → Fields → ℕ → Asked → Type 0
-UpgradeJudged route fields len asked =
-    Either (is_nothing route) (asked ≡ Plain answer.NotFound)
-    (Either (is_version (only_value (codes "Sec-WebSocket-Version") fields))
+-- an upgrade, by where its path leads
+abbrev pub UpgradeJudged : Option Route → Fields → ℕ → Asked → Type 0
+UpgradeJudged None fields len asked = asked ≡ Plain answer.NotFound
+UpgradeJudged (Some route) fields len asked =
+    Either (is_version (only_value (codes "Sec-WebSocket-Version") fields))
     (KeyJudged route fields len (only_value (codes "Sec-WebSocket-Key") fields) asked)
-    (asked ≡ Plain answer.UpgradeRequired))
+    (asked ≡ Plain answer.UpgradeRequired)
 
 -- a request of a path, with a head of so many bytes
 abbrev pub PathJudged : List ℕ → List ℕ → ℕ → Fields → ℕ → Asked → Type 0

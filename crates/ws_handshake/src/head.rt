@@ -3,7 +3,7 @@ ghost use Rattle.std.specs.Prelude.{◌≡◌, ℕ, List, ◌≤◌, true, lengt
 ghost use Rattle.httparse.specs.Grammar.{RequestHead, ReadsRequest};
 ghost use Rattle.httparse.specs.Spans.{IsHeaderWithin};
 ghost use Rattle.websocket.specs.Headers.{fields_of};
-ghost use Rattle.ws_handshake.specs.Heads.{BytesJudged, HeadJudged, Judged, PathJudged, UpgradeJudged, KeyJudged, asks_upgrade, lacks_host, is_nothing, is_version, plain_answer};
+ghost use Rattle.ws_handshake.specs.Heads.{BytesJudged, HeadJudged, Judged, PathJudged, UpgradeJudged, KeyJudged, asks_upgrade, lacks_host, is_version, plain_answer};
 
 use crate::answer::Answer;
 use crate::fields::{count_of, lists, offers_ocpp, only_value};
@@ -118,7 +118,7 @@ fn judge_path(alloc: Global, path: &str, request: &Request<'_>) -> Mem<Asked>
     if asks_upgrade(request) {
         Ok(judge_upgrade(route, request))
     } else {
-        Ok(Asked::Plain(plain_answer(request.method, path, &route)))
+        Ok(Asked::Plain(plain_answer(request.method, path, route.as_ref())))
     }
 }
 
@@ -135,29 +135,30 @@ fn asks_upgrade(request: &Request<'_>) -> bool
 }
 
 /// The answer to a request that asks for no upgrade.
-fn plain_answer(method: &[u8], path: &str, route: &Route) -> Answer
-    ensures { result ≡ plain_answer method.now path.now route.now }
+fn plain_answer(method: &[u8], path: &str, route: Option<&Route>) -> Answer
+    ensures { result ≡ plain_answer method.now path.now (option_map (λ r. r.now) route.entry) }
 {
     let is_health = path == "/health";
-    if matches!(route, Route::Nothing) && !is_health {
+    if route.is_none() && !is_health {
         Answer::NotFound
     } else if method != b"GET".as_slice() && method != b"HEAD".as_slice() {
         Answer::NotAllowed
-    } else if matches!(route, Route::Nothing) {
+    } else if route.is_none() {
         Answer::Healthy
     } else {
         Answer::UpgradeRequired
     }
 }
 
-/// An upgrade to that route: its version is 13 (RFC 6455, section 4.2.2), and its key is the base64 of 16 bytes.
-fn judge_upgrade(route: Route, request: &Request<'_>) -> Asked
+/// An upgrade to that route, if its path leads to one: its version is 13 (RFC 6455, section 4.2.2), and its key is the
+/// base64 of 16 bytes.
+fn judge_upgrade(route: Option<Route>, request: &Request<'_>) -> Asked
     requires { All (IsHeaderWithin (length request.now.bytes.now)) request.now.fields.now }
     ensures { UpgradeJudged route (fields_of request.now.bytes.now request.now.fields.now) request.now.len result }
 {
-    if is_nothing(&route) {
+    let Some(route) = route else {
         return Asked::Plain(Answer::NotFound);
-    }
+    };
     let version = only_value(request.bytes, request.fields, b"Sec-WebSocket-Version");
     if !is_version(version) {
         return Asked::Plain(Answer::UpgradeRequired);
@@ -182,12 +183,6 @@ fn judge_key(route: Route, request: &Request<'_>, key: &[u8]) -> Asked
         }),
         Err(_) => Asked::Plain(Answer::BadRequest),
     }
-}
-
-fn is_nothing(route: &Route) -> bool
-    ensures { result ≡ is_nothing route.now }
-{
-    matches!(route, Route::Nothing)
 }
 
 fn is_version(value: Option<&[u8]>) -> bool
