@@ -7,8 +7,8 @@ use ws_peers::paths::route;
 /// Where a path leads.
 pub fn path_followed(alloc: Global, path: &str) -> Result<String> {
     match route(alloc, path)? {
-        Route::Station(op, name) => Ok(format!(in alloc; "station {op} {name}")?),
-        Route::Operator(op) => Ok(format!(in alloc; "operator {op}")?),
-        Route::Nothing => Ok("nothing".to_string(alloc)?),
+        Some(Route::Station(op, name)) => Ok(format!(in alloc; "station {op} {name}")?),
+        Some(Route::Operator(op)) => Ok(format!(in alloc; "operator {op}")?),
+        None => Ok("nothing".to_string(alloc)?),
     }
 }
