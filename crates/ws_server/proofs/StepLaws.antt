@@ -1,6 +1,6 @@
 -- Steps of the hub.
 use Rattle.std.proofs.Common.{Bool, Err, List, None, Ok, Option, Result, Some, [], add-one, ap, arith, false, if◌then◌else◌, inl, inr, length, nat_lt, refl, slice_index_or, subst, suc, sym, true, true≢false, zero, ℕ, ◌++◌, ◌+◌, ◌∙◌, ◌∷◌, ◌≡◌, ◌||◌}
-use Rattle.std.proofs.Common.{drop, get_or, ◌<◌, ◌≤◌}
+use Rattle.std.proofs.Common.{get_or, ◌<◌, ◌≤◌}
 use Rattle.std.proofs.lemmas.List.{append_assoc, append-nil}
 use Rattle.std.proofs.lemmas.List.Folds.{list_all_at}
 use Rattle.std.specs.List.{list_all}
@@ -30,7 +30,7 @@ use Rattle.ws_peers.specs.declared.stage.Stage.{Stage}
 use Rattle.ws_peers.specs.declared.stage.Stage.TheVariants.{Open, Ended, Leaving, Gone}
 use Rattle.ws_peers.specs.declared.peer.Peer.{Peer}
 use Rattle.ws_peers.specs.declared.routes.Route.{Route}
-use Rattle.ws_peers.specs.declared.routes.Route.TheVariants.{Station, Operator, Nothing}
+use Rattle.ws_peers.specs.declared.routes.Route.TheVariants.{Station, Operator}
 use Rattle.tungstenite.specs.Socket.{Socket}
 use Rattle.ws_server.specs.Admits.{Connects, WelcomesOne, WelcomesSome}
 use Rattle.ws_server.specs.Events.{event_of, parting, parting_at, is_route_of_hosted}
@@ -67,7 +67,6 @@ order-hosted hosts op m text = order-unless (λ event. is_of_hosted hosts event 
 text-hosted : (hosts : List ℕ → Bool) (route : Route) (m : ℕ) (text : List ℕ) → IfSome (event_of route m text) (λ event. is_of_hosted hosts event ≡ is_route_of_hosted hosts route)
 text-hosted hosts (Station op station) m text = refl
 text-hosted hosts (Operator op) m text = order-hosted hosts op m text
-text-hosted hosts Nothing m text = tt
 
 module _ {T : Type 0} (contents : T → Option (List ℕ)) (hosts : List ℕ → Bool) where
   -- a text whose event is handed to the hub
@@ -187,19 +186,27 @@ module _ {P : Type 0} (C : ℕ → Change P) (all : List ℕ) (old : List P) whe
   abbrev pub Rest : List ℕ → List P → List Step → Type 0
   Rest left now before = (end : List P) (after : List Step) (r : Result (Unit {0}) Fault) → EachOf C left now end after r → EachOf C all old end (before ++ after) r
 
+  there-is : (n : ℕ) (mid new : List P) (more : List Step) (r : Result (Unit {0}) Fault) → n < length mid → C n mid new more r → AtPlace C n mid new more r
+  there-is n mid new more r small change = record { there = λ _. change; missing = λ few. absurd (omega (arith, small, few)) }
+
   -- one place more
-  pub place-on : (n : ℕ) (left : List ℕ) (mid new : List P) (before more : List Step) → Rest (n ∷ left) mid before → AtPlace C n mid new more (Ok tt) → Rest left new (before ++ more)
-  place-on n left mid new before more on at = λ end after r rest. subst (λ steps. EachOf C all old end steps r) (sym (append_assoc before more after))
-      (on end (more ++ after) r (follows (AtPlace C n) (EachOf C left) mid new end more after r at rest))
+  pub place-on : (n : ℕ) (left : List ℕ) (mid new : List P) (before more : List Step) → n < length mid → Rest (n ∷ left) mid before → C n mid new more (Ok tt) → Rest left new (before ++ more)
+  place-on n left mid new before more small on change = λ end after r rest. subst (λ steps. EachOf C all old end steps r) (sym (append_assoc before more after))
+      (on end (more ++ after) r (follows (AtPlace C n) (EachOf C left) mid new end more after r (there-is n mid new more (Ok tt) small change) rest))
+
+  -- a place at which there is none is passed over
+  pub place-over : (n : ℕ) (left : List ℕ) (mid : List P) (before : List Step) → length mid ≤ n → Rest (n ∷ left) mid before → Rest left mid before
+  place-over n left mid before few on = λ end after r rest. on end after r
+      (follows (AtPlace C n) (EachOf C left) mid mid end [] after r (record { there = λ small. absurd (omega (arith, small, few)); missing = λ _. (refl, refl, refl) }) rest)
 
   -- no place is left
   pub place-end : (now : List P) (before : List Step) → Rest [] now before → EachOf C all old now before (Ok tt)
   place-end now before on = subst (λ steps. EachOf C all old now steps (Ok tt)) (append-nil before) (on now [] (Ok tt) (refl, refl, refl))
 
   -- a place that ends in a fault is the last
-  pub place-fails : (n : ℕ) (left : List ℕ) (mid new : List P) (before more : List Step) (fault : Fault) (r : Result (Unit {0}) Fault) → Rest (n ∷ left) mid before → IsErr r → IsErrAnd r (λ e. e ≡ fault)
-      → AtPlace C n mid new more (Err fault) → EachOf C all old new (before ++ more) r
-  place-fails n left mid new before more fault r on err same at = on new more r (fails (AtPlace C n) (EachOf C left) mid new more fault r err same at)
+  pub place-fails : (n : ℕ) (left : List ℕ) (mid new : List P) (before more : List Step) (fault : Fault) → n < length mid → Rest (n ∷ left) mid before
+      → C n mid new more (Err fault) → EachOf C all old new (before ++ more) (Err fault)
+  place-fails n left mid new before more fault small on change = on new more (Err fault) (inr (fault, there-is n mid new more (Err fault) small change, refl))
 
 -- a place above those before it is the next
 pub above-on : (last : Option ℕ) (n : ℕ) (xs ys : List ℕ) → xs ≡ n ∷ ys → is_above last n ≡ true → ascending last xs ≡ n ∷ ascending (Some n) ys

@@ -13,7 +13,7 @@ use Rattle.ws_handshake.specs.declared.head.Asked.TheVariants.{Upgraded}
 use Rattle.ws_handshake.specs.declared.head.Upgrade.{Upgrade}
 use Rattle.ws_peers.specs.declared.peer.Peer.{Peer}
 use Rattle.ws_peers.specs.declared.routes.Route.{Route}
-use Rattle.ws_peers.specs.declared.routes.Route.TheVariants.{Station, Operator, Nothing}
+use Rattle.ws_peers.specs.declared.routes.Route.TheVariants.{Station, Operator}
 use Rattle.ws_peers.specs.Lists.{GiveWay, Shut, is_open_for}
 use Rattle.ws_peers.specs.Peers.{open_peer}
 use Rattle.ws_server.specs.Events.{turns_away}
@@ -39,32 +39,27 @@ module _ {T : Type 0} (contents : T → Option (List ℕ)) (socket : Socket T) w
   Closes reason route old new steps (Ok u) = Shut contents reason socket route old new × (steps ≡ [])
   Closes reason route old new steps (Err fault) = (new ≡ old) × (steps ≡ [])
 
-  -- a connection is admitted at moment m; one of an unknown path isn't, nor is a station that doesn't offer the
-  -- subprotocol
+  -- a connection is admitted at moment m; a station that doesn't offer the subprotocol isn't
   abbrev pub Admits : ℕ → Route → Bool → Change (Peer T)
   Admits m (Station op station) true old new steps r = Connects (event.At op m (what.Connect station)) (Station op station) old new steps r
   Admits m (Station op station) false old new steps r = Closes (codes "subprotocol ocpp1.6 is missing") (Station op station) old new steps r
   Admits m (Operator op) offers old new steps (Ok u) = (new ≡ old ++ open_peer socket (Operator op) ∷ []) × (steps ≡ [])
   Admits m (Operator op) offers old new steps (Err fault) = (new ≡ old) × (steps ≡ [])
-  Admits m Nothing offers old new steps r = Closes (codes "no such path") Nothing old new steps r
 
 -- a connection that is served is one of a hosted operator; a station that doesn't offer the subprotocol isn't served
 abbrev pub is_served : (List ℕ → Bool) → Route → Bool → Bool
 is_served is_hosted (Station op station) offers = not offers || is_hosted op
 is_served is_hosted (Operator op) offers = is_hosted op
-is_served is_hosted Nothing offers = true
 
 -- a path leads to a station that is registered with a hosted operator, or to a hosted operator
 abbrev pub is_known : (List ℕ → Bool) → Rows → Route → Bool
 is_known is_hosted rows (Station op station) = is_hosted op && is_some (registration_at op station rows)
 is_known is_hosted rows (Operator op) = is_hosted op
-is_known is_hosted rows Nothing = false
 
 -- an operator has as many open connections as it may have
 abbrev pub is_full : {T : Type 0} → Route → List (Peer T) → Bool
 is_full (Operator op) peers = nat_le 32 (length (filter (is_open_for op) peers))
 is_full (Station op station) peers = false
-is_full Nothing peers = false
 
 -- the bytes come next from a stream, where it tells what comes
 abbrev pub ComeNext : Option (List ℕ) → List ℕ → Type 0

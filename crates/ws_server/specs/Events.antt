@@ -10,27 +10,24 @@ use Rattle.hub_events.specs.declared.out.Said.TheVariants as said
 use Rattle.lines.specs.Orders.{order_of}
 use Rattle.ws_peers.specs.declared.peer.Peer.{Peer}
 use Rattle.ws_peers.specs.declared.routes.Route.{Route}
-use Rattle.ws_peers.specs.declared.routes.Route.TheVariants.{Station, Operator, Nothing}
+use Rattle.ws_peers.specs.declared.routes.Route.TheVariants.{Station, Operator}
 use Rattle.ws_peers.specs.declared.stage.Stage.{Stage}
 use Rattle.ws_peers.specs.declared.stage.Stage.TheVariants.{Open, Ended, Leaving, Gone}
 use Rattle.ws_peers.specs.Peers.{route_of, stage_of}
 
--- the operator of a route is among the hosted ones; a route to nothing has none
+-- the operator of a route is among the hosted ones
 abbrev pub is_route_of_hosted : (List ℕ → Bool) → Route → Bool
 is_route_of_hosted is_hosted (Station op station) = is_hosted op
 is_route_of_hosted is_hosted (Operator op) = is_hosted op
-is_route_of_hosted is_hosted Nothing = true
 
 -- a text of a station is a frame, one of an operator an order
 abbrev pub event_of : Route → ℕ → List ℕ → Option Event
 event_of (Station op station) m text = Some (At op m (what.Frame station text))
 event_of (Operator op) m text = order_of op m text
-event_of Nothing m text = None
 
 abbrev pub disconnect_of : Route → ℕ → Option Event
 disconnect_of (Station op station) m = Some (At op m (what.Disconnect station))
 disconnect_of (Operator op) m = None
-disconnect_of Nothing m = None
 
 -- the disconnect of a peer that is to leave now
 abbrev pub parting_at : Stage → Route → ℕ → Option Event

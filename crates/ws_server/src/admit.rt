@@ -1,5 +1,5 @@
 //! Admitting a connection.
-ghost use Rattle.std.specs.Prelude.{◌≡◌, true, false, [], Err, IfErr, OnOk};
+ghost use Rattle.std.specs.Prelude.{◌≡◌, true, false, [], codes, Err, IfErr, OnOk};
 ghost use Rattle.hub_rows.specs.Reads.{IsCounted};
 ghost use Rattle.hub.specs.Hub.{hub_view, setting, is_taken};
 ghost use Rattle.ws_peers.specs.Lists.{peers, has_room};
@@ -26,18 +26,15 @@ const NO_SUBPROTOCOL: &str = "subprotocol ocpp1.6 is missing";
 /// Why a station is closed that is no longer on record.
 const NO_STATION: &str = "no such station";
 
-/// Why a connection is closed whose path leads to nothing.
-const NO_PATH: &str = "no such path";
-
 #[tactic(auto, using(crate::proofs::StepLaws::nothing))]
 impl<T: Read + Write + Served + Drop> Gateway<T> {
     ghost use Rattle.ws_server.specs.Admits.{Admits, Closes, Connects, is_served};
     ghost use Rattle.ws_server.specs.Events.{is_route_of_hosted};
 
     /// Admits a connection whose handshake is done. A station connects to the hub, and the outputs are sent; older
-    /// connections of it are replaced. One that the hub turns away, one that doesn't offer the subprotocol `ocpp1.6`
-    /// (OCPP-J 1.6, section 3.1.2), and a path to nothing are closed with the code 1008 and a reason. An operator that
-    /// isn't hosted is the fault `NoSuchOperator`. After a fault nothing was admitted, and the socket is dropped.
+    /// connections of it are replaced. One that the hub turns away and one that doesn't offer the subprotocol `ocpp1.6`
+    /// (OCPP-J 1.6, section 3.1.2) are closed with the code 1008 and a reason. An operator that isn't hosted is the fault
+    /// `NoSuchOperator`. After a fault nothing was admitted, and the socket is dropped.
     pub fn admit<S: Store + Drop, V: VendorHandler>(
         &mut self,
         hub: &mut Hub<S, V>,
@@ -57,40 +54,31 @@ impl<T: Read + Write + Served + Drop> Gateway<T> {
                 let event = connect_of(op, station, moment)?;
                 self.connect(hub, socket, arrival, &event)
             }
-            Route::Station(_, _) => self.shut(
-                socket,
-                arrival,
-                Refusal::NoSubprotocol,
-                NO_SUBPROTOCOL,
-            ),
+            Route::Station(_, _) => self.shut(socket, arrival),
             Route::Operator(op) => {
                 if !hub.hosts(op.as_str()) {
                     return Err(Fault::NoSuchOperator);
                 }
                 self.peers.reserve()?;
                 self.notes
-                    .add(&arrival.route, arrival.address, Happened::Connected);
+                    .add(Some(&arrival.route), arrival.address, Happened::Connected);
                 self.peers.push(socket, arrival.route);
                 Ok(())
             }
-            Route::Nothing => self.shut(socket, arrival, Refusal::NoPath, NO_PATH),
         }
     }
 
-    /// Closes a connection that isn't admitted.
-    fn shut(
-        &mut self,
-        socket: WebSocket<T, NoMask>,
-        arrival: Arrival,
-        refusal: Refusal,
-        reason: &'static str,
-    ) -> Result<(), Fault>
-        ensures closed { Closes T.contents socket reason.now arrival.route (peers_of self.old) (peers_of self.new) [] result }
+    /// Closes a station that doesn't offer the subprotocol.
+    fn shut(&mut self, socket: WebSocket<T, NoMask>, arrival: Arrival) -> Result<(), Fault>
+        ensures closed { Closes T.contents socket (codes "subprotocol ocpp1.6 is missing") arrival.route (peers_of self.old) (peers_of self.new) [] result }
         ensures cause { IfErr result (λ f. f ≡ Fault.NoMemory) }
     {
         self.peers.reserve()?;
-        self.notes.add(&arrival.route, arrival.address, Happened::Refused(refusal));
-        self.peers.push_closed(socket, arrival.route, reason);
+        let refused = Happened::Refused(Refusal::NoSubprotocol);
+        self.notes
+            .add(Some(&arrival.route), arrival.address, refused);
+        self.peers
+            .push_closed(socket, arrival.route, NO_SUBPROTOCOL);
         Ok(())
     }
 
@@ -112,8 +100,11 @@ impl<T: Read + Write + Served + Drop> Gateway<T> {
         let outs = match hub.handle(event) {
             Ok(outs) => outs,
             Err(fault) => {
-                self.notes
-                    .add(&arrival.route, arrival.address, Happened::Failed(fault));
+                self.notes.add(
+                    Some(&arrival.route),
+                    arrival.address,
+                    Happened::Failed(fault),
+                );
                 return Err(fault);
             }
         };
@@ -133,12 +124,12 @@ fn note_connect<T: Read + Write + Served + Drop>(
     arrival: &Arrival,
     is_turned_away: bool,
 ) {
-    let route = &arrival.route;
+    let route = Some(&arrival.route);
     if is_turned_away {
         notes.add(route, arrival.address, Happened::Refused(Refusal::Gone));
         return;
     }
-    if peers.is_connected(route) {
+    if peers.is_connected(&arrival.route) {
         notes.add(route, None, Happened::Replaced);
     }
     notes.add(route, arrival.address, Happened::Connected);

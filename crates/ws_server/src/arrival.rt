@@ -6,6 +6,7 @@ use ws_peers::Route;
 /// A connection that was accepted.
 #[derive(Drop)]
 pub struct Client<T> {
+    /// The connection's bytes, both ways.
     pub stream: T,
     /// Where it comes from, for the notes.
     pub address: Option<SocketAddr>,

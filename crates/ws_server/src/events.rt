@@ -25,7 +25,6 @@ pub fn event_of(alloc: Global, route: &Route, moment: Moment, text: &str) -> Mem
             Ok(Some(Event::At { op, moment, what }))
         }
         Route::Operator(op) => read_order(alloc, op, moment, text),
-        Route::Nothing => Ok(None),
     }
 }
 
@@ -51,7 +50,7 @@ fn disconnect_of(route: &Route, moment: Moment) -> Mem<Option<Event>>
             let what = What::Disconnect { station };
             Ok(Some(Event::At { op, moment, what }))
         }
-        Route::Operator(_) | Route::Nothing => Ok(None),
+        Route::Operator(_) => Ok(None),
     }
 }
 

@@ -19,7 +19,6 @@ use std::alloc::Global;
 use std::io::{ErrorKind, Read, Write};
 use std::net::SocketAddr;
 use ws_handshake::{Answer, Asked, MAX_HEAD, Upgrade, judge, refuse};
-use ws_peers::Route;
 
 /// The seconds that a head may take to come.
 const PATIENCE: u64 = 2;
@@ -136,8 +135,7 @@ impl<T: Peek + Read + Write + Served + Drop> Lobby<T> {
     fn refuse(&mut self, address: Option<SocketAddr>, refusal: Refusal)
         ensures { self.new.waiting.items ≡ self.old.waiting.items }
     {
-        self.notes
-            .add(&Route::Nothing, address, Happened::Refused(refusal));
+        self.notes.add(None, address, Happened::Refused(refusal));
     }
 
     /// Polls each that waits once. One whose head asks for a handshake is welcomed by the gateway, and one that asks for

@@ -1,6 +1,7 @@
 //! What became of connections, as a log tells it.
 
 use hub::Fault;
+use ocpp_types::Mem;
 use std::alloc::Global;
 use std::net::SocketAddr;
 use ws_handshake::Answer;
@@ -25,8 +26,6 @@ pub enum Refusal {
     TooMany,
     /// The request is no handshake of WebSocket 13. It was answered 405 or 426.
     NoHandshake,
-    /// The path leads to nothing.
-    NoPath,
     /// A station doesn't offer the subprotocol `ocpp1.6`. It was closed with 1008.
     NoSubprotocol,
     /// A station that is no longer on record. It was closed with 1008.
@@ -65,8 +64,8 @@ pub enum Happened {
 /// What became of one connection. Of what a peer sent it has the names in its path alone.
 #[derive(Drop)]
 pub struct Note {
-    /// What the connection stands for. `Nothing` is one that asked for nothing yet, or for an unknown path.
-    pub route: Route,
+    /// What the connection stands for. `None` is one that asked for nothing yet, or whose path leads nowhere.
+    pub route: Option<Route>,
     /// Where it came from, if that is still known.
     pub address: Option<SocketAddr>,
     /// What became of it.
@@ -97,11 +96,16 @@ impl Notes {
     }
 
     /// Adds a note.
-    pub(crate) fn add(&mut self, route: &Route, address: Option<SocketAddr>, happened: Happened) {
+    pub(crate) fn add(
+        &mut self,
+        route: Option<&Route>,
+        address: Option<SocketAddr>,
+        happened: Happened,
+    ) {
         if !self.are_kept {
             return;
         }
-        if let Ok(route) = route.clone() {
+        if let Ok(route) = copy_of(route) {
             let _lost = self.items.push(Note {
                 route,
                 address,
@@ -113,5 +117,12 @@ impl Notes {
     /// The notes, which are then no longer kept here.
     pub(crate) fn take(&mut self) -> Vec<Note> {
         std::mem::replace(&mut self.items, Vec::new(self.alloc))
+    }
+}
+
+fn copy_of(route: Option<&Route>) -> Mem<Option<Route>> {
+    match route {
+        Some(route) => Ok(Some(route.clone()?)),
+        None => Ok(None),
     }
 }

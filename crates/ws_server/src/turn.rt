@@ -19,7 +19,7 @@ use ws_peers::{Cause, Peers, Stage};
 
 #[tactic(auto, using(crate::proofs::StepLaws::handed, crate::proofs::StepLaws::nothing))]
 impl<T: Read + Write + Served + Drop> Gateway<T> {
-    ghost use Rattle.ws_server.specs.Turns.{Hands, HandsText, Serves, Parts, AtPlace, Each, EachAbove, SweepsAndTicks, PartsAndTicks, Turns};
+    ghost use Rattle.ws_server.specs.Turns.{Hands, HandsText, Serves, Parts, Each, SweepsAndTicks, PartsAndTicks, Turns};
 
     /// Hands an event to the hub, and sends its outputs. After a fault nothing has changed.
     pub(crate) fn hand<S: Store + Drop, V: VendorHandler>(
@@ -87,7 +87,7 @@ impl<T: Read + Write + Served + Drop> Gateway<T> {
             Ok(()) => Ok(()),
             Err(fault) => {
                 let route = self.peers.peer(n).route();
-                self.notes.add(route, None, Happened::Failed(fault));
+                self.notes.add(Some(route), None, Happened::Failed(fault));
                 self.peers.end(n, Cause::Fault);
                 Err(fault)
             }
@@ -118,52 +118,9 @@ impl<T: Read + Write + Served + Drop> Gateway<T> {
             }
             Err(fault) => {
                 let route = self.peers.peer(n).route();
-                self.notes.add(route, None, Happened::Failed(fault));
+                self.notes.add(Some(route), None, Happened::Failed(fault));
                 Err(fault)
             }
-        }
-    }
-
-    /// Serves the peers at those places, in that order, up to the first fault. A place that isn't above all before it is
-    /// passed over.
-    fn serve_each<S: Store + Drop, V: VendorHandler>(
-        &mut self,
-        hub: &mut Hub<S, V>,
-        moment: Moment,
-        places: &[usize],
-    ) -> Result<(), Fault>
-        ensures takes { Takes S.view V.view hub.old hub.new
-            (λ steps. EachAbove (Serves T.remaining T.contents (setting V.view hub.old).is_hosted moment) places.now (peers_of self.old) (peers_of self.new) steps result) }
-        ensures counted { IsCounted (hub_view S.view) hub.old hub.new (result ≡ Err Fault.Store) }
-        ensures setting { setting V.view hub.new ≡ setting V.view hub.old }
-    {
-        let mut last = None;
-        for place in places {
-            if !is_above(last, *place) {
-                continue;
-            }
-            self.serve_at(hub, moment, *place)?;
-            last = Some(*place);
-        }
-        Ok(())
-    }
-
-    /// Serves the peer at that place, if there is one.
-    fn serve_at<S: Store + Drop, V: VendorHandler>(
-        &mut self,
-        hub: &mut Hub<S, V>,
-        moment: Moment,
-        place: usize,
-    ) -> Result<(), Fault>
-        ensures takes { Takes S.view V.view hub.old hub.new
-            (λ steps. AtPlace (Serves T.remaining T.contents (setting V.view hub.old).is_hosted moment) place (peers_of self.old) (peers_of self.new) steps result) }
-        ensures counted { IsCounted (hub_view S.view) hub.old hub.new (result ≡ Err Fault.Store) }
-        ensures setting { setting V.view hub.new ≡ setting V.view hub.old }
-    {
-        if place < self.count() {
-            self.serve(hub, place, moment)
-        } else {
-            Ok(())
         }
     }
 
@@ -203,7 +160,16 @@ impl<T: Read + Write + Served + Drop> Gateway<T> {
         ensures counted { IsCounted (hub_view S.view) hub.old hub.new (result ≡ Err Fault.Store) }
         ensures setting { setting V.view hub.new ≡ setting V.view hub.old }
     {
-        self.serve_each(hub, moment, places)?;
+        let mut last = None;
+        for place in places {
+            if !is_above(last, *place) {
+                continue;
+            }
+            last = Some(*place);
+            if *place < self.count() {
+                self.serve(hub, *place, moment)?;
+            }
+        }
         self.part_and_tick(hub, moment)
     }
 
@@ -255,7 +221,7 @@ fn note_ended<T: Read + Write + Drop>(peers: &Peers<T>, notes: &mut Notes) {
     for n in 0..peers.count() {
         let peer = peers.peer(n);
         if let Stage::Ended(cause) = peer.stage() {
-            notes.add(peer.route(), None, Happened::Ended(cause));
+            notes.add(Some(peer.route()), None, Happened::Ended(cause));
         }
     }
 }

@@ -48,7 +48,7 @@ impl<T: Read + Write + Served + Drop> Gateway<T> {
             Ok(is_known) => is_known,
             Err(fault) => {
                 self.notes
-                    .add(&upgrade.route, address, Happened::Failed(fault));
+                    .add(Some(&upgrade.route), address, Happened::Failed(fault));
                 return Err(fault);
             }
         };
@@ -67,7 +67,7 @@ impl<T: Read + Write + Served + Drop> Gateway<T> {
             }
             Err(_) => {
                 let lost = Happened::Refused(Refusal::Lost);
-                self.notes.add(&upgrade.route, address, lost);
+                self.notes.add(Some(&upgrade.route), address, lost);
                 Ok(())
             }
         }
@@ -85,7 +85,7 @@ impl<T: Read + Write + Served + Drop> Gateway<T> {
             Route::Operator(op) if self.peers.count_of(op.as_str()) >= MAX_CONNECTIONS => Some(
                 Answer::Unavailable,
             ),
-            Route::Operator(_) | Route::Station(_, _) | Route::Nothing => None,
+            Route::Operator(_) | Route::Station(_, _) => None,
         }
     }
 
@@ -96,7 +96,7 @@ impl<T: Read + Write + Served + Drop> Gateway<T> {
         let _closed = refuse(stream, upgrade.len, answer);
         if let Some(refusal) = Refusal::of(answer) {
             let refused = Happened::Refused(refusal);
-            self.notes.add(&upgrade.route, address, refused);
+            self.notes.add(Some(&upgrade.route), address, refused);
         }
     }
 }
@@ -115,6 +115,5 @@ fn is_known<S: Store + Drop, V: VendorHandler>(
     match route {
         Route::Station(op, station) => hub.knows(op.as_str(), station.as_str()),
         Route::Operator(op) => Ok(hub.hosts(op.as_str())),
-        Route::Nothing => Ok(false),
     }
 }

@@ -2,7 +2,7 @@ use Rattle.std.proofs.Common.{List, refl}
 use Rattle.ws_server.specs.Admits.{Admits}
 use Rattle.ws_server.specs.Steps.{Step}
 use Rattle.ws_server.specs.Tells.{peers_of}
-use Rattle.ws_server.proofs.AdmitLaws.{no_subprotocol, no_path}
+use Rattle.ws_server.proofs.AdmitLaws.{no_subprotocol}
 use Rattle.ws_server.proofs.StepLaws.{nothing}
 use Rattle.ws_server.proofs.gateway.Gateway.admit.Goals as goal
 
@@ -13,11 +13,3 @@ returns-in-Station-2-clause-takes g c =
     let r = c.shut.result in
     let Change : List Step → Type 0 = λ steps. Admits g.T.Write.contents c.args.socket c.args.moment c.args.arrival.route c.args.arrival.offers_ocpp old new steps r in
     nothing _ _ _ _ Change (no_subprotocol g.T.Write.contents c.args.socket c.args.moment c.args.arrival.route c.args.arrival.offers_ocpp old new r _ _ c.in-Station-2.is c.if-arrival.false c.shut.ensures.closed) (λ clean. refl)
-
-pub returns-in-Nothing-clause-takes : goal.returns-in-Nothing-clause-takes
-returns-in-Nothing-clause-takes g c =
-    let old = peers_of c.args.self.now in
-    let new = peers_of c.shut-in-Nothing.new.self in
-    let r = c.shut-in-Nothing.result in
-    let Change : List Step → Type 0 = λ steps. Admits g.T.Write.contents c.args.socket c.args.moment c.args.arrival.route c.args.arrival.offers_ocpp old new steps r in
-    nothing _ _ _ _ Change (no_path g.T.Write.contents c.args.socket c.args.moment c.args.arrival.route c.args.arrival.offers_ocpp old new r c.in-Nothing.is c.shut-in-Nothing.ensures.closed) (λ clean. refl)

@@ -5,7 +5,7 @@ use Rattle.ws_server.specs.Steps.{Takes}
 use Rattle.ws_server.specs.Tells.{peers_of}
 use Rattle.ws_server.specs.Turns.{Serves, ascending}
 use Rattle.ws_server.proofs.StepLaws.{Rest}
-use Rattle.ws_server.proofs.gateway.Gateway.serve_each.Given as goal
+use Rattle.ws_server.proofs.gateway.Gateway.turn.Given as goal
 
 abbrev pub invariant-loop-place : goal.invariant-loop-place
 invariant-loop-place g l = record {
