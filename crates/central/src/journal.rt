@@ -87,13 +87,13 @@ struct Who<'a> {
 impl Display for Who<'_> {
     fn fmt<W: Write>(&self, f: &mut Formatter<W>) -> fmt::Result {
         match &self.note.route {
-            Route::Station(op, station) => {
+            Some(Route::Station(op, station)) => {
                 let op = op.as_str().escape_debug();
                 let station = station.as_str().escape_debug();
                 write!(f, "station {op}/{station}")?;
             }
-            Route::Operator(op) => write!(f, "operator {}", op.as_str().escape_debug())?,
-            Route::Nothing => write!(f, "connection")?,
+            Some(Route::Operator(op)) => write!(f, "operator {}", op.as_str().escape_debug())?,
+            None => write!(f, "connection")?,
         }
         match &self.note.address {
             Some(address) => write!(f, " from {address}"),
@@ -131,7 +131,6 @@ fn reason(refusal: Refusal) -> &'static str {
         Refusal::Unknown => "unknown (404)",
         Refusal::TooMany => "too many of this operator (503)",
         Refusal::NoHandshake => "no handshake (405 or 426)",
-        Refusal::NoPath => "no path",
         Refusal::NoSubprotocol => "no subprotocol ocpp1.6",
         Refusal::Gone => "no longer on record",
     }
