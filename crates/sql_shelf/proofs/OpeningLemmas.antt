@@ -1,23 +1,20 @@
 -- A database that is looked at, and what is said of it then.
-use Rattle.std.proofs.Common.{◌≡◌, ◌⊎◌, ℕ, List, [], true, false, None, Ok, Err, Result, IsTrue, IfOk, IfErr, OnOk, OnErr, IsOk, IsErr, refl, sym, ap, ◌∙◌, subst, inl, inr, arith, zero, suc}
+use Rattle.std.proofs.Common.{◌≡◌, ◌⊎◌, ℕ, List, [], true, false, Ok, Err, Result, IsTrue, IfOk, IfErr, OnOk, OnErr, IsOk, IsErr, sym, ap, ◌∙◌, subst, inl, inr, arith, zero, suc}
 use Rattle.sqlite_value.specs.Order.{Row}
-use Rattle.sqlite_trees.specs.Tree.{Trees}
 use Rattle.sqlite.specs.declared.error.Error.{Error}
-use Rattle.sqlite.specs.Effect.{Database, IsDatabase}
-use Rattle.sqlite.proofs.StateLemmas.{survives_then}
+use Rattle.sqlite.specs.Effect.{Database}
 use Rattle.sqlite.specs.State.{State, HasCleanDisk, Survives, IsRolledBack, IsUnchanged, IsNotRun}
 use Rattle.sqlite.specs.Held.{Held, state}
 use Rattle.sqlite.specs.Store.{Ghosts}
 use Rattle.sqlite_schema.specs.declared.schema.Schema.{Schema}
 use Rattle.sql_tables.specs.Opening.{no_schema, schema_at}
 use Rattle.sql_tables.specs.Tables.{first_schema, hub_schema}
-use Rattle.hub_rows.specs.Rows.{no_rows}
 use Rattle.hub_rows.proofs.WellFormedLaws.{well_formed-no_rows}
 use Rattle.hub_rows.specs.WellFormed.{WellFormedRows}
 use Rattle.sql_shelf.specs.Shelf.{AreShelved}
-use Rattle.sql_shelf.specs.Shelves.{hub_good, rows_of}
+use Rattle.sql_shelf.specs.Shelves.{hub_good}
 use Rattle.sql_shelf.specs.Kept.{Leaves}
-use Rattle.sql_shelf.specs.Opening.{Holds, IsOurs, IsSpared, Rested, Prepares, rows_at, IsRaised}
+use Rattle.sql_shelf.specs.Opening.{IsOurs, IsSpared, Rested, Prepares, rows_at, IsRaised}
 use Rattle.sql_shelf.proofs.TxLemmas.{leaves_then}
 
 -- what was begun, asked and undone
@@ -44,44 +41,6 @@ module _ {S : Type 0} (g : Ghosts S) (old tx mid end : Held S) (begun : tx ≡ r
         survives = record { clean = whole.survives.clean; shield = whole.survives.shield; counts = whole.survives.counts; limit = whole.survives.limit; closes = whole.survives.closes; crash = whole.survives.crash };
       }
 
--- ---- what is there stays
-
-module _ (old new : State) (rested : Rested old) (spared : IsSpared old new) (before : IsTrue old.is_open → (db : Trees) → old.may_leave db → db ≡ old.committed.trees) where
-  spared_crash : IsTrue old.is_open → HasCleanDisk new → (db : Trees) → new.may_leave db → (db ≡ old.committed.trees) ⊎ IsRaised old.now db
-  spared_crash up sure db may = elim (spared.survives.crash sure db may) [ inl was ↦ inl (before up db was) | inr none ↦ absurd none ]
-
-  pub spared_err : {A E : Type 0} (e : E) → Prepares {A = A} {E = E} old new (Err e)
-  spared_err e = record { serves = λ ours up. tt; taken = λ up. tt; refused = λ up. (spared.was_open up, spared.now up); crash = spared_crash; durable = λ up. tt; clean = spared.survives.clean; up = λ sure. tt }
-
-  pub spared_ok : {A E : Type 0} (x : A) → (IsTrue new.is_open → old.now.schema ≡ hub_schema) → (IsTrue new.is_open → (db : Trees) → new.may_leave db → db ≡ new.committed.trees) → (HasCleanDisk new → IsTrue new.is_open) → Prepares {A = A} {E = E} old new (Ok x)
-  spared_ok x has after opens = record {
-    serves = λ ours up.
-        let it = ours 2 (has up) in
-        let was = spared.was_open up in
-        let now = spared.now up in (
-          record {
-            schema = ap (λ (d : Database). d.schema) now ∙ has up;
-            sound = subst IsDatabase (sym now) (rested.sound was);
-            rows = subst (λ (d : Database). AreShelved hub_schema hub_good d.trees) (sym now) it.0;
-            committed = spared.committed up ∙ rested.settled was ∙ sym now;
-            mode = spared.mode ∙ rested.mode;
-            limit = spared.survives.limit ∙ rested.limit;
-          },
-          subst (λ (d : Database). WellFormedRows (rows_of d.trees)) (sym now) it.1,
-        );
-    taken = λ up. inl (has up, spared.now up);
-    refused = λ up. tt;
-    crash = spared_crash;
-    durable = λ up db may. after up db may ∙ ap (λ (d : Database). d.trees) (spared.committed up ∙ rested.settled (spared.was_open up) ∙ sym (spared.now up));
-    clean = spared.survives.clean;
-    up = opens;
-  }
-
-  -- what is said of it, if Ok is said of our schema alone
-  pub spared_result : {A E : Type 0} (r : Result A E) → (IsTrue new.is_open → old.now.schema ≡ hub_schema) → (IsTrue new.is_open → (db : Trees) → new.may_leave db → db ≡ new.committed.trees) → (HasCleanDisk new → OnOk r (IsTrue new.is_open)) → Prepares old new r
-  spared_result (Ok x) has after opens = spared_ok x has after opens
-  spared_result (Err e) has after opens = spared_err e
-
 -- ---- a text is compiled
 
 not_run : (sql : List ℕ) (params : Row) (old new : State) (e : Error) → (IsTrue old.is_open → old.committed ≡ old.now) → IsNotRun old new sql params e → IsTrue new.is_open → IsTrue old.is_open × (new.now ≡ old.now) × (new.committed ≡ old.committed)
@@ -101,15 +60,6 @@ compiled_spared {A} P sql old new r ok err survives settled before ended clean =
     it : IsTrue new.is_open → IsTrue old.is_open × (new.now ≡ old.now) × (new.committed ≡ old.committed)
     it up = go r (ok (clean up)) (err (clean up)) up
 
-pub spared_then : (a b c : State) → IsSpared a b → IsSpared b c → IsSpared a c
-spared_then a b c p q = record {
-  was_open = λ up. p.was_open (q.was_open up);
-  now = λ up. q.now up ∙ p.now (q.was_open up);
-  committed = λ up. q.committed up ∙ p.committed (q.was_open up);
-  mode = q.mode ∙ p.mode;
-  survives = survives_then a b c _ _ _ (λ _ db none. absurd none) (λ _ db none. absurd none) p.survives q.survives;
-}
-
 -- the same answer under another error
 pub prepares_as : {A B E F : Type 0} (old new : State) (r : Result A E) (q : Result B F) → Prepares old new r → OnOk q (IsOk r) → OnErr q (IsErr r) → Prepares old new q
 prepares_as old new (Ok a) (Ok b) p ok err = record { serves = p.serves; taken = p.taken; refused = p.refused; crash = p.crash; durable = p.durable; clean = p.clean; up = p.up }
@@ -117,29 +67,8 @@ prepares_as old new (Err d) (Err e) p ok err = record { serves = p.serves; taken
 prepares_as old new (Ok a) (Err e) p ok err = absurd cc
 prepares_as old new (Err d) (Ok b) p ok err = absurd cc
 
--- with no limit of steps
-pub unlimited : {S A E : Type 0} (g : Ghosts S) (old mid new : Held S) (r : Result A E) → mid ≡ record old { step_limit = None } → Prepares (state g mid) (state g new) r → Prepares (state g old) (state g new) r
-unlimited g old mid new r same p =
-    let q = subst (λ h. Prepares (state g h) (state g new) r) same p in
-    record { serves = q.serves; taken = q.taken; refused = q.refused; crash = q.crash; durable = q.durable; clean = q.clean; up = q.up }
+-- ---- what is prepared after a look is what was there before
 
-pub rested_as : {S : Type 0} (g : Ghosts S) (old mid : Held S) → mid ≡ record old { step_limit = None } → (IsTrue (state g old).is_open → IsDatabase (state g old).now) → (IsTrue (state g old).is_open → (state g old).committed ≡ (state g old).now) → old.in_transaction ≡ false → Rested (state g mid)
-rested_as g old mid same sound settled mode = subst (λ h. Rested (state g h)) (sym same) (record { sound = sound; settled = settled; mode = mode; limit = refl })
-
-pub nothing_done : {A E : Type 0} (s : State) (e : E) → (IsTrue s.is_open → (db : Trees) → s.may_leave db → db ≡ s.committed.trees) → Prepares {A = A} {E = E} s s (Err e)
-nothing_done s e before = record { serves = λ ours up. tt; taken = λ up. tt; refused = λ up. (up, refl); crash = λ up sure db may. inl (before up db may); durable = λ up. tt; clean = omega arith; up = λ sure. tt }
-
--- ---- after a look
-
-pub spared_rested : (old mid : State) → Rested old → IsSpared old mid → Rested mid
-spared_rested old mid rested spared = record {
-  sound = λ up. subst IsDatabase (sym (spared.now up)) (rested.sound (spared.was_open up));
-  settled = λ up. spared.committed up ∙ rested.settled (spared.was_open up) ∙ sym (spared.now up);
-  mode = spared.mode ∙ rested.mode;
-  limit = spared.survives.limit ∙ rested.limit;
-}
-
--- what is prepared then is what was there before
 module _ {A E : Type 0} (old mid new : State) (r : Result A E) (spared : IsSpared old mid) (opens : HasCleanDisk mid → IsTrue mid.is_open) (clean : IsTrue new.is_open → HasCleanDisk new) (prepared : Prepares mid new r) where
   mid_up : HasCleanDisk new → IsTrue mid.is_open
   mid_up sure = let doubts = prepared.clean in opens (omega (arith, doubts, sure))
@@ -168,17 +97,3 @@ pub ours_empty : (s : State) → s.now.schema ≡ no_schema → IsOurs s
 ours_empty s blank zero is = (tt, well_formed-no_rows)
 ours_empty s blank (suc zero) is = absurd (let both : no_schema.tables ≡ first_schema.tables = ap (λ (c : Schema). c.tables) (sym blank ∙ is) in cc)
 ours_empty s blank (suc (suc n)) is = absurd (let both : no_schema.tables ≡ hub_schema.tables = ap (λ (c : Schema). c.tables) (sym blank ∙ is) in cc)
-
-raised_empty : (old : Database) (new : Trees) → old.schema ≡ no_schema → IsRaised old new → rows_of new ≡ no_rows
-raised_empty old new blank it = go it.from it.was it.holds
-  where
-    go : (n : ℕ) → old.schema ≡ schema_at n → (AreShelved (schema_at n) hub_good old.trees → Holds (rows_at n old.trees) new) → rows_of new ≡ no_rows
-    go zero was holds = (holds tt).rows
-    go (suc zero) was holds = absurd (let both : no_schema.tables ≡ first_schema.tables = ap (λ (c : Schema). c.tables) (sym blank ∙ was) in cc)
-    go (suc (suc n)) was holds = absurd (let both : no_schema.tables ≡ hub_schema.tables = ap (λ (c : Schema). c.tables) (sym blank ∙ was) in cc)
-
-pub prepared_empty : {A E : Type 0} (x : A) (old new : State) → Prepares {A = A} {E = E} old new (Ok x) → old.now.schema ≡ no_schema → IsTrue new.is_open → rows_of new.now.trees ≡ no_rows
-prepared_empty x old new prepared blank up = elim (prepared.taken up) [
-  | inl taken ↦ absurd (let both : no_schema.tables ≡ hub_schema.tables = ap (λ (c : Schema). c.tables) (sym blank ∙ taken.0) in cc)
-  | inr raised ↦ raised_empty old.now new.now.trees blank raised
-]
