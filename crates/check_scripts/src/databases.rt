@@ -4,7 +4,11 @@ use crate::script::names;
 use crate::stores;
 use anyhow::{Context, Result};
 use std::fs;
+use std::path::Path;
 use store_sql::PrepareFault;
+
+/// The most bytes of a log without a change.
+const EMPTY_LOG: usize = 41;
 
 /// Opens each database of this folder, and prints what the store says of it.
 pub fn open_all(rt: &HostRuntime) -> Result<()> {
@@ -17,19 +21,28 @@ pub fn open_all(rt: &HostRuntime) -> Result<()> {
     Ok(())
 }
 
-/// Opens a database, prints what the store says of it, and whether its file has changed.
+/// Opens a database, prints what the store says of it, and whether its file has changed or its log has changes.
 fn open(rt: &HostRuntime, name: &str) -> Result<()> {
     let path = format!(in rt.alloc(); "{name}.db")?;
     let before = fs::read(rt, path.as_str())?;
     let said = said(rt, path.as_str());
     let after = fs::read(rt, path.as_str())?;
-    let change = if before == after {
+    let change = if before == after && !has_changes(rt, path.as_str())? {
         "as it was"
     } else {
         "changed"
     };
     println!(rt; "{name}: {said}, {change}")?;
     Ok(())
+}
+
+/// Whether the log beside a file has changes.
+fn has_changes(rt: &HostRuntime, path: &str) -> Result<bool> {
+    let log = format!(in rt.alloc(); "{path}-wal")?;
+    if !Path::new(log.as_str()).exists(rt) {
+        return Ok(false);
+    }
+    Ok(fs::read(rt, log.as_str())?.len() > EMPTY_LOG)
 }
 
 /// What the store says of the database in a file.

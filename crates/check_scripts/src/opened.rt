@@ -14,8 +14,9 @@ pub fn check_opened(rt: &HostRuntime) -> Result<Tally> {
         let copy = format!(in rt.alloc(); "{name}.copy")?;
         fs::copy(rt, format!(in rt.alloc(); "{name}.db")?, copy.as_str())?;
         for part in ["opened", "again"] {
-            let passes = passes(rt, copy.as_str(), name.as_str(), part)
-                .context(format_args!("{part} {name}"))?;
+            let passes = passes(rt, copy.as_str(), name.as_str(), part).context(format_args!(
+                "{part} {name}"
+            ))?;
             tally.count(passes);
         }
     }
