@@ -1,4 +1,5 @@
-//! A database of schema 1 whose opening is stopped at each call on a file, and which is opened again.
+//! A database of schema 1 whose opening is stopped at each call on its log, and which is opened again. Nothing is written
+//! to its own file.
 
 use crate::disks::{At, Database, File, Leaves, Opened, close, open_again, open_file};
 use crate::runs::records_in;
@@ -6,7 +7,7 @@ use anyhow::{Result, bail};
 use hub::Event;
 use std::alloc::Global;
 
-/// More calls than an opening makes on a file.
+/// More calls than an opening makes on a log.
 const MAX_CALLS: u64 = 1000;
 
 /// A database of schema 1, the events that list its records, and what these print.
@@ -41,12 +42,12 @@ impl First {
         })
     }
 
-    /// Stops the opening at each call on the file, and opens the files again.
-    pub fn try_stops(&self, alloc: Global, file: File, leaves: Leaves) -> Result<Stops> {
+    /// Stops the opening at each call on the log, and opens the files again.
+    pub fn try_stops(&self, alloc: Global, leaves: Leaves) -> Result<Stops> {
         let mut tally = Stops::default();
         for calls in 0..MAX_CALLS {
             let at = At {
-                file,
+                file: File::Log,
                 leaves,
                 calls,
             };
