@@ -28,10 +28,10 @@ fn status(row: &Row) -> Result<ReportedStatus, StoreFault>
     ensures { IfOk result (λ s. s ≡ status_in (column row.now 2) (column row.now 3)) }
 {
     let kind = text(row, 2)?;
-    if kind.as_str() == "Diagnostics" {
-        Ok(ReportedStatus::Diagnostics(named(row, 3)?))
-    } else {
-        Ok(ReportedStatus::Firmware(named(row, 3)?))
+    match kind.as_str() {
+        "Diagnostics" => Ok(ReportedStatus::Diagnostics(named(row, 3)?)),
+        "Firmware" => Ok(ReportedStatus::Firmware(named(row, 3)?)),
+        _ => Err(StoreFault::Failed),
     }
 }
 
