@@ -250,6 +250,12 @@ def page_size(db):
     return size
 
 
+def statements_of_operations():
+    """The statements of docs/OPERATIONS.md that put hub_report last in the schema."""
+    text = (Path(__file__).resolve().parent.parent / "docs" / "OPERATIONS.md").read_text()
+    return re.search(r"CREATE TEMP TABLE kept.*?COMMIT;", text, re.S)[0]
+
+
 def check_pages(checks):
     """A new file has small pages, and one that is there keeps its own until sqlite3 changes them, as OPERATIONS says."""
     words = ["replay", "--operators", "ACME", "--db"]
@@ -265,6 +271,11 @@ def check_pages(checks):
     database = sqlite3.connect(empty, isolation_level=None)
     for statement in ("PRAGMA journal_mode = DELETE", "PRAGMA page_size = 1024", "VACUUM", "PRAGMA journal_mode = WAL"):
         database.execute(statement).fetchall()
+    refused = (2, "", "fault Store: the database failed\n")
+    database.close()
+    checks.check("a file after VACUUM", checks.run(*words, empty, lines=b"2 ACME list tags\n"), refused)
+    database = sqlite3.connect(empty, isolation_level=None)
+    database.executescript(statements_of_operations())
     database.close()
     checks.check("smaller pages", page_size(empty), 1024)
     for db in (small, empty, drafted):
