@@ -1,7 +1,7 @@
 """Checks that a refused allocation costs no more than the event that met it. Each allocation of replays, of the opening
-of a file of schema 1 and of a session at the server is refused once, by refusing_malloc.c under the built program, and
-each of scripts whose events are handed once more, under the program of the scripts. Prints a line for each scenario, then `N passed, M failed`.
-With --small it refuses fewer.
+of a file of each earlier schema and of a session at the server is refused once, by refusing_malloc.c under the built
+program, and each of scripts whose events are handed once more, under the program of the scripts. Prints a line for each
+scenario, then `N passed, M failed`. With --small it refuses fewer.
 
     python3 checks/allocations.py crates/central/out/central crates/check_scripts/out/check_scripts [--small]
 
@@ -23,7 +23,7 @@ import time
 from pathlib import Path
 
 from peer import BOOT, Peer
-from programs import SCRIPTS, TIME, listening
+from programs import EARLIER, MORE, SCHEMA, SCRIPTS, TIME, listening
 
 PORT = 9287
 SOURCE = Path(__file__).with_name("refusing_malloc.c")
@@ -34,6 +34,7 @@ REPLAYED = (
     "reservations",
     "local_list_of_a_station",
     "reports_of_a_station",
+    "use_of_a_granted_tag",
 )
 NEVER, ALWAYS = 0, (1 << 64) - 1
 ANSWER = re.compile(r'(.* frame \S+ \[3,")(\d+)(".*)', re.DOTALL)
@@ -259,16 +260,16 @@ def check_replays(checks):
 
 
 def schema(db):
-    """The number of the schema of a database, and whether it has a table of reports."""
+    """The number of the schema of a database, and its tables beside those of schema 1."""
     rows = records(db)[0]
-    return rows["hub_meta"][0][1], "hub_report" in rows
+    return rows["hub_meta"][0][1], [table for table in rows if table in MORE[SCHEMA]]
 
 
-def check_first_schema(checks):
-    """Copies of a file of schema 1 are opened, each with one allocation refused. Each has schema 1 or 2 then, whole, and
-    a replay over it lists what was on record."""
-    scenario = "a file of schema 1 is opened, one refused"
-    script = SCRIPTS / "records_in_each_list"
+def check_earlier_schema(checks, earlier):
+    """Copies of a file of an earlier schema are opened, each with one allocation refused. Each has that schema or
+    this one then, whole, and a replay over it lists what was on record."""
+    scenario = f"a file of schema {earlier} is opened, one refused"
+    script = SCRIPTS / EARLIER[earlier]
     lines, wanted = (script.with_suffix(end).read_text() for end in (".opened", ".opened_expected"))
 
     def opened(number):
@@ -285,7 +286,8 @@ def check_first_schema(checks):
         how, found = ending(ran, ""), schema(db)
         endings[f"{how or 'OTHERWISE'}, schema {found[0]}"] += 1
         checks.check(f"{scenario}, allocation {number}", not how and "another end", ran)
-        checks.check(f"{scenario}, allocation {number}", found not in ((1, False), (2, True)) and "the schema", found)
+        is_whole = found in [(n, MORE[n]) for n in (earlier, SCHEMA)]
+        checks.check(f"{scenario}, allocation {number}", not is_whole and "the schema", found)
         again = checks.replay(lines, db)
         checks.check(f"{scenario}, allocation {number}", again != (0, wanted, "") and "other records", again)
         remove(db)
@@ -498,7 +500,8 @@ def main():
             for name in HANDED:
                 check_handed_again(checks, kind, name)
         check_replays(checks)
-        check_first_schema(checks)
+        for earlier in EARLIER:
+            check_earlier_schema(checks, earlier)
         check_serve(checks)
     print(f"{checks.passed} passed, {checks.failed} failed")
     sys.exit(1 if checks.failed else 0)

@@ -39,7 +39,8 @@ ANSWERS = {
 
 
 def start(number):
-    return f'[2,"4","StartTransaction",{{"connectorId":1,"idTag":"SIM1","meterStart":{number},{AT}}}]'
+    """A start with a tag of BETA, whose stop settles a use."""
+    return f'[2,"4","StartTransaction",{{"connectorId":1,"idTag":"ROAM","meterStart":{number},{AT}}}]'
 
 
 def stop(number):
@@ -110,6 +111,11 @@ def lines(peer, line):
     return rows[:-1]
 
 
+def records():
+    """What is listed to ACME, and the uses of BETA's tags."""
+    return [lines(operator(), line) for line in LISTS] + [lines(operator("BETA"), "list uses")]
+
+
 def refused(checks, server, what, peer, text):
     """A change ends its connection, and a fault is named."""
     server.errors()
@@ -119,23 +125,24 @@ def refused(checks, server, what, peer, text):
 
 def check_full(checks, server, size):
     """While no write goes past that size, which is too small for any change."""
-    before = [lines(operator(), line) for line in LISTS]
+    before = records()
     server.limit(size)
     for text, wanted in ANSWERS.items():
         if text not in (STATUS, REPORT):
             checks.check("a read while the disk is full", answer(station(), text), wanted)
-    checks.check("listings while the disk is full", [lines(operator(), line) for line in LISTS], before)
+    checks.check("listings while the disk is full", records(), before)
     number = len(before[0]) + 1
     refused(checks, server, "a start", station(), start(number))
+    refused(checks, server, "a stop that settles a use", station(), stop(1))
     refused(checks, server, "a report on a connector", station(), STATUS)
     refused(checks, server, "a report on an update", station(), REPORT)
     refused(checks, server, "a boot", station(), BOOT)
     refused(checks, server, "a tag", operator(), "tag put SIM2 - 0 -")
     refused(checks, server, "a station", operator(), "station add CP09 Accepted 300")
     checks.check("a refusal", answer(operator(), "tag drop SIM9"), "ACME refused 3 NoSuchTag")
-    checks.check("another operator", answer(operator("BETA"), "list tags"), "BETA ok")
+    checks.check("another operator", answer(operator("BETA"), "list stations"), "BETA ok")
     checks.check("no connection is left", answer(operator(), "call CP01 ClearCache {}"), "ACME refused 7 NotConnected")
-    checks.check("listings after what was refused", [lines(operator(), line) for line in LISTS], before)
+    checks.check("listings after what was refused", records(), before)
     return number
 
 
@@ -167,6 +174,8 @@ def check_room(checks, server, number):
     checks.check("a tag with room", answer(operator(), f"tag put N{number} - 0 -"), "ACME ok")
     transactions = lines(operator(), "list transactions CP01")
     checks.check("transactions on record", len(transactions), number)
+    uses = [" ".join(row.split(" ")[2:5]) for row in lines(operator("BETA"), "list uses")]
+    checks.check("uses on record", uses, [f"use {place} ACME" for place in range(1, number)])
     checks.check("no fault", server.errors(), [])
 
 
@@ -175,20 +184,27 @@ def check_all(checks, program, folder):
     try:
         for line in ("station add CP01 Accepted 300", "tag put SIM1 - 0 -"):
             checks.check(line, answer(operator(), line), "ACME ok")
+        for line in ("tag put ROAM - 0 -", "grant ROAM ACME -", "tag put OPEN - 0 -", "grant OPEN ACME -"):
+            checks.check(line, answer(operator("BETA"), line), "BETA ok")
         booted = '[3,"1",{"currentTime":"T","interval":300,"status":"Accepted"}]'
         checks.check("a boot", answer(station(), BOOT), booted)
+        opened = '[3,"4",{"idTagInfo":{"status":"Accepted"},"transactionId":1}]'
+        checks.check("a start that stays open", answer(station(), start(1).replace("ROAM", "OPEN")), opened)
         for size in (0, 1024, 4096):
             check_room(checks, server, check_full(checks, server, size))
         for more in (0, 300, 600, 1500):
             check_room(checks, server, check_filling(checks, server, more))
         checks.check("the server goes on", server.process.poll(), None)
-        listed = [lines(operator(), line) for line in LISTS]
+        listed = records()
     finally:
         server.process.kill()
         server.process.wait()
     again = Server(program, folder)
     try:
-        checks.check("after a restart", [lines(operator(), line) for line in LISTS], listed)
+        checks.check("after a restart", records(), listed)
+        checks.check("the stop of the first start", answer(station(), stop(1)), '[3,"5",{}]')
+        last = [re.sub(r" \d+ 1$", " T 1", row) for row in lines(operator("BETA"), "list uses")[len(listed[-1]) :]]
+        checks.check("its use", last, [f'BETA row use {len(listed[-1]) + 1} ACME "open" T 1'])
     finally:
         again.process.kill()
         again.process.wait()

@@ -83,7 +83,7 @@ class Script:
         self.frame(operator, "S4", "Heartbeat", "{}")
 
     def session(self, operator, station, turn):
-        """A transaction with readings; each fifth stays open."""
+        """A transaction with readings; each fifth stays open, and one of five begins with a tag of the other operator."""
         number = self.begun[operator, station] = self.begun.get((operator, station), 0) + 1
         other = "BETA" if operator == "ACME" else "ACME"
         values = f'[{{"timestamp":"{WHEN}","sampledValue":[{{"value":"{turn}.5","unit":"kWh"}},{{"value":"é"}}]}}]'
@@ -97,7 +97,8 @@ class Script:
             self.frame(operator, station, "Authorize", f'{{"idTag":"{tag}"}}')
         reserve = f'"connectorId":1,"expiryDate":"2030-01-01T00:00:00Z","idTag":"K0","reservationId":{turn}'
         self.command(operator, station, "ReserveNow", f"{{{reserve}}}", '{"status":"Accepted"}')
-        start = f'"connectorId":1,"idTag":"K{turn % 4}","meterStart":{turn},"timestamp":"{WHEN}"'
+        tag = other if turn % 5 == 1 else f"K{turn % 4}"
+        start = f'"connectorId":1,"idTag":"{tag}","meterStart":{turn},"timestamp":"{WHEN}"'
         named = f',"reservationId":{turn}' if turn % 2 else ""
         self.frame(operator, station, "StartTransaction", f"{{{start}{named}}}")
         members = f'"connectorId":1,"transactionId":{number},"meterValue":{values}'
@@ -117,7 +118,7 @@ class Script:
             self.command(operator, station, "CancelReservation", f'{{"reservationId":{turn}}}', '{"status":"Accepted"}')
 
     def listings(self, operator):
-        for what in ("stations", "tags", "grants", "granted"):
+        for what in ("stations", "tags", "grants", "granted", "uses"):
             yield f"{self.end} {operator} list {what}"
         for what in LISTINGS:
             for name, *_ in self.stations:

@@ -39,6 +39,7 @@ ROWS = [
     f"tag {TEXT} {MAYBE} [01] {NUMBER}",
     rf"grant {TEXT} \S+ {NUMBER}",
     rf"granted \S+ {TEXT} {MAYBE} [01] {NUMBER}",
+    rf"use \d+ \S+ {TEXT} \d+ -?\d+",
     rf"connector \S+ \d+ [A-Za-z]+ [A-Za-z]+ -?\d+ {MAYBE} {MAYBE} {MAYBE}",
     rf"transaction \S+ \d+ \d+ {TEXT} [A-Za-z]+ -?\d+ -?\d+ {NUMBER} (- - - -|-?\d+ -?\d+ [A-Za-z]+ {MAYBE})",
     rf"reading \S+ \d+ \d+ {NUMBER} -?\d+ [\w.]+ (Raw|SignedData) [\w.]+ [\w-]+ \w+ (-|\w+) {NUMBER} {TEXT}",
@@ -307,7 +308,7 @@ def check_rows(checks, world, lines):
 
 
 def listings_of(world, moment):
-    for what in ("stations", "tags", "grants", "granted"):
+    for what in ("stations", "tags", "grants", "granted", "uses"):
         yield f"{moment} GAMMA list {what}"
     for what in ("connectors", "transactions", "readings", "reservations", "locallist", "reports"):
         for name in world.stations:

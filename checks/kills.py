@@ -1,8 +1,9 @@
 """Kills the server at random moments under a load of eight stations and two operators, opens its file again each time,
-and checks that all that was acknowledged is on record, that what was in flight is there whole or not at all, and that
-numbers go on. Then kills it as it opens copies of a file of schema 1, and checks that each has schema 1 or 2, whole, and
-its records. Prints how many of the changes in flight were found made, how many of the copies were found with schema 2,
-then `N passed, M failed`.
+and checks that all that was acknowledged is on record, that what was in flight is there whole or not at all, that each
+transaction on record which is stopped and began with a granted tag has settled one use, and that numbers go on. Then
+kills it as it opens copies of files of each earlier schema, and checks that each has that schema or this one, whole, and
+its records. Prints how many of the changes in flight were found made, how many uses there are, how many of the copies
+were found with this schema, then `N passed, M failed`.
 
     python3 checks/kills.py crates/central/out/central [KILLS] [SEED]
 """
@@ -21,7 +22,7 @@ import threading
 import time
 
 from peer import BOOT, Peer
-from programs import SCRIPTS, listening
+from programs import EARLIER, MORE, SCHEMA, SCRIPTS, listening
 
 PORT = 9289
 OPERATORS = {"ACME": "BETA", "BETA": "ACME"}
@@ -34,8 +35,6 @@ STATUSES = {
     "Diagnostics": ("Idle", "Uploaded", "UploadFailed", "Uploading"),
     "Firmware": ("Downloaded", "DownloadFailed", "Installing", "Installed"),
 }
-# The number of the schema, and whether there is a table of reports.
-WHOLE = [(1, False), (2, True)]
 
 
 class Load:
@@ -98,6 +97,11 @@ class Station(Load):
             f'Energy.Active.Import.Register - Outlet - {value * 1_000_000} "{value}"'
         )
 
+    def energies(self):
+        """The Wh of its transactions that are stopped and began with the granted tag."""
+        words = [row.split(" ") for row in self.rows[self.transactions] if f' "ROAM{self.name}" ' in row]
+        return [int(row[11]) - int(row[8]) for row in words if row[11] != "-"]
+
     def step(self):
         rows = self.rows[self.transactions]
         number = len(rows)
@@ -133,9 +137,10 @@ class Station(Load):
             text = f'[2,"e","StopTransaction",{{"meterStop":{value},{AT},"transactionId":{number},{data}}}]'
         else:
             meter = self.steps
-            row = f'{self.op} row transaction {self.name} {number + 1} 1 "OWN{self.name}" Accepted {meter} {MS} - - - - -'
+            tag = self.random.choice((f"OWN{self.name}", f"ROAM{self.name}"))
+            row = f'{self.op} row transaction {self.name} {number + 1} 1 "{tag}" Accepted {meter} {MS} - - - - -'
             flight = {self.transactions: rows + [row]}
-            text = f'[2,"s","StartTransaction",{{"connectorId":1,"idTag":"OWN{self.name}","meterStart":{meter},{AT}}}]'
+            text = f'[2,"s","StartTransaction",{{"connectorId":1,"idTag":"{tag}","meterStart":{meter},{AT}}}]'
         self.flight = flight
         answer = self.ask(text)
         if answer[0] != 3:
@@ -150,7 +155,8 @@ class Operator(Load):
         lists = ["tags", "grants", *(f"{what} {name}" for name in STATIONS[op] for what in ("reservations", "locallist"))]
         super().__init__(op, lists, seed)
         self.op, self.path = op, f"/operator/{op}"
-        self.rows["tags"] = [f'{op} row tag "OWN{name}" - 0 -' for name in STATIONS[op]]
+        self.rows["tags"] = [f'{op} row tag "{kind}{name}" - 0 -' for kind in ("OWN", "ROAM") for name in STATIONS[op]]
+        self.rows["grants"] = [f'{op} row grant "roam{name.lower()}" {OPERATORS[op]} -' for name in STATIONS[op]]
         self.rows.update({f"locallist {name}": [f"{op} row locallist {name} 0"] for name in STATIONS[op]})
         self.version = 0
 
@@ -230,12 +236,17 @@ class Server:
         self.process.wait()
 
 
+def row_of(line):
+    """A row of a listing, with T for the moment of a report."""
+    return re.sub(r"^(\S+ row report .*) \d+$", r"\1 T", line)
+
+
 def listing(peer, name):
-    """The rows of a listing, with T for the moment of a report."""
+    """The rows of a listing."""
     peer.send(f"list {name}")
     rows = []
     while not (line := peer.next()).endswith(" ok"):
-        rows.append(re.sub(r"^(\S+ row report .*) \d+$", r"\1 T", line))
+        rows.append(row_of(line))
     return rows
 
 
@@ -260,18 +271,19 @@ def whole(db, folder):
 
 
 def schema(db, folder):
-    """The number of the schema of a database, and whether it has a table of reports."""
+    """The number of the schema of a database, and its tables beside those of schema 1."""
     with copied(db, folder) as database:
-        tables = {name for (name,) in database.execute("SELECT name FROM sqlite_master WHERE type = 'table'")}
-        return database.execute("SELECT number FROM hub_meta").fetchone()[0], "hub_report" in tables
+        tables = [name for (name,) in database.execute("SELECT name FROM sqlite_master WHERE type = 'table' ORDER BY name")]
+        number = database.execute("SELECT number FROM hub_meta").fetchone()[0]
+        return number, [name for name in tables if name in MORE[SCHEMA]]
 
 
-def first_records():
-    """The listings of the file of schema 1: operator, name and rows of each."""
-    script = SCRIPTS / "records_in_each_list"
+def records_of(name):
+    """The listings of the file of an earlier schema: operator, name and rows of each."""
+    script = SCRIPTS / name
     asked = re.findall(r"^\d+ (\S+) list (.*)$", script.with_suffix(".script").read_text(), re.M)
     blocks = re.split(r"^\S+ ok\n", script.with_suffix(".expected").read_text(), flags=re.M)[:-1]
-    rows = [[line for line in block.splitlines() if line.split(" ")[1] == "row"] for block in blocks[-len(asked) :]]
+    rows = [[row_of(line) for line in block.splitlines() if line.split(" ")[1] == "row"] for block in blocks[-len(asked) :]]
     return [(op, name, listed) for (op, name), listed in zip(asked, rows)]
 
 
@@ -282,6 +294,7 @@ class Checks:
         self.random = random.Random(seed)
         self.loads = [Operator(op, f"{seed}{op}") for op in OPERATORS]
         self.loads += [Station(op, name, f"{seed}{op}{name}") for op in OPERATORS for name in STATIONS[op]]
+        self.uses = {}
         self.passed = self.failed = self.in_flight = self.made = 0
 
     def check(self, what, passes, seen=""):
@@ -292,13 +305,15 @@ class Checks:
             print(f"{what}\n  {seen}", flush=True)
 
     def begin(self):
-        """The stations are added, and each has a tag that stays."""
+        """The stations are added, and each has a tag that stays, and one that the other operator grants."""
         server = Server(self.program, self.db)
         for op in OPERATORS:
             peer = Peer(PORT, f"/operator/{op}")
             for name in STATIONS[op]:
                 peer.ask(f"station add {name} Accepted 300")
                 peer.ask(f"tag put OWN{name} - 0 -")
+                peer.ask(f"tag put ROAM{name} - 0 -")
+                peer.ask(f"grant ROAM{name} {OPERATORS[op]} -")
         server.kill()
 
     def one_kill(self, number):
@@ -327,27 +342,42 @@ class Checks:
             self.in_flight += bool(load.flight)
             self.made += found == 1
             load.rows.update(listed)
+        for owner, host in OPERATORS.items():
+            self.look_at_uses(number, listing(peers[owner], "uses"), owner, host)
         server.kill()
 
-    def kill_as_it_opens(self, number, records):
-        """Kills the server as it opens a copy of a file of schema 1. Whether the copy has schema 2 then."""
-        db = os.path.join(self.folder, f"first{number}.db")
-        shutil.copy(SCRIPTS / "records_in_each_list.db", db)
+    def look_at_uses(self, number, uses, owner, host):
+        """An owner's uses are numbered without gaps, and those of each tag are the energies of the transactions on record
+        that began with it and are stopped."""
+        words = [row.split(" ") for row in uses]
+        counted = [[owner, "row", "use", str(place), host] for place in range(1, len(words) + 1)]
+        self.check(f"kill {number}: the uses of {owner}", [use[:5] for use in words] == counted, uses)
+        stations = [load for load in self.loads if load.owner == host and isinstance(load, Station)]
+        for load in stations:
+            settled = [int(use[7]) for use in words if use[5] == f'"roam{load.name.lower()}"']
+            self.check(f"kill {number}: uses at {load.path}", settled == load.energies(), (settled, load.energies()))
+        self.uses[owner] = len(words)
+
+    def kill_as_it_opens(self, number, earlier, records):
+        """Kills the server as it opens a copy of the file of an earlier schema. Whether the copy has this schema then."""
+        db = os.path.join(self.folder, f"earlier{number}.db")
+        shutil.copy(SCRIPTS / f"{EARLIER[earlier]}.db", db)
         process = subprocess.Popen(server_words(self.program, db))
         time.sleep(self.random.uniform(0, 0.02))
         process.kill()
         process.wait()
         found = schema(db, self.folder)
-        self.check(f"kill {number} at the start: the schema", found in WHOLE, found)
+        self.check(f"kill {number} at the start: the schema", found in [(n, MORE[n]) for n in (earlier, SCHEMA)], found)
         self.check(f"kill {number} at the start: the database", whole(db, self.folder) == [("ok",)])
         server = Server(self.program, db)
         peers = {op: Peer(PORT, f"/operator/{op}") for op in OPERATORS}
         listed = [(op, name, listing(peers[op], name)) for op, name, _ in records]
         self.check(f"kill {number} at the start: the records", listed == records, listed)
-        reports = listing(peers["ACME"], "reports CP01")
-        self.check(f"kill {number} at the start: no reports", reports == [], reports)
+        more = [listing(peers[op], "uses") for op in OPERATORS]
+        more += [listing(peers["ACME"], "reports CP01")] if earlier == 1 else []
+        self.check(f"kill {number} at the start: no records of later schemas", not any(more), more)
         server.kill()
-        return found == WHOLE[1]
+        return found[0] == SCHEMA
 
 
 def main():
@@ -360,9 +390,11 @@ def main():
             checks.one_kill(number)
         steps = sum(load.steps for load in checks.loads)
         print(f"{kills} kills, {steps} changes acknowledged, {checks.made} of {checks.in_flight} in flight found made")
-        records = first_records()
-        migrated = sum(checks.kill_as_it_opens(number, records) for number in range(1, kills + 1))
-        print(f"{kills} kills at the start, {migrated} files found with schema 2")
+        print(f"{sum(checks.uses.values())} uses on record")
+        records = {number: records_of(name) for number, name in EARLIER.items()}
+        earlier = [(number, number % 2 + 1) for number in range(1, kills + 1)]
+        migrated = sum(checks.kill_as_it_opens(number, old, records[old]) for number, old in earlier)
+        print(f"{kills} kills at the start, {migrated} files found with schema {SCHEMA}")
     print(f"{checks.passed} passed, {checks.failed} failed")
     sys.exit(checks.failed > 0)
 

@@ -2,9 +2,9 @@
 """Makes the databases in crates/check_scripts/data: files of other programs, of later versions and of odd shapes.
 
 Run it at the top of the repository, after a change of the tables. It reads their texts from
-crates/sql_tables/specs/Statements.antt. The files are written by SQLite itself, all but records_in_each_list.db. That
-one has schema 1: it is what `central replay --db` of that version made of records_in_each_list.script, with rows in each
-table. It is never made anew.
+crates/sql_tables/specs/Statements.antt. The files are written by SQLite itself, all but records_in_each_list.db and
+records_of_schema_2.db. Those have schema 1 and 2: each is what `central replay --db` of that version made of the script
+of its name, with rows in each table. They are never made anew.
 """
 import os
 import re
@@ -15,19 +15,31 @@ TEXTS = dict(re.findall(r'^(create_\w+) = codes "(.*)"$', open("crates/sql_table
 META = TEXTS["create_meta"]
 NUMBER = "INSERT INTO hub_meta VALUES ('schema', %d)"
 # the tables and indexes of each schema, in their order
-FIRST_TABLES = [text for name, text in TEXTS.items() if name != "create_report"]
+THIRD = ("create_tx_owner", "create_use")
+FIRST_TABLES = [text for name, text in TEXTS.items() if name not in ("create_report", *THIRD)]
+SECOND_TABLES = [text for name, text in TEXTS.items() if name not in THIRD]
 TABLES = list(TEXTS.values())
 FIRST = FIRST_TABLES + [NUMBER % 1]
-OURS = TABLES + [NUMBER % 2]
+SECOND = SECOND_TABLES + [NUMBER % 2]
+OURS = TABLES + [NUMBER % 3]
 STATION = (
     "INSERT INTO hub_station VALUES"
     " ('ACME', 'CP01', 'Accepted', 300, 'Fresh', NULL, NULL, NULL, NULL, NULL, NULL, NULL, NULL, NULL, NULL)"
 )
 TAG = "INSERT INTO hub_tag VALUES ('ACME', 'k1', 'K1', NULL, NULL, 0, NULL)"
+REPORT = "INSERT INTO hub_report VALUES ('ACME', 'CP01', 'Firmware', 'Installed', 1704067200)"
+TX = (
+    "INSERT INTO hub_tx VALUES ('ACME', 'CP01', 1, 1, 'k2', 100, 1704067200000, 'K2', NULL, 'Accepted', 1704067200, 1, 1,"
+    " NULL, NULL, NULL, NULL, NULL)"
+)
+OWNER = "INSERT INTO hub_tx_owner VALUES ('ACME', 'CP01', 1, 'BETA')"
+USE = "INSERT INTO hub_use VALUES ('BETA', 1, 'ACME', 'k2', 1704067200, 1500)"
+SECOND_ROWS = [STATION, TAG, REPORT]
+ROWS = SECOND_ROWS + [TX, OWNER, USE]
 
 
-def database(name, statements):
-    """A database that is made by these statements."""
+def database(name, statements, vacuum=False):
+    """A database that is made by these statements, and maybe written anew."""
     path = os.path.join(FOLDER, name + ".db")
     if os.path.exists(path):
         os.remove(path)
@@ -36,6 +48,8 @@ def database(name, statements):
     for statement in statements:
         made.execute(statement)
     made.commit()
+    if vacuum:
+        made.execute("VACUUM")
     made.close()
 
 
@@ -56,10 +70,11 @@ raw("half_a_header", b"SQLite format 3\0")
 database("no_table", ["CREATE TABLE t (a)", "DROP TABLE t"])
 database("tag_without_meta", [TEXTS["create_tag"]])
 database("report_without_meta", [TEXTS["create_report"]])
+database("use_without_meta", [TEXTS["create_use"]])
 database("other_program", ["CREATE TABLE person (name TEXT)", "INSERT INTO person VALUES ('A')"])
 database("later_version", [META, NUMBER % 9])
-database("later_version_with_other_tables", [META, NUMBER % 3, "CREATE TABLE person (name TEXT)"])
-database("later_version_with_our_tables", TABLES + [NUMBER % 3])
+database("later_version_with_other_tables", [META, NUMBER % 4, "CREATE TABLE person (name TEXT)"])
+database("later_version_with_our_tables", TABLES + [NUMBER % 4])
 database("meta_without_row", [META])
 database("meta_with_two_rows", meta("'schema', 2", "'other', 2"))
 database("meta_with_0", meta("'schema', 0"))
@@ -70,14 +85,25 @@ database("meta_with_two_numbers", meta("2, 2", columns="version INTEGER, number 
 database("meta_of_one_column", meta("9", columns="version INTEGER"))
 database("meta_as_a_view", ["CREATE TABLE t (number INTEGER)", "INSERT INTO t VALUES (2)", "CREATE VIEW hub_meta AS SELECT number FROM t"])
 database("ours", OURS)
-database("ours_with_rows", OURS + [STATION, TAG, "INSERT INTO hub_report VALUES ('ACME', 'CP01', 'Firmware', 'Installed', 1704067200)"])
+database("ours_with_rows", OURS + ROWS)
+database("ours_after_vacuum", OURS + ROWS, vacuum=True)
+database("ours_with_a_table_last", [text for text in OURS if text != TEXTS["create_use"]] + [TEXTS["create_use"]])
 database("ours_without_a_table", [text for text in OURS if text != TEXTS["create_reservation"]])
 database("ours_without_an_index", [text for text in OURS if text != TEXTS["create_tx_in_use"]])
 database("ours_with_another_table", OURS + ["CREATE TABLE person (name TEXT)"])
 database("ours_with_another_column", [text.replace("until INTEGER", "until INTEGER, note TEXT") for text in OURS])
 database("ours_with_the_number_1", TABLES + [NUMBER % 1])
+database("ours_with_the_number_2", TABLES + [NUMBER % 2])
+database("second", SECOND)
+database("second_with_rows", SECOND + SECOND_ROWS)
+database("second_after_vacuum", SECOND + SECOND_ROWS, vacuum=True)
+database("second_with_tables_last", FIRST_TABLES + [TEXTS["create_report"], NUMBER % 2])
+database("second_without_a_table", [text for text in SECOND if text != TEXTS["create_report"]])
+database("second_with_a_table_of_ours", SECOND + [TEXTS["create_tx_owner"]])
+database("second_with_the_number_3", SECOND_TABLES + [NUMBER % 3])
 database("first", FIRST)
 database("first_with_rows", FIRST + [STATION, TAG])
+database("first_after_vacuum", FIRST + [STATION, TAG], vacuum=True)
 database("first_without_a_table", [text for text in FIRST if text != TEXTS["create_reservation"]])
 database("first_without_an_index", [text for text in FIRST if text != TEXTS["create_tx_in_use"]])
 database("first_with_another_table", FIRST + ["CREATE TABLE person (name TEXT)"])

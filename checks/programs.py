@@ -23,6 +23,11 @@ from heads import check_heads
 from peer import BOOT, HEAD, HEARTBEAT, Peer, frame
 
 SCRIPTS = Path(__file__).resolve().parent.parent / "crates" / "check_scripts" / "data"
+# The number of the schema, and a file of each earlier one, in SCRIPTS.
+SCHEMA = 3
+EARLIER = {1: "records_in_each_list", 2: "records_of_schema_2"}
+# The tables that each schema has beside those of schema 1.
+MORE = {1: [], 2: ["hub_report"], 3: ["hub_report", "hub_tx_owner", "hub_use"]}
 
 PORT = 9281
 MOST = 1 << 20
@@ -142,7 +147,7 @@ def made(checks, *statements):
 def check_databases(checks):
     """A file that can't be used is named before the operators are looked at, and stays as it is."""
     meta = "CREATE TABLE hub_meta (name TEXT, number INTEGER)"
-    later = made(checks, meta, "INSERT INTO hub_meta VALUES ('schema', 3)")
+    later = made(checks, meta, f"INSERT INTO hub_meta VALUES ('schema', {SCHEMA + 1})")
     other = made(checks, "CREATE TABLE hub_tag (op TEXT)")
     text = checks.new_file()
     Path(text).write_text("no database\n" * 100)
@@ -162,17 +167,24 @@ def check_databases(checks):
         checks.check(f"{path} stays", before == after, True)
 
 
+def check_earlier_schemas(checks):
+    """A file of each earlier schema is replayed: its records are as they were, and it has this schema then."""
+    for number, name in EARLIER.items():
+        script, db = SCRIPTS / name, checks.new_file()
+        shutil.copy(script.with_suffix(".db"), db)
+        for part in ("opened", "again"):
+            wanted = script.with_suffix(f".{part}_expected").read_text()
+            got = checks.run("replay", "--operators", "ACME,BETA", "--db", db, lines=script.with_suffix(f".{part}").read_bytes())
+            checks.check(f"a file of schema {number}, {part}", got, (0, wanted, ""))
+        with contextlib.closing(sqlite3.connect(db)) as database:
+            checks.check("the number", database.execute("SELECT * FROM hub_meta").fetchall(), [("schema", SCHEMA)])
+            checks.check("integrity_check", database.execute("PRAGMA integrity_check").fetchall(), [("ok",)])
+
+
 def check_first_schema(checks):
-    """A file of schema 1 is served and replayed: its records are as they were, and it has schema 2 then."""
-    script = SCRIPTS / "records_in_each_list"
-    served, replayed = checks.new_file(), checks.new_file()
-    for path in (served, replayed):
-        shutil.copy(script.with_suffix(".db"), path)
-    words = ["replay", "--operators", "ACME,BETA", "--db", replayed]
-    for part in ("opened", "again"):
-        wanted = script.with_suffix(f".{part}_expected").read_text()
-        got = checks.run(*words, lines=script.with_suffix(f".{part}").read_bytes())
-        checks.check(f"a file of schema 1, {part}", got, (0, wanted, ""))
+    """A file of schema 1 is served: its records are as they were, and it has this schema then."""
+    served = checks.new_file()
+    shutil.copy(SCRIPTS / "records_in_each_list.db", served)
     with checks.serve("--operators", "ACME,BETA", db=served):
         acme, station = Peer(PORT, "/operator/ACME"), Peer(PORT, "/ocpp/ACME/CP01")
         checks.check("no reports", acme.ask("list reports CP01"), "ACME ok")
@@ -183,7 +195,7 @@ def check_first_schema(checks):
         row = acme.ask("list locallist CP01")
         checks.check("the version of the local list", row, "ACME row locallist CP01 7")
     with contextlib.closing(sqlite3.connect(served)) as database:
-        checks.check("the number", database.execute("SELECT * FROM hub_meta").fetchall(), [("schema", 2)])
+        checks.check("the number", database.execute("SELECT * FROM hub_meta").fetchall(), [("schema", SCHEMA)])
         rows = database.execute("SELECT op, station, kind, status FROM hub_report").fetchall()
         checks.check("the report in SQL", rows, [("ACME", "CP01", "Firmware", "Installed")])
         checks.check("integrity_check", database.execute("PRAGMA integrity_check").fetchall(), [("ok",)])
@@ -210,6 +222,38 @@ def check_two_runs(checks):
     checks.check("a second run", checks.run(*replay, lines=b"2 ACME list tags\n"), (0, row, ""))
     others = ["replay", "--operators", "BETA", "--db", db]
     checks.check("another operator's run", checks.run(*others, lines=b"2 BETA list tags\n"), (0, "BETA ok\n", ""))
+
+
+def check_uses(checks):
+    """An owner that isn't hosted gets the uses of its tags all the same, and is shown them once it is hosted again."""
+    db = checks.new_file()
+    begin = 1704067200
+
+    def replay(operators, *lines):
+        words = ["replay", "--operators", operators, "--db", db]
+        return checks.run(*words, lines="".join(f"{begin} {line}\n" for line in lines).encode())
+
+    def start(number):
+        times = f'"meterStart":{number},"timestamp":"2024-01-01T00:00:00Z"'
+        return f'ACME frame CP01 [2,"s{number}","StartTransaction",{{"connectorId":1,"idTag":"K2",{times}}}]'
+
+    def stop(number):
+        times = '"meterStop":1000,"timestamp":"2024-01-01T01:00:00Z"'
+        return f'ACME frame CP01 [2,"e{number}","StopTransaction",{{{times},"transactionId":{number}}}]'
+
+    station = ("ACME station add CP01 Accepted 300", "ACME connect CP01", f"ACME frame CP01 {BOOT}")
+    code, _, errors = replay("ACME,BETA", "BETA tag put K2 - 0 -", "BETA grant K2 ACME -", *station, start(1))
+    checks.check("a start with a granted tag", (code, errors), (0, ""))
+    told = [f'ACME CP01 send [3,"{name}",{{{text}}}]\n' for name, text in (
+        ("e1", ""), ("s2", '"idTagInfo":{"status":"Accepted"},"transactionId":2'), ("e2", ""))]
+    alone = replay("ACME", "ACME connect CP01", stop(1), start(2), stop(2))
+    checks.check("stops while the owner isn't hosted", alone, (0, "".join(told), ""))
+    rows = "".join(f'BETA row use {number} ACME "k2" {begin} {1000 - number}\n' for number in (1, 2))
+    for operators in ("ACME,BETA", "BETA"):
+        checks.check("its uses once it is hosted again", replay(operators, "BETA list uses"), (0, rows + "BETA ok\n", ""))
+    with contextlib.closing(sqlite3.connect(db)) as database:
+        kept = database.execute("SELECT op, number, host, tag_key, moment, wh FROM hub_use ORDER BY number").fetchall()
+        checks.check("the uses in SQL", kept, [("BETA", number, "ACME", "k2", begin, 1000 - number) for number in (1, 2)])
 
 
 def check_restart(checks):
@@ -250,10 +294,35 @@ def page_size(db):
     return size
 
 
-def statements_of_operations():
-    """The statements of docs/OPERATIONS.md that put hub_report last in the schema."""
-    text = (Path(__file__).resolve().parent.parent / "docs" / "OPERATIONS.md").read_text()
-    return re.search(r"CREATE TEMP TABLE kept.*?COMMIT;", text, re.S)[0]
+def vacuum(db, *settings):
+    """SQLite writes the file anew, with these settings."""
+    with contextlib.closing(sqlite3.connect(db, isolation_level=None)) as database:
+        for statement in (*settings, "VACUUM", "PRAGMA journal_mode = WAL"):
+            database.execute(statement).fetchall()
+
+
+def names_in(db):
+    """The names of the tables and indexes, in their order."""
+    with contextlib.closing(sqlite3.connect(db)) as database:
+        return database.execute("SELECT name FROM sqlite_schema ORDER BY rowid").fetchall()
+
+
+def check_vacuum(checks):
+    """After VACUUM a file of an earlier schema is migrated, and one of this schema is taken as it is, each with its rows."""
+    words = ["replay", "--operators", "ACME,BETA", "--db"]
+    new = checks.new_file()
+    checks.check("a new file", checks.run(*words, new), (0, "", ""))
+    for name in EARLIER.values():
+        script, db = SCRIPTS / name, checks.new_file()
+        shutil.copy(script.with_suffix(".db"), db)
+        for part in ("opened", "again"):
+            vacuum(db)
+            wanted = script.with_suffix(f".{part}_expected").read_text()
+            got = checks.run(*words, db, lines=script.with_suffix(f".{part}").read_bytes())
+            checks.check(f"{name} after VACUUM, {part}", got, (0, wanted, ""))
+            checks.check(f"its tables and indexes, {part}", names_in(db), names_in(new))
+        vacuum(db)
+        checks.check("the order after VACUUM", names_in(db), names_in(new))
 
 
 def check_pages(checks):
@@ -268,15 +337,7 @@ def check_pages(checks):
         checks.check(f"pages of {size}", page_size(db), size)
     checks.check("no draft is left", os.path.exists(f"{small}.new"), False)
     checks.check("another's draft stays", Path(f"{drafted}.new").read_text(), "left by a crash")
-    database = sqlite3.connect(empty, isolation_level=None)
-    for statement in ("PRAGMA journal_mode = DELETE", "PRAGMA page_size = 1024", "VACUUM", "PRAGMA journal_mode = WAL"):
-        database.execute(statement).fetchall()
-    refused = (2, "", "fault Store: the database failed\n")
-    database.close()
-    checks.check("a file after VACUUM", checks.run(*words, empty, lines=b"2 ACME list tags\n"), refused)
-    database = sqlite3.connect(empty, isolation_level=None)
-    database.executescript(statements_of_operations())
-    database.close()
+    vacuum(empty, "PRAGMA journal_mode = DELETE", "PRAGMA page_size = 1024")
     checks.check("smaller pages", page_size(empty), 1024)
     for db in (small, empty, drafted):
         checks.check("the tag is there", checks.run(*words, db, lines=b"2 ACME list tags\n"), row)
@@ -609,11 +670,14 @@ def main():
 def check_all(checks):
     check_statuses(checks)
     check_databases(checks)
+    check_earlier_schemas(checks)
     check_first_schema(checks)
     check_replays(checks)
     check_two_runs(checks)
+    check_uses(checks)
     check_restart(checks)
     check_pages(checks)
+    check_vacuum(checks)
     check_ask(checks)
     check_log(checks)
     check_turns(checks)

@@ -7,8 +7,10 @@
 """
 import argparse
 import base64
+import csv
 import fcntl
 import hashlib
+import io
 import json
 import os
 import re
@@ -41,7 +43,7 @@ class Records:
     """The rows of a made-up operator, as the lines of docs/TABLES.md have them after `row `."""
 
     def __init__(self):
-        self.rows = {"stations": []}
+        self.rows = {"stations": [], "uses": []}
 
     def station(self, name, state="Accepted", policy="Accepted", boot=None):
         text = "-" if boot is None else json.dumps(boot, ensure_ascii=False, separators=(",", ":"))
@@ -67,6 +69,9 @@ class Records:
         rows = self.rows[f"readings {name}"]
         rows.append(f"reading {name} {len(rows) + 1} 1 {transaction} {at} Sample.Periodic Raw {measurand} "
                     f"{phase} Outlet {unit} {micro} {quoted(text)}")
+
+    def use(self, host, tag, moment, wh):
+        self.rows["uses"].append(f"use {len(self.rows['uses']) + 1} {host} {quoted(tag)} {moment} {wh}")
 
     def answer(self, line):
         words = line.split(" ")
@@ -281,6 +286,45 @@ class Browser:
 
 # Records of the cases.
 
+# Host, tag, moment in seconds and Wh of each use: the last moment of January, the first of February, the ends of 64
+# bits, and tags and hosts that a spreadsheet may take for formulas.
+USES = [
+    ("BETA", "k1", START // 1000 + 3600, 1500),
+    ("GAMMA", "k1", START // 1000 + 31 * 86400 - 1, 2050),
+    ("BETA", "k2", START // 1000 + 31 * 86400 - 1, -1),
+    ("BETA", "k2", START // 1000 + 31 * 86400, 7),
+    ("-", "=1+1", START // 1000 + 31 * 86400, 2**63 - 1),
+    ("-", '+"a",b', START // 1000 + 31 * 86400, 2**63 - 1),
+    ("-7", "-7", START // 1000 + 31 * 86400, -(2**63)),
+    ("-7", "@a", START // 1000 + 31 * 86400, 0),
+    ("_", "\ta", START // 1000 + 31 * 86400, 100),
+    ("_", "a'=1\nb", 253402300799, 0),
+]
+TOTALS = [
+    ["9999-12", "_", "1", "0"],
+    ["2024-02", "-", "2", "18,446,744,073,709,551.614"],
+    ["2024-02", "-7", "2", "-9,223,372,036,854,775.808"],
+    ["2024-02", "BETA", "1", "0.007"],
+    ["2024-02", "_", "1", "0.1"],
+    ["2024-01", "BETA", "2", "1.499"],
+    ["2024-01", "GAMMA", "1", "2.05"],
+]
+FEBRUARY = "2024-02-01 00:00:00"
+CSV = [
+    "number,host,tag,stopped at (UTC),Wh",
+    "1,BETA,k1,2024-01-01 01:00:00,1500",
+    "2,GAMMA,k1,2024-01-31 23:59:59,2050",
+    "3,BETA,k2,2024-01-31 23:59:59,-1",
+    f"4,BETA,k2,{FEBRUARY},7",
+    f"5,'-,'=1+1,{FEBRUARY},9223372036854775807",
+    f"""6,'-,"'+""a"",b",{FEBRUARY},9223372036854775807""",
+    f"7,-7,-7,{FEBRUARY},-9223372036854775808",
+    f"8,-7,'@a,{FEBRUARY},0",
+    f"9,_,'\ta,{FEBRUARY},100",
+    """10,_,"a'=1\nb",9999-12-31 23:59:59,0""",
+]
+
+
 def small_records():
     records = Records()
     boot = {"chargePointModel": "Model 7", "chargePointVendor": "Vendor", "firmwareVersion": "1.4.2"}
@@ -307,6 +351,8 @@ def small_records():
         if minute % 10 == 0:
             records.reading("NORTH-01", 2, at, "SoC", "-", "Percent", (20 + minute) * 1000000, str(20 + minute))
     records.reading("NORTH-01", 2, START + 3600000, "Voltage", "L1-N", "V", "-", "about 230")
+    for host, tag, moment, wh in USES:
+        records.use(host, tag, moment, wh)
     return records
 
 
@@ -332,6 +378,8 @@ def nasty_records():
     records.rows[f"connectors {NASTY_WORD}"].append(f"connector {NASTY_WORD} x X Y 99999999999999999999 - - -")
     records.report(NASTY_WORD, NASTY_WORD, NASTY_WORD)
     records.report(NASTY_WORD, "constructor", "__proto__", "x")
+    records.use(NASTY_WORD, NASTY, START // 1000, 1)
+    records.use("constructor", "=" + NASTY, "x", "y")
     records.transaction(NASTY_WORD, 1, NASTY, START, (130000, START + 1, "Local", NASTY))
     records.rows[f"transactions {NASTY_WORD}"].append(f"transaction {NASTY_WORD} 2 x - Y x y z 5 z - -")
     records.reading(NASTY_WORD, 1, START, "Voltage", "-", "V", 230000000, NASTY)
@@ -411,7 +459,7 @@ def check_tables(cases):
     cases.check("connects", browser.wait("document.getElementById('status').textContent.startsWith('Connected')"))
     cases.check("the first refresh ends", cases.is_idle())
     lists = [f"list {what} {name}" for name in ("NORTH-01", "NORTH-02", "ok") for what in ("connectors", "reports", "transactions")]
-    cases.check("asks for each station", mock.heard[:10] == ["list stations", *lists], mock.heard[:10])
+    cases.check("asks for each station", mock.heard[:11] == ["list stations", *lists, "list uses"], mock.heard[:11])
     browser.wait("document.querySelectorAll('#transactions tbody tr').length === 3")
     stations = cases.rows("stations")
     cases.check("stations", [row[:4] for row in stations] == [
@@ -428,12 +476,37 @@ def check_tables(cases):
     cases.check("transactions, the latest first", [row[0] for row in transactions] == ["NORTH-01 / 2", "NORTH-01 / 1", "NORTH-02 / 1"])
     cases.check("energy of a transaction", [row[6] for row in transactions] == ["–", "11.5", "0"], transactions)
     browser.shot("wide-light-start")
+    check_uses(cases)
     check_chart(cases, mock)
     check_commands(cases, mock)
     check_lasting(cases, mock)
     check_keyboard(cases)
     check_windows(cases)
     check_loss(cases, mock)
+
+
+def check_uses(cases):
+    """The uses, the latest first, their totals with no digit lost, and the file that a click downloads."""
+    browser = cases.browser
+    uses = cases.rows("uses")
+    cases.check("uses, the latest first", [row[0] for row in uses] == [str(number) for number in range(10, 0, -1)], uses)
+    cases.check("a use", uses[-1] == ["1", "BETA", "k1", "2024-01-01 01:00:00", "1,500"], uses[-1])
+    cases.check("a host whose name is -", uses[5][:3] == ["5", "-", "=1+1"], uses[5])
+    cases.check("all digits of a use", uses[3][4] == "-9,223,372,036,854,775,808", uses[3])
+    cases.check("totals of months and hosts", cases.rows("totals") == TOTALS, cases.rows("totals"))
+    cases.check("one total is of all uses of its month", sum(int(row[2]) for row in TOTALS) == len(USES))
+    text = browser.run("csvOf(state.uses)")
+    cases.check("the text of the CSV", text == "".join(line + "\r\n" for line in CSV), text)
+    read = [row[1:] for row in csv.reader(io.StringIO(text, newline=""))][1:]
+    cases.check("a reader of CSV finds the tags", [row[1].removeprefix("'") for row in read] == [tag for _, tag, _, _ in USES], read)
+    with tempfile.TemporaryDirectory() as folder:
+        browser.command("Page.setDownloadBehavior", behavior="allow", downloadPath=folder)
+        cases.click("Download as CSV")
+        file = Path(folder) / "uses-ACME.csv"
+        end = time.monotonic() + 5
+        while not file.exists() and time.monotonic() < end:
+            time.sleep(0.05)
+        cases.check("a click downloads it", file.exists() and file.read_bytes() == text.encode(), os.listdir(folder))
 
 
 def check_chart(cases, mock):
@@ -636,7 +709,7 @@ def check_one_refresh(cases, mock):
     heard = [line for line in mock.heard if line.startswith("list")]
     starts = [index for index, line in enumerate(heard) if line == "list stations"]
     sizes = [end - start for start, end in zip(starts, starts[1:] + [len(heard)])]
-    cases.check("one refresh at a time", len(sizes) >= 2 and all(size == 3001 for size in sizes), sizes)
+    cases.check("one refresh at a time", len(sizes) >= 2 and all(size == 3002 for size in sizes), sizes)
     cases.browser.run("{ const pace = document.getElementById('pace'); pace.value = '0'; pace.dispatchEvent(new Event('change')); }")
     before = len(mock.heard)
     time.sleep(6)
@@ -653,7 +726,8 @@ def check_address(cases):
     cases.check("no connection unasked", browser.run("link.socket === null") and not mock.heard, mock.heard)
     cases.check("the button is at hand", browser.run("document.activeElement.id") == "open")
     empty = browser.run("[...document.querySelectorAll('section .hint')].map(one => one.textContent).filter(text => text === 'Not loaded.').length")
-    cases.check("what isn't loaded is told", empty == 4, empty)
+    cases.check("what isn't loaded is told", empty == 6, empty)
+    cases.check("nothing to download yet", browser.run("document.getElementById('csv').disabled"))
     for name, value, fault in (("port", "65536", "Enter a port from 1 to 65535."), ("host", "a b", "Enter a host name or an IP address.")):
         browser.run(f"{{ const field = document.getElementById('connect').elements.{name}; field.before = field.value; field.value = {json.dumps(value)}; }}")
         browser.run("document.getElementById('open').click()")
@@ -676,9 +750,9 @@ def check_first(cases):
     cases.is_idle()
     browser.run("document.getElementById('refresh').click()")
     browser.wait("!refreshed.isRunning && link.asked.length === 0")
-    names = "['stations', 'connectors', 'reports', 'transactions']"
+    names = "['stations', 'connectors', 'reports', 'transactions', 'uses', 'totals']"
     shown = f"{names}.map(name => document.querySelectorAll(`#${{name}} tbody tr`).length).join()"
-    cases.check("the tables come right", browser.wait(f"{shown} === '3,4,3,3'", 3), browser.run(shown))
+    cases.check("the tables come right", browser.wait(f"{shown} === '3,4,3,3,10,7'", 3), browser.run(shown))
     mock.stop()
 
 
@@ -713,6 +787,12 @@ def check_nasty(cases):
     cases.check("nasty texts: a connector is shown as it is", cases.rows("connectors")[0][5:] == [NASTY] * 3, cases.rows("connectors"))
     reports = [[NASTY_WORD, NASTY_WORD, NASTY_WORD, "2024-01-01 00:00:00"], [NASTY_WORD, "constructor", "__proto__", "x"]]
     cases.check("nasty texts: a report is shown as it is", cases.rows("reports") == reports, cases.rows("reports"))
+    uses = [["2", "constructor", "=" + NASTY, "x", "y"], ["1", NASTY_WORD, NASTY, "2024-01-01 00:00:00", "1"]]
+    cases.check("nasty texts: a use is shown as it is", cases.rows("uses") == uses, cases.rows("uses"))
+    totals = [["x", "constructor", "1", "0"], ["2024-01", NASTY_WORD, "1", "0.001"]]
+    cases.check("nasty texts: a total is shown as it is", cases.rows("totals") == totals, cases.rows("totals"))
+    read = list(csv.reader(io.StringIO(browser.run("csvOf(state.uses)"), newline="")))[1:]
+    cases.check("nasty texts: the CSV has them", [row[1:3] for row in read] == [[NASTY_WORD, NASTY], ["constructor", "'=" + NASTY]], read)
     cases.check("nasty texts: an end is shown as it is", f"Done: {NASTY}" in [row[1] for row in cases.rows("calls")], cases.rows("calls"))
     check_dump(cases, "nasty texts")
     cases.fits("nasty texts, wide", 1440)

@@ -76,7 +76,7 @@ module _ (key : List ℕ) (old new : List TagRow) (same : AreSame key old new) w
 
   by_row : (a : List ℕ) (o : Option TagRow) → IsParentApart key (option_map (λ r. effective (λ k. is_blocked (tag_in a k old)) r.tag) o) → option_map (λ r. effective (λ k. is_blocked (tag_in a k new)) r.tag) o ≡ option_map (λ r. effective (λ k. is_blocked (tag_in a k old)) r.tag) o
   by_row a None apart = refl
-  by_row a (Some r) apart = λ i. Some (record { text = r.tag.text; parent = r.tag.parent; blocked = r.tag.blocked || parent_same a r.tag.parent apart i; expiry = r.tag.expiry })
+  by_row a (Some r) apart = λ i. Some (record { text = r.tag.text; parent = r.tag.parent; blocked = r.tag.blocked || parent_same a r.tag.parent apart i; expiry = r.tag.expiry; owner = None })
 
   pub own_same : (a k : List ℕ) → k ≢ key → IsParentApart key (own_tag_in a k old) → own_tag_in a k new ≡ own_tag_in a k old
   own_same a k other apart = ap (option_map (λ r. effective (λ p. is_blocked (tag_in a p new)) r.tag)) (same a k other) ∙ by_row a (tag_in a k old) apart
@@ -86,9 +86,9 @@ module _ (key : List ℕ) (old new : List TagRow) (same : AreSame key old new) w
   first_same : (k : List ℕ) → k ≢ key → (gs : List GrantRow) → AllByRecursion (λ g. g.key ≡ k) gs → IsParentApart key (first (filter_map (info_by old) gs)) → first (filter_map (info_by new) gs) ≡ first (filter_map (info_by old) gs)
   first_same k other [] all apart = refl
   first_same k other (g ∷ gs) all apart =
-      (elim (own_tag_in g.op g.key old) as (λ o. own_tag_in g.op g.key old ≡ o → IsParentApart key (first (cons_option (option_map (granted_until g.until) o) (filter_map (info_by old) gs))) → first (cons_option (info_by new g) (filter_map (info_by new) gs)) ≡ first (cons_option (option_map (granted_until g.until) o) (filter_map (info_by old) gs))) [
-        | None ↦ λ e near. ap (λ o. first (cons_option (option_map (granted_until g.until) o) (filter_map (info_by new) gs))) (own_same g.op g.key (λ q. other (sym all.0 ∙ q)) (subst (IsParentApart key) (sym e) tt) ∙ e) ∙ first_same k other gs all.1 near
-        | Some info ↦ λ e near. ap (λ o. first (cons_option (option_map (granted_until g.until) o) (filter_map (info_by new) gs))) (own_same g.op g.key (λ q. other (sym all.0 ∙ q)) (subst (IsParentApart key) (sym e) near) ∙ e)
+      (elim (own_tag_in g.op g.key old) as (λ o. own_tag_in g.op g.key old ≡ o → IsParentApart key (first (cons_option (option_map (granted_until g.op g.until) o) (filter_map (info_by old) gs))) → first (cons_option (info_by new g) (filter_map (info_by new) gs)) ≡ first (cons_option (option_map (granted_until g.op g.until) o) (filter_map (info_by old) gs))) [
+        | None ↦ λ e near. ap (λ o. first (cons_option (option_map (granted_until g.op g.until) o) (filter_map (info_by new) gs))) (own_same g.op g.key (λ q. other (sym all.0 ∙ q)) (subst (IsParentApart key) (sym e) tt) ∙ e) ∙ first_same k other gs all.1 near
+        | Some info ↦ λ e near. ap (λ o. first (cons_option (option_map (granted_until g.op g.until) o) (filter_map (info_by new) gs))) (own_same g.op g.key (λ q. other (sym all.0 ∙ q)) (subst (IsParentApart key) (sym e) near) ∙ e)
       ]) refl apart
 
   of_that_key : (a k : List ℕ) (gs : List GrantRow) → AllByRecursion (λ g. g.key ≡ k) (grants_of_key a k gs)

@@ -15,7 +15,7 @@ use crate::{station_answer, tag_answer};
 use hub_rows::{
     Change, ConnectorRow, GrantRow, GrantedTag, Info, LastNumbers, LocalList, ReadingRow,
     Registration, ReportRow, ReservationId, ReservationRow, StartKey, StationRow, Store,
-    StoreFault, TagRow, TxKey, TxRow, TxState,
+    StoreFault, TagRow, TxKey, TxRow, TxState, UseRow,
 };
 use ocpp_types::{Listed, Moment, TagKey};
 use std::alloc::Global;
@@ -245,6 +245,10 @@ impl<S: Store> Store for Cached<S> {
 
     fn reports(&mut self, op: &str, station: &str) -> Result<Listed<ReportRow>, StoreFault> {
         self.store.reports(op, station)
+    }
+
+    fn uses(&mut self, op: &str) -> Result<Listed<UseRow>, StoreFault> {
+        self.store.uses(op)
     }
 
     fn apply(&mut self, change: &Change) -> Result<(), StoreFault> {

@@ -130,6 +130,7 @@ fn copied_info(info: &Option<Info>) -> Mem<Option<Info>>
             parent: copied(&info.parent)?,
             blocked: info.blocked,
             expiry: info.expiry,
+            owner: copied(&info.owner)?,
         })),
         None => Ok(None),
     }

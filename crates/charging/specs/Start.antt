@@ -2,7 +2,6 @@
 use Rattle.std.specs.Prelude.{ℕ, ◌+◌, nat_le, List, if◌then◌else◌, Option, Some, None}
 use Rattle.ocpp_types.specs.TagKey.{key_of}
 use Rattle.ocpp_types.specs.declared.authorization_status.AuthorizationStatus.{AuthorizationStatus}
-use Rattle.ocpp_types.specs.declared.id_tag_info.IdTagInfo.{IdTagInfo}
 use Rattle.ocpp_payload.specs.declared.conf.Conf.TheVariants as conf
 use Rattle.ocpp_payload.specs.declared.request.StartTransaction.{StartTransaction}
 use Rattle.hub_rows.specs.declared.change.Edit.TheVariants.{TxStarted}
@@ -10,7 +9,8 @@ use Rattle.hub_rows.specs.declared.tx_row.Start.{Start}
 use Rattle.hub_rows.specs.declared.tx_row.StartKey.{StartKey}
 use Rattle.hub_rows.specs.Lookups.{Lookups}
 use Rattle.hub_rows.specs.Transactions.{last_of_all}
-use Rattle.id_tags.specs.Judge.{judge_rule}
+use Rattle.id_tags.specs.Judge.{judge_rule, judge_with_owner}
+use Rattle.id_tags.specs.declared.judgement.Judged.{Judged}
 use Rattle.id_tags.specs.declared.judgement.Purpose.TheVariants as purpose
 use Rattle.registry.specs.declared.decision.Decision.{Decision}
 use Rattle.registry.specs.declared.decision.Reply.TheVariants.{Conf}
@@ -31,21 +31,21 @@ repeat_decision station id m l n = record {
   edit = None;
 }
 
--- transaction n begins
-abbrev pub begin_decision : List ℕ → Start → IdTagInfo → ℕ → Decision
-begin_decision station start info n = record {
-  reply = Conf (conf.StartTransaction info n);
-  edit = Some (TxStarted station n start);
+-- transaction n begins; where its tag is accepted, the operator that granted it is kept
+abbrev pub begin_decision : List ℕ → Start → Judged → ℕ → Decision
+begin_decision station start judged n = record {
+  reply = Conf (conf.StartTransaction judged.info n);
+  edit = Some (TxStarted station n start judged.owner);
 }
 
 -- whatever the judgement of its tag is
-abbrev pub begin_judged : List ℕ → StartTransaction → StartKey → ℕ → ℕ → IdTagInfo → Decision
-begin_judged station r id m n info = begin_decision station (start_of r id m info.status) info n
+abbrev pub begin_judged : List ℕ → StartTransaction → StartKey → ℕ → ℕ → Judged → Decision
+begin_judged station r id m n judged = begin_decision station (start_of r id m judged.info.status) judged n
 
 -- after the last number that was given
 abbrev pub begin_after : List ℕ → StartTransaction → StartKey → ℕ → Lookups → ℕ → Decision
 begin_after station r id m l last =
-    if nat_le last_of_all last then internal_error else begin_judged station r id m (last + 1) (judge_rule m id.key (purpose.Start None) l)
+    if nat_le last_of_all last then internal_error else begin_judged station r id m (last + 1) (judge_with_owner m id.key (purpose.Start None) l)
 
 abbrev pub new_start : List ℕ → StartTransaction → StartKey → ℕ → Lookups → Decision
 new_start station r id m l = begin_after station r id m l (l.last_numbers station).transaction

@@ -2,21 +2,21 @@
 ghost use Rattle.std.specs.Prelude.{◌≡◌, Err, IfOk, None};
 ghost use Rattle.hub_rows.specs.Reads.{OnlyReads};
 ghost use Rattle.hub_rows.specs.Lookups.{lookups_at};
-ghost use Rattle.id_tags.specs.Judge.{judge_rule};
+ghost use Rattle.id_tags.specs.Judge.{judge_with_owner};
 ghost use Rattle.id_tags.specs.declared.judgement.Purpose.TheVariants as purpose;
 ghost use Rattle.charging.specs.Start.{start_rule, start_key, start_of, repeat_decision, new_start, start_by_key, begin_decision};
 
 use crate::numbers::LAST_NUMBER;
 use hub_rows::{Edit, Start, StartKey, Store, StoreFault, TxKey};
-use id_tags::{Purpose, judge};
+use id_tags::{Judged, Purpose, judge, judge_with_owner};
 use ocpp_payload::{Conf, StartTransaction};
-use ocpp_types::{AuthorizationStatus, Boxed, IdTagInfo, Mem, Moment, TagKey};
+use ocpp_types::{AuthorizationStatus, Boxed, Mem, Moment, TagKey};
 use registry::{Decision, Reply, StationAt, internal_error};
 use std::alloc::Global;
 
 /// A start begins a transaction, whose number is the one after the station's last, and is answered
 /// with that number and the judgement of its tag. The transaction begins whatever the judgement
-/// is. A start that the station sends again is answered with the number that it has, and changes
+/// is. An accepted start keeps the operator that granted its tag. A start that the station sends again is answered with the number that it has, and changes
 /// nothing. A station that has no number left gets InternalError.
 pub fn on_start<S: Store>(
     alloc: Global,
@@ -105,13 +105,13 @@ fn new_start<S: Store>(
     if last >= LAST_NUMBER {
         return Ok(internal_error());
     }
-    let id_tag_info = judge_new(store, at, &id)?;
+    let judged = judge_new(store, at, &id)?;
     let number = TxKey {
         station: at.station.clone()?,
         number: last + 1,
     };
-    let start = start_of(request, id, at.moment, id_tag_info.status);
-    Ok(begin_decision(alloc, number, start, id_tag_info)?)
+    let start = start_of(request, id, at.moment, judged.info.status);
+    Ok(begin_decision(alloc, number, start, judged)?)
 }
 
 /// The judgement of the tag of a new start.
@@ -119,31 +119,27 @@ fn judge_new<S: Store>(
     store: &mut S,
     at: &StationAt<'_>,
     id: &StartKey,
-) -> Result<IdTagInfo, StoreFault>
+) -> Result<Judged, StoreFault>
     ensures reads { OnlyReads S.view store.old store.new result }
-    ensures judged { (S.view store.new).clean → IfOk result (λ i. i
-        ≡ judge_rule at.now.moment id.now.key (purpose.Start None) (lookups_at at.now.op.now (S.view store.old).rows)) }
+    ensures judged { (S.view store.new).clean → IfOk result (λ j. j
+        ≡ judge_with_owner at.now.moment id.now.key (purpose.Start None) (lookups_at at.now.op.now (S.view store.old).rows)) }
 {
     let purpose = Purpose::Start { except: None };
-    judge(store, at.op.as_str(), &id.key, at.moment, &purpose)
+    judge_with_owner(store, at.op.as_str(), &id.key, at.moment, &purpose)
 }
 
 /// The transaction of that number begins.
-fn begin_decision(
-    alloc: Global,
-    transaction: TxKey,
-    start: Start,
-    id_tag_info: IdTagInfo,
-) -> Mem<Decision>
-    ensures { IfOk result (λ d. d ≡ begin_decision transaction.station start id_tag_info transaction.number) }
+fn begin_decision(alloc: Global, transaction: TxKey, start: Start, judged: Judged) -> Mem<Decision>
+    ensures { IfOk result (λ d. d ≡ begin_decision transaction.station start judged transaction.number) }
 {
     let edit = Edit::TxStarted {
         station: transaction.station,
         number: transaction.number,
         start,
+        owner: judged.owner,
     };
     let reply = Conf::StartTransaction {
-        id_tag_info,
+        id_tag_info: judged.info,
         transaction_id: transaction.number,
     };
     Ok(Decision {

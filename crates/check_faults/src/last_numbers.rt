@@ -93,6 +93,7 @@ fn begin<S: Store>(
         station,
         number,
         start,
+        owner: None,
     };
     let edit = Boxed::new(alloc, edit)?;
     store.apply(&Change { op, edit })

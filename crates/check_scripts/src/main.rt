@@ -4,7 +4,8 @@
 //! The operators are those of `NAME.operators`, or else ACME and BETA. A fault is the last line,
 //! `fault NAME`. Each script is replayed over a new store of each kind.
 //!
-//! `NAME.later` has the lines of a script over the file that `NAME.script` has left.
+//! `NAME.later` has the lines of a script over the file that `NAME.script` has left, and `NAME.between` statements of SQL
+//! that are run over the file before it.
 //!
 //! `data/` has databases too, `NAME.db`, which are opened. `NAME.opened` has the lines of a script over a copy of one that
 //! an earlier version of the program made, and `NAME.again` those of a script after it.
@@ -89,7 +90,7 @@ fn hand_again(rt: &HostRuntime, kind: Kind, name: &str) -> anyhow::Result<()> {
 /// Checks all. Whether all is as it is to be.
 fn check(rt: &HostRuntime) -> anyhow::Result<bool> {
     let alloc = rt.alloc();
-    let opened = told(rt, "over a database of schema 1", check_opened(rt)?)?;
+    let opened = told(rt, "over databases of earlier schemas", check_opened(rt)?)?;
     open_all(rt)?;
     let in_memory = checks(rt, "in memory", &InMemory { alloc })?;
     let in_database = checks(rt, "in a database in memory", &InDatabase { alloc })?;

@@ -2,7 +2,8 @@
 //! those after the events taken, or with the one in progress.
 //!
 //! `data/` has the lines of each script, `NAME.script`, and the lines that list all records, `lists.txt`. The opening of
-//! `records_in_each_list.db`, a database of schema 1, is stopped in the same way. It is that of crates/check_scripts.
+//! `records_in_each_list.db` and `records_of_schema_2.db`, databases of schemas 1 and 2, is stopped in the same way. They
+//! are those of crates/check_scripts.
 #![tactic(auto)]
 
 mod disks;
@@ -14,7 +15,7 @@ mod tries;
 
 use anyhow::{Context, Result};
 use disks::{File, Leaves};
-use migration::{First, Stops};
+use migration::{Earlier, Stops};
 use runs::events;
 use script::Script;
 use std::fs;
@@ -28,7 +29,14 @@ const SCRIPTS: &[&str] = &[
     "reservations",
     "local_list_of_a_station",
     "stop_with_a_reading",
+    "use_of_a_granted_tag",
     "reports_of_a_station",
+];
+
+/// The databases of earlier schemas, by their numbers.
+const EARLIER: &[(u32, &str)] = &[
+    (1, "records_in_each_list.db"),
+    (2, "records_of_schema_2.db"),
 ];
 
 /// What is tried of each script.
@@ -65,17 +73,17 @@ fn try_script(rt: &HostRuntime, name: &str) -> Result<u64> {
     Ok(wrong.saturating_add(told(rt, name, "opened in place", tally)?))
 }
 
-/// Stops the opening of a database of schema 1. How many stops were wrong.
-fn try_first(rt: &HostRuntime) -> Result<u64> {
+/// Stops the opening of a database of an earlier schema. How many stops were wrong.
+fn try_earlier(rt: &HostRuntime, number: u32, name: &str) -> Result<u64> {
     let alloc = rt.alloc();
-    let database = fs::read(rt, "records_in_each_list.db")?;
+    let database = fs::read(rt, name)?;
     let lists = events(alloc, fs::read(rt, "lists.txt")?.as_slice())?;
-    let first = First::new(alloc, database, lists)?;
+    let earlier = Earlier::new(alloc, database, lists)?;
     let mut all = 0u64;
     for (kind, leaves) in [("written", Leaves::Written), ("synced", Leaves::Synced)] {
-        let Stops { stops, wrong } = first.try_stops(alloc, leaves).context(kind)?;
+        let Stops { stops, wrong } = earlier.try_stops(alloc, leaves).context(kind)?;
         println!(rt;
-            "a database of schema 1 is opened, the log, {kind}: {stops} stops, {wrong} wrong"
+            "a database of schema {number} is opened, the log, {kind}: {stops} stops, {wrong} wrong"
         )?;
         all = all.saturating_add(wrong);
     }
@@ -84,7 +92,11 @@ fn try_first(rt: &HostRuntime) -> Result<u64> {
 
 /// Statuses: 0 where no stop left other records, 1 otherwise.
 fn main(rt: HostRuntime) -> Result<ExitCode> {
-    let mut wrong = try_first(&rt).context("a database of schema 1")?;
+    let mut wrong = 0u64;
+    for (number, name) in EARLIER {
+        let stops = try_earlier(&rt, *number, name).context(format_args!("database {name}"))?;
+        wrong = wrong.saturating_add(stops);
+    }
     for name in SCRIPTS {
         wrong = wrong.saturating_add(try_script(&rt, name).context(format_args!("script {name}"))?);
     }

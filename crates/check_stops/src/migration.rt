@@ -1,5 +1,5 @@
-//! A database of schema 1 whose opening is stopped at each call on its log, and which is opened again. Nothing is written
-//! to its own file.
+//! A database of an earlier schema whose opening is stopped at each call on its log, and which is opened again. Nothing is
+//! written to its own file.
 
 use crate::disks::{At, Database, File, Leaves, Opened, close, open_again, open_file};
 use crate::runs::records_in;
@@ -10,9 +10,9 @@ use std::alloc::Global;
 /// More calls than an opening makes on a log.
 const MAX_CALLS: u64 = 1000;
 
-/// A database of schema 1, the events that list its records, and what these print.
+/// A database of an earlier schema, the events that list its records, and what these print.
 #[derive(Drop)]
-pub struct First {
+pub struct Earlier {
     database: Vec<u8>,
     lists: Vec<Event>,
     wanted: String,
@@ -25,9 +25,9 @@ pub struct Stops {
     pub wrong: u64,
 }
 
-impl First {
+impl Earlier {
     /// What is printed is that of a database whose opening isn't stopped.
-    pub fn new(alloc: Global, database: Vec<u8>, lists: Vec<Event>) -> Result<First> {
+    pub fn new(alloc: Global, database: Vec<u8>, lists: Vec<Event>) -> Result<Earlier> {
         let at = At {
             file: File::Log,
             leaves: Leaves::Written,
@@ -35,7 +35,7 @@ impl First {
         };
         let store = opened(open_file(alloc, at, database.as_slice())?)?;
         let wanted = records_in(alloc, store, &lists)?;
-        Ok(First {
+        Ok(Earlier {
             database,
             lists,
             wanted,

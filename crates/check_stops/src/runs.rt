@@ -12,7 +12,7 @@ use std::alloc::Global;
 use stops::run_and_stop;
 use store_sql::SqlStore;
 
-/// The events of lines, of the operator ACME.
+/// The events of lines, of the operators ACME and BETA.
 pub fn events(alloc: Global, lines: &[u8]) -> Result<Vec<Event>> {
     let hosted = operators(alloc)?;
     let mut events = Vec::new(alloc);
@@ -28,14 +28,16 @@ pub fn events(alloc: Global, lines: &[u8]) -> Result<Vec<Event>> {
 
 fn operators(alloc: Global) -> Result<Vec<Text>> {
     let mut operators = Vec::new(alloc);
-    operators.push(Text::copy_of(alloc, "ACME")?)?;
+    for name in ["ACME", "BETA"] {
+        operators.push(Text::copy_of(alloc, name)?)?;
+    }
     Ok(operators)
 }
 
 fn hub_over<S: Store + Drop>(alloc: Global, store: S) -> Result<Hub<S, Echo>> {
     match Hub::new(alloc, store, operators(alloc)?, Vec::new(alloc)) {
         Ok(hub) => Ok(hub),
-        Err(_refused) => bail!("the operator can't be hosted"),
+        Err(_refused) => bail!("the operators can't be hosted"),
     }
 }
 

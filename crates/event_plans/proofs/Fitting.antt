@@ -1,5 +1,5 @@
 -- What the table changes fits the records.
-use Rattle.std.specs.Prelude.{◌≡◌, ◌≢◌, ℕ, ◌+◌, length, nat_le, List, [], ◌++◌, codes, cond, ◌&&◌, Option, None, Some, option_map, option_and_then, unwrap_or, Bool, true, false, Result, Ok, Err, is_some, IsSome, IfSome}
+use Rattle.std.specs.Prelude.{◌≡◌, ◌≢◌, ◌⊎◌, ℕ, ◌+◌, length, nat_le, List, [], ◌++◌, codes, cond, Option, None, Some, option_map, option_and_then, unwrap_or, Bool, true, false, Result, Ok, Err, is_some, IsSome, IfSome}
 use Rattle.std.specs.Option.{ForSome}
 use Rattle.std.proofs.lemmas.Bool.{leb-true, leb-false, true≢false}
 use Rattle.std.specs.Str.{bytes_eq}
@@ -25,7 +25,14 @@ use Rattle.hub_rows.specs.declared.change.Edit.TheVariants.{StationAdded, BootSe
 use Rattle.hub_rows.specs.declared.change.Edit.TheVariants as edit_to
 use Rattle.hub_rows.specs.declared.station_row.Registration.{Registration}
 use Rattle.hub_rows.specs.Lookups.{Lookups, lookups_at}
-use Rattle.hub_rows.specs.Changes.{EditFits, IsOpen}
+use Rattle.ocpp_types.specs.declared.authorization_status.AuthorizationStatus.{AuthorizationStatus}
+use Rattle.ocpp_types.specs.declared.authorization_status.AuthorizationStatus.TheVariants.{Accepted, Blocked, Expired, Invalid, ConcurrentTx}
+use Rattle.hub_rows.specs.Changes.{EditFits, IsAnother, IsOpen}
+use Rattle.hub_rows.specs.Grants.{granted_tag_in}
+use Rattle.hub_rows.specs.Tags.{own_tag_in}
+use Rattle.hub_rows.specs.WellFormed.{WellFormedRows}
+use Rattle.hub_rows.specs.declared.info.Info.{Info}
+use Rattle.hub_rows.proofs.GrantLaws.{granted_tag-owner, own_tag-owner}
 use Rattle.hub_rows.specs.Transactions.{AreNext, last_of_all}
 use Rattle.hub_rows.specs.declared.reading_row.Reading.{Reading}
 use Rattle.hub_rows.specs.declared.tx_row.StartKey.{StartKey}
@@ -34,7 +41,7 @@ use Rattle.ocpp_payload.specs.declared.request.StartTransaction.{StartTransactio
 use Rattle.ocpp_payload.specs.declared.request.StopTransaction.{StopTransaction as StopRequest}
 use Rattle.ocpp_payload.specs.declared.request.MeterValues.{MeterValues as ReadingsRequest}
 use Rattle.registry.specs.declared.decision.Reply.TheVariants.{Conf}
-use Rattle.id_tags.specs.Judge.{judge_rule}
+use Rattle.id_tags.specs.Judge.{found_tag, judge_rule, judge_with_owner, kept_owner, own_or_granted, owner_of}
 use Rattle.id_tags.specs.declared.judgement.Purpose.TheVariants as purpose
 use Rattle.registry.specs.InternalError.{internal_error}
 use Rattle.charging.specs.Numbers.{has_room}
@@ -81,6 +88,10 @@ use Rattle.event_plans.specs.Plans.{connect_plan, error_plan, edit_plan, list_pl
 use Rattle.event_plans.specs.Table.{Facts, plan, frame_plan, call_plan, state_plan, payload_plan, admin_rule}
 use Rattle.event_plans.specs.Listing.{rows_rule}
 
+-- the tag of a key, as it is looked up, has that owner
+abbrev pub IsOwner : Lookups → List ℕ → List ℕ → Type 0
+IsOwner l key a = (owner_of (l.own_tag key) ≡ Some a) ⊎ (owner_of (l.granted_tag key) ≡ Some a)
+
 -- an edit that an operator's look-ups allow
 abbrev pub FitsLookups : Lookups → Edit → Type 0
 FitsLookups l (StationAdded station policy interval) = l.registration station ≡ None
@@ -91,7 +102,7 @@ FitsLookups l (TagPut key tag) = key ≡ key_of tag.text
 FitsLookups l (TagDropped key) = Unit {0}
 FitsLookups l (GrantPut key to until) = IsSome (l.own_tag key) × (to ≢ l.op)
 FitsLookups l (GrantDropped key to) = Unit {0}
-FitsLookups l (TxStarted station number start) = IsSome (l.registration station) × AreNext (l.last_numbers station).transaction number 1 × (start.id.key ≡ key_of start.tag)
+FitsLookups l (TxStarted station number start owner) = IsSome (l.registration station) × AreNext (l.last_numbers station).transaction number 1 × (start.id.key ≡ key_of start.tag) × IfSome owner (IsOwner l start.id.key)
 FitsLookups l (TxStopped station number stop first readings) = IsOpen (l.tx station number) × AreNext (l.last_numbers station).reading first (length readings)
 FitsLookups l (ReadingsAdded station first readings) = IsSome (l.registration station) × AreNext (l.last_numbers station).reading first (length readings)
 FitsLookups l (ReservationPut station id reservation) = IsSome (l.registration station)
@@ -119,14 +130,30 @@ edit_fits_as f (Some e) fits = fits
 room_fits : (last count : ℕ) → has_room last count ≡ true → AreNext last (last + 1) count
 room_fits last count room = inr (record { next = inr refl; from_one = omega arith; to_the_end = omega (arith, leb-true (last + count) last_of_all room) })
 
+-- the owner that is kept is that of the tag
+owner_fits : (l : Lookups) (key : List ℕ) (status : AuthorizationStatus) → IfSome (kept_owner status (owner_of (found_tag key l))) (IsOwner l key)
+owner_fits l key Accepted = own (l.own_tag key) refl
+  where
+    some : (o : Option (List ℕ)) (P : List ℕ → Type 0) → ((a : List ℕ) → o ≡ Some a → P a) → IfSome o P
+    some None P all = tt
+    some (Some a) P all = all a refl
+
+    own : (o : Option Info) → l.own_tag key ≡ o → IfSome (owner_of (own_or_granted o (l.granted_tag key))) (IsOwner l key)
+    own (Some info) is = some info.owner (IsOwner l key) (λ a has. inl (ap owner_of is ∙ has))
+    own None is = some (owner_of (l.granted_tag key)) (IsOwner l key) (λ a has. inr has)
+owner_fits l key Blocked = tt
+owner_fits l key Expired = tt
+owner_fits l key Invalid = tt
+owner_fits l key ConcurrentTx = tt
+
 start_fits : (station : List ℕ) (r : StartRequest) (m : ℕ) (l : Lookups) → IsSome (l.registration station) → IfSome (start_rule station r m l).edit (FitsLookups l)
 start_fits station r m l here =
     let id : StartKey = start_key r in
     elim (l.same_start station id) as (λ o. IfSome (start_by_number station r id m l o).edit (FitsLookups l)) [
       | None ↦ let last = (l.last_numbers station).transaction in
-          elim (nat_le last_of_all last) as (λ b. nat_le last_of_all last ≡ b → IfSome (cond b internal_error (begin_judged station r id m (last + 1) (judge_rule m id.key (purpose.Start None) l))).edit (FitsLookups l)) [
+          elim (nat_le last_of_all last) as (λ b. nat_le last_of_all last ≡ b → IfSome (cond b internal_error (begin_judged station r id m (last + 1) (judge_with_owner m id.key (purpose.Start None) l))).edit (FitsLookups l)) [
             | true ↦ λ full. tt
-            | false ↦ λ room. (here, inr (record { next = inr refl; from_one = omega arith; to_the_end = omega (arith, leb-false last_of_all last room) }), refl)
+            | false ↦ λ room. (here, inr (record { next = inr refl; from_one = omega arith; to_the_end = omega (arith, leb-false last_of_all last room) }), refl, owner_fits l id.key (judge_rule m id.key (purpose.Start None) l).status)
           ] refl
       | Some n ↦ tt
     ]
@@ -310,28 +337,44 @@ plan_fits is_hosted answers (what.Do station command) m f = command_fits station
 plan_fits is_hosted answers (what.Admin a) m f = admin_fits is_hosted a f
 plan_fits is_hosted answers (what.List listing) m f = elim (rows_rule listing m f.lookups) as (λ r. PlanFits f (list_plan r)) [ Ok rows ↦ tt | Err refusal ↦ tt ]
 
+-- the owner of a granted tag is another operator
+owner_apart : (b key : List ℕ) (rows : Rows) → WellFormedRows rows → (owner : Option (List ℕ)) → IfSome owner (IsOwner (lookups_at b rows) key) → IsAnother b owner
+owner_apart b key rows good None fits = tt
+owner_apart b key rows good (Some a) fits = elim fits [
+  | inl own ↦ mine (own_tag_in b key rows.tags) refl own
+  | inr granted ↦ theirs (granted_tag_in b key rows.tags rows.grants) refl granted
+]
+  where
+    mine : (o : Option Info) → own_tag_in b key rows.tags ≡ o → owner_of o ≡ Some a → a ≢ b
+    mine None is has = absurd (cc)
+    mine (Some info) is has = let none = own_tag-owner b key rows.tags info is in absurd (cc)
+
+    theirs : (o : Option Info) → granted_tag_in b key rows.tags rows.grants ≡ o → owner_of o ≡ Some a → a ≢ b
+    theirs None is has = absurd (cc)
+    theirs (Some info) is has = subst (IsAnother b) has (granted_tag-owner b key rows good info is)
+
 -- what the look-ups over the rows allow, the rows allow
-pub edit_fits : (b : List ℕ) (rows : Rows) (e : Edit) → FitsLookups (lookups_at b rows) e → EditFits b e rows
-edit_fits b rows (StationAdded station policy interval) fits = fits
-edit_fits b rows (BootSeen station boot state) fits = fits
-edit_fits b rows (PolicySet station policy interval) fits = fits
-edit_fits b rows (ConnectorSeen station connector report) fits = fits
-edit_fits b rows (TagPut key tag) fits = fits
-edit_fits b rows (TagDropped key) fits = tt
-edit_fits b rows (GrantPut key to until) fits = fits
-edit_fits b rows (GrantDropped key to) fits = tt
-edit_fits b rows (TxStarted station number start) fits = fits
-edit_fits b rows (TxStopped station number stop first readings) fits = fits
-edit_fits b rows (ReadingsAdded station first readings) fits = fits
-edit_fits b rows (ReservationPut station id reservation) fits = fits
-edit_fits b rows (ReservationDropped station id) fits = tt
-edit_fits b rows (ListSet station list) fits = fits
-edit_fits b rows (ReportSeen station status moment) fits = fits
+pub edit_fits : (b : List ℕ) (rows : Rows) → WellFormedRows rows → (e : Edit) → FitsLookups (lookups_at b rows) e → EditFits b e rows
+edit_fits b rows good (StationAdded station policy interval) fits = fits
+edit_fits b rows good (BootSeen station boot state) fits = fits
+edit_fits b rows good (PolicySet station policy interval) fits = fits
+edit_fits b rows good (ConnectorSeen station connector report) fits = fits
+edit_fits b rows good (TagPut key tag) fits = fits
+edit_fits b rows good (TagDropped key) fits = tt
+edit_fits b rows good (GrantPut key to until) fits = fits
+edit_fits b rows good (GrantDropped key to) fits = tt
+edit_fits b rows good (TxStarted station number start owner) fits = (fits.0, fits.1, fits.2, owner_apart b start.id.key rows good owner fits.3)
+edit_fits b rows good (TxStopped station number stop first readings) fits = fits
+edit_fits b rows good (ReadingsAdded station first readings) fits = fits
+edit_fits b rows good (ReservationPut station id reservation) fits = fits
+edit_fits b rows good (ReservationDropped station id) fits = tt
+edit_fits b rows good (ListSet station list) fits = fits
+edit_fits b rows good (ReportSeen station status moment) fits = fits
 
 -- the same of an edit that may be none
-pub option_fits : (b : List ℕ) (rows : Rows) (o : Option Edit) → IfSome o (FitsLookups (lookups_at b rows)) → ForSome o (λ d. EditFits b d rows)
-option_fits b rows None fits = λ d same. absurd (cc)
-option_fits b rows (Some e) fits = λ d same. edit_fits b rows d (subst (FitsLookups (lookups_at b rows)) (some_is e d same) fits)
+pub option_fits : (b : List ℕ) (rows : Rows) → WellFormedRows rows → (o : Option Edit) → IfSome o (FitsLookups (lookups_at b rows)) → ForSome o (λ d. EditFits b d rows)
+option_fits b rows good None fits = λ d same. absurd (cc)
+option_fits b rows good (Some e) fits = λ d same. edit_fits b rows good d (subst (FitsLookups (lookups_at b rows)) (some_is e d same) fits)
   where
     some_is : (e d : Edit) → Some e ≡ Some d → e ≡ d
     some_is e d same = cc

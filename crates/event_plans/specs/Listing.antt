@@ -10,10 +10,10 @@ use Rattle.hub_rows.specs.Lookups.{Lookups, lookups_at}
 use Rattle.hub_rows.specs.Reads.{OnlyReads}
 use Rattle.hub_rows.specs.StoreView.{StoreView}
 use Rattle.holdings.specs.Reservation.{is_current}
-use Rattle.hub_events.specs.declared.event.Listing.{Listing}
-use Rattle.hub_events.specs.declared.event.Listing.TheVariants as listing
-use Rattle.hub_events.specs.declared.row.Row.{Row}
-use Rattle.hub_events.specs.declared.row.Row.TheVariants as row
+use Rattle.hub_events.specs.declared.listing.Listing.{Listing}
+use Rattle.hub_events.specs.declared.listing.Listing.TheVariants as listing
+use Rattle.hub_events.specs.declared.listing.Row.{Row}
+use Rattle.hub_events.specs.declared.listing.Row.TheVariants as row
 use Rattle.event_plans.specs.declared.plan.Plan.{Plan}
 use Rattle.event_plans.specs.Effects.{StationSlot, IsReady}
 use Rattle.event_plans.specs.Plans.{list_plan}
@@ -38,6 +38,7 @@ rows_rule listing.Stations m l = Ok (map row.Station l.stations)
 rows_rule listing.Tags m l = Ok (map row.Tag l.tags)
 rows_rule listing.Grants m l = Ok (map row.Grant l.grants)
 rows_rule listing.Granted m l = Ok (map row.Granted l.granted)
+rows_rule listing.Uses m l = Ok (map row.Use l.uses)
 rows_rule (listing.Connectors station) m l = of_station (l.registration station) (map row.Connector (l.connectors station))
 rows_rule (listing.Transactions station) m l = of_station (l.registration station) (map row.Transaction (l.txs station))
 rows_rule (listing.Readings station n) m l = of_station (l.registration station) (map row.Reading (l.readings station n))

@@ -17,7 +17,7 @@ use Rattle.hub_events.specs.declared.out.Said.TheVariants as said
 use Rattle.event_plans.specs.declared.plan.Effect.{Effect}
 use Rattle.event_plans.specs.declared.plan.Effect.TheVariants as effect
 use Rattle.event_plans.specs.declared.plan.Plan.{Plan}
-use Rattle.hub_events.specs.declared.row.Row.{Row}
+use Rattle.hub_events.specs.declared.listing.Row.{Row}
 use Rattle.event_plans.specs.Effects.{edit_effect}
 
 -- nothing is said and nothing changes

@@ -10,7 +10,6 @@ mod list;
 mod message_at;
 mod plan;
 mod short_plans;
-mod shown;
 mod sizes;
 
 pub use event_plan::plan_event;

@@ -3,12 +3,11 @@ ghost use Rattle.std.specs.Prelude.{◌≡◌, ◌++◌, map, Ok, Err, IfOk, OnO
 ghost use Rattle.holdings.specs.Reservation.{is_current};
 ghost use Rattle.event_plans.specs.Listing.{current, list_rows, of_station, rows_rule, Lists};
 ghost use Rattle.event_plans.specs.Plans.{list_plan};
-ghost use Rattle.hub_events.specs.declared.row.Row.TheVariants as row;
+ghost use Rattle.hub_events.specs.declared.listing.Row.TheVariants as row;
 
 use crate::plan::{Effect, Plan};
-use crate::shown::Shown;
 use holdings::is_current;
-use hub_events::{Listing, Row, Said};
+use hub_events::{Listing, Row, Said, Shown};
 use hub_rows::{LocalList, LocalTag, ReservationRow, Store, StoreFault};
 use ocpp_types::{Boxed, Listed, Mem, Moment, Refusal, Text};
 use std::alloc::Global;
@@ -28,6 +27,7 @@ pub fn plan_list<S: Store>(
         Listing::Tags => tags(alloc, store, op),
         Listing::Grants => grants(alloc, store, op),
         Listing::Granted => granted(alloc, store, op),
+        Listing::Uses => uses(alloc, store, op),
         Listing::Connectors { station } => connectors(alloc, store, op, station),
         Listing::Transactions { station } => transactions(alloc, store, op, station),
         Listing::Readings {
@@ -65,6 +65,13 @@ fn granted<S: Store>(alloc: Global, store: &mut S, op: &Text) -> Result<Plan, St
     ensures { Lists S.view op.now (λ l. Ok (map row.Granted l.granted)) store.old store.new result }
 {
     let rows = store.granted(op.as_str())?;
+    Ok(show(alloc, rows)?)
+}
+
+fn uses<S: Store>(alloc: Global, store: &mut S, op: &Text) -> Result<Plan, StoreFault>
+    ensures { Lists S.view op.now (λ l. Ok (map row.Use l.uses)) store.old store.new result }
+{
+    let rows = store.uses(op.as_str())?;
     Ok(show(alloc, rows)?)
 }
 

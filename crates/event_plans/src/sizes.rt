@@ -18,7 +18,7 @@ const _: () = prove!(size_of::<Conf>() <= 128);
 
 const _: () = prove!(size_of::<Decision>() <= 128);
 
-const _: () = prove!(size_of::<Edit>() <= 160);
+const _: () = prove!(size_of::<Edit>() <= 168);
 
 const _: () = prove!(size_of::<Change>() <= 128);
 

@@ -24,12 +24,13 @@ Decides-option {X} E decides (Some x) (Some y) = ((λ e. ap Some ((decides x y).
 
 Decides-info : (i j : Info) → Decides (is_same_info i j) (i ≡ j)
 Decides-info i j =
-    Decides-like {P = ((i.text ≡ j.text) × (i.parent ≡ j.parent)) × ((i.blocked ≡ j.blocked) × (i.expiry ≡ j.expiry))} (is_same_info i j)
-    (λ e k. record { text = e.0.0 k; parent = e.0.1 k; blocked = e.1.0 k; expiry = e.1.1 k })
-    (λ e. (((λ k. (e k).text), (λ k. (e k).parent)), ((λ k. (e k).blocked), (λ k. (e k).expiry))))
-    (Decides-and (bytes_eq i.text j.text && option_eq bytes_eq i.parent j.parent) (beq i.blocked j.blocked && option_eq (λ m n. m == n) i.expiry j.expiry)
+    Decides-like {P = ((i.text ≡ j.text) × (i.parent ≡ j.parent)) × ((i.blocked ≡ j.blocked) × ((i.expiry ≡ j.expiry) × (i.owner ≡ j.owner)))} (is_same_info i j)
+    (λ e k. record { text = e.0.0 k; parent = e.0.1 k; blocked = e.1.0 k; expiry = e.1.1.0 k; owner = e.1.1.1 k })
+    (λ e. (((λ k. (e k).text), (λ k. (e k).parent)), ((λ k. (e k).blocked), ((λ k. (e k).expiry), (λ k. (e k).owner)))))
+    (Decides-and (bytes_eq i.text j.text && option_eq bytes_eq i.parent j.parent) (beq i.blocked j.blocked && (option_eq (λ m n. m == n) i.expiry j.expiry && option_eq bytes_eq i.owner j.owner))
     (Decides-and (bytes_eq i.text j.text) (option_eq bytes_eq i.parent j.parent) (bytes_eq-Decides i.text j.text) (Decides-option bytes_eq bytes_eq-Decides i.parent j.parent))
-    (Decides-and (beq i.blocked j.blocked) (option_eq (λ m n. m == n) i.expiry j.expiry) (booleans_Decides i.blocked j.blocked) (Decides-option (λ m n. m == n) Decides-eqb i.expiry j.expiry)))
+    (Decides-and (beq i.blocked j.blocked) (option_eq (λ m n. m == n) i.expiry j.expiry && option_eq bytes_eq i.owner j.owner) (booleans_Decides i.blocked j.blocked)
+    (Decides-and (option_eq (λ m n. m == n) i.expiry j.expiry) (option_eq bytes_eq i.owner j.owner) (Decides-option (λ m n. m == n) Decides-eqb i.expiry j.expiry) (Decides-option bytes_eq bytes_eq-Decides i.owner j.owner))))
 
 Decides-tag : (e f : GrantedTag) → Decides (is_same e f) (e ≡ f)
 Decides-tag e f =

@@ -5,10 +5,10 @@ use Rattle.hub_rows.proofs.ListLaws.{text_itself}
 use Rattle.hub_events.specs.declared.event.Event.{Event}
 use Rattle.hub_events.specs.declared.event.Event.TheVariants.{At, Tick}
 use Rattle.hub.specs.Others.{IsOfAnother}
-use Rattle.hub.specs.View.{Own, granted_to, news, view, seen, seen_of, operator_run_outputs, operator_run}
+use Rattle.hub.specs.View.{Own, shown_by, view, seen, seen_of, operator_run_outputs, operator_run}
 use Rattle.hub.specs.WellFormed.{WellFormed}
 use Rattle.hub.specs.World.{Setting, World, outputs_of, run_outputs, world_run, world_step}
-use Rattle.hub.specs.TwoSystems.{AreAlike, AreSameTo, IsItsOwn, LeavesGranted}
+use Rattle.hub.specs.TwoSystems.{AreAlike, AreSameTo, IsItsOwn, LeavesShown}
 use Rattle.hub.proofs.Isolation.{run_outputs-own, world_run-own}
 use Rattle.hub.proofs.Others.{seen-other}
 
@@ -42,8 +42,8 @@ seen-push s a w (f ∷ es) e =
 -- an event of one's own, or a tick, shows itself in every world
 seen-own : (s t : Setting) (a : List ℕ) (w v : World) (e : Event) → IsItsOwn a e → seen_of s a w e ≡ seen_of t a v e
 seen-own s t a w v (At b m what) is =
-    ap (λ mine. cond mine (Own m what ∷ []) (news (granted_to a w) (granted_to a (world_step s w (At b m what))))) (text_itself b a is)
-    ∙ sym (ap (λ mine. cond mine (Own m what ∷ []) (news (granted_to a v) (granted_to a (world_step t v (At b m what))))) (text_itself b a is))
+    ap (λ mine. cond mine (Own m what ∷ []) (shown_by a w (world_step s w (At b m what)))) (text_itself b a is)
+    ∙ sym (ap (λ mine. cond mine (Own m what ∷ []) (shown_by a v (world_step t v (At b m what)))) (text_itself b a is))
 seen-own s t a w v (Tick m) is = refl
 
 module _ (a : List ℕ) (s t : Setting) (w v : World) where
@@ -57,16 +57,16 @@ module _ (a : List ℕ) (s t : Setting) (w v : World) where
     seen = seen-push s a w es e ∙ (λ i. same.seen i ++ seen-own s t a (world_run s w es) (world_run t v fs) e mine i) ∙ sym (seen-push t a v fs e);
   }
 
-  pub same_first : (es fs : List Event) (e : Event) → AreSameTo a s w es t v fs → IsOfAnother a e → LeavesGranted a s w es e → AreSameTo a s w (es ++ e ∷ []) t v fs
-  same_first es fs e same other granted = record {
+  pub same_first : (es fs : List Event) (e : Event) → AreSameTo a s w es t v fs → IsOfAnother a e → LeavesShown a s w es e → AreSameTo a s w (es ++ e ∷ []) t v fs
+  same_first es fs e same other left = record {
     settings = same.settings;
     views = same.views;
-    seen = seen-push s a w es e ∙ ap (λ items. seen s a w es ++ items) (seen-other s a (world_run s w es) e other granted) ∙ append-nil (seen s a w es) ∙ same.seen;
+    seen = seen-push s a w es e ∙ ap (λ items. seen s a w es ++ items) (seen-other s a (world_run s w es) e other left.granted left.uses) ∙ append-nil (seen s a w es) ∙ same.seen;
   }
 
-  pub same_second : (es fs : List Event) (e : Event) → AreSameTo a s w es t v fs → IsOfAnother a e → LeavesGranted a t v fs e → AreSameTo a s w es t v (fs ++ e ∷ [])
-  same_second es fs e same other granted = record {
+  pub same_second : (es fs : List Event) (e : Event) → AreSameTo a s w es t v fs → IsOfAnother a e → LeavesShown a t v fs e → AreSameTo a s w es t v (fs ++ e ∷ [])
+  same_second es fs e same other left = record {
     settings = same.settings;
     views = same.views;
-    seen = same.seen ∙ sym (seen-push t a v fs e ∙ ap (λ items. seen t a v fs ++ items) (seen-other t a (world_run t v fs) e other granted) ∙ append-nil (seen t a v fs));
+    seen = same.seen ∙ sym (seen-push t a v fs e ∙ ap (λ items. seen t a v fs ++ items) (seen-other t a (world_run t v fs) e other left.granted left.uses) ∙ append-nil (seen t a v fs));
   }

@@ -8,7 +8,7 @@ use Rattle.hub_rows.specs.declared.info.GrantedTag.{GrantedTag}
 use Rattle.hub_rows.specs.declared.info.Info.{Info}
 
 abbrev pub is_same_info : Info → Info → Bool
-is_same_info i j = (bytes_eq i.text j.text && option_eq bytes_eq i.parent j.parent) && (beq i.blocked j.blocked && option_eq (λ m n. m == n) i.expiry j.expiry)
+is_same_info i j = (bytes_eq i.text j.text && option_eq bytes_eq i.parent j.parent) && (beq i.blocked j.blocked && (option_eq (λ m n. m == n) i.expiry j.expiry && option_eq bytes_eq i.owner j.owner))
 
 -- the key, the owner and all that counts of the tag
 abbrev pub is_same : GrantedTag → GrantedTag → Bool

@@ -1,12 +1,15 @@
 -- What an event of another operator is to an operator.
-use Rattle.std.specs.Prelude.{◌≡◌, ◌≢◌, ℕ, List, [], ◌∷◌, Bool, true, false, Option, Some, None}
+use Rattle.std.specs.Prelude.{◌≡◌, ◌≢◌, ◌⊎◌, ℕ, List, [], ◌∷◌, ◌++◌, Bool, true, false, Option, Some, None}
 use Rattle.hub_rows.specs.declared.change.Edit.{Edit}
 use Rattle.hub_rows.specs.declared.change.Edit.TheVariants.{TagPut, TagDropped, GrantPut, GrantDropped}
+use Rattle.hub_rows.specs.declared.use_row.UseRow.{UseRow}
+use Rattle.hub_rows.specs.Rows.{Rows}
+use Rattle.hub_rows.specs.Uses.{uses_settled}
 use Rattle.hub_events.specs.declared.event.Event.{Event}
 use Rattle.hub_events.specs.declared.event.Event.TheVariants.{At, Tick}
 use Rattle.hub_events.specs.declared.out.Out.{Out}
 use Rattle.hub.specs.Effects.{edit_of}
-use Rattle.hub.specs.View.{granted_to, seen, view}
+use Rattle.hub.specs.View.{granted_to, seen, uses_of, view}
 use Rattle.hub.specs.World.{Setting, World, outputs_of, plan_at}
 
 -- an event of another operator than a; a tick is of all operators
@@ -31,14 +34,29 @@ abbrev pub edits_tags : Option Edit → Bool
 edits_tags None = false
 edits_tags (Some e) = is_of_tags e
 
+-- the uses of operator a that an edit of operator b settles, if b makes one
+abbrev pub settled_by : List ℕ → List ℕ → Option Edit → Rows → List UseRow
+settled_by a b None rows = []
+settled_by a b (Some e) rows = uses_settled a b e rows
+
+-- the uses of operator a that an event of another settles: one where it stops an open transaction that began
+-- Accepted with a tag that a granted, unless a's uses have the last number
+abbrev pub settled_at : List ℕ → Setting → World → Event → List UseRow
+settled_at a setting w (At b m what) = settled_by a b (edit_by setting w (At b m what)) w.rows
+settled_at a setting w (Tick m) = []
+
 -- an event with these outputs, which leads from world w to world v, leaves operator a alone: it can change
--- nothing of a's but the list of tags that are granted to a
+-- nothing of a's but the list of tags that are granted to a, and the uses of a's tags, which it can add to
 pub record LeavesAlone (a : List ℕ) (setting : Setting) (w : World) (e : Event) (outs : List Out) (v : World) : Type 0 where
   -- no output names a
   pub told : outputs_of a outs ≡ []
-  -- its records, and the connections and calls of its stations, are as before
-  pub kept : view a v ≡ record (view a w) { granted = granted_to a v }
+  -- all others of its records, and the connections and calls of its stations, are as before
+  pub kept : view a v ≡ record (view a w) { rows = record (view a w).rows { uses = uses_of a v }; granted = granted_to a v }
   -- the tags that are granted to it are others only where a tag or a grant was put or dropped
   pub granted : edits_tags (edit_by setting w e) ≡ false → granted_to a v ≡ granted_to a w
-  -- where they are the same, a is shown nothing
-  pub shown : granted_to a v ≡ granted_to a w → seen setting a w (e ∷ []) ≡ []
+  -- its uses are those before, and after them what the event settles
+  pub uses : uses_of a v ≡ uses_of a w ++ settled_at a setting w e
+  -- the event changes one of the two at most
+  pub either : (granted_to a v ≡ granted_to a w) ⊎ (uses_of a v ≡ uses_of a w)
+  -- where both are the same, a is shown nothing
+  pub shown : granted_to a v ≡ granted_to a w → uses_of a v ≡ uses_of a w → seen setting a w (e ∷ []) ≡ []

@@ -3,7 +3,7 @@ use Rattle.std.specs.Prelude.{◌≡◌, ℕ, ◌≤◌, ◌<◌, List, length, 
 use Rattle.hub_events.specs.declared.event.Event.{Event}
 use Rattle.hub_events.specs.declared.event.Event.TheVariants.{At, Tick}
 use Rattle.hub.specs.Hub.{is_taken}
-use Rattle.hub.specs.View.{granted_to, view, seen}
+use Rattle.hub.specs.View.{granted_to, uses_of, view, seen}
 use Rattle.hub.specs.World.{Setting, World, world_run, world_step}
 
 -- two settings in which the same operators are hosted, vendors' messages are answered alike, and calls are
@@ -24,9 +24,11 @@ abbrev pub IsItsOwn : List ℕ → Event → Type 0
 IsItsOwn a (At b m what) = b ≡ a
 IsItsOwn a (Tick m) = Unit {0}
 
--- one more event leaves the tags that are granted to operator a after the others
-abbrev pub LeavesGranted : List ℕ → Setting → World → List Event → Event → Type 0
-LeavesGranted a s w es e = granted_to a (world_step s (world_run s w es) e) ≡ granted_to a (world_run s w es)
+-- one more event leaves the tags that are granted to operator a, and the uses of a's tags, as the others left
+-- them
+pub record LeavesShown (a : List ℕ) (s : Setting) (w : World) (es : List Event) (e : Event) : Type 0 where
+  pub granted : granted_to a (world_step s (world_run s w es) e) ≡ granted_to a (world_run s w es)
+  pub uses : uses_of a (world_step s (world_run s w es) e) ≡ uses_of a (world_run s w es)
 
 -- a world after the first of some events, all that came before a fault
 pub record IsAfterSome (s : Setting) (w : World) (es : List Event) (v : World) : Type 0 where

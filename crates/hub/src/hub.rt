@@ -124,7 +124,8 @@ impl<S: Store + Drop, V: VendorHandler> Hub<S, V> {
     /// `isolated_view` are the isolation theorem for one event: to each operator, the outputs and
     /// what it has afterwards are what its own machine gives for what it was shown. The clause
     /// `others` says the same of an event of another operator in plain words: it tells the operator
-    /// nothing, and can change nothing of it but the list of the tags that are granted to it.
+    /// nothing, and can change nothing of it but the list of the tags that are granted to it, and the
+    /// uses of its own tags, which gain the one that the event settles.
     ///
     /// Where the work stops during the call and the store of a kept hub is opened again, its records are those before the
     /// event or those after it, whole (`stopped`); once the call is Ok, those after it alone (`done`).

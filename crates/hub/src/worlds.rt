@@ -7,7 +7,7 @@ ghost use Rattle.hub.specs.Hub.{hub_view, world, setting, is_taken, is_clean, fa
 ghost use Rattle.hub.specs.View.{view};
 ghost use Rattle.hub.specs.WellFormed.{WellFormed};
 ghost use Rattle.hub.specs.World.{Setting, World, outputs_of, run_outputs, world_run};
-ghost use Rattle.hub.specs.TwoSystems.{AreAlike, AreSameTo, HasNotTaken, IsAfterSome, IsItsOwn, LeavesGranted};
+ghost use Rattle.hub.specs.TwoSystems.{AreAlike, AreSameTo, HasNotTaken, IsAfterSome, IsItsOwn, LeavesShown};
 ghost use Rattle.hub.specs.Others.{IsOfAnother};
 ghost use Rattle.hub_events.specs.declared.event.Event.{Event};
 
@@ -74,17 +74,17 @@ pub fn isolated<S: Store + Drop, V: VendorHandler, T: Store + Drop, W: VendorHan
 
 /// How two lists of events come to show an operator the same, event by event: with no events they do. An
 /// event of the operator, or a tick, may be added to both. An event of another operator may be added to
-/// either of them, where the tags that are granted to the operator are the same after it. The call does
-/// nothing: its clauses are laws of `AreSameTo`, the premise of `isolated`.
+/// either of them, where the tags that are granted to the operator, and the uses of its own tags, are the
+/// same after it. The call does nothing: its clauses are laws of `AreSameTo`, the premise of `isolated`.
 pub fn same_lists()
     ensures none { (a : List ℕ) (s t : Setting) (w v : World) → AreAlike s t → view a w ≡ view a v
         → AreSameTo a s w [] t v [] }
     ensures own { (a : List ℕ) (s t : Setting) (w v : World) (es fs : List Event) (e : Event)
         → AreSameTo a s w es t v fs → IsItsOwn a e → AreSameTo a s w (es ++ e ∷ []) t v (fs ++ e ∷ []) }
     ensures first { (a : List ℕ) (s t : Setting) (w v : World) (es fs : List Event) (e : Event)
-        → AreSameTo a s w es t v fs → IsOfAnother a e → LeavesGranted a s w es e → AreSameTo a s w (es ++ e ∷ []) t v fs }
+        → AreSameTo a s w es t v fs → IsOfAnother a e → LeavesShown a s w es e → AreSameTo a s w (es ++ e ∷ []) t v fs }
     ensures second { (a : List ℕ) (s t : Setting) (w v : World) (es fs : List Event) (e : Event)
-        → AreSameTo a s w es t v fs → IsOfAnother a e → LeavesGranted a t v fs e → AreSameTo a s w es t v (fs ++ e ∷ []) }
+        → AreSameTo a s w es t v fs → IsOfAnother a e → LeavesShown a t v fs e → AreSameTo a s w es t v (fs ++ e ∷ []) }
 {}
 
 /// Runs one system, and gives the outputs of one operator.

@@ -1,5 +1,6 @@
 //! What the hub is handed.
 
+use crate::listing::Listing;
 use hub_rows::Tag;
 use id_tags::Grant;
 use ocpp_types::{Boxed, Moment, Policy, Text};
@@ -56,44 +57,6 @@ pub enum What {
     Admin(Admin),
     /// The operator asks for a list of its records.
     List(Listing),
-}
-
-/// A list of an operator's records.
-#[derive(Drop)]
-pub enum Listing {
-    /// Its stations.
-    Stations,
-    /// Its id tags.
-    Tags,
-    /// What it granted to other operators.
-    Grants,
-    /// The id tags that are granted to it.
-    Granted,
-    /// The connectors of a station that were reported on.
-    Connectors {
-        station: Text,
-    },
-    /// The transactions of a station.
-    Transactions {
-        station: Text,
-    },
-    /// All readings of a station, or those that were sent with the number of a transaction.
-    Readings {
-        station: Text,
-        transaction: Option<u64>,
-    },
-    /// The reservations at a station that count at the moment.
-    Reservations {
-        station: Text,
-    },
-    /// The local list of a station.
-    LocalList {
-        station: Text,
-    },
-    /// The last reports of a station on an upload and on an update.
-    Reports {
-        station: Text,
-    },
 }
 
 /// An operator's edit of its records.

@@ -2,10 +2,10 @@
 #![tactic(auto)]
 
 mod event;
+mod listing;
 mod out;
-mod row;
 mod sizes;
 
-pub use event::{Admin, Event, Listing, OperatorEvent, What};
+pub use event::{Admin, Event, OperatorEvent, What};
+pub use listing::{Listing, Row, Shown};
 pub use out::{Out, Outcome, Said};
-pub use row::Row;

@@ -1,6 +1,6 @@
 //! What the hub answers.
 
-use crate::row::Row;
+use crate::listing::Row;
 use ocpp_types::{Boxed, ErrorCode, FieldName, Refusal, Text};
 
 /// One output: what is said, and the operator that it is for.

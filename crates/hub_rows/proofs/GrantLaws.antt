@@ -1,6 +1,6 @@
 -- What is granted to an operator, after changes of its own and of others.
-use Rattle.std.specs.Prelude.{◌≡◌, ◌≢◌, ℕ, None, Some, List, [], ◌∷◌, Bool, true, false, cond, ◌&&◌, filter}
-use Rattle.std.proofs.Common.{refl, sym, ◌∙◌, ap, arith}
+use Rattle.std.specs.Prelude.{◌≡◌, ◌≢◌, ℕ, Option, None, Some, List, [], ◌∷◌, Bool, true, false, cond, ◌&&◌, filter}
+use Rattle.std.proofs.Common.{refl, sym, ◌∙◌, ap, subst, arith}
 use Rattle.std.specs.List.{AllByRecursion, filter_map, cons_option}
 use Rattle.std.specs.List.Sorted.{IsStrictlySortedBy}
 use Rattle.std.specs.Option.{option_map}
@@ -16,12 +16,12 @@ use Rattle.hub_rows.specs.declared.grant_row.GrantRow.{GrantRow}
 use Rattle.hub_rows.specs.declared.info.GrantedTag.{GrantedTag}
 use Rattle.hub_rows.specs.declared.info.Info.{Info}
 use Rattle.hub_rows.specs.declared.tag_row.TagRow.{TagRow}
-use Rattle.hub_rows.specs.Changes.{edit, tag_row, grant_row, EditFits}
+use Rattle.hub_rows.specs.Changes.{edit, tag_row, grant_row, IsAnother, EditFits}
 use Rattle.hub_rows.specs.Grants.{is_grant, granted_until, entry_by, info_by, grants_to, received_key, granted_in, granted_tag_in, grants_of_key}
 use Rattle.hub_rows.specs.Keyed.{text_cmp, by_key, own, without, in_order, first}
-use Rattle.hub_rows.specs.OwnLookups.{own_tag, own_granted_tag}
+use Rattle.hub_rows.specs.Lookups.{own_tag, own_granted_tag}
 use Rattle.hub_rows.specs.Rows.{Rows, tag_rest, grant_key}
-use Rattle.hub_rows.specs.Tags.{own_tag_in}
+use Rattle.hub_rows.specs.Tags.{effective, is_blocked, tag_in, own_tag_in}
 use Rattle.hub_rows.specs.WellFormed.{IsGoodGrant, WellFormedRows}
 use Rattle.hub_rows.proofs.ListLaws.{by_key_total, filter-put_not, own-put_other, own-without_other, same_text, other_text, ties_key, all-weaker}
 use Rattle.hub_rows.proofs.OrderLaws.{all-in_order, filter-in_order, find-first, in_order-sorted}
@@ -59,7 +59,7 @@ same_entries : (a : List ℕ) (old new : List TagRow) → ((b : List ℕ) → b 
 same_entries a old new tags [] all = refl
 same_entries a old new tags (g ∷ gs) all =
     let tag : own_tag_in g.op g.key new ≡ own_tag_in g.op g.key old = same_tag g.op g.key new ∙ ap (own_tag g.key) (tags g.op all.0) ∙ sym (same_tag g.op g.key old) in
-    λ i. cons_option (option_map (λ info. record { key = g.key; owner = g.op; info = info }) (option_map (granted_until g.until) (tag i))) (same_entries a old new tags gs all.1 i)
+    λ i. cons_option (option_map (λ info. record { key = g.key; owner = g.op; info = info }) (option_map (granted_until g.op g.until) (tag i))) (same_entries a old new tags gs all.1 i)
 
 -- what is granted to a depends on the grants to it, and on the tags of others
 granted-same : (a : List ℕ) (old : Rows) → WellFormedRows old → (tags : List TagRow) (grants : List GrantRow) → grants_to a grants ≡ grants_to a old.grants → ((b : List ℕ) → b ≢ a → own (λ r. r.op) b tags ≡ own (λ r. r.op) b old.tags) → granted_in a tags grants ≡ granted_in a old.tags old.grants
@@ -160,3 +160,37 @@ granted_tag-own a key rows good =
     ∙ ap (λ gs. option_map (λ e. e.info) (first (filter_map (entry_by rows.tags) gs))) (sym (received-of_key a key rows.grants good.grants.sorted))
     ∙ ap (λ es. option_map (λ e. e.info) (first es)) (sym (filter-entries rows.tags key received))
     ∙ sym (ap (option_map (λ e. e.info)) (find-first (λ e. bytes_eq e.key key) (granted_in a rows.tags rows.grants)))
+
+-- ---- the owner of a tag
+
+-- one's own tag is of no other owner
+pub own_tag-owner : (b key : List ℕ) (tags : List TagRow) (info : Info) → own_tag_in b key tags ≡ Some info → info.owner ≡ None
+own_tag-owner b key tags info = go (tag_in b key tags)
+  where
+    go : (o : Option TagRow) → option_map (λ r. effective (λ parent. is_blocked (tag_in b parent tags)) r.tag) o ≡ Some info → info.owner ≡ None
+    go None found = absurd (cc)
+    go (Some r) found = let same : effective (λ parent. is_blocked (tag_in b parent tags)) r.tag ≡ info = cc in ap (λ (i : Info). i.owner) (sym same)
+
+-- the grants of a key to operator a are of other owners
+owners_of_key : (a key : List ℕ) (tags : List TagRow) (gs : List GrantRow) → AllByRecursion IsToAnother gs → AllByRecursion (λ info. IsAnother a info.owner) (filter_map (info_by tags) (grants_of_key a key gs))
+owners_of_key a key tags [] all = tt
+owners_of_key a key tags (g ∷ gs) all =
+    let rest = owners_of_key a key tags gs all.1 in
+    elim (bytes_eq g.to a && bytes_eq g.key key) as (λ t. (bytes_eq g.to a && bytes_eq g.key key) ≡ t → AllByRecursion (λ info. IsAnother a info.owner) (filter_map (info_by tags) (cond t (g ∷ grants_of_key a key gs) (grants_of_key a key gs)))) [
+      | true ↦ λ both.
+          let other : g.op ≢ a = (λ q. all.0 (same_text g.to a (and_parts (bytes_eq g.to a) (bytes_eq g.key key) both).0 ∙ sym q)) in
+          elim (own_tag_in g.op g.key tags) as (λ o. AllByRecursion (λ info. IsAnother a info.owner) (cons_option (option_map (granted_until g.op g.until) o) (filter_map (info_by tags) (grants_of_key a key gs)))) [
+            | None ↦ rest
+            | Some info ↦ (other, rest)
+          ]
+      | false ↦ λ either. rest
+    ] refl
+
+first_all : {R : Type 0} (P : R → Type 0) (xs : List R) → AllByRecursion P xs → (r : R) → first xs ≡ Some r → P r
+first_all P [] all r found = absurd (cc)
+first_all P (x ∷ xs) all r found = let same : x ≡ r = cc in subst P same all.0
+
+-- a tag that is granted to one is of another owner
+pub granted_tag-owner : (a key : List ℕ) (rows : Rows) → WellFormedRows rows → (info : Info) → granted_tag_in a key rows.tags rows.grants ≡ Some info → IsAnother a info.owner
+unfolding granted_tag_in
+granted_tag-owner a key rows good info found = first_all (λ i. IsAnother a i.owner) (filter_map (info_by rows.tags) (grants_of_key a key rows.grants)) (owners_of_key a key rows.tags rows.grants (receivers rows good)) info found

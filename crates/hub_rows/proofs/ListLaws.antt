@@ -1,12 +1,12 @@
 -- What one operator sees of a shared list after an edit of it.
-use Rattle.std.specs.Prelude.{◌≡◌, ◌≢◌, ℕ, Option, Some, IsSome, List, [], ◌∷◌, Bool, true, false, cond, ◌&&◌, ◌||◌, ◌==◌, not, filter, map, find}
+use Rattle.std.specs.Prelude.{◌≡◌, ◌≢◌, ℕ, ◌≤◌, max, Option, Some, IsSome, List, [], ◌∷◌, Bool, true, false, cond, ◌&&◌, ◌||◌, ◌==◌, not, filter, map, find}
 use Rattle.std.proofs.Common.{◌+◌, ◌<◌, ◌++◌, length, take, drop, refl, sym, ◌∙◌, ap, subst, arith, add-one}
 use Rattle.std.proofs.Math.ListN.{set}
 use Rattle.std.proofs.lemmas.List.{set_split}
 use Rattle.std.specs.Ordering.{match_ordering, ordering_then, ordering_reverse, is_eq}
 use Rattle.std.specs.declared.cmp.Ordering.{Ordering}
 use Rattle.std.specs.declared.cmp.Ordering.TheVariants.{Less, Equal, Greater}
-use Rattle.std.specs.Cmp.{IsTotalOrder}
+use Rattle.std.specs.Cmp.{IsTotalOrder, nat_cmp_is}
 use Rattle.std.specs.Cmp.Lexicographic.{bytes_decides}
 use Rattle.std.specs.FinMap.{slice_cmp-IsAntisymmetric}
 use Rattle.std.proofs.lemmas.Map.Lookups.{exact_unsigned}
@@ -16,7 +16,7 @@ use Rattle.std.specs.List.{AllByRecursion, list_any}
 use Rattle.std.specs.List.Sorted.{IsStrictlySortedBy}
 use Rattle.std.proofs.lemmas.Bool.{cond-true, cond-false, false_from_ne_true, true≢false}
 use Rattle.std.proofs.lemmas.Cmp.{tied_itself, lists_total, nat_list_cmp_total, on_total}
-use Rattle.hub_rows.specs.Keyed.{text_cmp, key_cmp, put, put_all, by_key, own, without, changed, found, those, any_of}
+use Rattle.hub_rows.specs.Keyed.{text_cmp, key_cmp, put, put_all, by_key, own, without, changed, found, those, any_of, greatest}
 
 -- the keys' order is total
 pub keys_total : IsTotalOrder key_cmp
@@ -251,6 +251,16 @@ some-put cmp t ties r (x ∷ xs) some =
       | Greater ↦ λ e. some_then (t x) x x (find t xs) (find t (put cmp r xs)) (some-put cmp t ties r xs) some
     ] refl
 
+-- a row that passes is found once it is put
+pub some-new : {R : Type 0} (cmp : R → R → Ordering) (t : R → Bool) (r : R) (xs : List R) → t r ≡ true → IsSome (find t (put cmp r xs))
+some-new cmp t r [] here = rw here refl
+some-new cmp t r (x ∷ xs) here =
+    elim (cmp r x) as (λ o. IsSome (find t (match_ordering o (r ∷ x ∷ xs) (r ∷ xs) (x ∷ put cmp r xs)))) [
+      | Less ↦ rw here refl
+      | Equal ↦ rw here refl
+      | Greater ↦ some_or (t x) x (find t (put cmp r xs)) (some-new cmp t r xs here)
+    ]
+
 pub some-map : {R : Type 0} (t : R → Bool) (f : R → R) → ((r : R) → t (f r) ≡ t r) → (xs : List R) → IsSome (find t xs) → IsSome (find t (map f xs))
 some-map t f stays [] some = some
 some-map t f stays (x ∷ xs) some = subst (λ b. IsSome (cond b (Some (f x)) (find t (map f xs)))) (sym (stays x)) (some_then (t x) x (f x) (find t xs) (find t (map f xs)) (some-map t f stays xs) some)
@@ -263,3 +273,28 @@ found_all {R} P t (x ∷ xs) all some =
       | true ↦ λ e here. (x, (all.0, e))
       | false ↦ λ e later. found_all P t xs all.1 later
     ] refl some
+
+-- the same of the row that is found, if there is one
+pub found_is : {R : Type 0} (P : R → Type 0) (t : R → Bool) (xs : List R) → AllByRecursion P xs → (r : R) → find t xs ≡ Some r → P r × (t r ≡ true)
+found_is P t [] all r found = absurd (cc)
+found_is P t (x ∷ xs) all r found =
+    elim (t x) as (λ b. t x ≡ b → cond b (Some x) (find t xs) ≡ Some r → P r × (t r ≡ true)) [
+      | true ↦ λ e here. let same : x ≡ r = cc in (subst P same all.0, ap t (sym same) ∙ e)
+      | false ↦ λ e later. found_is P t xs all.1 r later
+    ] refl found
+
+-- ---- a row with the last number
+
+-- a greater number is put after a smaller one
+pub number_after : (m n : ℕ) → n < m → key_cmp ((m ∷ []) ∷ []) ((n ∷ []) ∷ []) ≡ Greater
+number_after m n under = rw (sym (nat_cmp_is m n Greater under)) refl
+
+-- a row that is after all others comes last
+pub put-last : {R : Type 0} (cmp : R → R → Ordering) (r : R) (xs : List R) → AllByRecursion (λ x. cmp r x ≡ Greater) xs → put cmp r xs ≡ xs ++ r ∷ []
+put-last cmp r [] all = refl
+put-last cmp r (x ∷ xs) all = rw all.0 (ap (λ l. x ∷ l) (put-last cmp r xs all.1))
+
+-- no number is above the greatest
+pub under_greatest : {R : Type 0} (number : R → ℕ) (xs : List R) → AllByRecursion (λ x. number x ≤ greatest (map number xs)) xs
+under_greatest number [] = tt
+under_greatest number (x ∷ xs) = (omega arith, all-weaker (λ y. number y ≤ greatest (map number xs)) (λ y. number y ≤ max (number x) (greatest (map number xs))) (λ y low. omega (arith, low)) xs (under_greatest number xs))

@@ -1,6 +1,6 @@
 -- What a change does to the rows of each operator.
-use Rattle.std.specs.Prelude.{◌≡◌, ◌≢◌, ℕ, max, ℤ, pos, negsuc, ◌+◌, List, [], ◌∷◌, Option, None, Some, true, ◌&&◌, ◌==◌, not, is_none, filter, map}
-use Rattle.std.proofs.Common.{refl, ap, ◌∙◌, arith}
+use Rattle.std.specs.Prelude.{◌≡◌, ◌≢◌, ℕ, max, ℤ, pos, negsuc, ◌+◌, List, [], ◌∷◌, Option, None, Some, Bool, true, false, cond, ◌≤◌, ◌++◌, nat_lt, ◌&&◌, ◌==◌, not, is_none, filter, map}
+use Rattle.std.proofs.Common.{refl, sym, subst, ap, ◌∙◌, arith}
 use Rattle.std.proofs.lemmas.Int.{ints}
 use Rattle.std.proofs.lemmas.Bool.Decides.{nat_tests}
 use Rattle.std.specs.List.{AllByRecursion, list_any}
@@ -8,7 +8,7 @@ use Rattle.std.specs.Option.{option_map}
 use Rattle.std.specs.Str.{bytes_eq}
 use Rattle.hub_rows.specs.declared.change.Edit.{Edit}
 use Rattle.hub_rows.specs.declared.change.Edit.TheVariants.{StationAdded, BootSeen, PolicySet, ConnectorSeen, TagPut, TagDropped, GrantPut, GrantDropped, TxStarted, TxStopped, ReadingsAdded, ReservationPut, ReservationDropped, ListSet, ReportSeen}
-use Rattle.hub_rows.specs.Rows.{Rows, station_rest, connector_rest, tag_rest, grant_rest, tx_rest, reading_rest, reservation_rest, list_rest, report_rest}
+use Rattle.hub_rows.specs.Rows.{Rows, station_rest, connector_rest, tag_rest, grant_rest, tx_rest, reading_rest, reservation_rest, list_rest, report_rest, tx_owner_rest, use_rest, use_key}
 use Rattle.hub_rows.specs.declared.tx_row.TxRow.{TxRow}
 use Rattle.hub_rows.specs.declared.tx_row.TxKey.{TxKey}
 use Rattle.hub_rows.specs.declared.reading_row.Reading.{Reading}
@@ -16,18 +16,24 @@ use Rattle.hub_rows.specs.declared.reading_row.ReadingRow.{ReadingRow}
 use Rattle.hub_rows.specs.declared.reservation_row.ReservationRow.{ReservationRow}
 use Rattle.ocpp_types.specs.declared.authorization_status.AuthorizationStatus.{AuthorizationStatus}
 use Rattle.ocpp_types.specs.declared.authorization_status.AuthorizationStatus.TheVariants.{Accepted, Blocked, Expired, Invalid, ConcurrentTx}
-use Rattle.hub_rows.specs.Keyed.{by_key, put_all, own, those, greatest}
+use Rattle.hub_rows.specs.Keyed.{by_key, found, put_all, own, those, greatest}
 use Rattle.hub_rows.specs.WellFormed.{WellFormedRows}
 use Rattle.hub_rows.specs.Changes.{edit, new_station, with_boot, with_policy, connector_row, tag_row, grant_row, tx_row, with_stop, with_readings, reservation_row, list_row, report_row}
 use Rattle.hub_rows.specs.Grants.{granted_in, is_grant}
-use Rattle.hub_rows.specs.Own.{own_rows, own_edit, own_named, own_readings, own_shifted}
+use Rattle.hub_rows.specs.Own.{own_rows, own_edit, own_named, own_readings, own_shifted, own_with_owner}
+use Rattle.hub_rows.specs.declared.use_row.UseRow.{UseRow}
+use Rattle.hub_rows.specs.Uses.{with_owner, settled_use, with_use, use_by, uses_settled, if_of, owner_in, last_use_in, use_row}
+use Rattle.hub_rows.proofs.WellFormedLaws.{IsSettled, is_settled}
 use Rattle.hub_rows.specs.Reservations.{is_named, is_reservation, shifted, without_named}
-use Rattle.hub_rows.specs.Transactions.{is_accepted, is_left_out, is_use, is_tx, is_sent_with, is_reading, is_used_in, readings_in, reading_rows}
-use Rattle.hub_rows.specs.Lookups.{lookups_at}
-use Rattle.hub_rows.specs.OwnLookups.{own_is_accepted, own_is_left_out, own_use, own_start, own_tx, own_state, own_is_sent_with, own_last, own_reading, own_registration, own_lookups}
+use Rattle.hub_rows.specs.Transactions.{last_of_all, is_accepted, is_left_out, is_use, is_tx, is_sent_with, is_reading, is_used_in, readings_in, reading_rows}
+use Rattle.hub_rows.specs.Lookups.{lookups_at, own_is_accepted, own_is_left_out, own_use, own_start, own_tx, own_state, own_is_sent_with, own_last, own_reading, own_registration, own_lookups}
 use Rattle.hub_rows.proofs.GrantLaws.{granted_tag-own}
 use Rattle.hub_rows.proofs.TagLaws.{same_tag}
-use Rattle.hub_rows.proofs.ListLaws.{own-put, own-put_other, own-without, own-without_other, own-changed, own-changed_other, own-put_all, own-put_all_other, found-own, those-own, any_of-own, and-true}
+use Rattle.std.proofs.lemmas.Bool.{true≢false}
+use Rattle.std.proofs.lemmas.List.{append-nil}
+use Rattle.std.specs.List.Sorted.{IsStrictlySortedBy}
+use Rattle.std.specs.declared.cmp.Ordering.TheVariants.{Greater}
+use Rattle.hub_rows.proofs.ListLaws.{all-weaker, number_after, put-last, under_greatest, same_text, text_itself, own-put, own-put_other, own-without, own-without_other, own-changed, own-changed_other, own-put_all, own-put_all_other, found-own, those-own, any_of-own, and-true}
 
 -- the readings of operator b are its own
 rows_of : (b station : List ℕ) (first : ℕ) (readings : List Reading) (P : List ℕ → Type 0) → P b → AllByRecursion (λ r. P r.op) (reading_rows b station first readings)
@@ -59,6 +65,20 @@ same_named station (Some id) r = ap (λ n. bytes_eq r.station station && r.id ==
 own-named : (a station : List ℕ) (id : Option ℤ) (rows : List ReservationRow) → own (λ r. r.op) a (without_named a station id rows) ≡ filter (λ r. not (own_named station id r)) (own (λ r. r.op) a rows)
 own-named a station id rows = own-without (λ r. r.op) a (is_named station id) rows ∙ (λ i. filter (λ r. not (same_named station id r i)) (own (λ r. r.op) a rows))
 
+-- the owner of one's own transaction's tag
+own-with_owner : (a station : List ℕ) (number : ℕ) (owner : Option (List ℕ)) (rows : Rows) → WellFormedRows rows → own (λ r. r.op) a (with_owner a station number owner rows.tx_owners) ≡ own_with_owner a station number owner (own (λ r. r.op) a rows.tx_owners)
+own-with_owner a station number None rows good = refl
+own-with_owner a station number (Some o) rows good = own-put (λ r. r.op) tx_owner_rest a (record { op = a; station = station; number = number; owner = o }) rows.tx_owners good.tx_owners.sorted refl
+
+own-with_owner_other : (a b station : List ℕ) (number : ℕ) (owner : Option (List ℕ)) (rows : Rows) → b ≢ a → own (λ r. r.op) a (with_owner b station number owner rows.tx_owners) ≡ own (λ r. r.op) a rows.tx_owners
+own-with_owner_other a b station number None rows other = refl
+own-with_owner_other a b station number (Some o) rows other = own-put_other (λ r. r.op) tx_owner_rest a (record { op = b; station = station; number = number; owner = o }) rows.tx_owners other
+
+-- one's own stop settles no use of one's own
+own-with_use : (a : List ℕ) (o : Option UseRow) (uses : List UseRow) → IsSettled a o → own (λ r. r.op) a (with_use o uses) ≡ own (λ r. r.op) a uses
+own-with_use a None uses settled = refl
+own-with_use a (Some r) uses settled = own-put_other (λ r. r.op) use_rest a r uses settled.1
+
 -- one's own edit is the edit of one's own rows
 pub own_rows-edit : (a : List ℕ) (e : Edit) (rows : Rows) → WellFormedRows rows → own_rows a (edit a e rows) ≡ own_edit a e (own_rows a rows)
 own_rows-edit a (StationAdded station policy interval) rows good =
@@ -77,10 +97,10 @@ own_rows-edit a (GrantPut key to until) rows good =
     λ i. record (own_rows a rows) { grants = own-put (λ r. r.op) grant_rest a (grant_row a key to until) rows.grants good.grants.sorted refl i }
 own_rows-edit a (GrantDropped key to) rows good =
     λ i. record (own_rows a rows) { grants = own-without (λ r. r.op) a (is_grant key to) rows.grants i }
-own_rows-edit a (TxStarted station number start) rows good =
-    λ i. record (own_rows a rows) { transactions = own-put (λ r. r.op) tx_rest a (tx_row a station number start) rows.transactions good.transactions.sorted refl i; reservations = own-named a station start.reservation rows.reservations i }
+own_rows-edit a (TxStarted station number start owner) rows good =
+    λ i. record (own_rows a rows) { transactions = own-put (λ r. r.op) tx_rest a (tx_row a station number start) rows.transactions good.transactions.sorted refl i; reservations = own-named a station start.reservation rows.reservations i; tx_owners = own-with_owner a station number owner rows good i }
 own_rows-edit a (TxStopped station number stop first readings) rows good =
-    λ i. record (own_rows a rows) { transactions = own-changed (λ r. r.op) a (is_tx station number) (with_stop stop) rows.transactions (λ r. refl) i; readings = own-readings a station first readings rows good i }
+    λ i. record (own_rows a rows) { transactions = own-changed (λ r. r.op) a (is_tx station number) (with_stop stop) rows.transactions (λ r. refl) i; readings = own-readings a station first readings rows good i; uses = own-with_use a (settled_use a station number stop rows) rows.uses (is_settled a station number stop rows good) i }
 own_rows-edit a (ReadingsAdded station first readings) rows good =
     λ i. record (own_rows a rows) { readings = own-readings a station first readings rows good i }
 own_rows-edit a (ReservationPut station id reservation) rows good =
@@ -92,8 +112,8 @@ own_rows-edit a (ListSet station list) rows good =
 own_rows-edit a (ReportSeen station status moment) rows good =
     λ i. record (own_rows a rows) { reports = own-put (λ r. r.op) report_rest a (report_row a station status moment) rows.reports good.reports.sorted refl i }
 
--- the edit of another isn't seen
-pub own_rows-edit_other : (a b : List ℕ) (e : Edit) (rows : Rows) → b ≢ a → own_rows a (edit b e rows) ≡ own_rows a rows
+-- the edit of another is seen in one's uses alone
+pub own_rows-edit_other : (a b : List ℕ) (e : Edit) (rows : Rows) → b ≢ a → own_rows a (edit b e rows) ≡ record (own_rows a rows) { uses = own (λ r. r.op) a (edit b e rows).uses }
 own_rows-edit_other a b (StationAdded station policy interval) rows other =
     λ i. record (own_rows a rows) { stations = own-put_other (λ r. r.op) station_rest a (new_station b station policy interval) rows.stations other i }
 own_rows-edit_other a b (BootSeen station boot state) rows other =
@@ -110,10 +130,10 @@ own_rows-edit_other a b (GrantPut key to until) rows other =
     λ i. record (own_rows a rows) { grants = own-put_other (λ r. r.op) grant_rest a (grant_row b key to until) rows.grants other i }
 own_rows-edit_other a b (GrantDropped key to) rows other =
     λ i. record (own_rows a rows) { grants = own-without_other (λ r. r.op) a b (is_grant key to) rows.grants other i }
-own_rows-edit_other a b (TxStarted station number start) rows other =
-    λ i. record (own_rows a rows) { transactions = own-put_other (λ r. r.op) tx_rest a (tx_row b station number start) rows.transactions other i; reservations = own-without_other (λ r. r.op) a b (is_named station start.reservation) rows.reservations other i }
+own_rows-edit_other a b (TxStarted station number start owner) rows other =
+    λ i. record (own_rows a rows) { transactions = own-put_other (λ r. r.op) tx_rest a (tx_row b station number start) rows.transactions other i; reservations = own-without_other (λ r. r.op) a b (is_named station start.reservation) rows.reservations other i; tx_owners = own-with_owner_other a b station number owner rows other i }
 own_rows-edit_other a b (TxStopped station number stop first readings) rows other =
-    λ i. record (own_rows a rows) { transactions = own-changed_other (λ r. r.op) a b (is_tx station number) (with_stop stop) rows.transactions (λ r. refl) other i; readings = own-readings_other a b station first readings rows other i }
+    λ i. record (own_rows a rows) { transactions = own-changed_other (λ r. r.op) a b (is_tx station number) (with_stop stop) rows.transactions (λ r. refl) other i; readings = own-readings_other a b station first readings rows other i; uses = own (λ r. r.op) a (edit b (TxStopped station number stop first readings) rows).uses }
 own_rows-edit_other a b (ReadingsAdded station first readings) rows other =
     λ i. record (own_rows a rows) { readings = own-readings_other a b station first readings rows other i }
 own_rows-edit_other a b (ReservationPut station id reservation) rows other =
@@ -125,11 +145,50 @@ own_rows-edit_other a b (ListSet station list) rows other =
 own_rows-edit_other a b (ReportSeen station status moment) rows other =
     λ i. record (own_rows a rows) { reports = own-put_other (λ r. r.op) report_rest a (report_row b station status moment) rows.reports other i }
 
--- ---- look-ups
+-- ---- uses
 
 -- all rows of an operator are its own
 own-those : {R : Type 0} (op : R → List ℕ) (a : List ℕ) (rows : List R) → those op a (λ r. true) rows ≡ own op a rows
 own-those op a rows = λ i. filter (λ r. and-true (bytes_eq (op r) a) i) rows
+
+-- the last use of an owner is among its own uses
+last_use-own : (a : List ℕ) (uses : List UseRow) → last_use_in a uses ≡ greatest (map (λ r. r.number) (own (λ r. r.op) a uses))
+last_use-own a uses = ap (λ rs. greatest (map (λ r. r.number) rs)) (own-those (λ r. r.op) a uses)
+
+-- a use after an owner's last one comes last
+own-next_use : (r : UseRow) (uses : List UseRow) → IsStrictlySortedBy (by_key use_key) uses → r.number ≡ last_use_in r.op uses + 1 → own (λ x. x.op) r.op (with_use (Some r) uses) ≡ own (λ x. x.op) r.op uses ++ r ∷ []
+own-next_use r uses sorted next =
+    let mine : List UseRow = own (λ x. x.op) r.op uses in
+    let last = last_use-own r.op uses in
+    own-put (λ x. x.op) use_rest r.op r uses sorted refl
+    ∙ put-last (by_key use_rest) r mine (all-weaker (λ x. x.number ≤ greatest (map (λ y. y.number) mine)) (λ x. by_key use_rest r x ≡ Greater) (λ x low. number_after r.number x.number (omega (arith, low, next, last))) mine (under_greatest (λ x. x.number) mine))
+
+-- an owner's uses gain what an edit of another settles
+pub uses-edit : (a b : List ℕ) (e : Edit) (rows : Rows) → WellFormedRows rows → own (λ r. r.op) a (edit b e rows).uses ≡ own (λ r. r.op) a rows.uses ++ uses_settled a b e rows
+uses-edit a b (TxStopped station number stop first readings) rows good = go (owner_in b station number rows.tx_owners) (found (λ r. r.op) b (is_tx station number) rows.transactions)
+  where
+    uses : List UseRow
+    uses = rows.uses
+
+    added : (r : UseRow) → r.number ≡ last_use_in r.op uses + 1 → own (λ r. r.op) a (with_use (Some r) uses) ≡ own (λ r. r.op) a uses ++ if_of a (Some r)
+    added r next =
+        elim (bytes_eq r.op a) as (λ t. bytes_eq r.op a ≡ t → own (λ r. r.op) a (with_use (Some r) uses) ≡ own (λ r. r.op) a uses ++ cond t (r ∷ []) []) [
+          | true ↦ λ e. subst (λ c. own (λ r. r.op) c (with_use (Some r) uses) ≡ own (λ r. r.op) c uses ++ r ∷ []) (same_text r.op a e) (own-next_use r uses good.uses.sorted next)
+          | false ↦ λ e. own-put_other (λ r. r.op) use_rest a r uses (λ same. true≢false (sym (text_itself r.op a same) ∙ e)) ∙ sym (append-nil _)
+        ] refl
+
+    go : (o : Option (List ℕ)) (r : Option TxRow) → own (λ r. r.op) a (with_use (use_by b stop uses o r) uses) ≡ own (λ r. r.op) a uses ++ if_of a (use_by b stop uses o r)
+    go None r = sym (append-nil _)
+    go (Some c) None = sym (append-nil _)
+    go (Some c) (Some r) =
+        let last = last_use_in c uses in
+        elim (nat_lt last last_of_all) as (λ t. own (λ r. r.op) a (with_use (cond t (Some (use_row c (last + 1) b r stop)) None) uses) ≡ own (λ r. r.op) a uses ++ if_of a (cond t (Some (use_row c (last + 1) b r stop)) None)) [
+          | true ↦ added (use_row c (last + 1) b r stop) refl
+          | false ↦ sym (append-nil _)
+        ]
+uses-edit a b e rows good = sym (append-nil _)
+
+-- ---- look-ups
 
 -- the tests of one's own rows are those of the rows of all
 same_accepted : (s : AuthorizationStatus) → is_accepted s ≡ own_is_accepted s
@@ -195,4 +254,5 @@ same_lookups a rows good =
       readings = λ station n. those_readings station n i;
       reservations = λ station. those-own (λ r. r.op) a (λ r. bytes_eq r.station station) rows.reservations i;
       reports = λ station. those-own (λ r. r.op) a (λ r. bytes_eq r.station station) rows.reports i;
+      uses = own-those (λ r. r.op) a rows.uses i;
     }

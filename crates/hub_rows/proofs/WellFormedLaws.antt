@@ -1,5 +1,5 @@
 -- What a change leaves of well formed rows.
-use Rattle.std.specs.Prelude.{◌≡◌, ℕ, ◌+◌, ◌≤◌, List, [], ◌∷◌, length, Bool, ◌&&◌, ◌==◌, cond, not, true, false, filter, Option, None, Some, is_some, IsSome}
+use Rattle.std.specs.Prelude.{◌≡◌, ◌≢◌, nat_lt, ℕ, ◌+◌, ◌≤◌, List, [], ◌∷◌, length, Bool, ◌&&◌, ◌==◌, cond, not, true, false, filter, Option, None, Some, is_some, IsSome}
 use Rattle.std.proofs.Common.{refl, sym, ◌∙◌, ap, subst, arith, ⊎_elim}
 use Rattle.std.specs.List.{AllByRecursion}
 use Rattle.std.specs.List.Sorted.{IsStrictlySortedBy}
@@ -7,6 +7,8 @@ use Rattle.std.specs.Option.{option_map}
 use Rattle.std.specs.Ordering.{is_eq}
 use Rattle.std.specs.Str.{bytes_eq}
 use Rattle.std.proofs.lemmas.Bool.{and_parts}
+use Rattle.std.proofs.lemmas.Bool.Decides.{nat_tests}
+use Rattle.std.proofs.lemmas.Cmp.{tied_itself}
 use Rattle.std.proofs.lemmas.List.Kept.{IsStrictlySortedBy-filter}
 use Rattle.hub_rows.specs.declared.change.Edit.{Edit}
 use Rattle.hub_rows.specs.declared.change.Edit.TheVariants.{StationAdded, BootSeen, PolicySet, ConnectorSeen, TagPut, TagDropped, GrantPut, GrantDropped, TxStarted, TxStopped, ReadingsAdded, ReservationPut, ReservationDropped, ListSet, ReportSeen}
@@ -24,13 +26,16 @@ use Rattle.hub_rows.specs.declared.reading_row.ReadingRow.{ReadingRow}
 use Rattle.hub_rows.specs.declared.reservation_row.ReservationRow.{ReservationRow}
 use Rattle.hub_rows.specs.declared.list_row.ListRow.{ListRow}
 use Rattle.hub_rows.specs.declared.report_row.ReportRow.{ReportRow}
-use Rattle.hub_rows.specs.Rows.{Rows, no_rows, station_in, registration_in, registration_of, station_key, connector_key, tag_key, grant_key, tx_key, reading_key, reservation_key, list_key, report_key}
-use Rattle.hub_rows.specs.Keyed.{key_cmp, by_key, put, put_all, changed, without}
+use Rattle.hub_rows.specs.declared.tx_row.TxOwnerRow.{TxOwnerRow}
+use Rattle.hub_rows.specs.declared.use_row.UseRow.{UseRow}
+use Rattle.hub_rows.specs.Rows.{Rows, no_rows, station_in, registration_in, registration_of, station_key, connector_key, tag_key, grant_key, tx_key, reading_key, reservation_key, list_key, report_key, tx_owner_key, use_key}
+use Rattle.hub_rows.specs.Keyed.{key_cmp, by_key, found, put, put_all, changed, without}
 use Rattle.hub_rows.specs.Transactions.{is_tx, tx_in, state_of, reading_rows, AreNext, last_of_all}
-use Rattle.hub_rows.specs.WellFormed.{IsOnRecord, IsNumber, IsGoodConnector, IsGoodTag, IsGoodGrant, IsGoodTx, IsGoodReading, IsGoodReservation, IsGoodList, IsGoodReport, AreGood, WellFormedRows}
-use Rattle.hub_rows.specs.Changes.{edit, new_station, with_boot, with_policy, connector_row, tag_row, grant_row, tx_row, with_stop, with_readings, reservation_row, list_row, report_row, IsOpen, EditFits}
-use Rattle.hub_rows.specs.Reservations.{is_named, is_reservation}
-use Rattle.hub_rows.proofs.ListLaws.{by_key_total, same_key, same_text, two_parts, all-put, all-put_all, all-filter, all-changed, all-weaker, sorted-put, sorted-put_all, sorted-changed, some-put, some-map, found_all}
+use Rattle.hub_rows.specs.WellFormed.{IsOnRecord, IsNumber, IsGoodConnector, IsGoodTag, IsGoodGrant, IsGoodTx, IsGoodReading, IsGoodReservation, IsGoodList, IsGoodReport, IsGoodTxOwner, IsGoodUse, AreGood, WellFormedRows}
+use Rattle.hub_rows.specs.Changes.{edit, new_station, with_boot, with_policy, connector_row, tag_row, grant_row, tx_row, with_stop, with_readings, reservation_row, list_row, report_row, IsOpen, IsAnother, EditFits}
+use Rattle.hub_rows.specs.Reservations.{is_named, is_reservation, without_named}
+use Rattle.hub_rows.specs.Uses.{is_owner_of, owner_in, with_owner, use_by, settled_use, use_row, with_use, last_use_in}
+use Rattle.hub_rows.proofs.ListLaws.{by_key_total, same_key, same_text, two_parts, all-put, all-put_all, all-filter, all-changed, all-weaker, sorted-put, sorted-put_all, sorted-changed, some-put, some-new, some-map, found_all, found_is, three_parts, keys_total}
 
 -- ---- good lists
 
@@ -130,6 +135,30 @@ some_row : (blocked : TagRow → Info) (o : Option TagRow) → IsSome (option_ma
 some_row blocked None some = some
 some_row blocked (Some r) some = refl
 
+-- ---- transactions on record
+
+-- each transaction that was on record still is
+abbrev pub KeepsTxs : List TxRow → List TxRow → Type 0
+KeepsTxs old new = (b station : List ℕ) (number : ℕ) → IsSome (found (λ t. t.op) b (is_tx station number) old) → IsSome (found (λ t. t.op) b (is_tx station number) new)
+
+keeps_txs-put : (r : TxRow) (txs : List TxRow) → KeepsTxs txs (put (by_key tx_key) r txs)
+keeps_txs-put r txs b station number on =
+    let t : TxRow → Bool = (λ x. bytes_eq x.op b && is_tx station number x) in
+    let by : (x : TxRow) → t x ≡ is_eq (key_cmp (tx_key x) (b ∷ station ∷ (number ∷ []) ∷ [])) = (λ x. three_parts x.op x.station b station x.number number) in
+    some-put (by_key tx_key) t (λ x y e. by x ∙ ap (λ k. is_eq (key_cmp k (b ∷ station ∷ (number ∷ []) ∷ []))) (same_key (tx_key x) (tx_key y) e) ∙ sym (by y)) r txs on
+
+keeps_txs-changed : (c : List ℕ) (test : TxRow → Bool) (stop : Stop) (txs : List TxRow) → KeepsTxs txs (changed (λ r. r.op) c test (with_stop stop) txs)
+keeps_txs-changed c test stop txs b station number on =
+    let t : TxRow → Bool = (λ x. bytes_eq x.op b && is_tx station number x) in
+    some-map t (λ r. cond (bytes_eq r.op c && test r) (with_stop stop r) r) (λ r. elim (bytes_eq r.op c && test r) as (λ y. t (cond y (with_stop stop r) r) ≡ t r) [ true ↦ refl | false ↦ refl ]) txs on
+
+-- a transaction that is put is on record
+found-put : (r : TxRow) (txs : List TxRow) → IsSome (found (λ t. t.op) r.op (is_tx r.station r.number) (put (by_key tx_key) r txs))
+found-put r txs =
+    let t : TxRow → Bool = (λ x. bytes_eq x.op r.op && is_tx r.station r.number x) in
+    let here : t r ≡ true = three_parts r.op r.station r.op r.station r.number r.number ∙ ap is_eq (tied_itself keys_total (tx_key r)) in
+    some-new (by_key tx_key) t r txs here
+
 -- ---- one list is another
 
 module _ (rows : Rows) (good : WellFormedRows rows) where
@@ -144,31 +173,46 @@ module _ (rows : Rows) (good : WellFormedRows rows) where
     reservations = good-weaker reservation_key (IsGoodReservation rows.stations) (IsGoodReservation rs) (λ r on. keeps r.op r.station on) rows.reservations good.reservations;
     local_lists = good-weaker list_key (IsGoodList rows.stations) (IsGoodList rs) (λ r g. record { station = keeps r.op r.station g.station; entries = g.entries }) rows.local_lists good.local_lists;
     reports = good-weaker report_key (IsGoodReport rows.stations) (IsGoodReport rs) (λ r on. keeps r.op r.station on) rows.reports good.reports;
+    tx_owners = good.tx_owners;
+    uses = good.uses;
   }
 
   pub well_formed-connectors : (rs : List ConnectorRow) → AreGood connector_key (IsGoodConnector rows.stations) rs → WellFormedRows (record rows { connectors = rs })
-  well_formed-connectors rs new = record { stations = good.stations; connectors = new; tags = good.tags; grants = good.grants; transactions = good.transactions; readings = good.readings; reservations = good.reservations; local_lists = good.local_lists; reports = good.reports }
+  well_formed-connectors rs new = record { stations = good.stations; connectors = new; tags = good.tags; grants = good.grants; transactions = good.transactions; readings = good.readings; reservations = good.reservations; local_lists = good.local_lists; reports = good.reports; tx_owners = good.tx_owners; uses = good.uses }
 
   pub well_formed-tags : (rs : List TagRow) (gs : List GrantRow) → AreGood tag_key IsGoodTag rs → AreGood grant_key (IsGoodGrant rs) gs → WellFormedRows (record rows { tags = rs; grants = gs })
-  well_formed-tags rs gs new granted = record { stations = good.stations; connectors = good.connectors; tags = new; grants = granted; transactions = good.transactions; readings = good.readings; reservations = good.reservations; local_lists = good.local_lists; reports = good.reports }
+  well_formed-tags rs gs new granted = record { stations = good.stations; connectors = good.connectors; tags = new; grants = granted; transactions = good.transactions; readings = good.readings; reservations = good.reservations; local_lists = good.local_lists; reports = good.reports; tx_owners = good.tx_owners; uses = good.uses }
 
   pub well_formed-grants : (gs : List GrantRow) → AreGood grant_key (IsGoodGrant rows.tags) gs → WellFormedRows (record rows { grants = gs })
-  well_formed-grants gs new = record { stations = good.stations; connectors = good.connectors; tags = good.tags; grants = new; transactions = good.transactions; readings = good.readings; reservations = good.reservations; local_lists = good.local_lists; reports = good.reports }
+  well_formed-grants gs new = record { stations = good.stations; connectors = good.connectors; tags = good.tags; grants = new; transactions = good.transactions; readings = good.readings; reservations = good.reservations; local_lists = good.local_lists; reports = good.reports; tx_owners = good.tx_owners; uses = good.uses }
 
-  pub well_formed-transactions : (rs : List TxRow) → AreGood tx_key (IsGoodTx rows.stations) rs → WellFormedRows (record rows { transactions = rs })
-  well_formed-transactions rs new = record { stations = good.stations; connectors = good.connectors; tags = good.tags; grants = good.grants; transactions = new; readings = good.readings; reservations = good.reservations; local_lists = good.local_lists; reports = good.reports }
+  -- each transaction that was on record still is
+  pub well_formed-transactions : (rs : List TxRow) → AreGood tx_key (IsGoodTx rows.stations) rs → KeepsTxs rows.transactions rs → WellFormedRows (record rows { transactions = rs })
+  well_formed-transactions rs new keeps = record {
+    stations = good.stations;
+    connectors = good.connectors;
+    tags = good.tags;
+    grants = good.grants;
+    transactions = new;
+    readings = good.readings;
+    reservations = good.reservations;
+    local_lists = good.local_lists;
+    reports = good.reports;
+    tx_owners = good-weaker tx_owner_key (IsGoodTxOwner rows.transactions) (IsGoodTxOwner rs) (λ r g. record { tx = keeps r.op r.station r.number g.tx; owner = g.owner }) rows.tx_owners good.tx_owners;
+    uses = good.uses;
+  }
 
   pub well_formed-readings : (rs : List ReadingRow) → AreGood reading_key (IsGoodReading rows.stations) rs → WellFormedRows (record rows { readings = rs })
-  well_formed-readings rs new = record { stations = good.stations; connectors = good.connectors; tags = good.tags; grants = good.grants; transactions = good.transactions; readings = new; reservations = good.reservations; local_lists = good.local_lists; reports = good.reports }
+  well_formed-readings rs new = record { stations = good.stations; connectors = good.connectors; tags = good.tags; grants = good.grants; transactions = good.transactions; readings = new; reservations = good.reservations; local_lists = good.local_lists; reports = good.reports; tx_owners = good.tx_owners; uses = good.uses }
 
   pub well_formed-reservations : (rs : List ReservationRow) → AreGood reservation_key (IsGoodReservation rows.stations) rs → WellFormedRows (record rows { reservations = rs })
-  well_formed-reservations rs new = record { stations = good.stations; connectors = good.connectors; tags = good.tags; grants = good.grants; transactions = good.transactions; readings = good.readings; reservations = new; local_lists = good.local_lists; reports = good.reports }
+  well_formed-reservations rs new = record { stations = good.stations; connectors = good.connectors; tags = good.tags; grants = good.grants; transactions = good.transactions; readings = good.readings; reservations = new; local_lists = good.local_lists; reports = good.reports; tx_owners = good.tx_owners; uses = good.uses }
 
   pub well_formed-local_lists : (rs : List ListRow) → AreGood list_key (IsGoodList rows.stations) rs → WellFormedRows (record rows { local_lists = rs })
-  well_formed-local_lists rs new = record { stations = good.stations; connectors = good.connectors; tags = good.tags; grants = good.grants; transactions = good.transactions; readings = good.readings; reservations = good.reservations; local_lists = new; reports = good.reports }
+  well_formed-local_lists rs new = record { stations = good.stations; connectors = good.connectors; tags = good.tags; grants = good.grants; transactions = good.transactions; readings = good.readings; reservations = good.reservations; local_lists = new; reports = good.reports; tx_owners = good.tx_owners; uses = good.uses }
 
   pub well_formed-reports : (rs : List ReportRow) → AreGood report_key (IsGoodReport rows.stations) rs → WellFormedRows (record rows { reports = rs })
-  well_formed-reports rs new = record { stations = good.stations; connectors = good.connectors; tags = good.tags; grants = good.grants; transactions = good.transactions; readings = good.readings; reservations = good.reservations; local_lists = good.local_lists; reports = new }
+  well_formed-reports rs new = record { stations = good.stations; connectors = good.connectors; tags = good.tags; grants = good.grants; transactions = good.transactions; readings = good.readings; reservations = good.reservations; local_lists = good.local_lists; reports = new; tx_owners = good.tx_owners; uses = good.uses }
 
 -- ---- new numbers
 
@@ -230,11 +274,11 @@ module _ (b : List ℕ) (rows : Rows) (good : WellFormedRows rows) where
   grant-dropped key to = well_formed-grants rows good _ (good-filter grant_key (IsGoodGrant rows.tags) (λ r. not (bytes_eq r.op b && is_grant key to r)) rows.grants good.grants)
 
   pub tx-put : (r : TxRow) → IsGoodTx rows.stations r → WellFormedRows (record rows { transactions = put (by_key tx_key) r rows.transactions })
-  tx-put r new = well_formed-transactions rows good _ (good-put tx_key (IsGoodTx rows.stations) r rows.transactions new good.transactions)
+  tx-put r new = well_formed-transactions rows good _ (good-put tx_key (IsGoodTx rows.stations) r rows.transactions new good.transactions) (keeps_txs-put r rows.transactions)
 
   pub tx-stopped : (station : List ℕ) (number : ℕ) (stop : Stop) → WellFormedRows (record rows { transactions = changed (λ r. r.op) b (is_tx station number) (with_stop stop) rows.transactions })
   tx-stopped station number stop = well_formed-transactions rows good _
-      (good-changed tx_key (IsGoodTx rows.stations) (λ r. r.op) b (is_tx station number) (with_stop stop) (λ r. refl) (λ r g. record { station = g.station; number = g.number; key = g.key }) rows.transactions good.transactions)
+      (good-changed tx_key (IsGoodTx rows.stations) (λ r. r.op) b (is_tx station number) (with_stop stop) (λ r. refl) (λ r g. record { station = g.station; number = g.number; key = g.key }) rows.transactions good.transactions) (keeps_txs-changed b (is_tx station number) stop rows.transactions)
 
   pub readings-put : (station : List ℕ) (last first : ℕ) (readings : List Reading) → IsOnRecord b station rows.stations → AreNext last first (length readings) → WellFormedRows (record rows { readings = with_readings b station first readings rows.readings })
   readings-put station last first readings on next = well_formed-readings rows good _
@@ -253,6 +297,70 @@ module _ (b : List ℕ) (rows : Rows) (good : WellFormedRows rows) where
   pub report-put : (r : ReportRow) → IsGoodReport rows.stations r → WellFormedRows (record rows { reports = put (by_key report_key) r rows.reports })
   report-put r new = well_formed-reports rows good _ (good-put report_key (IsGoodReport rows.stations) r rows.reports new good.reports)
 
+  -- the owner of a transaction's tag
+  pub owner-put : (station : List ℕ) (number : ℕ) (owner : Option (List ℕ)) → IsAnother b owner → IsSome (found (λ t. t.op) b (is_tx station number) rows.transactions) → WellFormedRows (record rows { tx_owners = with_owner b station number owner rows.tx_owners })
+  owner-put station number None other on = good
+  owner-put station number (Some a) other on = record {
+    stations = good.stations;
+    connectors = good.connectors;
+    tags = good.tags;
+    grants = good.grants;
+    transactions = good.transactions;
+    readings = good.readings;
+    reservations = good.reservations;
+    local_lists = good.local_lists;
+    reports = good.reports;
+    tx_owners = good-put tx_owner_key (IsGoodTxOwner rows.transactions) (record { op = b; station = station; number = number; owner = a }) rows.tx_owners (record { tx = on; owner = other }) good.tx_owners;
+    uses = good.uses;
+  }
+
+  pub use-put : (r : UseRow) → IsGoodUse r → WellFormedRows (record rows { uses = put (by_key use_key) r rows.uses })
+  use-put r new = record {
+    stations = good.stations;
+    connectors = good.connectors;
+    tags = good.tags;
+    grants = good.grants;
+    transactions = good.transactions;
+    readings = good.readings;
+    reservations = good.reservations;
+    local_lists = good.local_lists;
+    reports = good.reports;
+    tx_owners = good.tx_owners;
+    uses = good-put use_key IsGoodUse r rows.uses new good.uses;
+  }
+
+-- ---- uses
+
+-- the owner of a granted tag is another operator
+pub is_another : (b station : List ℕ) (number : ℕ) (rows : Rows) → WellFormedRows rows → IsAnother b (owner_in b station number rows.tx_owners)
+is_another b station number rows good = go (found (λ r. r.op) b (is_owner_of station number) rows.tx_owners) (found_is (IsGoodTxOwner rows.transactions) (λ r. bytes_eq r.op b && is_owner_of station number r) rows.tx_owners good.tx_owners.each)
+  where
+    go : (o : Option TxOwnerRow) → ((r : TxOwnerRow) → o ≡ Some r → IsGoodTxOwner rows.transactions r × (bytes_eq r.op b && is_owner_of station number r ≡ true)) → IsAnother b (option_map (λ r. r.owner) o)
+    go None is = tt
+    go (Some r) is = let it = is r refl in λ same. it.0.owner (same ∙ sym (same_text r.op b (and_parts (bytes_eq r.op b) (is_owner_of station number r) it.1).0))
+
+-- the use that a stop settles is good, and is of another operator
+abbrev pub IsSettled : List ℕ → Option UseRow → Type 0
+IsSettled b None = Unit {0}
+IsSettled b (Some r) = IsGoodUse r × (r.op ≢ b)
+
+pub is_settled : (b station : List ℕ) (number : ℕ) (stop : Stop) (rows : Rows) → WellFormedRows rows → IsSettled b (settled_use b station number stop rows)
+is_settled b station number stop rows good = go (owner_in b station number rows.tx_owners) (is_another b station number rows good) (found (λ r. r.op) b (is_tx station number) rows.transactions)
+  where
+    go : (o : Option (List ℕ)) → IsAnother b o → (r : Option TxRow) → IsSettled b (use_by b stop rows.uses o r)
+    go None other r = tt
+    go (Some a) other None = tt
+    go (Some a) other (Some r) =
+        let last = last_use_in a rows.uses in
+        elim (nat_lt last last_of_all) as (λ t. nat_lt last last_of_all ≡ t → IsSettled b (cond t (Some (use_row a (last + 1) b r stop)) None)) [
+          | true ↦ λ e. (record { number = (omega arith, grind (arith, nat_tests, e)); host = λ same. other (sym same) }, other)
+          | false ↦ λ e. tt
+        ] refl
+
+use-settled : (b : List ℕ) (rows : Rows) → WellFormedRows rows → (o : Option UseRow) → IsSettled b o → WellFormedRows (record rows { uses = with_use o rows.uses })
+use-settled b rows good None settled = good
+use-settled b rows good (Some r) settled = use-put b rows good r settled.0
+
 -- rows that are well formed are so after an edit that fits
 pub well_formed-edit : (b : List ℕ) (e : Edit) (rows : Rows) → WellFormedRows rows → EditFits b e rows → WellFormedRows (edit b e rows)
 well_formed-edit b (StationAdded station policy interval) rows good fits = station-put b rows good (new_station b station policy interval)
@@ -263,12 +371,16 @@ well_formed-edit b (TagPut key tag) rows good fits = tag-put b rows good (tag_ro
 well_formed-edit b (TagDropped key) rows good fits = tag-dropped b rows good key
 well_formed-edit b (GrantPut key to until) rows good fits = grant-put b rows good key to until fits
 well_formed-edit b (GrantDropped key to) rows good fits = grant-dropped b rows good key to
-well_formed-edit b (TxStarted station number start) rows good fits =
-    let begun : WellFormedRows (record rows { transactions = put (by_key tx_key) (tx_row b station number start) rows.transactions })
-    = tx-put b rows good (tx_row b station number start) (record { station = on_record b station rows.stations fits.0; number = number_of _ number fits.1; key = fits.2 }) in
-    reservations-without b (record rows { transactions = put (by_key tx_key) (tx_row b station number start) rows.transactions }) begun (is_named station start.reservation)
+well_formed-edit b (TxStarted station number start owner) rows good fits =
+    let r : TxRow = tx_row b station number start in
+    let begun : WellFormedRows (record rows { transactions = put (by_key tx_key) r rows.transactions })
+    = tx-put b rows good r (record { station = on_record b station rows.stations fits.0; number = number_of _ number fits.1; key = fits.2 }) in
+    let freed = reservations-without b (record rows { transactions = put (by_key tx_key) r rows.transactions }) begun (is_named station start.reservation) in
+    owner-put b (record rows { transactions = put (by_key tx_key) r rows.transactions; reservations = without_named b station start.reservation rows.reservations }) freed station number owner fits.3 (found-put r rows.transactions)
 well_formed-edit b (TxStopped station number stop first readings) rows good fits =
-    readings-put b (record rows { transactions = changed (λ r. r.op) b (is_tx station number) (with_stop stop) rows.transactions }) (tx-stopped b rows good station number stop) station _ first readings (on_record-tx b station number rows good fits.0) fits.1
+    let ended : WellFormedRows (record rows { transactions = changed (λ r. r.op) b (is_tx station number) (with_stop stop) rows.transactions }) = tx-stopped b rows good station number stop in
+    let read = readings-put b (record rows { transactions = changed (λ r. r.op) b (is_tx station number) (with_stop stop) rows.transactions }) ended station _ first readings (on_record-tx b station number rows good fits.0) fits.1 in
+    use-settled b (record rows { transactions = changed (λ r. r.op) b (is_tx station number) (with_stop stop) rows.transactions; readings = with_readings b station first readings rows.readings }) read (settled_use b station number stop rows) (is_settled b station number stop rows good)
 well_formed-edit b (ReadingsAdded station first readings) rows good fits = readings-put b rows good station _ first readings (on_record b station rows.stations fits.0) fits.1
 well_formed-edit b (ReservationPut station id reservation) rows good fits = reservation-put b rows good (reservation_row b station id reservation) (on_record b station rows.stations fits)
 well_formed-edit b (ReservationDropped station id) rows good fits = reservations-without b rows good (is_reservation station id)
@@ -287,4 +399,6 @@ well_formed-no_rows = record {
   reservations = record { sorted = tt; each = tt };
   local_lists = record { sorted = tt; each = tt };
   reports = record { sorted = tt; each = tt };
+  tx_owners = record { sorted = tt; each = tt };
+  uses = record { sorted = tt; each = tt };
 }

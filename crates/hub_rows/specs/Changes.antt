@@ -34,6 +34,7 @@ use Rattle.hub_rows.specs.Reservations.{is_reservation, without_named}
 use Rattle.hub_rows.specs.Rows.{Rows, station_key, connector_key, tag_key, grant_key, tx_key, reading_key, reservation_key, list_key, report_key, registration_at}
 use Rattle.hub_rows.specs.Tags.{own_tag_in}
 use Rattle.hub_rows.specs.Transactions.{is_tx, tx_in, reading_rows, last_numbers_in, AreNext}
+use Rattle.hub_rows.specs.Uses.{with_owner, settled_use, with_use}
 
 -- a station that is new
 abbrev pub new_station : List ℕ → List ℕ → Policy → ℕ → StationRow
@@ -83,8 +84,8 @@ list_row b station list = record { op = b; station = station; list = list }
 abbrev pub report_row : List ℕ → List ℕ → ReportedStatus → ℕ → ReportRow
 report_row b station status moment = record { op = b; station = station; status = status; moment = moment }
 
--- an edit of the rows of operator b; a tag is dropped with its grants, and a start ends the reservation that
--- it names
+-- an edit of the rows of operator b; a tag is dropped with its grants, a start ends the reservation that it
+-- names, and a stop settles a use of the owner that granted the tag
 abbrev pub edit : List ℕ → Edit → Rows → Rows
 edit b (StationAdded station policy interval) rows = record rows { stations = put (by_key station_key) (new_station b station policy interval) rows.stations }
 edit b (BootSeen station boot state) rows = record rows { stations = changed (λ r. r.op) b (λ r. bytes_eq r.station station) (with_boot boot state) rows.stations }
@@ -94,8 +95,8 @@ edit b (TagPut key tag) rows = record rows { tags = put (by_key tag_key) (tag_ro
 edit b (TagDropped key) rows = record rows { tags = without (λ r. r.op) b (λ r. bytes_eq r.key key) rows.tags; grants = without (λ r. r.op) b (λ r. bytes_eq r.key key) rows.grants }
 edit b (GrantPut key to until) rows = record rows { grants = put (by_key grant_key) (grant_row b key to until) rows.grants }
 edit b (GrantDropped key to) rows = record rows { grants = without (λ r. r.op) b (is_grant key to) rows.grants }
-edit b (TxStarted station number start) rows = record rows { transactions = put (by_key tx_key) (tx_row b station number start) rows.transactions; reservations = without_named b station start.reservation rows.reservations }
-edit b (TxStopped station number stop first readings) rows = record rows { transactions = changed (λ r. r.op) b (is_tx station number) (with_stop stop) rows.transactions; readings = with_readings b station first readings rows.readings }
+edit b (TxStarted station number start owner) rows = record rows { transactions = put (by_key tx_key) (tx_row b station number start) rows.transactions; reservations = without_named b station start.reservation rows.reservations; tx_owners = with_owner b station number owner rows.tx_owners }
+edit b (TxStopped station number stop first readings) rows = record rows { transactions = changed (λ r. r.op) b (is_tx station number) (with_stop stop) rows.transactions; readings = with_readings b station first readings rows.readings; uses = with_use (settled_use b station number stop rows) rows.uses }
 edit b (ReadingsAdded station first readings) rows = record rows { readings = with_readings b station first readings rows.readings }
 edit b (ReservationPut station id reservation) rows = record rows { reservations = put (by_key reservation_key) (reservation_row b station id reservation) rows.reservations }
 edit b (ReservationDropped station id) rows = record rows { reservations = without (λ r. r.op) b (is_reservation station id) rows.reservations }
@@ -109,10 +110,15 @@ abbrev pub IsOpen : Option TxState → Type 0
 IsOpen None = ⊥
 IsOpen (Some t) = t.is_open ≡ true
 
+-- none, or another operator than b
+abbrev pub IsAnother : List ℕ → Option (List ℕ) → Type 0
+IsAnother b None = Unit {0}
+IsAnother b (Some a) = a ≢ b
+
 -- an edit that the rows allow: a new station isn't there, one that is edited or has the row is,
 -- a transaction that is stopped is open, new numbers follow the station's last, if it has one, the
 -- key of a tag is the key of its text, a tag that is granted is the operator's own and is granted to
--- another, and a local list has its entries in the order of their keys
+-- another, the owner of a granted tag is another, and a local list has its entries in the order of their keys
 abbrev pub EditFits : List ℕ → Edit → Rows → Type 0
 EditFits b (StationAdded station policy interval) rows = registration_at b station rows ≡ None
 EditFits b (BootSeen station boot state) rows = IsSome (registration_at b station rows)
@@ -122,7 +128,7 @@ EditFits b (TagPut key tag) rows = key ≡ key_of tag.text
 EditFits b (TagDropped key) rows = Unit {0}
 EditFits b (GrantPut key to until) rows = IsSome (own_tag_in b key rows.tags) × (to ≢ b)
 EditFits b (GrantDropped key to) rows = Unit {0}
-EditFits b (TxStarted station number start) rows = IsSome (registration_at b station rows) × AreNext (last_numbers_in b station rows.transactions rows.readings).transaction number 1 × (start.id.key ≡ key_of start.tag)
+EditFits b (TxStarted station number start owner) rows = IsSome (registration_at b station rows) × AreNext (last_numbers_in b station rows.transactions rows.readings).transaction number 1 × (start.id.key ≡ key_of start.tag) × IsAnother b owner
 EditFits b (TxStopped station number stop first readings) rows = IsOpen (tx_in b station number rows.transactions) × AreNext (last_numbers_in b station rows.transactions rows.readings).reading first (length readings)
 EditFits b (ReadingsAdded station first readings) rows = IsSome (registration_at b station rows) × AreNext (last_numbers_in b station rows.transactions rows.readings).reading first (length readings)
 EditFits b (ReservationPut station id reservation) rows = IsSome (registration_at b station rows)

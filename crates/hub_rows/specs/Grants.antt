@@ -31,13 +31,13 @@ earlier None end = end
 earlier (Some m) None = Some m
 earlier (Some m) (Some n) = Some (min m n)
 
--- a tag as it counts for an operator that has it until an end
-abbrev pub granted_until : Option ℕ → Info → Info
-granted_until end info = record info { expiry = earlier info.expiry end }
+-- a tag as it counts for an operator to which its owner granted it until an end
+abbrev pub granted_until : List ℕ → Option ℕ → Info → Info
+granted_until owner end info = record info { expiry = earlier info.expiry end; owner = Some owner }
 
 -- the owner's tag as it counts by a grant
 abbrev pub info_by : List TagRow → GrantRow → Option Info
-info_by tags g = option_map (granted_until g.until) (own_tag_in g.op g.key tags)
+info_by tags g = option_map (granted_until g.op g.until) (own_tag_in g.op g.key tags)
 
 -- the same with the key and the owner
 abbrev pub entry_by : List TagRow → GrantRow → Option GrantedTag

@@ -11,9 +11,9 @@ pub mod Transactions
 pub mod Reservations
 pub mod LocalLists
 pub mod WellFormed
+pub mod Uses
 pub mod Changes
 pub mod Own
 pub mod Lookups
-pub mod OwnLookups
 pub mod StoreView
 pub mod Stops

@@ -9,9 +9,10 @@ use Rattle.hub_rows.specs.declared.reading_row.Reading.{Reading}
 use Rattle.hub_rows.specs.declared.reading_row.ReadingRow.{ReadingRow}
 use Rattle.hub_rows.specs.declared.reservation_row.ReservationRow.{ReservationRow}
 use Rattle.hub_rows.specs.declared.station_row.StationRow.{StationRow}
+use Rattle.hub_rows.specs.declared.tx_row.TxOwnerRow.{TxOwnerRow}
 use Rattle.hub_rows.specs.declared.tx_row.TxRow.{TxRow}
 use Rattle.hub_rows.specs.Keyed.{put, put_all, by_key, own}
-use Rattle.hub_rows.specs.Rows.{Rows, station_rest, connector_rest, tag_rest, grant_rest, tx_rest, reading_rest, reservation_rest, list_rest, report_rest}
+use Rattle.hub_rows.specs.Rows.{Rows, station_rest, connector_rest, tag_rest, grant_rest, tx_rest, reading_rest, reservation_rest, list_rest, report_rest, tx_owner_rest}
 
 -- how far a signed number is from the least one of 32 bits
 abbrev pub own_shifted : ℤ → ℕ
@@ -28,10 +29,16 @@ abbrev pub own_readings : List ℕ → List ℕ → ℕ → List Reading → Lis
 own_readings a station first [] = []
 own_readings a station first (r ∷ rs) = record { op = a; station = station; number = first; reading = r } ∷ own_readings a station (first + 1) rs
 
-abbrev pub own_rows : List ℕ → Rows → Rows
-own_rows a rows = record { stations = own (λ r. r.op) a rows.stations; connectors = own (λ r. r.op) a rows.connectors; tags = own (λ r. r.op) a rows.tags; grants = own (λ r. r.op) a rows.grants; transactions = own (λ r. r.op) a rows.transactions; readings = own (λ r. r.op) a rows.readings; reservations = own (λ r. r.op) a rows.reservations; local_lists = own (λ r. r.op) a rows.local_lists; reports = own (λ r. r.op) a rows.reports }
+-- the owner of the tag with which a transaction begins, where another operator granted it
+abbrev pub own_with_owner : List ℕ → List ℕ → ℕ → Option (List ℕ) → List TxOwnerRow → List TxOwnerRow
+own_with_owner a station number None owners = owners
+own_with_owner a station number (Some owner) owners = put (by_key tx_owner_rest) (record { op = a; station = station; number = number; owner = owner }) owners
 
--- an edit of the rows of one operator, by what tells them apart
+abbrev pub own_rows : List ℕ → Rows → Rows
+own_rows a rows = record { stations = own (λ r. r.op) a rows.stations; connectors = own (λ r. r.op) a rows.connectors; tags = own (λ r. r.op) a rows.tags; grants = own (λ r. r.op) a rows.grants; transactions = own (λ r. r.op) a rows.transactions; readings = own (λ r. r.op) a rows.readings; reservations = own (λ r. r.op) a rows.reservations; local_lists = own (λ r. r.op) a rows.local_lists; reports = own (λ r. r.op) a rows.reports; tx_owners = own (λ r. r.op) a rows.tx_owners; uses = own (λ r. r.op) a rows.uses }
+
+-- an edit of the rows of one operator, by what tells them apart; its uses are left, since the owner of a granted tag
+-- is another
 abbrev pub own_edit : List ℕ → Edit → Rows → Rows
 own_edit a (StationAdded station policy interval) rows = record rows { stations = put (by_key station_rest) (record { op = a; station = station; policy = policy; interval = interval; state = Fresh; boot = None }) rows.stations }
 own_edit a (BootSeen station boot state) rows = record rows { stations = map (λ (r : StationRow). if bytes_eq r.station station then record r { boot = Some boot; state = state } else r) rows.stations }
@@ -41,7 +48,7 @@ own_edit a (TagPut key tag) rows = record rows { tags = put (by_key tag_rest) (r
 own_edit a (TagDropped key) rows = record rows { tags = filter (λ r. not (bytes_eq r.key key)) rows.tags; grants = filter (λ r. not (bytes_eq r.key key)) rows.grants }
 own_edit a (GrantPut key to until) rows = record rows { grants = put (by_key grant_rest) (record { op = a; key = key; to = to; until = until }) rows.grants }
 own_edit a (GrantDropped key to) rows = record rows { grants = filter (λ r. not (bytes_eq r.key key && bytes_eq r.to to)) rows.grants }
-own_edit a (TxStarted station number start) rows = record rows { transactions = put (by_key tx_rest) (record { op = a; station = station; number = number; start = start; stop = None }) rows.transactions; reservations = filter (λ r. not (own_named station start.reservation r)) rows.reservations }
+own_edit a (TxStarted station number start owner) rows = record rows { transactions = put (by_key tx_rest) (record { op = a; station = station; number = number; start = start; stop = None }) rows.transactions; reservations = filter (λ r. not (own_named station start.reservation r)) rows.reservations; tx_owners = own_with_owner a station number owner rows.tx_owners }
 own_edit a (TxStopped station number stop first readings) rows = record rows { transactions = map (λ (r : TxRow). if bytes_eq r.station station && r.number == number then record r { stop = Some stop } else r) rows.transactions; readings = put_all (by_key reading_rest) (own_readings a station first readings) rows.readings }
 own_edit a (ReadingsAdded station first readings) rows = record rows { readings = put_all (by_key reading_rest) (own_readings a station first readings) rows.readings }
 own_edit a (ReservationPut station id reservation) rows = record rows { reservations = put (by_key reservation_rest) (record { op = a; station = station; id = id; reservation = reservation }) rows.reservations }

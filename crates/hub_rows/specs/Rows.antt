@@ -12,6 +12,8 @@ use Rattle.hub_rows.specs.declared.reading_row.ReadingRow.{ReadingRow}
 use Rattle.hub_rows.specs.declared.reservation_row.ReservationRow.{ReservationRow}
 use Rattle.hub_rows.specs.declared.list_row.ListRow.{ListRow}
 use Rattle.hub_rows.specs.declared.report_row.ReportRow.{ReportRow}
+use Rattle.hub_rows.specs.declared.tx_row.TxOwnerRow.{TxOwnerRow}
+use Rattle.hub_rows.specs.declared.use_row.UseRow.{UseRow}
 use Rattle.hub_rows.specs.Keyed.{found}
 use Rattle.hub_rows.specs.Reports.{kind_of}
 
@@ -26,10 +28,12 @@ pub record Rows : Type 0 where
   pub reservations : List ReservationRow
   pub local_lists : List ListRow
   pub reports : List ReportRow
+  pub tx_owners : List TxOwnerRow
+  pub uses : List UseRow
 
 -- no rows
 abbrev pub no_rows : Rows
-no_rows = record { stations = []; connectors = []; tags = []; grants = []; transactions = []; readings = []; reservations = []; local_lists = []; reports = [] }
+no_rows = record { stations = []; connectors = []; tags = []; grants = []; transactions = []; readings = []; reservations = []; local_lists = []; reports = []; tx_owners = []; uses = [] }
 
 -- what tells an operator's rows of a kind apart, and the key
 abbrev pub station_rest : StationRow → List (List ℕ)
@@ -85,6 +89,18 @@ report_rest r = r.station ∷ kind_of r.status ∷ []
 
 abbrev pub report_key : ReportRow → List (List ℕ)
 report_key r = r.op ∷ report_rest r
+
+abbrev pub tx_owner_rest : TxOwnerRow → List (List ℕ)
+tx_owner_rest r = r.station ∷ (r.number ∷ []) ∷ []
+
+abbrev pub tx_owner_key : TxOwnerRow → List (List ℕ)
+tx_owner_key r = r.op ∷ tx_owner_rest r
+
+abbrev pub use_rest : UseRow → List (List ℕ)
+use_rest r = (r.number ∷ []) ∷ []
+
+abbrev pub use_key : UseRow → List (List ℕ)
+use_key r = r.op ∷ use_rest r
 
 abbrev pub registration_of : StationRow → Registration
 registration_of r = record { policy = r.policy; interval = r.interval; state = r.state }

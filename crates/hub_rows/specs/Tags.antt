@@ -23,7 +23,7 @@ is_parent_blocked blocked (Some parent) = blocked (key_of parent)
 
 -- the tag as it counts: blocked by itself or by its parent; a parent's parent doesn't count
 abbrev pub effective : (List ℕ → Bool) → Tag → Info
-effective blocked t = record { text = t.text; parent = t.parent; blocked = t.blocked || is_parent_blocked blocked t.parent; expiry = t.expiry }
+effective blocked t = record { text = t.text; parent = t.parent; blocked = t.blocked || is_parent_blocked blocked t.parent; expiry = t.expiry; owner = None }
 
 -- by what finds the owner's rows
 abbrev pub effective_tag : (List ℕ → Option TagRow) → List ℕ → Option Info

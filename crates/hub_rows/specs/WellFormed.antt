@@ -12,11 +12,13 @@ use Rattle.hub_rows.specs.declared.reading_row.ReadingRow.{ReadingRow}
 use Rattle.hub_rows.specs.declared.reservation_row.ReservationRow.{ReservationRow}
 use Rattle.hub_rows.specs.declared.list_row.ListRow.{ListRow}
 use Rattle.hub_rows.specs.declared.report_row.ReportRow.{ReportRow}
-use Rattle.hub_rows.specs.Keyed.{by_key}
+use Rattle.hub_rows.specs.declared.tx_row.TxOwnerRow.{TxOwnerRow}
+use Rattle.hub_rows.specs.declared.use_row.UseRow.{UseRow}
+use Rattle.hub_rows.specs.Keyed.{by_key, found}
 use Rattle.hub_rows.specs.LocalLists.{AreEntries}
-use Rattle.hub_rows.specs.Rows.{Rows, station_in, station_key, connector_key, tag_key, grant_key, tx_key, reading_key, reservation_key, list_key, report_key}
+use Rattle.hub_rows.specs.Rows.{Rows, station_in, station_key, connector_key, tag_key, grant_key, tx_key, reading_key, reservation_key, list_key, report_key, tx_owner_key, use_key}
 use Rattle.hub_rows.specs.Tags.{tag_in}
-use Rattle.hub_rows.specs.Transactions.{last_of_all}
+use Rattle.hub_rows.specs.Transactions.{is_tx, last_of_all}
 
 -- a station of operator b is among those of all
 abbrev pub IsOnRecord : List ℕ → List ℕ → List StationRow → Type 0
@@ -64,6 +66,16 @@ pub record IsGoodList (stations : List StationRow) (r : ListRow) : Type 0 where
 abbrev pub IsGoodReport : List StationRow → ReportRow → Type 0
 IsGoodReport stations r = IsOnRecord r.op r.station stations
 
+-- of a transaction that is on record, whose tag another operator granted
+pub record IsGoodTxOwner (txs : List TxRow) (r : TxOwnerRow) : Type 0 where
+  pub tx : IsSome (found (λ t. t.op) r.op (is_tx r.station r.number) txs)
+  pub owner : r.owner ≢ r.op
+
+-- with a number in range, at a station of another operator
+pub record IsGoodUse (r : UseRow) : Type 0 where
+  pub number : IsNumber r.number
+  pub host : r.host ≢ r.op
+
 -- ---- the lists
 
 -- rows in the order of their keys, each key once, and each row good
@@ -82,3 +94,5 @@ pub record WellFormedRows (rows : Rows) : Type 0 where
   pub reservations : AreGood reservation_key (IsGoodReservation rows.stations) rows.reservations
   pub local_lists : AreGood list_key (IsGoodList rows.stations) rows.local_lists
   pub reports : AreGood report_key (IsGoodReport rows.stations) rows.reports
+  pub tx_owners : AreGood tx_owner_key (IsGoodTxOwner rows.transactions) rows.tx_owners
+  pub uses : AreGood use_key IsGoodUse rows.uses

@@ -64,13 +64,16 @@ pub enum Edit {
         key: TagKey,
         to: Text,
     },
-    /// A new transaction. The reservation that it names is gone.
+    /// A new transaction, and the operator that granted the tag with which it began. The reservation that it names
+    /// is gone.
     TxStarted {
         station: Text,
         number: u32,
         start: Start,
+        owner: Option<Text>,
     },
-    /// The stop of an open transaction, and the readings that came with it, numbered from `first`.
+    /// The stop of an open transaction, and the readings that came with it, numbered from `first`. Where another
+    /// operator granted the tag with which it began, that operator's uses gain one.
     TxStopped {
         station: Text,
         number: u32,

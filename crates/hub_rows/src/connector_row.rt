@@ -1,6 +1,7 @@
 //! The record of a connector.
 ghost use Rattle.std.specs.Prelude.{◌≡◌};
 
+use crate::named_row::NamedRow;
 use crate::ordered::Keyed;
 use ocpp_types::{ChargePointErrorCode, ChargePointStatus, Text, copied};
 use std::alloc::AllocError;
@@ -68,5 +69,19 @@ impl Keyed for ConnectorRow {
             .cmp(&other.op)
             .then(self.station.cmp(&other.station))
             .then(self.connector.cmp(&other.connector))
+    }
+}
+
+impl NamedRow for ConnectorRow {
+    ghost op = { λ r. r.op };
+
+    ghost name = { λ r. r.station };
+
+    fn op(&self) -> &str {
+        self.op.as_str()
+    }
+
+    fn name(&self) -> &str {
+        self.station.as_str()
     }
 }

@@ -16,15 +16,23 @@ pub struct Info {
     /// It counts before this moment, which of a granted tag is the earlier of its expiry and the
     /// end of the grant.
     pub expiry: Option<Moment>,
+    /// The operator that granted it, `None` for the operator's own.
+    pub owner: Option<Text>,
 }
 
 impl Info {
-    /// The tag as it counts for an operator that has it until `end`: the earlier end counts.
-    pub fn until(self, end: Option<Moment>) -> Info
-        ensures { result ≡ granted_until end self }
+    /// The tag as it counts for an operator to which `owner` granted it until `end`: the earlier end
+    /// counts.
+    pub fn granted(self, owner: Text, end: Option<Moment>) -> Info
+        ensures { result ≡ granted_until owner end self }
     {
         let expiry = earlier(self.expiry, end);
-        Info { expiry, ..self }
+        let owner = Some(owner);
+        Info {
+            expiry,
+            owner,
+            ..self
+        }
     }
 }
 

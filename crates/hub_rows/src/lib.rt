@@ -16,6 +16,7 @@ mod station_row;
 mod store;
 mod tag_row;
 mod tx_row;
+mod use_row;
 
 pub use change::{Change, Edit};
 pub use connector_row::{ConnectorReport, ConnectorRow};
@@ -31,4 +32,5 @@ pub use reservation_row::{Reservation, ReservationId, ReservationRow};
 pub use station_row::{Boot, Registration, StationRow};
 pub use store::{Store, StoreFault};
 pub use tag_row::{Tag, TagRow};
-pub use tx_row::{LastNumbers, Start, StartKey, Stop, TxKey, TxRow, TxState};
+pub use tx_row::{LastNumbers, Start, StartKey, Stop, TxKey, TxOwnerRow, TxRow, TxState};
+pub use use_row::UseRow;

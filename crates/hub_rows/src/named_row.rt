@@ -1,4 +1,4 @@
-//! Rows whose key is their operator and one name: found, and removed.
+//! Rows of an operator and one name: where these are the key, found and removed.
 ghost use Rattle.std.specs.Prelude.{◌≡◌, ℕ, List, [], ◌∷◌, option_map};
 ghost use Rattle.std.specs.List.Sorted.{IsStrictlySortedBy};
 ghost use Rattle.std.specs.Str.{bytes_eq};
@@ -7,7 +7,7 @@ ghost use Rattle.hub_rows.specs.Places.{IsPlace};
 
 use ocpp_types::Boxed;
 
-/// A row whose key is its operator and one name.
+/// A row whose key is its operator and one name, or begins with them.
 pub trait NamedRow: Drop {
     ghost op: { Self → List ℕ };
 
@@ -17,7 +17,7 @@ pub trait NamedRow: Drop {
     fn op(&self) -> &str
         ensures { result.now ≡ op self.now };
 
-    /// What tells the operator's rows apart.
+    /// The name: that of its station, or the key of its tag.
     fn name(&self) -> &str
         ensures { result.now ≡ name self.now };
 }

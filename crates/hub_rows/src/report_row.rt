@@ -2,6 +2,7 @@
 ghost use Rattle.std.specs.Prelude.{◌≡◌};
 ghost use Rattle.hub_rows.specs.Reports.{kind_of, reported_name};
 
+use crate::named_row::NamedRow;
 use crate::ordered::Keyed;
 use ocpp_types::{DiagnosticsStatus, FirmwareStatus, Moment, Named, Text};
 use std::alloc::AllocError;
@@ -71,5 +72,19 @@ impl Keyed for ReportRow {
             .cmp(&other.op)
             .then(self.station.cmp(&other.station))
             .then(self.status.kind().cmp(other.status.kind()))
+    }
+}
+
+impl NamedRow for ReportRow {
+    ghost op = { λ r. r.op };
+
+    ghost name = { λ r. r.station };
+
+    fn op(&self) -> &str {
+        self.op.as_str()
+    }
+
+    fn name(&self) -> &str {
+        self.station.as_str()
     }
 }

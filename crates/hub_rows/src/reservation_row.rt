@@ -2,6 +2,7 @@
 ghost use Rattle.std.specs.Prelude.{◌≡◌};
 ghost use Rattle.hub_rows.specs.Reservations.{shifted, unshifted};
 
+use crate::named_row::NamedRow;
 use crate::ordered::Keyed;
 use ocpp_types::{Moment, Text, copied};
 use std::alloc::AllocError;
@@ -105,5 +106,19 @@ impl Keyed for ReservationRow {
             .cmp(&other.op)
             .then(self.station.cmp(&other.station))
             .then(self.id.cmp(&other.id))
+    }
+}
+
+impl NamedRow for ReservationRow {
+    ghost op = { λ r. r.op };
+
+    ghost name = { λ r. r.station };
+
+    fn op(&self) -> &str {
+        self.op.as_str()
+    }
+
+    fn name(&self) -> &str {
+        self.station.as_str()
     }
 }

@@ -3,15 +3,14 @@ ghost use Rattle.std.specs.Prelude.{◌≡◌, Err, IfOk, OnOk, OnErr};
 ghost use Rattle.hub_rows.specs.Rows.{registration_at};
 ghost use Rattle.hub_rows.specs.WellFormed.{WellFormedRows};
 ghost use Rattle.hub_rows.specs.Tags.{own_tag_in};
-ghost use Rattle.hub_rows.specs.Lookups.{stations_in, tags_in, connectors_in};
+ghost use Rattle.hub_rows.specs.Lookups.{stations_in, tags_in, connectors_in, local_list_in, reports_in};
 ghost use Rattle.hub_rows.specs.Transactions.{is_used_in, same_start_in, tx_in, has_open_in, txs_in, readings_in, last_numbers_in};
 ghost use Rattle.hub_rows.specs.Changes.{after_change, Fits};
 ghost use Rattle.hub_rows.specs.Grants.{granted_in, granted_tag_in, grants_in, has_grant_in};
-ghost use Rattle.hub_rows.specs.LocalLists.{local_list_in};
-ghost use Rattle.hub_rows.specs.Reports.{reports_in};
 ghost use Rattle.hub_rows.specs.Reservations.{reservations_in, reserved_until_in};
 ghost use Rattle.hub_rows.specs.Reads.{OnlyReads, IsCounted};
 ghost use Rattle.hub_rows.specs.Stops.{IsKept, FindsOldOr};
+ghost use Rattle.hub_rows.specs.Uses.{uses_in};
 ghost use Rattle.hub_rows.specs.declared.store.StoreFault.TheVariants as store_fault;
 
 use crate::change::Change;
@@ -25,6 +24,7 @@ use crate::reservation_row::{ReservationId, ReservationRow};
 use crate::station_row::{Registration, StationRow};
 use crate::tag_row::TagRow;
 use crate::tx_row::{LastNumbers, StartKey, TxKey, TxRow, TxState};
+use crate::use_row::UseRow;
 use ocpp_types::{Listed, Moment, NoMemory, TagKey};
 use std::alloc::{AllocError, AllocFailed};
 use thiserror::Error;
@@ -226,6 +226,12 @@ pub trait Store {
         ensures reads { OnlyReads view self.old self.new result }
         ensures found { (view self.new).clean
             → IfOk result (λ r. r ≡ reports_in op.now station.now (view self.old).rows.reports) };
+
+    /// The uses of an operator's id tags at the stations of others, in the order of their numbers.
+    fn uses(&mut self, op: &str) -> Result<Listed<UseRow>, StoreFault>
+        ensures reads { OnlyReads view self.old self.new result }
+        ensures found { (view self.new).clean
+            → IfOk result (λ r. r ≡ uses_in op.now (view self.old).rows.uses) };
 
     /// Makes a change that fits.
     fn apply(&mut self, change: &Change) -> Result<(), StoreFault>

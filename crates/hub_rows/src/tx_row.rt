@@ -58,6 +58,18 @@ pub struct Stop {
     pub moment: Moment,
 }
 
+/// The owner of the id tag with which a transaction began, where another operator granted it and the start was
+/// Accepted. Its key is `op`, `station` and `number`.
+#[derive(Drop)]
+pub struct TxOwnerRow {
+    /// The operator that hosts the station.
+    pub op: Text,
+    pub station: Text,
+    /// The number of the transaction.
+    pub number: u32,
+    pub owner: Text,
+}
+
 /// What tells the transactions of an operator apart.
 #[derive(Drop)]
 pub struct TxKey {
@@ -176,5 +188,31 @@ impl Keyed for TxRow {
             .cmp(&other.op)
             .then(self.station.cmp(&other.station))
             .then(self.number.cmp(&other.number))
+    }
+}
+
+impl Clone for TxOwnerRow {
+    ghost is_clone = { λ row copy. copy ≡ row };
+
+    fn clone(&self) -> Result<TxOwnerRow, AllocError> {
+        Ok(TxOwnerRow {
+            op: self.op.clone()?,
+            station: self.station.clone()?,
+            number: self.number,
+            owner: self.owner.clone()?,
+        })
+    }
+}
+
+impl Keyed for TxOwnerRow {
+    ghost use Rattle.hub_rows.specs.Rows.{tx_owner_key};
+
+    ghost key = { tx_owner_key };
+
+    fn compare(&self, row: &TxOwnerRow) -> Ordering {
+        self.op
+            .cmp(&row.op)
+            .then(self.station.cmp(&row.station))
+            .then(self.number.cmp(&row.number))
     }
 }

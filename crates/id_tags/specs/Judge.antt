@@ -5,6 +5,7 @@ use Rattle.ocpp_types.specs.declared.authorization_status.AuthorizationStatus.Th
 use Rattle.ocpp_types.specs.declared.id_tag_info.IdTagInfo.{IdTagInfo}
 use Rattle.hub_rows.specs.declared.info.Info.{Info}
 use Rattle.hub_rows.specs.Lookups.{Lookups}
+use Rattle.id_tags.specs.declared.judgement.Judged.{Judged}
 use Rattle.id_tags.specs.declared.judgement.Purpose.{Purpose}
 use Rattle.id_tags.specs.declared.judgement.Purpose.TheVariants.{Authorize, Start}
 
@@ -34,6 +35,26 @@ abbrev pub told_of_tag : ℕ → Bool → Option Info → IdTagInfo
 told_of_tag m used None = record { expiry_date = None; parent_id_tag = None; status = Invalid }
 told_of_tag m used (Some t) = record { expiry_date = t.expiry; parent_id_tag = t.parent; status = tag_status m used t }
 
+-- the operator that granted a tag, where it is accepted
+abbrev pub kept_owner : AuthorizationStatus → Option (List ℕ) → Option (List ℕ)
+kept_owner Accepted owner = owner
+kept_owner Blocked owner = None
+kept_owner Expired owner = None
+kept_owner Invalid owner = None
+kept_owner ConcurrentTx owner = None
+
+abbrev pub owner_of : Option Info → Option (List ℕ)
+owner_of None = None
+owner_of (Some t) = t.owner
+
+-- what is told, and the owner
+abbrev pub judged_tag : ℕ → Bool → Option Info → Judged
+judged_tag m used t = let info = told_of_tag m used t in record { info = info; owner = kept_owner info.status (owner_of t) }
+
 -- the judgement of the tag of a key at a moment, as far as an operator's look-ups go
 abbrev pub judge_rule : ℕ → List ℕ → Purpose → Lookups → IdTagInfo
 judge_rule m key purpose l = told_of_tag m (is_in_use purpose key l) (found_tag key l)
+
+-- the same, with the owner of a granted tag
+abbrev pub judge_with_owner : ℕ → List ℕ → Purpose → Lookups → Judged
+judge_with_owner m key purpose l = judged_tag m (is_in_use purpose key l) (found_tag key l)

@@ -2,10 +2,10 @@
 ghost use Rattle.std.specs.Prelude.{◌≡◌, Some, Err, IfOk};
 ghost use Rattle.hub_rows.specs.Reads.{OnlyReads};
 ghost use Rattle.hub_rows.specs.Lookups.{lookups_at};
-ghost use Rattle.id_tags.specs.Judge.{found_tag, is_in_use, told_of_tag, judge_rule, tag_status, is_past};
+ghost use Rattle.id_tags.specs.Judge.{found_tag, is_in_use, judged_tag, judge_rule, judge_with_owner, kept_owner, tag_status, is_past};
 
 use hub_rows::{Info, Store, StoreFault, TxKey};
-use ocpp_types::{AuthorizationStatus, IdTagInfo, Moment, TagKey};
+use ocpp_types::{AuthorizationStatus, IdTagInfo, Moment, TagKey, Text};
 
 /// What a tag is judged for.
 #[derive(Drop)]
@@ -14,6 +14,14 @@ pub enum Purpose {
     Authorize,
     /// To begin a transaction. The one that is left out doesn't count as a use of the tag.
     Start { except: Option<TxKey> },
+}
+
+/// How a tag is judged.
+#[derive(Drop)]
+pub struct Judged {
+    pub info: IdTagInfo,
+    /// The operator that granted it, where it is accepted. `None` for the operator's own.
+    pub owner: Option<Text>,
 }
 
 /// The tag of a key that counts for an operator: its own, or else the first of those that are granted
@@ -44,15 +52,33 @@ pub fn judge<S: Store>(
     ensures judged { (S.view store.new).clean → IfOk result (λ i. i
         ≡ judge_rule moment key.now purpose.now (lookups_at op.now (S.view store.old).rows)) }
 {
+    Ok(judge_with_owner(store, op, key, moment, purpose)?.info)
+}
+
+/// The same, with the operator that granted the tag.
+pub fn judge_with_owner<S: Store>(
+    store: &mut S,
+    op: &str,
+    key: &TagKey,
+    moment: Moment,
+    purpose: &Purpose,
+) -> Result<Judged, StoreFault>
+    ensures reads { OnlyReads S.view store.old store.new result }
+    ensures judged { (S.view store.new).clean → IfOk result (λ j. j
+        ≡ judge_with_owner moment key.now purpose.now (lookups_at op.now (S.view store.old).rows)) }
+{
     let Some(tag) = find_tag(store, op, key)? else {
-        return Ok(IdTagInfo {
-            expiry_date: None,
-            parent_id_tag: None,
-            status: AuthorizationStatus::Invalid,
+        return Ok(Judged {
+            info: IdTagInfo {
+                expiry_date: None,
+                parent_id_tag: None,
+                status: AuthorizationStatus::Invalid,
+            },
+            owner: None,
         });
     };
     let used = is_in_use(store, op, key, purpose)?;
-    Ok(told_of_tag(moment, used, tag))
+    Ok(judged_tag(moment, used, tag))
 }
 
 /// Whether the tag of a key is in use as far as the purpose asks.
@@ -72,15 +98,28 @@ fn is_in_use<S: Store>(
     }
 }
 
-/// What is told of a tag that was found.
-fn told_of_tag(moment: Moment, used: bool, tag: Info) -> IdTagInfo
-    ensures { result ≡ told_of_tag moment used (Some tag) }
+/// How a tag that was found is judged.
+fn judged_tag(moment: Moment, used: bool, tag: Info) -> Judged
+    ensures { result ≡ judged_tag moment used (Some tag) }
 {
     let status = tag_status(moment, used, &tag);
-    IdTagInfo {
+    let info = IdTagInfo {
         expiry_date: tag.expiry,
         parent_id_tag: tag.parent,
         status,
+    };
+    Judged {
+        info,
+        owner: kept_owner(status, tag.owner),
+    }
+}
+
+fn kept_owner(status: AuthorizationStatus, owner: Option<Text>) -> Option<Text>
+    ensures { result ≡ kept_owner status owner }
+{
+    match status {
+        AuthorizationStatus::Accepted => owner,
+        _ => None,
     }
 }
 

@@ -5,6 +5,6 @@ mod judgement;
 mod plan;
 mod refusal;
 
-pub use judgement::{Purpose, find_tag, judge};
+pub use judgement::{Judged, Purpose, find_tag, judge, judge_with_owner};
 pub use plan::{Grant, MAX_TAG, plan_drop, plan_grant, plan_put, plan_revoke};
 pub use refusal::refuse_tag;

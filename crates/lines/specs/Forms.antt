@@ -3,8 +3,8 @@ use Rattle.std.specs.Prelude.{ℕ, List, [], ◌∷◌, codes, Bool, true, false
 use Rattle.hub_events.specs.declared.event.What.{What}
 use Rattle.hub_events.specs.declared.event.What.TheVariants as what
 use Rattle.hub_events.specs.declared.event.Admin.TheVariants as admin
-use Rattle.hub_events.specs.declared.event.Listing.{Listing}
-use Rattle.hub_events.specs.declared.event.Listing.TheVariants as listing
+use Rattle.hub_events.specs.declared.listing.Listing.{Listing}
+use Rattle.hub_events.specs.declared.listing.Listing.TheVariants as listing
 use Rattle.ocpp_types.specs.Named.{named}
 use Rattle.operator_cmds.specs.Command.{command}
 use Rattle.ocpp_types.specs.Policy.{policies}
@@ -159,7 +159,7 @@ station_list_form = by_word ((codes "connectors", connectors_form) ∷ (codes "t
 
 -- the listings of an operator
 abbrev pub plain_list : List ℕ → Option Listing
-plain_list = named ((codes "stations", listing.Stations) ∷ (codes "tags", listing.Tags) ∷ (codes "grants", listing.Grants) ∷ (codes "granted", listing.Granted) ∷ [])
+plain_list = named ((codes "stations", listing.Stations) ∷ (codes "tags", listing.Tags) ∷ (codes "grants", listing.Grants) ∷ (codes "granted", listing.Granted) ∷ (codes "uses", listing.Uses) ∷ [])
 
 -- the forms after `list`
 abbrev pub list_by_word : Option Listing → List ℕ → Option What

@@ -32,6 +32,7 @@ use Rattle.hub_rows.specs.declared.info.GrantedTag.{GrantedTag}
 use Rattle.hub_rows.specs.declared.tx_row.Start.{Start}
 use Rattle.hub_rows.specs.declared.tx_row.Stop.{Stop}
 use Rattle.hub_rows.specs.declared.tx_row.TxRow.{TxRow}
+use Rattle.hub_rows.specs.declared.use_row.UseRow.{UseRow}
 use Rattle.hub_rows.specs.declared.reading_row.Reading.{Reading}
 use Rattle.hub_rows.specs.declared.reading_row.ReadingRow.{ReadingRow}
 use Rattle.hub_rows.specs.Reports.{kind_of, reported_name}
@@ -40,8 +41,8 @@ use Rattle.hub_rows.specs.declared.report_row.ReportRow.{ReportRow}
 use Rattle.hub_rows.specs.declared.list_row.LocalTag.{LocalTag}
 use Rattle.hub_rows.specs.declared.reservation_row.Reservation.{Reservation}
 use Rattle.hub_rows.specs.declared.reservation_row.ReservationRow.{ReservationRow}
-use Rattle.hub_events.specs.declared.row.Row.{Row}
-use Rattle.hub_events.specs.declared.row.Row.TheVariants as row
+use Rattle.hub_events.specs.declared.listing.Row.{Row}
+use Rattle.hub_events.specs.declared.listing.Row.TheVariants as row
 
 -- ---- fields: `-` stands for none, and a text of a peer is a JSON string
 
@@ -101,6 +102,10 @@ grant_line op r = op ++ (codes " row grant " ++ (quoted r.key ++ (codes " " ++ (
 -- `OP row granted OWNER TAG PARENT 0|1 EXPIRY`
 abbrev pub granted_line : List ℕ → GrantedTag → List ℕ
 granted_line op r = op ++ (codes " row granted " ++ (r.owner ++ (codes " " ++ (quoted r.info.text ++ (codes " " ++ (text_field r.info.parent ++ (codes " " ++ (mark r.info.blocked ++ (codes " " ++ moment_field r.info.expiry)))))))))
+
+-- `OP row use NUMBER HOST TAG MOMENT WH`
+abbrev pub use_line : List ℕ → UseRow → List ℕ
+use_line op r = op ++ (codes " row use " ++ (decimal r.number ++ (codes " " ++ (r.host ++ (codes " " ++ (quoted r.key ++ (codes " " ++ (decimal r.moment ++ (codes " " ++ signed_decimal r.wh)))))))))
 
 -- what was reported of a connector
 abbrev pub report_fields : ConnectorReport → List ℕ
@@ -166,6 +171,7 @@ row_line op (row.Station r) = station_line op r
 row_line op (row.Tag r) = tag_line op r
 row_line op (row.Grant r) = grant_line op r
 row_line op (row.Granted r) = granted_line op r
+row_line op (row.Use r) = use_line op r
 row_line op (row.Connector r) = connector_line op r
 row_line op (row.Transaction r) = tx_line op r
 row_line op (row.Reading r) = reading_line op r

@@ -4,7 +4,6 @@
 mod added_line;
 mod fields;
 mod forms;
-mod held;
 mod input_line;
 mod list_forms;
 mod order;

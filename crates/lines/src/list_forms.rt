@@ -26,6 +26,7 @@ fn plain_list(rest: &str) -> Option<Listing>
         "tags" => Some(Listing::Tags),
         "grants" => Some(Listing::Grants),
         "granted" => Some(Listing::Granted),
+        "uses" => Some(Listing::Uses),
         _ => None,
     }
 }

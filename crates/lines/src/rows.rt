@@ -1,17 +1,22 @@
 //! Lines of listings (docs/TABLES.md, Listing lines).
-ghost use Rattle.std.specs.Prelude.{◌≡◌, IfOk, option_map, string_bytes};
+ghost use Rattle.std.specs.Prelude.{◌≡◌, IfOk, false, option_map, string_bytes};
+ghost use Rattle.std.specs.Fmt.{signed_decimal};
+ghost use Rattle.serde_json.specs.View.{view};
+ghost use Rattle.serde_json.specs.Written.{has_float};
 ghost use Rattle.ocpp_types.specs.Phase.{phase_name};
 ghost use Rattle.ocpp_types.specs.UnitOfMeasure.{unit_of_measure_name};
-ghost use Rattle.lines.specs.RowLines.{row_line, station_line, tag_line, grant_line, granted_line, connector_line, tx_line, reading_line, reading_fields, report_fields, start_fields, stop_fields, taken_fields, sampled_fields, value_fields, name_field, micro_of};
+ghost use Rattle.hub_rows.specs.Reservations.{unshifted};
+ghost use Rattle.lines.specs.RowLines.{row_line, station_line, tag_line, grant_line, granted_line, use_line, connector_line, tx_line, reading_line, reservation_line, local_tag_line, report_line, entry_data, reading_fields, report_fields, reservation_fields, start_fields, stop_fields, taken_fields, sampled_fields, value_fields, name_field, micro_of};
 
 use crate::fields::{boot_field, mark, moment_field, quoted, signed_field, text_field, widened};
-use crate::held::{print_local_tag, print_report, print_reservation};
 use hub_events::Row;
 use hub_rows::{
-    ConnectorReport, ConnectorRow, GrantRow, GrantedTag, Reading, ReadingRow, Start, StationRow,
-    Stop, TagRow, TxRow,
+    ConnectorReport, ConnectorRow, GrantRow, GrantedTag, LocalTag, Reading, ReadingRow, ReportRow,
+    Reservation, ReservationId, ReservationRow, Start, StationRow, Stop, TagRow, TxRow, UseRow,
 };
+use ocpp_payload::Tabled;
 use ocpp_types::{Mem, Named, Phase, Text, UnitOfMeasure, ValueFormat, read_micro};
+use serde_json::{Map, Value, put};
 use std::alloc::Global;
 
 /// The line of a row, without a line feed.
@@ -23,6 +28,7 @@ pub fn print_row(alloc: Global, op: &Text, row: &Row) -> Mem<String>
         Row::Tag(row) => print_tag(alloc, op, row),
         Row::Grant(row) => print_grant(alloc, op, row),
         Row::Granted(tag) => print_granted(alloc, op, tag),
+        Row::Use(row) => print_use(alloc, op, row),
         Row::Connector(row) => print_connector(alloc, op, row),
         Row::Transaction(row) => print_transaction(alloc, op, row),
         Row::Reading(row) => print_reading(alloc, op, row),
@@ -74,6 +80,17 @@ fn print_granted(alloc: Global, op: &Text, tag: &GrantedTag) -> Mem<String>
     let blocked = mark(tag.info.blocked);
     let expiry = moment_field(alloc, tag.info.expiry)?;
     Ok(format!(in alloc; "{op} row granted {owner} {text} {parent} {blocked} {expiry}")?)
+}
+
+fn print_use(alloc: Global, op: &Text, row: &UseRow) -> Mem<String>
+    ensures { IfOk result (λ s. string_bytes s ≡ use_line op.now row.now) }
+{
+    let number = row.number;
+    let host = row.host.as_str();
+    let key = quoted(alloc, row.key.as_str())?;
+    let moment = row.moment.seconds();
+    let wh = row.wh;
+    Ok(format!(in alloc; "{op} row use {number} {host} {key} {moment} {wh}")?)
 }
 
 fn print_connector(alloc: Global, op: &Text, row: &ConnectorRow) -> Mem<String>
@@ -206,4 +223,67 @@ fn micro_of(reading: &Reading) -> Option<i128>
         ValueFormat::Raw => read_micro(reading.text.as_str(), reading.unit),
         ValueFormat::SignedData => None,
     }
+}
+
+fn print_reservation(alloc: Global, op: &Text, row: &ReservationRow) -> Mem<String>
+    ensures { IfOk result (λ s. string_bytes s ≡ reservation_line op.now row.now) }
+{
+    let station = row.station.as_str();
+    let id = id_text(alloc, row.id)?;
+    let fields = print_reserved(alloc, &row.reservation)?;
+    Ok(format!(in alloc; "{op} row reservation {station} {id} {fields}")?)
+}
+
+fn id_text(alloc: Global, id: ReservationId) -> Mem<String>
+    ensures { IfOk result (λ s. string_bytes s ≡ signed_decimal (unshifted id)) }
+{
+    let number = widened(Some(id.get()));
+    let text = signed_field(alloc, number)?;
+    Ok(text)
+}
+
+fn print_reserved(alloc: Global, reservation: &Reservation) -> Mem<String>
+    ensures { IfOk result (λ s. string_bytes s ≡ reservation_fields reservation.now) }
+{
+    let connector = reservation.connector;
+    let tag = quoted(alloc, reservation.tag.as_str())?;
+    let parent = text_field(alloc, &reservation.parent)?;
+    let expiry = reservation.expiry.seconds();
+    Ok(format!(in alloc; "{connector} {tag} {parent} {expiry}")?)
+}
+
+fn print_local_tag(alloc: Global, op: &Text, station: &Text, entry: &LocalTag) -> Mem<String>
+    ensures { IfOk result (λ s. string_bytes s ≡ local_tag_line op.now station.now entry.now) }
+{
+    let entry = entry_value(alloc, entry)?.to_string(alloc)?;
+    Ok(format!(in alloc; "{op} row localtag {station} {entry}")?)
+}
+
+fn entry_value(alloc: Global, entry: &LocalTag) -> Mem<Value>
+    ensures data { IfOk result (λ v. view v ≡ entry_data entry.now) }
+    ensures no_float { IfOk result (λ v. has_float (view v) ≡ false) }
+{
+    let value = entry_object(alloc, entry)?;
+    Ok(value)
+}
+
+fn entry_object(alloc: Global, entry: &LocalTag) -> Mem<Value>
+    ensures { IfOk result (λ v. view v ≡ entry_data entry.now) }
+{
+    let mut members = Map::new(alloc);
+    let tag = String::from_str(alloc, entry.tag.as_str())?;
+    put(&mut members, alloc, "idTag", Value::String(tag))?;
+    let info = entry.info.write(alloc)?;
+    put(&mut members, alloc, "idTagInfo", info)?;
+    Ok(Value::Object(members))
+}
+
+fn print_report(alloc: Global, op: &Text, row: &ReportRow) -> Mem<String>
+    ensures { IfOk result (λ s. string_bytes s ≡ report_line op.now row.now) }
+{
+    let station = row.station.as_str();
+    let kind = row.status.kind();
+    let status = row.status.name();
+    let moment = row.moment.seconds();
+    Ok(format!(in alloc; "{op} row report {station} {kind} {status} {moment}")?)
 }

@@ -36,7 +36,7 @@ use Rattle.sql_shelf.proofs.TableLemmas.{table_without, left_from, left_has, has
 use Rattle.sql_shelf.proofs.ShelfLemmas as shelf
 use Rattle.sql_shelf.proofs.ShelfLemmas.{agree_keys}
 use Rattle.sql_shelf.proofs.DropLemmas.{DropsIn, drops_means, gone_from}
-use Rattle.sql_shelf.proofs.Instances.{on_tags, on_grants}
+use Rattle.sql_shelf.proofs.TagShelves.{on_tags, on_grants}
 use Rattle.sql_shelf.proofs.Tests.{of_tag}
 
 abbrev pub to_tag : Reference

@@ -1,4 +1,4 @@
--- The tables and indexes that CREATE makes.
+-- The tables and indexes that CREATE makes, and the indexes that DROP takes.
 use Rattle.std.proofs.Common.{◌≡◌, ◌⊎◌, ℕ, List, [], ◌∷◌, ◌++◌, true, false, Some, None, slice_get, Ok, Err, Result, IsTrue, OnOk, sym, ap, ◌∙◌, subst, inl, inr}
 use Rattle.std.proofs.lemmas.Bool.{cases_Bool}
 use Rattle.std.specs.List.{AllByRecursion}
@@ -7,17 +7,18 @@ use Rattle.sqlite_trees.specs.Tree.{Trees}
 use Rattle.sqlite_schema.specs.declared.schema.Schema.{Schema}
 use Rattle.sqlite_schema.specs.declared.schema.Table.{Table}
 use Rattle.sqlite_schema.specs.declared.schema.Index.{Index}
-use Rattle.sqlite_schema.specs.declared.command.Command.TheVariants.{CreateTable, CreateIndex}
-use Rattle.sqlite_catalog.specs.Change.{created, indexed, next_tree, KeepsRows}
+use Rattle.sqlite_schema.specs.declared.command.Command.TheVariants.{CreateTable, CreateIndex, DropIndex}
+use Rattle.sqlite_catalog.specs.Change.{created, indexed, without_index, next_tree, KeepsRows}
+use Rattle.sqlite_catalog.specs.Calls.{RefusesToDropIndex}
 use Rattle.sqlite.specs.declared.error.Error.{Error}
 use Rattle.sqlite.specs.declared.error.Error.TheVariants.{SqliteFailure}
 use Rattle.sqlite.specs.declared.error.ErrorCode.TheVariants.{TransactionState}
-use Rattle.sqlite.specs.Effect.{Database}
-use Rattle.sqlite.specs.Does.{Tally, AtPlace, MakesIndex, no_rows as no_tally}
+use Rattle.sqlite.specs.Effect.{Database, RefusesToAlter}
+use Rattle.sqlite.specs.Does.{Tally, AtPlace, MakesIndex, Leaves as IsLeft, no_rows as no_tally}
 use Rattle.sqlite.specs.Rows.{Then, Gives}
 use Rattle.sqlite.specs.State.{State, HasCleanDisk, Survives, ExecutesInside, Writes}
 use Rattle.sqlite.proofs.Callers.{runs_as}
-use Rattle.sql_tables.specs.Opening.{IsCreate, IsIndexCreate}
+use Rattle.sql_tables.specs.Opening.{IsCreate, IsIndexCreate, IsIndexDrop}
 use Rattle.sql_shelf.specs.Kept.{Leaves}
 use Rattle.sql_shelf.specs.Opening.{WithinAs, IsInsideAs}
 use Rattle.sql_shelf.proofs.PutLemmas.{went, same_value}
@@ -70,6 +71,26 @@ module _ (rows : Trees) (sql : List ℕ) (from : Schema) (at : ℕ) (table : Tab
       let schema : all.0.schema ≡ indexed from table index = made.is ∙ ap (λ s. indexed s table made.index) was.schema_is ∙ ap (indexed from table) same in
       let now : new.now ≡ all.0 = ap (λ (p : Tally × Database). p.1) (same_value all.2) in
       let kept : KeepsRows from.tables rows all.0.trees = still_kept from.tables rows old.now.trees all.0.trees (subst (λ (s : Schema). KeepsRows s.tables old.now.trees all.0.trees) was.schema_is made.rows) was.kept in
+      record {
+        schema_is = ap (λ (d : Database). d.schema) now ∙ schema;
+        sound = w.sound;
+        kept = subst (λ (d : Database). KeepsRows from.tables rows d.trees) (sym now) kept;
+        mode = ran.1.mode;
+        limit = limit ∙ was.limit;
+      }
+
+module _ (rows : Trees) (sql : List ℕ) (from : Schema) (index : Index) (is : IsIndexDrop sql from index) where
+  pub drops_index : (old new : State) (count : ℕ) → ExecutesInside 0 sql [] old new (Ok count) → new.step_limit ≡ old.step_limit → IsInsideAs rows from old → WithinAs rows (without_index from index.tree) new
+  drops_index old new count ran limit inside =
+      let was = inside ran.1.was_open in
+      let w = runs_as sql [] old new from was.schema_is (DropIndex is.at) is.command is.plain count ran.0 in
+      let here : slice_get old.now.schema.indexes is.at ≡ Some index = ap (λ (s : Schema). slice_get s.indexes is.at) was.schema_is ∙ is.here in
+      let placed = subst (λ o. AtPlace {A = Tally × Database} (λ (i : Index). Then (IsLeft (without_index old.now.schema i.tree) old.now.trees (RefusesToAlter (RefusesToDropIndex i))) (λ after. Gives (no_tally false, after))) o (Ok (w.tally, new.now))) here w.changed in
+      let all = went placed in
+      let left = all.1 in
+      let schema : all.0.schema ≡ without_index from index.tree = left.0 ∙ ap (λ s. without_index s index.tree) was.schema_is in
+      let now : new.now ≡ all.0 = ap (λ (p : Tally × Database). p.1) (same_value all.2) in
+      let kept : KeepsRows from.tables rows all.0.trees = still_kept from.tables rows old.now.trees all.0.trees (subst (λ (s : Schema). KeepsRows s.tables old.now.trees all.0.trees) was.schema_is left.1) was.kept in
       record {
         schema_is = ap (λ (d : Database). d.schema) now ∙ schema;
         sound = w.sound;
@@ -137,5 +158,13 @@ module _ {H : Type 0} (state : H → State) (a b : H) (sql : List ℕ) (r : Resu
     where
       go : (r : Result ℕ Error) → RanHere r → OnOk r ((rows : Trees) (from : Schema) (at : ℕ) (table : Table) (index : Index) → IsIndexCreate sql from at table index → IsInsideAs rows from (state a) → IsInsideAs rows (indexed from table index) (state b))
       go (Ok n) (inl ran) = λ rows from at table index is inside up. creates_index rows sql from at table index is (state a) (state b) n (ran (clean up)) survives.limit inside
+      go (Ok n) (inr e) = absurd (let f = e.0 in cc)
+      go (Err x) h = tt
+
+  pub dropped_index : OnOk r ((rows : Trees) (from : Schema) (index : Index) → IsIndexDrop sql from index → IsInsideAs rows from (state a) → IsInsideAs rows (without_index from index.tree) (state b))
+  dropped_index = go r here
+    where
+      go : (r : Result ℕ Error) → RanHere r → OnOk r ((rows : Trees) (from : Schema) (index : Index) → IsIndexDrop sql from index → IsInsideAs rows from (state a) → IsInsideAs rows (without_index from index.tree) (state b))
+      go (Ok n) (inl ran) = λ rows from index is inside up. drops_index rows sql from index is (state a) (state b) n (ran (clean up)) survives.limit inside
       go (Ok n) (inr e) = absurd (let f = e.0 in cc)
       go (Err x) h = tt

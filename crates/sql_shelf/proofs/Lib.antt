@@ -10,7 +10,12 @@ pub mod StoreLemmas
 pub mod TxLemmas
 pub mod ValueLaws
 pub mod NameLaws
-pub mod Instances
+pub mod HubTables
+pub mod MetaShelf
+pub mod StationShelves
+pub mod TagShelves
+pub mod TxShelves
+pub mod HoldingShelves
 pub mod LastLaws
 pub mod DownLaws
 pub mod Selects
@@ -20,8 +25,6 @@ pub mod CascadeLemmas
 pub mod TagWrites
 pub mod ChangedLaws
 pub mod TxReads
-pub mod Listings
-pub mod Edits
 pub mod RowEdits
 pub mod ListEdits
 pub mod OrderedLaws

@@ -18,18 +18,19 @@ use Rattle.hub_rows.specs.declared.list_row.LocalTag.{LocalTag}
 use Rattle.hub_rows.specs.declared.change.Edit.TheVariants.{ListSet}
 use Rattle.hub_rows.specs.Changes.{edit, list_row}
 use Rattle.hub_rows.specs.Keyed.{key_cmp, by_key, put, put_all}
-use Rattle.hub_rows.specs.LocalLists.{AreEntries, entry_key, local_list_in}
+use Rattle.hub_rows.specs.LocalLists.{AreEntries, entry_key}
+use Rattle.hub_rows.specs.Lookups.{local_list_in}
 use Rattle.hub_rows.specs.Rows.{list_key}
 use Rattle.hub_rows.proofs.ListLaws.{RespectsTies, keys_total, by_key_total, same_text, text_itself, all-weaker, sorted-put, filter-put, filter-put_not, ties_key, head}
 use Rattle.hub_rows.proofs.GrantLaws.{second}
 use Rattle.sql_tables.specs.Tables.{hub_schema}
 use Rattle.sql_shelf.specs.declared.list_rows.ListHead.{ListHead}
 use Rattle.sql_shelf.specs.declared.list_rows.EntryRow.{EntryRow}
-use Rattle.sql_shelf.specs.Shelf.{Shelf, cmp, typed, rows_in, Spares}
-use Rattle.sql_shelf.specs.Shelves.{stations, connectors, tags, grants, txs, readings, reservations, lists, entries, reports, entry_row, is_entry_of, list_of}
+use Rattle.sql_shelf.specs.Shelf.{cmp, typed, rows_in, Spares}
+use Rattle.sql_shelf.specs.Shelves.{lists, entries, entry_row, is_entry_of, list_of, rows_of}
 use Rattle.sql_shelf.specs.Kept.{IsPutIn, ArePutIn, IsDropped, IsMade}
-use Rattle.sql_shelf.proofs.Edits.{same_in}
-use Rattle.sql_shelf.proofs.Instances.{on_stations, on_connectors, on_tags, on_grants, on_txs, on_readings, on_reservations, on_lists, on_entries, on_reports}
+use Rattle.sql_shelf.proofs.HubTables.{IsApart, rest_is, same_in, spared}
+use Rattle.sql_shelf.proofs.HoldingShelves.{on_lists, on_entries}
 use Rattle.sql_shelf.proofs.MemberLaws.{same_elements, sorted_single, sorted_filter, is_arranged, arranged_from, arranged_has, put_all-last}
 
 -- ---- a list is read by its head and its entries
@@ -171,8 +172,8 @@ module _ (op station : List ℕ) where
 
     module _ (a b c d : Trees) (dropped : IsDropped entries of_list a b) (headed : IsPutIn lists head_row b c) (filled : ArePutIn entries (entry_rows es) c d) where
       -- a table of neither has the rows that it had
-      still : {T : Type 0} (s : Shelf T) → Has hub_schema.tables s.table → (s.table.tree ≡ 16 → ⊥) → (s.table.tree ≡ 18 → ⊥) → rows_in s d ≡ rows_in s a
-      still s listed no_list no_entry = same_in s 18 c d listed filled.frame no_entry ∙ same_in s 16 b c listed headed.frame no_list ∙ same_in s 18 a b listed dropped.frame no_entry
+      still : (t : Table) → Has hub_schema.tables t → IsApart (16 ∷ 18 ∷ []) t.tree → d t.tree ≡ a t.tree
+      still t listed apart = spared 18 c d filled.frame t listed (apart.1.0, tt) ∙ spared 16 b c headed.frame t listed (apart.0, tt) ∙ spared 18 a b dropped.frame t listed (apart.1.0, tt)
 
       heads_now : rows_in lists d ≡ put (cmp lists) head_row (rows_in lists a)
       heads_now = same_in lists 18 c d on_lists.listed filled.frame (λ e. cc) ∙ headed.rows ∙ ap (put (cmp lists) head_row) (same_in lists 18 a b on_lists.listed dropped.frame (λ e. cc))
@@ -181,16 +182,8 @@ module _ (op station : List ℕ) where
       entries_now = filled.rows ∙ ap (put_all (cmp entries) (entry_rows es)) (same_in entries 16 b c on_entries.listed headed.frame (λ e. cc) ∙ dropped.rows)
 
       pub list_set : IsMade (edit op (ListSet station (record { version = version; entries = es }))) a d
-      list_set = λ i. record {
-        stations = still stations on_stations.listed (λ e. cc) (λ e. cc) i;
-        connectors = still connectors on_connectors.listed (λ e. cc) (λ e. cc) i;
-        tags = still tags on_tags.listed (λ e. cc) (λ e. cc) i;
-        grants = still grants on_grants.listed (λ e. cc) (λ e. cc) i;
-        transactions = still txs on_txs.listed (λ e. cc) (λ e. cc) i;
-        readings = still readings on_readings.listed (λ e. cc) (λ e. cc) i;
-        reservations = still reservations on_reservations.listed (λ e. cc) (λ e. cc) i;
+      list_set = λ i. record (rows_of (rest_is (16 ∷ 18 ∷ []) a d still i)) {
         local_lists = (ap₂ (λ l h. map (list_of l) h) entries_now heads_now ∙ lists_set (rows_in lists a) (rows_in entries a) (is_arranged (cmp lists) (by_key_total lists.key) (map (typed lists) (a 16))) (is_arranged (cmp entries) (by_key_total entries.key) (map (typed entries) (a 18)))) i;
-        reports = still reports on_reports.listed (λ e. cc) (λ e. cc) i;
       }
 
 -- ---- one more entry

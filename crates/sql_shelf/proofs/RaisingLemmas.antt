@@ -1,5 +1,5 @@
--- An earlier schema is raised in one transaction: the tables that it lacks, and the number.
-use Rattle.std.proofs.Common.{map, ◌≡◌, ◌≤◌, ◌⊎◌, ℕ, List, [], ◌∷◌, true, false, Ok, Err, Result, IsTrue, IfErr, OnOk, refl, sym, ap, ◌∙◌, subst, inl, inr, true≢false, arith, nat_lt, Less, Equal, Greater, Ordering, zero, suc, ◌+◌, ◌<◌}
+-- An earlier schema is raised in one transaction: it gets the tables that it lacks, and the number.
+use Rattle.std.proofs.Common.{◌≡◌, ◌≤◌, ◌⊎◌, ℕ, List, [], ◌∷◌, ◌++◌, true, false, Ok, Err, Result, IsTrue, IfErr, OnOk, refl, sym, ap, ◌∙◌, subst, inl, inr, true≢false, arith, nat_lt, Less, Equal, Greater, Ordering, zero, suc, ◌+◌, ◌<◌}
 use Rattle.std.specs.Ordering.{match_ordering}
 use Rattle.std.proofs.lemmas.Bool.Decides.{nat_tests}
 use Rattle.std.specs.List.{AllByRecursion}
@@ -15,16 +15,15 @@ use Rattle.sqlite.specs.State.{State, HasCleanDisk, Survives, IsRolledBack, Show
 use Rattle.sqlite.specs.Steps.{FailsToCommit}
 use Rattle.sqlite.specs.Held.{Held, state}
 use Rattle.sqlite.specs.Store.{Ghosts}
-use Rattle.sql_tables.specs.Opening.{our_number, schema_at}
-use Rattle.sql_tables.specs.Tables.{hub_schema, first_schema, hub_report}
+use Rattle.sql_tables.specs.Opening.{our_number, tables_at, schema_at}
+use Rattle.sql_tables.specs.Tables.{hub_schema, first_tables, second_tables, hub_report, hub_tx_owner, hub_use}
 use Rattle.hub_rows.specs.Keyed.{put}
 use Rattle.hub_rows.specs.WellFormed.{WellFormedRows}
 use Rattle.sql_shelf.specs.Shelf.{cmp, rows_in, AreShelved, Spares}
-use Rattle.sql_shelf.specs.Shelves.{metas, stations, connectors, tags, grants, txs, readings, reservations, lists, entries, list_of, hub_good, rows_of, reports}
+use Rattle.sql_shelf.specs.Shelves.{metas, hub_good, rows_of}
 use Rattle.sql_shelf.specs.Kept.{Leaves, IsInside, Inside, IsPutIn}
 use Rattle.sql_shelf.specs.Opening.{IsInsideAs, HasTables, Rested, Prepares, our_meta, rows_at, trees_at, IsCut, Holds, IsRaised}
-use Rattle.sql_shelf.proofs.Edits.{same_in}
-use Rattle.sql_shelf.proofs.Instances.{on_stations, on_connectors, on_tags, on_grants, on_txs, on_readings, on_reservations, on_lists, on_entries, on_reports}
+use Rattle.sql_shelf.proofs.HubTables.{rest_is, spared}
 use Rattle.sqlite_rules.specs.Lists.{Has}
 use Rattle.sql_shelf.proofs.CreateLemmas.{more_tables}
 
@@ -47,17 +46,7 @@ spares_kept (t ∷ ts) rows old new frame kept = (λ other. frame.0 other ∙ ke
 
 -- hub_meta has no rows of the hub
 metas_made : (old new : Trees) → Spares hub_schema 0 old new → rows_of new ≡ rows_of old
-metas_made old new frame = λ i. record {
-  stations = same_in stations 0 old new on_stations.listed frame (λ e. cc) i;
-  connectors = same_in connectors 0 old new on_connectors.listed frame (λ e. cc) i;
-  tags = same_in tags 0 old new on_tags.listed frame (λ e. cc) i;
-  grants = same_in grants 0 old new on_grants.listed frame (λ e. cc) i;
-  transactions = same_in txs 0 old new on_txs.listed frame (λ e. cc) i;
-  readings = same_in readings 0 old new on_readings.listed frame (λ e. cc) i;
-  reservations = same_in reservations 0 old new on_reservations.listed frame (λ e. cc) i;
-  local_lists = map (list_of (same_in entries 0 old new on_entries.listed frame (λ e. cc) i)) (same_in lists 0 old new on_lists.listed frame (λ e. cc) i);
-  reports = same_in reports 0 old new on_reports.listed frame (λ e. cc) i;
-}
+metas_made old new frame = ap rows_of (rest_is (0 ∷ []) old new (spared 0 old new frame))
 
 -- the number is put, and the other tables have the rows that they had
 filled : (rows : Trees) (a b : State) → IsInsideAs rows hub_schema a → Inside (IsPutIn metas our_meta) a b → IsTrue b.is_open → HasTables (rows_of rows) b
@@ -83,31 +72,39 @@ filled_if rows a b (Err e) empty done = tt
 
 -- ---- the rows of a schema
 
+abbrev IsShelvedAt : ℕ → Trees → Table → Type 0
+IsShelvedAt n db t = IsTable (trees_at n db t.tree) × AllByRecursion (hub_good t.tree) (trees_at n db t.tree)
+
 shelved_at : (n : ℕ) → n < our_number → (db : Trees) → AreShelved (schema_at n) hub_good db → AreShelved hub_schema hub_good (trees_at n db)
-shelved_at zero earlier db shelved = ((tt, tt), ((tt, tt), ((tt, tt), ((tt, tt), ((tt, tt), ((tt, tt), ((tt, tt), ((tt, tt), ((tt, tt), ((tt, tt), ((tt, tt), tt)))))))))))
-shelved_at (suc zero) earlier db shelved = more_tables (λ t. IsTable (trees_at 1 db t.tree) × AllByRecursion (hub_good t.tree) (trees_at 1 db t.tree)) first_schema.tables hub_report shelved (tt, tt)
-shelved_at (suc (suc n)) earlier db shelved = absurd (omega (arith, earlier))
+shelved_at zero earlier db shelved = ((tt, tt), ((tt, tt), ((tt, tt), ((tt, tt), ((tt, tt), ((tt, tt), ((tt, tt), ((tt, tt), ((tt, tt), ((tt, tt), ((tt, tt), ((tt, tt), ((tt, tt), tt)))))))))))))
+shelved_at (suc zero) earlier db shelved = more_tables (IsShelvedAt 1 db) (second_tables.tables ++ hub_tx_owner ∷ []) hub_use
+    (more_tables (IsShelvedAt 1 db) second_tables.tables hub_tx_owner (more_tables (IsShelvedAt 1 db) first_tables.tables hub_report shelved (tt, tt)) (tt, tt)) (tt, tt)
+shelved_at (suc (suc zero)) earlier db shelved = more_tables (IsShelvedAt 2 db) (second_tables.tables ++ hub_tx_owner ∷ []) hub_use (more_tables (IsShelvedAt 2 db) second_tables.tables hub_tx_owner shelved (tt, tt)) (tt, tt)
+shelved_at (suc (suc (suc n))) earlier db shelved = absurd (omega (arith, earlier))
 
 rows_at_is : (n : ℕ) → n < our_number → (db : Trees) → rows_of (trees_at n db) ≡ rows_at n db
 rows_at_is zero earlier db = refl
 rows_at_is (suc zero) earlier db = refl
-rows_at_is (suc (suc n)) earlier db = absurd (omega (arith, earlier))
+rows_at_is (suc (suc zero)) earlier db = refl
+rows_at_is (suc (suc (suc n))) earlier db = absurd (omega (arith, earlier))
 
 kept_at : (n : ℕ) → n < our_number → (db : Trees) → KeepsRows (schema_at n).tables (trees_at n db) db
 kept_at zero earlier db = tt
 kept_at (suc zero) earlier db = (refl, (refl, (refl, (refl, (refl, (refl, (refl, (refl, (refl, (refl, tt))))))))))
-kept_at (suc (suc n)) earlier db = absurd (omega (arith, earlier))
+kept_at (suc (suc zero)) earlier db = (refl, (refl, (refl, (refl, (refl, (refl, (refl, (refl, (refl, (refl, (refl, tt)))))))))))
+kept_at (suc (suc (suc n))) earlier db = absurd (omega (arith, earlier))
 
 not_below : (t k : ℕ) → k ≤ t → nat_lt t k ≡ false
 not_below t k over = grind (arith, nat_tests)
 
 pub cut_at : (n : ℕ) (db : Trees) → IsCut n (trees_at n db)
-cut_at n db t over = rw (not_below t (next_tree (schema_at n)) over) refl
+cut_at n db t over = rw (not_below t (next_tree (tables_at n)) over) refl
 
 pub cut_later : (n : ℕ) → n < our_number → (rows : Trees) → IsCut n rows → IsCut (n + 1) rows
 cut_later zero earlier rows cut t over = cut t (omega arith)
 cut_later (suc zero) earlier rows cut t over = cut t (omega (arith, over))
-cut_later (suc (suc n)) earlier rows cut t over = absurd (omega (arith, earlier))
+cut_later (suc (suc zero)) earlier rows cut t over = cut t (omega (arith, over))
+cut_later (suc (suc (suc n))) earlier rows cut t over = absurd (omega (arith, earlier))
 
 -- ---- the ends
 

@@ -21,9 +21,10 @@ use Rattle.sqlite_sql.specs.Ops.{binary, is_true, from_truth}
 use Rattle.hub_rows.specs.Grants.{is_grant}
 use Rattle.hub_rows.specs.Reservations.{shifted, unshifted, is_reservation}
 use Rattle.hub_rows.specs.Transactions.{is_open, counts, is_tx, is_started, is_reading, is_sent_with}
+use Rattle.hub_rows.specs.Uses.{is_owner_of}
 use Rattle.hub_rows.specs.declared.tx_row.StartKey.{StartKey}
 use Rattle.sql_tables.specs.Forms.{where_is, range_is}
-use Rattle.sql_shelf.specs.Shelves.{stations, connectors, tags, grants, txs, readings, reservations, lists, entries, reports}
+use Rattle.sql_shelf.specs.Shelves.{stations, connectors, tags, grants, txs, readings, reservations, lists, entries, reports, tx_owners, uses}
 use Rattle.sql_shelf.specs.Values.{flag, number_or_null}
 use Rattle.sql_shelf.proofs.ReadLaws.{IsTest}
 use Rattle.sql_shelf.proofs.TableLemmas.{equal_is}
@@ -185,6 +186,9 @@ module _ (op station : List ℕ) where
   same_starts k = λ id r. ap₂ ◌&&◌ (text_test r.op op) (ap₂ ◌&&◌ (text_test r.station station) (ap₂ ◌&&◌ (count_test r.start.id.connector k.connector) (ap₂ ◌&&◌ (text_test r.start.id.key k.key)
       (ap₂ ◌&&◌ (number_test r.start.id.meter_start k.meter_start) (ap (λ b. b && true) (number_test r.start.id.at k.at) ∙ and_true (int_eq r.start.id.at k.at))))))
 
+  pub of_tx_owner : (n : ℕ) → IsTest tx_owners (where_is 0 (1 ∷ 2 ∷ 3 ∷ [])) (Text op ∷ Text station ∷ Int (pos n) ∷ []) (λ r. bytes_eq r.op op && is_owner_of station n r)
+  of_tx_owner n = λ id r. ap₂ ◌&&◌ (text_test r.op op) (ap₂ ◌&&◌ (text_test r.station station) (ap (λ b. b && true) (count_test r.number n) ∙ and_true (r.number == n)))
+
   -- ---- readings
 
   pub of_readings : IsTest readings (where_is 0 (1 ∷ 2 ∷ [])) (Text op ∷ Text station ∷ []) (λ r. bytes_eq r.op op && is_reading station None r)
@@ -222,3 +226,6 @@ module _ (op : List ℕ) where
 
   pub used_txs : (key : List ℕ) → IsTest txs (where_is 0 (1 ∷ 5 ∷ 13 ∷ [])) (Text op ∷ Text key ∷ Int (pos 1) ∷ []) (λ r. bytes_eq r.op op && (bytes_eq r.start.id.key key && counts r))
   used_txs key = λ id r. ap₂ ◌&&◌ (text_test r.op op) (ap₂ ◌&&◌ (text_test r.start.id.key key) (ap (λ b. b && true) (flag_test (counts r)) ∙ and_true (counts r)))
+
+  pub of_uses : IsTest uses (where_is 0 (1 ∷ [])) (Text op ∷ []) (λ r. bytes_eq r.op op && true)
+  of_uses = λ id r. ap (λ b. b && true) (text_test r.op op)

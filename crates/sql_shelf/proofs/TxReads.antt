@@ -1,8 +1,10 @@
 -- What a SELECT answers inside a transaction.
-use Rattle.std.proofs.Common.{◌≡◌, ◌⊎◌, ℕ, List, Bool, true, Option, Some, None, Ok, Err, Result, IsTrue, IfOk, IfErr, [], sym, ap, ◌∙◌, subst, inl, inr}
+use Rattle.std.proofs.Common.{◌≡◌, ◌⊎◌, ℕ, List, Bool, true, Option, Some, None, Ok, Err, Result, IsTrue, IfOk, IfErr, [], map, filter, sym, ap, ◌∙◌, subst, inl, inr}
 use Rattle.sqlite_value.specs.declared.value.Value.TheVariants.{Null}
 use Rattle.sqlite_value.specs.Order.{Row}
-use Rattle.sqlite_sql.specs.Query.{inner, end}
+use Rattle.sqlite_trees.specs.Tree.{Trees}
+use Rattle.sqlite_sql.specs.Query.{Query, inner, end, IsAnswer}
+use Rattle.sqlite_sql.specs.Program.{overlay}
 use Rattle.sqlite_schema.specs.declared.command.Returning.{Returning}
 use Rattle.sqlite_schema.specs.declared.command.Command.TheVariants.{Select}
 use Rattle.sqlite_schema.specs.Rules.{Obeys}
@@ -12,13 +14,16 @@ use Rattle.sqlite.specs.Effect.{Database, IsDatabase}
 use Rattle.sqlite.specs.Listing.{understood}
 use Rattle.sqlite.specs.State.{State, HasCleanDisk, Survives, Shown, ShowsRows, FailsToQuery, FailsToShow, IsNotRun, IsTooLate, IsUnchanged}
 use Rattle.sqlite.proofs.Callers.{IsPlain, reads_as}
+use Rattle.hub_rows.specs.Keyed.{put_all, greatest}
 use Rattle.sql_tables.specs.Tables.{hub_schema}
-use Rattle.sql_tables.specs.Forms.{plain_query}
-use Rattle.sql_shelf.specs.Shelf.{Shelf, AreShelved}
+use Rattle.sql_tables.specs.Forms.{plain_query, last_query}
+use Rattle.sql_tables.specs.Meanings.{IsRead}
+use Rattle.sql_shelf.specs.Shelf.{Shelf, cmp, rows_in, AreShelved}
 use Rattle.sql_shelf.specs.Shelves.{hub_good}
-use Rattle.sql_shelf.specs.Kept.{Within, IsInside, ShowsInside}
+use Rattle.sql_shelf.specs.Kept.{Within, IsInside, IsSame, Goes, ShowsInside, ShowsLastInside}
 use Rattle.sql_shelf.proofs.ReadLaws.{lists_those}
-use Rattle.sql_shelf.proofs.Selects.{ReadsRows}
+use Rattle.sql_shelf.proofs.DownLaws.{last_is}
+use Rattle.sql_shelf.proofs.Selects.{ReadsRows, ReadsLast}
 use Rattle.sql_shelf.proofs.StoreLemmas.{shown_unchanged, shown_was, failed_was}
 
 -- ---- of a text that may mean anything
@@ -69,21 +74,26 @@ within_still old new same limit h =
       limit = limit ∙ was.limit;
     }
 
-pub shows_inside : {T : Type 0} {sql : List ℕ} {params : Row} {s : Shelf T} {p : T → Bool} → ReadsRows sql params s p
-    → {V : Type 0} (items : V → List Row) (old new : State) (values : Row) (r : Result V Error) → (HasCleanDisk new → IfOk r (λ v. Shown sql values old new (items v)))
-    → (HasCleanDisk new → IfErr r (λ e. FailsToQuery sql values old new e ⊎ IsTooLate sql values old new e)) → Survives old new (λ _. ⊥) → values ≡ params → (IsTrue new.is_open → HasCleanDisk new) → IsInside old
-    → ShowsInside items s p old new r
-shows_inside {T} {sql} {params} {s} {p} f items old new values (Ok v) ok err survives given clean h =
-    let plain_at : (k : State) → IsInside k → IsTrue k.is_open → IsPlain (understood k.now.schema sql) = λ k inside up. subst (λ z. IsPlain (understood z sql)) (sym (inside up).schema) f.text.1 in
-    let same : HasCleanDisk new → IsUnchanged old new = λ sure. shown_unchanged sql values old new (items v) (plain_at old h (shown_was sql values old new (items v) (ok sure))) (ok sure) in
-    record {
-      ok = λ up.
-          let there : Shown sql params old new (items v) = subst (λ q. Shown sql q old new (items v)) given (ok (clean up)) in
-          let was = h (shown_was sql params old new (items v) there) in
-          let read = reads_as sql params old new hub_schema was.schema (Select (record { lets = []; body = plain_query (inner s.table.tree end) f.wanted f.project f.order }) f.names) f.text.0 f.text.1 f.text.2 (items v) there in
-          let obeys : Obeys hub_schema old.now.trees = rw was.schema at was.sound.obeys in
-          lists_those hub_schema hub_good f.at s f.is f.wanted params p f.test old.now.trees was.rows f.project f.whole f.order obeys (items v) (read.answer Null);
-      goes = record {
+module _ (sql : List ℕ) (body : Query) (names : List (List ℕ)) (text : IsRead sql body names) (params : Row) {V : Type 0} (items : V → List Row) (old new : State) (values : Row) (survives : Survives old new (λ _. ⊥)) (given : values ≡ params)
+    (clean : IsTrue new.is_open → HasCleanDisk new) (h : IsInside old) where
+  -- what its answers are
+  answers : (Holds : Trees → List Row → Type 0) → ((db : Trees) → AreShelved hub_schema hub_good db → Obeys hub_schema db → (rows : List Row) → IsAnswer body (overlay db []) params rows → Holds db rows)
+      → (r : Result V Error) → (HasCleanDisk new → IfOk r (λ v. Shown sql values old new (items v))) → IsTrue new.is_open → IfOk r (λ v. Holds old.now.trees (items v))
+  answers Holds holds (Ok v) ok up =
+      let there : Shown sql params old new (items v) = subst (λ q. Shown sql q old new (items v)) given (ok (clean up)) in
+      let was = h (shown_was sql params old new (items v) there) in
+      let read = reads_as sql params old new hub_schema was.schema (Select (record { lets = []; body = body }) names) text.0 text.1 text.2 (items v) there in
+      let obeys : Obeys hub_schema old.now.trees = rw was.schema at was.sound.obeys in
+      holds old.now.trees was.rows obeys (items v) (read.answer Null)
+  answers Holds holds (Err e) ok up = tt
+
+  -- it changes nothing
+  goes_still : (r : Result V Error) → (HasCleanDisk new → IfOk r (λ v. Shown sql values old new (items v))) → (HasCleanDisk new → IfErr r (λ e. FailsToQuery sql values old new e ⊎ IsTooLate sql values old new e)) → Goes IsSame old new r
+  goes_still (Ok v) ok err =
+      let same : HasCleanDisk new → IsUnchanged old new = λ sure.
+      let up = shown_was sql values old new (items v) (ok sure) in
+      shown_unchanged sql values old new (items v) (subst (λ z. IsPlain (understood z sql)) (sym (h up).schema) text.1) (ok sure) in
+      record {
         ok = record {
           leaves = record { was_open = λ up. (same (clean up)).0.was_open; committed = λ up. (same (clean up)).0.committed_is; survives = survives };
           within = λ up. within_still old new (same (clean up)) survives.limit h;
@@ -91,14 +101,30 @@ shows_inside {T} {sql} {params} {s} {p} f items old new values (Ok v) ok err sur
           still = λ up sure. (same sure).0.is_open;
         };
         err = tt;
-      };
-    }
-shows_inside {T} {sql} {params} {s} {p} f items old new values (Err e) ok err survives given clean h =
-    let nothing : IsTrue new.is_open → CommitsNothing sql values old new = λ up. elim (err (clean up)) [
-      | inl failed ↦ failed_nothing sql values old new (h (failed_was sql values old new e up failed)).mode e up failed
-      | inr late ↦ late_nothing sql values old new e late
-    ] in
-    record {
-      ok = λ up. tt;
-      goes = record { ok = tt; err = record { was_open = λ up. (nothing up).0; committed = λ up. (nothing up).1; survives = survives } };
-    }
+      }
+  goes_still (Err e) ok err =
+      let nothing : IsTrue new.is_open → CommitsNothing sql values old new = λ up. elim (err (clean up)) [
+        | inl failed ↦ failed_nothing sql values old new (h (failed_was sql values old new e up failed)).mode e up failed
+        | inr late ↦ late_nothing sql values old new e late
+      ] in
+      record { ok = tt; err = record { was_open = λ up. (nothing up).0; committed = λ up. (nothing up).1; survives = survives } }
+
+pub shows_inside : {T : Type 0} {sql : List ℕ} {params : Row} {s : Shelf T} {p : T → Bool} → ReadsRows sql params s p
+    → {V : Type 0} (items : V → List Row) (old new : State) (values : Row) (r : Result V Error) → (HasCleanDisk new → IfOk r (λ v. Shown sql values old new (items v)))
+    → (HasCleanDisk new → IfErr r (λ e. FailsToQuery sql values old new e ⊎ IsTooLate sql values old new e)) → Survives old new (λ _. ⊥) → values ≡ params → (IsTrue new.is_open → HasCleanDisk new) → IsInside old
+    → ShowsInside items s p old new r
+shows_inside {T} {sql} {params} {s} {p} f items old new values r ok err survives given clean h = record {
+  ok = answers sql (plain_query (inner s.table.tree end) f.wanted f.project f.order) f.names f.text params items old new values survives given clean h (λ db rows. put_all (cmp s) (map s.read rows) [] ≡ filter p (rows_in s db))
+      (λ db kept obeys rows answer. lists_those hub_schema hub_good f.at s f.is f.wanted params p f.test db kept f.project f.whole f.order obeys rows answer) r ok;
+  goes = goes_still sql (plain_query (inner s.table.tree end) f.wanted f.project f.order) f.names f.text params items old new values survives given clean h r ok err;
+}
+
+pub shows_last_inside : {T : Type 0} {sql : List ℕ} {params : Row} {s : Shelf T} {number : T → ℕ} {p : T → Bool} → ReadsLast sql params s number p
+    → {V : Type 0} (items : V → List Row) (old new : State) (values : Row) (r : Result V Error) → (HasCleanDisk new → IfOk r (λ v. Shown sql values old new (items v)))
+    → (HasCleanDisk new → IfErr r (λ e. FailsToQuery sql values old new e ⊎ IsTooLate sql values old new e)) → Survives old new (λ _. ⊥) → values ≡ params → (IsTrue new.is_open → HasCleanDisk new) → IsInside old
+    → ShowsLastInside items s number p old new r
+shows_last_inside {T} {sql} {params} {s} {number} {p} f items old new values r ok err survives given clean h = record {
+  ok = answers sql (last_query s.table.tree f.wanted f.project f.place) f.names f.text params items old new values survives given clean h (λ db rows. greatest (map number (map s.read rows)) ≡ greatest (map number (filter p (rows_in s db))))
+      (λ db kept obeys rows answer. last_is f.at s f.is f.wanted f.project f.whole params p f.test f.place number f.numbered db kept obeys rows answer) r ok;
+  goes = goes_still sql (last_query s.table.tree f.wanted f.project f.place) f.names f.text params items old new values survives given clean h r ok err;
+}

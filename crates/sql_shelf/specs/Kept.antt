@@ -152,3 +152,8 @@ IsSame old new = new ≡ old
 pub record ShowsInside {V T : Type 0} (items : V → List Row) (s : Shelf T) (p : T → Bool) (old new : State) (r : Result V Error) : Type 0 where
   pub ok : IsTrue new.is_open → IfOk r (λ v. put_all (cmp s) (map s.read (items v)) [] ≡ filter p (rows_in s old.now.trees))
   pub goes : Goes IsSame old new r
+
+-- the greatest number that is shown inside a transaction is that of the rows that pass, and nothing changes
+pub record ShowsLastInside {V T : Type 0} (items : V → List Row) (s : Shelf T) (number : T → ℕ) (p : T → Bool) (old new : State) (r : Result V Error) : Type 0 where
+  pub ok : IsTrue new.is_open → IfOk r (λ v. greatest (map number (map s.read (items v))) ≡ greatest (map number (filter p (rows_in s old.now.trees))))
+  pub goes : Goes IsSame old new r

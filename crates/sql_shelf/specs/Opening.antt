@@ -10,7 +10,7 @@ use Rattle.sqlite.specs.State.{State, HasCleanDisk, Survives}
 use Rattle.hub_rows.specs.Rows.{Rows, no_rows}
 use Rattle.hub_rows.specs.WellFormed.{WellFormedRows}
 use Rattle.sql_tables.specs.Tables.{hub_schema}
-use Rattle.sql_tables.specs.Opening.{our_number, schema_at}
+use Rattle.sql_tables.specs.Opening.{our_number, tables_at, schema_at}
 use Rattle.sql_shelf.specs.Shelf.{AreShelved, rows_in}
 use Rattle.sql_shelf.specs.Shelves.{MetaRow, metas, hub_good, rows_of}
 use Rattle.sql_shelf.specs.Kept.{Serves}
@@ -22,8 +22,9 @@ our_meta = record { name = codes "schema"; number = our_number }
 -- the rows of the hub in a database of the schema of this number
 abbrev pub rows_at : ℕ → Trees → Rows
 rows_at zero db = no_rows
-rows_at (suc zero) db = record (rows_of db) { reports = [] }
-rows_at (suc (suc n)) db = rows_of db
+rows_at (suc zero) db = record (rows_of db) { reports = []; tx_owners = []; uses = [] }
+rows_at (suc (suc zero)) db = record (rows_of db) { tx_owners = []; uses = [] }
+rows_at (suc (suc (suc n))) db = rows_of db
 
 -- the rows of a database that has our tables, of this schema or an earlier one, were written by this project
 abbrev pub IsOurs : State → Type 0
@@ -47,11 +48,11 @@ pub record IsRaised (old : Database) (new : Trees) : Type 0 where
 
 -- the rows of the tables of the schema of this number, and none of later ones
 abbrev pub trees_at : ℕ → Trees → Trees
-trees_at n db t = if nat_lt t (next_tree (schema_at n)) then db t else []
+trees_at n db t = if nat_lt t (next_tree (tables_at n)) then db t else []
 
--- there is no row of a later schema
+-- there is no row of a table of a later schema
 abbrev pub IsCut : ℕ → Trees → Type 0
-IsCut n rows = (t : ℕ) → next_tree (schema_at n) ≤ t → rows t ≡ []
+IsCut n rows = (t : ℕ) → next_tree (tables_at n) ≤ t → rows t ≡ []
 
 -- with this schema so far, whose tables have the rows of these trees
 pub record WithinAs (rows : Trees) (schema : Schema) (s : State) : Type 0 where

@@ -5,7 +5,7 @@ use Rattle.sqlite_value.specs.declared.value.Value.{Value}
 use Rattle.sqlite_value.specs.declared.value.Value.TheVariants.{Int, Text}
 use Rattle.sqlite_value.specs.Order.{Row, column}
 use Rattle.sqlite_trees.specs.Tree.{Trees}
-use Rattle.sql_tables.specs.Tables.{hub_meta, hub_station, hub_connector, hub_tag, hub_grant, hub_tx, hub_reading, hub_reservation, hub_list, hub_list_entry, hub_report}
+use Rattle.sql_tables.specs.Tables.{hub_meta, hub_station, hub_connector, hub_tag, hub_grant, hub_tx, hub_reading, hub_reservation, hub_list, hub_list_entry, hub_report, hub_tx_owner, hub_use}
 use Rattle.ocpp_types.specs.TagKey.{key_of}
 use Rattle.ocpp_types.specs.Policy.{policy_name, policies}
 use Rattle.ocpp_types.specs.State.{state_name, states}
@@ -46,11 +46,13 @@ use Rattle.hub_rows.specs.declared.reservation_row.ReservationRow.{ReservationRo
 use Rattle.hub_rows.specs.declared.list_row.ListRow.{ListRow}
 use Rattle.hub_rows.specs.declared.list_row.LocalTag.{LocalTag}
 use Rattle.hub_rows.specs.declared.report_row.ReportRow.{ReportRow}
+use Rattle.hub_rows.specs.declared.tx_row.TxOwnerRow.{TxOwnerRow}
+use Rattle.hub_rows.specs.declared.use_row.UseRow.{UseRow}
 use Rattle.hub_rows.specs.declared.report_row.ReportedStatus.{ReportedStatus}
 use Rattle.hub_rows.specs.declared.report_row.ReportedStatus.TheVariants.{Diagnostics, Firmware}
 use Rattle.sql_shelf.specs.declared.list_rows.ListHead.{ListHead}
 use Rattle.sql_shelf.specs.declared.list_rows.EntryRow.{EntryRow}
-use Rattle.hub_rows.specs.Rows.{Rows, station_key, connector_key, tag_key, grant_key, tx_key, reading_key, reservation_key, report_key}
+use Rattle.hub_rows.specs.Rows.{Rows, station_key, connector_key, tag_key, grant_key, tx_key, reading_key, reservation_key, report_key, tx_owner_key, use_key}
 use Rattle.hub_rows.specs.Reports.{kind_of, reported_name}
 use Rattle.hub_rows.specs.Transactions.{is_open, counts}
 use Rattle.hub_rows.specs.Reservations.{shifted, unshifted}
@@ -270,6 +272,26 @@ reports = record {
   read = λ r. record { op = text_in (column r 0); station = text_in (column r 1); status = status_in (column r 2) (column r 3); moment = count_in (column r 4) };
 }
 
+-- ---- settled uses
+
+abbrev pub tx_owners : Shelf TxOwnerRow
+tx_owners = record {
+  table = hub_tx_owner;
+  parts = text_part ∷ text_part ∷ count_part ∷ [];
+  key = tx_owner_key;
+  row = λ o. Text o.op ∷ Text o.station ∷ Int (pos o.number) ∷ Text o.owner ∷ [];
+  read = λ r. record { op = text_in (column r 0); station = text_in (column r 1); number = count_in (column r 2); owner = text_in (column r 3) };
+}
+
+abbrev pub uses : Shelf UseRow
+uses = record {
+  table = hub_use;
+  parts = text_part ∷ count_part ∷ [];
+  key = use_key;
+  row = λ u. Text u.op ∷ Int (pos u.number) ∷ Text u.host ∷ Text u.key ∷ Int (pos u.moment) ∷ Int u.wh ∷ [];
+  read = λ r. record { op = text_in (column r 0); number = count_in (column r 1); host = text_in (column r 2); key = text_in (column r 3); moment = count_in (column r 4); wh = number_in (column r 5) };
+}
+
 -- ---- the number of the schema
 
 pub record MetaRow : Type 0 where
@@ -298,6 +320,8 @@ rows_of db = record {
   reservations = rows_in reservations db;
   local_lists = map (list_of (rows_in entries db)) (rows_in lists db);
   reports = rows_in reports db;
+  tx_owners = rows_in tx_owners db;
+  uses = rows_in uses db;
 }
 
 abbrev pub Good : Type 1
@@ -315,5 +339,4 @@ any_row r = ⊤
 -- what the rows of each tree are
 abbrev pub hub_good : ℕ → Row → Type 0
 hub_good = good_at (IsRowOf metas ∷ any_row ∷ IsRowOf stations ∷ any_row ∷ IsRowOf connectors ∷ any_row ∷ IsRowOf tags ∷ any_row ∷ IsRowOf grants ∷ any_row ∷ IsRowOf txs ∷ any_row ∷ IsRowOf readings ∷ any_row
-    ∷ IsRowOf reservations ∷ any_row ∷ IsRowOf lists ∷ any_row ∷ IsRowOf entries
-    ∷ any_row ∷ any_row ∷ any_row ∷ any_row ∷ any_row ∷ any_row ∷ IsRowOf reports ∷ [])
+    ∷ IsRowOf reservations ∷ any_row ∷ IsRowOf lists ∷ any_row ∷ IsRowOf entries ∷ any_row ∷ IsRowOf reports ∷ any_row ∷ IsRowOf tx_owners ∷ any_row ∷ IsRowOf uses ∷ [])

@@ -1,13 +1,15 @@
--- What the CREATE texts make, one after the other.
-use Rattle.std.proofs.Common.{◌≡◌, refl}
+-- What the texts that make tables and indexes, and drop indexes, do one after the other.
+use Rattle.std.proofs.Common.{◌≡◌, ◌<◌, ◌+◌, ℕ, zero, suc, arith, refl}
 use Rattle.std.specs.Fmt.{digits}
 use Rattle.sqlite_schema.specs.declared.schema.Schema.{Schema}
-use Rattle.sqlite_catalog.specs.Change.{created, indexed}
+use Rattle.sqlite_catalog.specs.Change.{created, indexed, next_tree, without_index}
 use Rattle.sqlite_tied.specs.Compute.{everything}
 use Rattle.sqlite.specs.Listing.{understood}
-use Rattle.sql_tables.specs.Tables.{first_schema, hub_schema, hub_meta, hub_station, hub_connector, hub_tag, hub_grant, hub_tx, hub_reading, hub_reservation, hub_list, hub_list_entry, hub_report, hub_grant_to, hub_tx_in_use, hub_tx_is_open, hub_tx_start_at, hub_reading_transaction}
-use Rattle.sql_tables.specs.Statements.{create_meta, create_station, create_connector, create_tag, create_grant, create_tx, create_reading, create_reservation, create_list, create_list_entry, create_grant_to, create_tx_in_use, create_tx_is_open, create_tx_start_at, create_reading_transaction, create_report}
-use Rattle.sql_tables.specs.Opening.{no_schema, IsCreate, IsIndexCreate}
+use Rattle.sql_tables.specs.Tables.{first_tables, second_tables, third_tables, hub_meta, hub_station, hub_connector, hub_tag, hub_grant, hub_tx, hub_reading, hub_reservation, hub_list, hub_list_entry, hub_report, hub_tx_owner, hub_use, hub_grant_to, hub_tx_in_use, hub_tx_is_open, hub_tx_start_at, hub_reading_transaction}
+use Rattle.sql_tables.specs.Statements.{create_meta, create_station, create_connector, create_tag, create_grant, create_tx, create_reading, create_reservation, create_list, create_list_entry, create_grant_to, create_tx_in_use, create_tx_is_open, create_tx_start_at, create_reading_transaction, create_report, create_tx_owner, create_use, drop_grant_to, drop_tx_in_use, drop_tx_is_open, drop_tx_start_at, drop_reading_transaction}
+use Rattle.sql_tables.specs.Opening.{no_schema, tables_at, schema_at, IsCreate, IsIndexCreate, IsIndexDrop}
+
+-- ---- the tables of schema 1
 
 abbrev pub with_meta : Schema
 with_meta = created no_schema (record hub_meta { tree = 0 })
@@ -79,52 +81,153 @@ pub list_entry_made : IsCreate create_list_entry with_list (record hub_list_entr
 unfolding understood everything
 list_entry_made = record { command = refl; plain = (refl, refl); text = refl; defined = refl; uncounted = refl }
 
-abbrev pub with_grant_to : Schema
-with_grant_to = indexed with_list_entry hub_grant (record hub_grant_to { tree = 0 })
-
-pub grant_to_made : IsIndexCreate create_grant_to with_list_entry 4 hub_grant (record hub_grant_to { tree = 0 })
-unfolding understood everything digits
-grant_to_made = record { command = refl; plain = (refl, refl); text = refl; here = refl; defined = refl }
-
-abbrev pub with_tx_in_use : Schema
-with_tx_in_use = indexed with_grant_to hub_tx (record hub_tx_in_use { tree = 0 })
-
-pub tx_in_use_made : IsIndexCreate create_tx_in_use with_grant_to 5 hub_tx (record hub_tx_in_use { tree = 0 })
-unfolding understood everything digits
-tx_in_use_made = record { command = refl; plain = (refl, refl); text = refl; here = refl; defined = refl }
-
-abbrev pub with_tx_is_open : Schema
-with_tx_is_open = indexed with_tx_in_use hub_tx (record hub_tx_is_open { tree = 0 })
-
-pub tx_is_open_made : IsIndexCreate create_tx_is_open with_tx_in_use 5 hub_tx (record hub_tx_is_open { tree = 0 })
-unfolding understood everything digits
-tx_is_open_made = record { command = refl; plain = (refl, refl); text = refl; here = refl; defined = refl }
-
-abbrev pub with_tx_start_at : Schema
-with_tx_start_at = indexed with_tx_is_open hub_tx (record hub_tx_start_at { tree = 0 })
-
-pub tx_start_at_made : IsIndexCreate create_tx_start_at with_tx_is_open 5 hub_tx (record hub_tx_start_at { tree = 0 })
-unfolding understood everything digits
-tx_start_at_made = record { command = refl; plain = (refl, refl); text = refl; here = refl; defined = refl }
-
-abbrev pub with_reading_transaction : Schema
-with_reading_transaction = indexed with_tx_start_at hub_reading (record hub_reading_transaction { tree = 0 })
-
-pub reading_transaction_made : IsIndexCreate create_reading_transaction with_tx_start_at 6 hub_reading (record hub_reading_transaction { tree = 0 })
-unfolding understood everything digits
-reading_transaction_made = record { command = refl; plain = (refl, refl); text = refl; here = refl; defined = refl }
-
--- with all of them it is schema 1
-pub first_made : with_reading_transaction ≡ first_schema
+-- with all of them
+pub first_made : with_list_entry ≡ first_tables
 unfolding digits
 first_made = refl
 
--- ---- from schema 1 to schema 2
+-- ---- the table that schema 2 has beside them
 
-pub report_made : IsCreate create_report first_schema (record hub_report { tree = 0 })
+pub report_made : IsCreate create_report first_tables (record hub_report { tree = 0 })
 unfolding understood everything
 report_made = record { command = refl; plain = (refl, refl); text = refl; defined = refl; uncounted = refl }
 
-pub second_made : created first_schema (record hub_report { tree = 0 }) ≡ hub_schema
+pub second_made : created first_tables (record hub_report { tree = 0 }) ≡ second_tables
 unfolding digits
 second_made = refl
+
+-- ---- the tables that schema 3 has beside them
+
+abbrev pub with_tx_owner : Schema
+with_tx_owner = created second_tables (record hub_tx_owner { tree = 0 })
+
+pub tx_owner_made : IsCreate create_tx_owner second_tables (record hub_tx_owner { tree = 0 })
+unfolding understood everything
+tx_owner_made = record { command = refl; plain = (refl, refl); text = refl; defined = refl; uncounted = refl }
+
+pub use_made : IsCreate create_use with_tx_owner (record hub_use { tree = 0 })
+unfolding understood everything
+use_made = record { command = refl; plain = (refl, refl); text = refl; defined = refl; uncounted = refl }
+
+pub third_made : created with_tx_owner (record hub_use { tree = 0 }) ≡ third_tables
+unfolding digits
+third_made = refl
+
+-- ---- the further indexes, after the tables of each schema
+
+abbrev pub with_grant_to : ℕ → Schema
+with_grant_to n = indexed (tables_at n) hub_grant (hub_grant_to 0)
+
+pub grant_to_made : (n : ℕ) → 0 < n → IsIndexCreate create_grant_to (tables_at n) 4 hub_grant (hub_grant_to 0)
+unfolding understood everything digits
+grant_to_made zero made = absurd (omega (arith, made))
+grant_to_made (suc zero) made = record { command = refl; plain = (refl, refl); text = refl; here = refl; defined = refl }
+grant_to_made (suc (suc zero)) made = record { command = refl; plain = (refl, refl); text = refl; here = refl; defined = refl }
+grant_to_made (suc (suc (suc n))) made = record { command = refl; plain = (refl, refl); text = refl; here = refl; defined = refl }
+
+abbrev pub with_tx_in_use : ℕ → Schema
+with_tx_in_use n = indexed (with_grant_to n) hub_tx (hub_tx_in_use 0)
+
+pub tx_in_use_made : (n : ℕ) → 0 < n → IsIndexCreate create_tx_in_use (with_grant_to n) 5 hub_tx (hub_tx_in_use 0)
+unfolding understood everything digits
+tx_in_use_made zero made = absurd (omega (arith, made))
+tx_in_use_made (suc zero) made = record { command = refl; plain = (refl, refl); text = refl; here = refl; defined = refl }
+tx_in_use_made (suc (suc zero)) made = record { command = refl; plain = (refl, refl); text = refl; here = refl; defined = refl }
+tx_in_use_made (suc (suc (suc n))) made = record { command = refl; plain = (refl, refl); text = refl; here = refl; defined = refl }
+
+abbrev pub with_tx_is_open : ℕ → Schema
+with_tx_is_open n = indexed (with_tx_in_use n) hub_tx (hub_tx_is_open 0)
+
+pub tx_is_open_made : (n : ℕ) → 0 < n → IsIndexCreate create_tx_is_open (with_tx_in_use n) 5 hub_tx (hub_tx_is_open 0)
+unfolding understood everything digits
+tx_is_open_made zero made = absurd (omega (arith, made))
+tx_is_open_made (suc zero) made = record { command = refl; plain = (refl, refl); text = refl; here = refl; defined = refl }
+tx_is_open_made (suc (suc zero)) made = record { command = refl; plain = (refl, refl); text = refl; here = refl; defined = refl }
+tx_is_open_made (suc (suc (suc n))) made = record { command = refl; plain = (refl, refl); text = refl; here = refl; defined = refl }
+
+abbrev pub with_tx_start_at : ℕ → Schema
+with_tx_start_at n = indexed (with_tx_is_open n) hub_tx (hub_tx_start_at 0)
+
+pub tx_start_at_made : (n : ℕ) → 0 < n → IsIndexCreate create_tx_start_at (with_tx_is_open n) 5 hub_tx (hub_tx_start_at 0)
+unfolding understood everything digits
+tx_start_at_made zero made = absurd (omega (arith, made))
+tx_start_at_made (suc zero) made = record { command = refl; plain = (refl, refl); text = refl; here = refl; defined = refl }
+tx_start_at_made (suc (suc zero)) made = record { command = refl; plain = (refl, refl); text = refl; here = refl; defined = refl }
+tx_start_at_made (suc (suc (suc n))) made = record { command = refl; plain = (refl, refl); text = refl; here = refl; defined = refl }
+
+abbrev pub with_reading_transaction : ℕ → Schema
+with_reading_transaction n = indexed (with_tx_start_at n) hub_reading (hub_reading_transaction 0)
+
+pub reading_transaction_made : (n : ℕ) → 0 < n → IsIndexCreate create_reading_transaction (with_tx_start_at n) 6 hub_reading (hub_reading_transaction 0)
+unfolding understood everything digits
+reading_transaction_made zero made = absurd (omega (arith, made))
+reading_transaction_made (suc zero) made = record { command = refl; plain = (refl, refl); text = refl; here = refl; defined = refl }
+reading_transaction_made (suc (suc zero)) made = record { command = refl; plain = (refl, refl); text = refl; here = refl; defined = refl }
+reading_transaction_made (suc (suc (suc n))) made = record { command = refl; plain = (refl, refl); text = refl; here = refl; defined = refl }
+
+-- with all of them
+pub all_made : (n : ℕ) → 0 < n → with_reading_transaction n ≡ schema_at n
+unfolding digits
+all_made zero made = absurd (omega (arith, made))
+all_made (suc zero) made = refl
+all_made (suc (suc zero)) made = refl
+all_made (suc (suc (suc n))) made = refl
+
+-- ---- they are dropped
+
+abbrev pub without_grant_to : ℕ → Schema
+without_grant_to n = without_index (schema_at n) (next_tree (tables_at n))
+
+pub grant_to_dropped : (n : ℕ) → 0 < n → IsIndexDrop drop_grant_to (schema_at n) (hub_grant_to (next_tree (tables_at n)))
+unfolding understood everything digits
+grant_to_dropped zero made = absurd (omega (arith, made))
+grant_to_dropped (suc zero) made = record { at = 10; command = refl; plain = (refl, refl); here = refl }
+grant_to_dropped (suc (suc zero)) made = record { at = 11; command = refl; plain = (refl, refl); here = refl }
+grant_to_dropped (suc (suc (suc n))) made = record { at = 13; command = refl; plain = (refl, refl); here = refl }
+
+abbrev pub without_tx_in_use : ℕ → Schema
+without_tx_in_use n = without_index (without_grant_to n) (next_tree (tables_at n) + 1)
+
+pub tx_in_use_dropped : (n : ℕ) → 0 < n → IsIndexDrop drop_tx_in_use (without_grant_to n) (hub_tx_in_use (next_tree (tables_at n) + 1))
+unfolding understood everything digits
+tx_in_use_dropped zero made = absurd (omega (arith, made))
+tx_in_use_dropped (suc zero) made = record { at = 10; command = refl; plain = (refl, refl); here = refl }
+tx_in_use_dropped (suc (suc zero)) made = record { at = 11; command = refl; plain = (refl, refl); here = refl }
+tx_in_use_dropped (suc (suc (suc n))) made = record { at = 13; command = refl; plain = (refl, refl); here = refl }
+
+abbrev pub without_tx_is_open : ℕ → Schema
+without_tx_is_open n = without_index (without_tx_in_use n) (next_tree (tables_at n) + 2)
+
+pub tx_is_open_dropped : (n : ℕ) → 0 < n → IsIndexDrop drop_tx_is_open (without_tx_in_use n) (hub_tx_is_open (next_tree (tables_at n) + 2))
+unfolding understood everything digits
+tx_is_open_dropped zero made = absurd (omega (arith, made))
+tx_is_open_dropped (suc zero) made = record { at = 10; command = refl; plain = (refl, refl); here = refl }
+tx_is_open_dropped (suc (suc zero)) made = record { at = 11; command = refl; plain = (refl, refl); here = refl }
+tx_is_open_dropped (suc (suc (suc n))) made = record { at = 13; command = refl; plain = (refl, refl); here = refl }
+
+abbrev pub without_tx_start_at : ℕ → Schema
+without_tx_start_at n = without_index (without_tx_is_open n) (next_tree (tables_at n) + 3)
+
+pub tx_start_at_dropped : (n : ℕ) → 0 < n → IsIndexDrop drop_tx_start_at (without_tx_is_open n) (hub_tx_start_at (next_tree (tables_at n) + 3))
+unfolding understood everything digits
+tx_start_at_dropped zero made = absurd (omega (arith, made))
+tx_start_at_dropped (suc zero) made = record { at = 10; command = refl; plain = (refl, refl); here = refl }
+tx_start_at_dropped (suc (suc zero)) made = record { at = 11; command = refl; plain = (refl, refl); here = refl }
+tx_start_at_dropped (suc (suc (suc n))) made = record { at = 13; command = refl; plain = (refl, refl); here = refl }
+
+abbrev pub without_reading_transaction : ℕ → Schema
+without_reading_transaction n = without_index (without_tx_start_at n) (next_tree (tables_at n) + 4)
+
+pub reading_transaction_dropped : (n : ℕ) → 0 < n → IsIndexDrop drop_reading_transaction (without_tx_start_at n) (hub_reading_transaction (next_tree (tables_at n) + 4))
+unfolding understood everything digits
+reading_transaction_dropped zero made = absurd (omega (arith, made))
+reading_transaction_dropped (suc zero) made = record { at = 10; command = refl; plain = (refl, refl); here = refl }
+reading_transaction_dropped (suc (suc zero)) made = record { at = 11; command = refl; plain = (refl, refl); here = refl }
+reading_transaction_dropped (suc (suc (suc n))) made = record { at = 13; command = refl; plain = (refl, refl); here = refl }
+
+-- without them
+pub all_dropped : (n : ℕ) → 0 < n → without_reading_transaction n ≡ tables_at n
+all_dropped zero made = absurd (omega (arith, made))
+all_dropped (suc zero) made = refl
+all_dropped (suc (suc zero)) made = refl
+all_dropped (suc (suc (suc n))) made = refl

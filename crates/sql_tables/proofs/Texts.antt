@@ -5,7 +5,7 @@ use Rattle.sqlite.specs.Listing.{understood}
 use Rattle.sqlite_sql.specs.Query.{inner, end}
 use Rattle.sql_tables.specs.Forms.{add_command, by_column, cols, drop_command, last_query, plain_query, put_command, range_is, where_is}
 use Rattle.sql_tables.specs.Meanings.{IsRead, IsWrite}
-use Rattle.sql_tables.specs.Statements.{put_meta, put_station, put_connector, put_tag, put_grant, add_tx, put_tx, add_reading, put_reservation, put_list, add_list_entry, put_report, drop_tag, drop_grant, drop_reservation, drop_entries, find_stations, list_connectors, find_tags, find_grant, list_grants, find_received, find_txs, find_last_tx, list_txs_in_use, list_open_txs, list_same_starts, list_readings, list_tx_readings, find_last_reading, find_reservations, find_list, list_entries, list_reports, station_columns, connector_columns, tag_columns, grant_columns, tx_columns, reading_columns, reservation_columns, list_columns, list_entry_columns, report_columns}
+use Rattle.sql_tables.specs.Statements.{put_meta, put_station, put_connector, put_tag, put_grant, add_tx, put_tx, add_reading, put_reservation, put_list, add_list_entry, put_report, add_tx_owner, add_use, drop_tag, drop_grant, drop_reservation, drop_entries, find_stations, list_connectors, find_tags, find_grant, list_grants, find_received, find_txs, find_last_tx, list_txs_in_use, list_open_txs, list_same_starts, list_readings, list_tx_readings, find_last_reading, find_reservations, find_list, list_entries, list_reports, find_tx_owner, list_uses, find_last_use, station_columns, connector_columns, tag_columns, grant_columns, tx_columns, reading_columns, reservation_columns, list_columns, list_entry_columns, report_columns, tx_owner_columns, use_columns}
 
 pub put_meta_is : IsWrite put_meta (put_command 0 0 1 1)
 unfolding understood everything
@@ -51,9 +51,17 @@ pub add_list_entry_is : IsWrite add_list_entry (add_command 9 7)
 unfolding understood everything
 add_list_entry_is = (refl, (refl, refl))
 
-pub put_report_is : IsWrite put_report (put_command 10 25 3 2)
+pub put_report_is : IsWrite put_report (put_command 10 20 3 2)
 unfolding understood everything
 put_report_is = (refl, (refl, refl))
+
+pub add_tx_owner_is : IsWrite add_tx_owner (add_command 11 4)
+unfolding understood everything
+add_tx_owner_is = (refl, (refl, refl))
+
+pub add_use_is : IsWrite add_use (add_command 12 6)
+unfolding understood everything
+add_use_is = (refl, (refl, refl))
 
 pub drop_tag_is : IsWrite drop_tag (drop_command 3 6 (1 ∷ 2 ∷ []))
 unfolding understood everything
@@ -139,6 +147,18 @@ pub list_entries_is : IsRead list_entries (plain_query (inner 18 end) (where_is 
 unfolding understood everything
 list_entries_is = (refl, (refl, refl), refl)
 
-pub list_reports_is : IsRead list_reports (plain_query (inner 25 end) (where_is 0 (1 ∷ 2 ∷ [])) (cols 1 1 5) (by_column 3 ∷ [])) report_columns
+pub list_reports_is : IsRead list_reports (plain_query (inner 20 end) (where_is 0 (1 ∷ 2 ∷ [])) (cols 1 1 5) (by_column 3 ∷ [])) report_columns
 unfolding understood everything
 list_reports_is = (refl, (refl, refl), refl)
+
+pub find_tx_owner_is : IsRead find_tx_owner (plain_query (inner 22 end) (where_is 0 (1 ∷ 2 ∷ 3 ∷ [])) (cols 1 1 4) ([])) tx_owner_columns
+unfolding understood everything
+find_tx_owner_is = (refl, (refl, refl), refl)
+
+pub list_uses_is : IsRead list_uses (plain_query (inner 24 end) (where_is 0 (1 ∷ [])) (cols 1 1 6) (by_column 2 ∷ [])) use_columns
+unfolding understood everything
+list_uses_is = (refl, (refl, refl), refl)
+
+pub find_last_use_is : IsRead find_last_use (last_query 24 (where_is 0 (1 ∷ [])) (cols 1 1 6) 2) use_columns
+unfolding understood everything
+find_last_use_is = (refl, (refl, refl), refl)

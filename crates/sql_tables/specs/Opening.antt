@@ -4,7 +4,7 @@ use Rattle.sqlite_schema.specs.declared.schema.Schema.{Schema}
 use Rattle.sqlite_schema.specs.declared.schema.Table.{Table}
 use Rattle.sqlite_schema.specs.declared.schema.Index.{Index}
 use Rattle.sqlite_schema.specs.declared.command.Command.{Command}
-use Rattle.sqlite_schema.specs.declared.command.Command.TheVariants.{CreateTable, CreateIndex, Nothing}
+use Rattle.sqlite_schema.specs.declared.command.Command.TheVariants.{CreateTable, CreateIndex, DropIndex, Nothing}
 use Rattle.sqlite_catalog.specs.Change.{created}
 use Rattle.sqlite.specs.Compile.{table_defined_by, index_defined_by}
 use Rattle.sqlite_resolve.specs.declared.compiled.Compiled.{Compiled}
@@ -13,7 +13,7 @@ use Rattle.sqlite.specs.Does.{lacks_sequence}
 use Rattle.sqlite.specs.Given.{IsPlain}
 use Rattle.sqlite.specs.Listing.{understood}
 use Rattle.sqlite.specs.State.{text_of}
-use Rattle.sql_tables.specs.Tables.{first_schema, hub_schema}
+use Rattle.sql_tables.specs.Tables.{first_tables, second_tables, third_tables, with_indexes}
 
 -- an empty database
 abbrev pub no_schema : Schema
@@ -21,13 +21,19 @@ no_schema = record { tables = []; indexes = []; views = [] }
 
 -- the number of the schema of this program
 abbrev pub our_number : ℕ
-our_number = 2
+our_number = 3
 
--- the schemas by their numbers, where 0 is an empty database
+-- the tables of the schemas by their numbers, where 0 is an empty database
+abbrev pub tables_at : ℕ → Schema
+tables_at zero = no_schema
+tables_at (suc zero) = first_tables
+tables_at (suc (suc zero)) = second_tables
+tables_at (suc (suc (suc n))) = third_tables
+
+-- the schemas by their numbers: all tables, and then the further indexes
 abbrev pub schema_at : ℕ → Schema
 schema_at zero = no_schema
-schema_at (suc zero) = first_schema
-schema_at (suc (suc n)) = hub_schema
+schema_at (suc n) = with_indexes (tables_at (suc n))
 
 abbrev pub command_in : Result Compiled CompileError → Command
 command_in (Ok c) = c.command
@@ -52,3 +58,10 @@ pub record IsIndexCreate (sql : List ℕ) (from : Schema) (at : ℕ) (table : Ta
   pub text : text_in sql (understood from sql) ≡ sql
   pub here : slice_get from.tables at ≡ Some table
   pub defined : index_defined_by table sql ≡ Ok index
+
+-- over a schema the text drops this index
+pub record IsIndexDrop (sql : List ℕ) (from : Schema) (index : Index) : Type 0 where
+  pub at : ℕ
+  pub command : command_in (understood from sql) ≡ DropIndex at
+  pub plain : IsPlain (understood from sql)
+  pub here : slice_get from.indexes at ≡ Some index

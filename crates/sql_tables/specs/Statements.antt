@@ -34,6 +34,12 @@ list_entry_columns = codes "op" ∷ codes "station" ∷ codes "tag_key" ∷ code
 abbrev pub report_columns : List (List ℕ)
 report_columns = codes "op" ∷ codes "station" ∷ codes "kind" ∷ codes "status" ∷ codes "moment" ∷ []
 
+abbrev pub tx_owner_columns : List (List ℕ)
+tx_owner_columns = codes "op" ∷ codes "station" ∷ codes "number" ∷ codes "owner" ∷ []
+
+abbrev pub use_columns : List (List ℕ)
+use_columns = codes "op" ∷ codes "number" ∷ codes "host" ∷ codes "tag_key" ∷ codes "moment" ∷ codes "wh" ∷ []
+
 -- ---- a row is put in place of the one with its key
 
 abbrev pub put_meta : List ℕ
@@ -71,6 +77,12 @@ add_list_entry = codes "INSERT INTO hub_list_entry (op, station, tag_key, id_tag
 
 abbrev pub put_report : List ℕ
 put_report = codes "INSERT INTO hub_report (op, station, kind, status, moment) VALUES (?1, ?2, ?3, ?4, ?5) ON CONFLICT (op, station, kind) DO UPDATE SET status = excluded.status, moment = excluded.moment"
+
+abbrev pub add_tx_owner : List ℕ
+add_tx_owner = codes "INSERT INTO hub_tx_owner (op, station, number, owner) VALUES (?1, ?2, ?3, ?4)"
+
+abbrev pub add_use : List ℕ
+add_use = codes "INSERT INTO hub_use (op, number, host, tag_key, moment, wh) VALUES (?1, ?2, ?3, ?4, ?5, ?6)"
 
 -- ---- rows are dropped
 
@@ -160,7 +172,19 @@ list_entries = codes "SELECT op, station, tag_key, id_tag, expiry_date, parent_i
 abbrev pub list_reports : List ℕ
 list_reports = codes "SELECT op, station, kind, status, moment FROM hub_report WHERE op = ?1 AND station = ?2 ORDER BY kind"
 
--- ---- the tables and indexes are made
+-- the owner of the tag of one transaction
+abbrev pub find_tx_owner : List ℕ
+find_tx_owner = codes "SELECT op, station, number, owner FROM hub_tx_owner WHERE op = ?1 AND station = ?2 AND number = ?3"
+
+-- the uses of an owner
+abbrev pub list_uses : List ℕ
+list_uses = codes "SELECT op, number, host, tag_key, moment, wh FROM hub_use WHERE op = ?1 ORDER BY number"
+
+-- the use of an owner with the last number
+abbrev pub find_last_use : List ℕ
+find_last_use = codes "SELECT op, number, host, tag_key, moment, wh FROM hub_use WHERE op = ?1 ORDER BY number DESC LIMIT 1"
+
+-- ---- the tables and indexes are made, and indexes are dropped
 
 abbrev pub create_meta : List ℕ
 create_meta = codes "CREATE TABLE hub_meta (name TEXT NOT NULL, number INTEGER NOT NULL, PRIMARY KEY (name)) STRICT"
@@ -192,6 +216,15 @@ create_list = codes "CREATE TABLE hub_list (op TEXT NOT NULL, station TEXT NOT N
 abbrev pub create_list_entry : List ℕ
 create_list_entry = codes "CREATE TABLE hub_list_entry (op TEXT NOT NULL, station TEXT NOT NULL, tag_key TEXT NOT NULL, id_tag TEXT NOT NULL, expiry_date INTEGER, parent_id_tag TEXT, status TEXT NOT NULL, PRIMARY KEY (op, station, tag_key), FOREIGN KEY (op, station) REFERENCES hub_list (op, station) ON DELETE CASCADE) STRICT"
 
+abbrev pub create_report : List ℕ
+create_report = codes "CREATE TABLE hub_report (op TEXT NOT NULL, station TEXT NOT NULL, kind TEXT NOT NULL, status TEXT NOT NULL, moment INTEGER NOT NULL, PRIMARY KEY (op, station, kind)) STRICT"
+
+abbrev pub create_tx_owner : List ℕ
+create_tx_owner = codes "CREATE TABLE hub_tx_owner (op TEXT NOT NULL, station TEXT NOT NULL, number INTEGER NOT NULL, owner TEXT NOT NULL, PRIMARY KEY (op, station, number)) STRICT"
+
+abbrev pub create_use : List ℕ
+create_use = codes "CREATE TABLE hub_use (op TEXT NOT NULL, number INTEGER NOT NULL, host TEXT NOT NULL, tag_key TEXT NOT NULL, moment INTEGER NOT NULL, wh INTEGER NOT NULL, PRIMARY KEY (op, number)) STRICT"
+
 abbrev pub create_grant_to : List ℕ
 create_grant_to = codes "CREATE INDEX hub_grant_to ON hub_grant (to_op, tag_key, op)"
 
@@ -207,5 +240,17 @@ create_tx_start_at = codes "CREATE INDEX hub_tx_start_at ON hub_tx (op, station,
 abbrev pub create_reading_transaction : List ℕ
 create_reading_transaction = codes "CREATE INDEX hub_reading_transaction ON hub_reading (op, station, transaction_id, number)"
 
-abbrev pub create_report : List ℕ
-create_report = codes "CREATE TABLE hub_report (op TEXT NOT NULL, station TEXT NOT NULL, kind TEXT NOT NULL, status TEXT NOT NULL, moment INTEGER NOT NULL, PRIMARY KEY (op, station, kind)) STRICT"
+abbrev pub drop_grant_to : List ℕ
+drop_grant_to = codes "DROP INDEX hub_grant_to"
+
+abbrev pub drop_tx_in_use : List ℕ
+drop_tx_in_use = codes "DROP INDEX hub_tx_in_use"
+
+abbrev pub drop_tx_is_open : List ℕ
+drop_tx_is_open = codes "DROP INDEX hub_tx_is_open"
+
+abbrev pub drop_tx_start_at : List ℕ
+drop_tx_start_at = codes "DROP INDEX hub_tx_start_at"
+
+abbrev pub drop_reading_transaction : List ℕ
+drop_reading_transaction = codes "DROP INDEX hub_reading_transaction"

@@ -1,8 +1,9 @@
 -- The tables. The columns of a key come first, in its order. A column is a whole number or a text.
-use Rattle.std.specs.Prelude.{Bool, true, false, [], ◌∷◌, ◌++◌, None, codes, List, ℕ, zero, suc}
+use Rattle.std.specs.Prelude.{Bool, true, false, [], ◌∷◌, ◌++◌, None, codes, List, ℕ, zero, suc, ◌+◌}
 use Rattle.sqlite_value.specs.declared.value.Value.TheVariants.{Null}
 use Rattle.sqlite_value.specs.declared.keys.Collation.TheVariants.{Binary}
 use Rattle.sqlite_value.specs.Keys.{plain}
+use Rattle.sqlite_catalog.specs.Change.{next_tree}
 use Rattle.sqlite_schema.specs.declared.schema.Table.{Table}
 use Rattle.sqlite_schema.specs.declared.schema.Column.{Column}
 use Rattle.sqlite_schema.specs.declared.schema.Index.{Index}
@@ -103,41 +104,71 @@ hub_list = keyed_table (codes "hub_list") 16 (text (codes "op") ∷ text (codes 
 abbrev pub hub_list_entry : Table
 hub_list_entry = keyed_table (codes "hub_list_entry") 18 (text (codes "op") ∷ text (codes "station") ∷ text (codes "tag_key") ∷ text (codes "id_tag") ∷ whole_or_null (codes "expiry_date") ∷ text_or_null (codes "parent_id_tag") ∷ text (codes "status") ∷ []) 3 (of_parent (1 ∷ 2 ∷ []) (codes "hub_list") (codes "op" ∷ codes "station" ∷ []) ∷ [])
 
--- what stations reported last of a task of theirs, by its kind; `moment` is in seconds since 1970
+-- the last report of each kind of each station: of an upload of diagnostics, or of a firmware update; `moment` is in
+-- seconds since 1970
 abbrev pub hub_report : Table
-hub_report = keyed_table (codes "hub_report") 25 (text (codes "op") ∷ text (codes "station") ∷ text (codes "kind") ∷ text (codes "status") ∷ whole (codes "moment") ∷ []) 3 []
+hub_report = keyed_table (codes "hub_report") 20 (text (codes "op") ∷ text (codes "station") ∷ text (codes "kind") ∷ text (codes "status") ∷ whole (codes "moment") ∷ []) 3 []
 
--- ---- further indexes
+-- the owners of the id tags with which transactions began, where another operator granted the tag and the start was
+-- Accepted
+abbrev pub hub_tx_owner : Table
+hub_tx_owner = keyed_table (codes "hub_tx_owner") 22 (text (codes "op") ∷ text (codes "station") ∷ whole (codes "number") ∷ text (codes "owner") ∷ []) 3 []
 
-abbrev pub hub_grant_to : Index
-hub_grant_to = more_index (codes "hub_grant_to") 20 8 (3 ∷ 2 ∷ 1 ∷ [])
+-- what drivers used by the id tags of `op` at the stations of `host`; `moment` is in seconds since 1970
+abbrev pub hub_use : Table
+hub_use = keyed_table (codes "hub_use") 24 (text (codes "op") ∷ whole (codes "number") ∷ text (codes "host") ∷ text (codes "tag_key") ∷ whole (codes "moment") ∷ whole (codes "wh") ∷ []) 2 []
 
-abbrev pub hub_tx_in_use : Index
-hub_tx_in_use = more_index (codes "hub_tx_in_use") 21 10 (1 ∷ 5 ∷ 13 ∷ [])
+-- ---- the further indexes, each by its tree
 
-abbrev pub hub_tx_is_open : Index
-hub_tx_is_open = more_index (codes "hub_tx_is_open") 22 10 (1 ∷ 2 ∷ 12 ∷ [])
+abbrev pub hub_grant_to : ℕ → Index
+hub_grant_to tree = more_index (codes "hub_grant_to") tree 8 (3 ∷ 2 ∷ 1 ∷ [])
 
-abbrev pub hub_tx_start_at : Index
-hub_tx_start_at = more_index (codes "hub_tx_start_at") 23 10 (1 ∷ 2 ∷ 7 ∷ [])
+abbrev pub hub_tx_in_use : ℕ → Index
+hub_tx_in_use tree = more_index (codes "hub_tx_in_use") tree 10 (1 ∷ 5 ∷ 13 ∷ [])
 
-abbrev pub hub_reading_transaction : Index
-hub_reading_transaction = more_index (codes "hub_reading_transaction") 24 12 (1 ∷ 2 ∷ 5 ∷ 3 ∷ [])
+abbrev pub hub_tx_is_open : ℕ → Index
+hub_tx_is_open tree = more_index (codes "hub_tx_is_open") tree 10 (1 ∷ 2 ∷ 12 ∷ [])
+
+abbrev pub hub_tx_start_at : ℕ → Index
+hub_tx_start_at tree = more_index (codes "hub_tx_start_at") tree 10 (1 ∷ 2 ∷ 7 ∷ [])
+
+abbrev pub hub_reading_transaction : ℕ → Index
+hub_reading_transaction tree = more_index (codes "hub_reading_transaction") tree 12 (1 ∷ 2 ∷ 5 ∷ 3 ∷ [])
+
+-- the five further indexes, from that tree on
+abbrev pub further_indexes : ℕ → List Index
+further_indexes tree = hub_grant_to tree ∷ hub_tx_in_use (tree + 1) ∷ hub_tx_is_open (tree + 2) ∷ hub_tx_start_at (tree + 3) ∷ hub_reading_transaction (tree + 4) ∷ []
 
 -- ---- the schemas, by their numbers
 
--- schema 1: the tables with the indexes of their keys, and the further indexes
-abbrev pub first_schema : Schema
-first_schema = record {
+-- the tables of schema 1 with the indexes of their keys
+abbrev pub first_tables : Schema
+first_tables = record {
   tables = hub_meta ∷ hub_station ∷ hub_connector ∷ hub_tag ∷ hub_grant ∷ hub_tx ∷ hub_reading ∷ hub_reservation ∷ hub_list ∷ hub_list_entry ∷ [];
-  indexes = key_index (codes "sqlite_autoindex_hub_meta_1") 0 1 ∷ key_index (codes "sqlite_autoindex_hub_station_1") 2 2 ∷ key_index (codes "sqlite_autoindex_hub_connector_1") 4 3 ∷ key_index (codes "sqlite_autoindex_hub_tag_1") 6 2 ∷ key_index (codes "sqlite_autoindex_hub_grant_1") 8 3 ∷ key_index (codes "sqlite_autoindex_hub_tx_1") 10 3 ∷ key_index (codes "sqlite_autoindex_hub_reading_1") 12 3 ∷ key_index (codes "sqlite_autoindex_hub_reservation_1") 14 3 ∷ key_index (codes "sqlite_autoindex_hub_list_1") 16 2 ∷ key_index (codes "sqlite_autoindex_hub_list_entry_1") 18 3 ∷ hub_grant_to ∷ hub_tx_in_use ∷ hub_tx_is_open ∷ hub_tx_start_at ∷ hub_reading_transaction ∷ [];
+  indexes = key_index (codes "sqlite_autoindex_hub_meta_1") 0 1 ∷ key_index (codes "sqlite_autoindex_hub_station_1") 2 2 ∷ key_index (codes "sqlite_autoindex_hub_connector_1") 4 3 ∷ key_index (codes "sqlite_autoindex_hub_tag_1") 6 2 ∷ key_index (codes "sqlite_autoindex_hub_grant_1") 8 3 ∷ key_index (codes "sqlite_autoindex_hub_tx_1") 10 3 ∷ key_index (codes "sqlite_autoindex_hub_reading_1") 12 3 ∷ key_index (codes "sqlite_autoindex_hub_reservation_1") 14 3 ∷ key_index (codes "sqlite_autoindex_hub_list_1") 16 2 ∷ key_index (codes "sqlite_autoindex_hub_list_entry_1") 18 3 ∷ [];
   views = [];
 }
 
--- schema 2, which is that of this program: the table of reports comes after all of schema 1
-abbrev pub hub_schema : Schema
-hub_schema = record {
-  tables = first_schema.tables ++ hub_report ∷ [];
-  indexes = first_schema.indexes ++ key_index (codes "sqlite_autoindex_hub_report_1") 25 3 ∷ [];
+-- schema 2 has the table of reports beside them
+abbrev pub second_tables : Schema
+second_tables = record {
+  tables = first_tables.tables ++ hub_report ∷ [];
+  indexes = first_tables.indexes ++ key_index (codes "sqlite_autoindex_hub_report_1") 20 3 ∷ [];
   views = [];
 }
+
+-- schema 3 has those of settled uses beside them
+abbrev pub third_tables : Schema
+third_tables = record {
+  tables = second_tables.tables ++ hub_tx_owner ∷ hub_use ∷ [];
+  indexes = second_tables.indexes ++ key_index (codes "sqlite_autoindex_hub_tx_owner_1") 22 3 ∷ key_index (codes "sqlite_autoindex_hub_use_1") 24 2 ∷ [];
+  views = [];
+}
+
+-- tables, and after them the further indexes
+abbrev pub with_indexes : Schema → Schema
+with_indexes schema = record schema { indexes = schema.indexes ++ further_indexes (next_tree schema) }
+
+-- schema 3, which is that of this program
+abbrev pub hub_schema : Schema
+hub_schema = with_indexes third_tables

@@ -67,7 +67,7 @@ first-none f [] is = refl
 first-none f (x ∷ xs) is = absurd (cc)
 
 some-info : (tags : List TagRow) (g : GrantRow) → IsGoodGrant tags g → IsSome (info_by tags g)
-some-info tags g good = mapped (granted_until g.until) (own_tag_in g.op g.key tags) (mapped _ (tag_in g.op g.key tags) good.tag)
+some-info tags g good = mapped (granted_until g.op g.until) (own_tag_in g.op g.key tags) (mapped _ (tag_in g.op g.key tags) good.tag)
   where
     mapped : {R S : Type 0} (f : R → S) (o : Option R) → IsSome o → IsSome (option_map f o)
     mapped f None some = some

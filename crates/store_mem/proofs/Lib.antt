@@ -12,4 +12,6 @@ pub mod NamedGroupLaws
 pub mod OpenLaws
 pub mod StartLaws
 pub mod NewRows
+pub mod TxOwnerLaws
+pub mod UseLaws
 pub mod Named

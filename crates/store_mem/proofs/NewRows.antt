@@ -5,7 +5,6 @@ use Rattle.std.specs.List.Sorted.{IsStrictlySortedBy}
 use Rattle.std.specs.Str.{bytes_eq}
 use Rattle.std.specs.declared.cmp.Ordering.TheVariants.{Less}
 use Rattle.std.proofs.Common.{refl, sym, ◌∙◌, subst, arith, ⊎_elim}
-use Rattle.hub_rows.specs.declared.tx_row.TxRow.{TxRow}
 use Rattle.hub_rows.specs.declared.reading_row.Reading.{Reading}
 use Rattle.hub_rows.specs.declared.reading_row.ReadingRow.{ReadingRow}
 use Rattle.hub_rows.specs.Keyed.{by_key, those, greatest}
@@ -19,19 +18,21 @@ pub follows-above : (last first count : ℕ) → 1 ≤ count → AreNext last fi
 follows-above last first count some next =
     ⊎_elim (λ none. absurd (omega (arith, none, some))) (λ follow. let from = follow.from_one in ⊎_elim (λ zero. omega (arith, zero, from)) (λ more. omega (arith, more)) follow.next) next
 
--- ---- one transaction
+-- ---- one row
 
-abbrev pub last_of : List ℕ → List ℕ → List TxRow → ℕ
-last_of b st txs = greatest (map (λ x. x.number) (those (λ x. x.op) b (λ x. bytes_eq x.station st) txs))
+module _ {R : Type 0} (op station : R → List ℕ) (number : R → ℕ) where
+  -- the last number of a station's rows
+  abbrev last_at : List ℕ → List ℕ → List R → ℕ
+  last_at b st all = greatest (map number (those op b (λ x. bytes_eq (station x) st) all))
 
-pub one_tx : (b st o s : List ℕ) (r : TxRow) (rows : List TxRow) → rows ≡ r ∷ [] → r.op ≡ b → r.station ≡ st → o ≡ b → s ≡ st → AreOf (λ x. x.op) (λ x. x.station) (λ x. x.number) o s rows
-unfolding IsStrictlySortedBy
-one_tx b st o s r rows are its_op its_station same_op same_station =
-    subst (AreOf (λ x. x.op) (λ x. x.station) (λ x. x.number) o s) (sym are) (record { mine = ((its_op ∙ sym same_op, its_station ∙ sym same_station), tt); sorted = (tt, tt) })
+  pub one_row : (b st o s : List ℕ) (r : R) (rows : List R) → rows ≡ r ∷ [] → op r ≡ b → station r ≡ st → o ≡ b → s ≡ st → AreOf op station number o s rows
+  unfolding IsStrictlySortedBy
+  one_row b st o s r rows are its_op its_station same_op same_station =
+      subst (AreOf op station number o s) (sym are) (record { mine = ((its_op ∙ sym same_op, its_station ∙ sym same_station), tt); sorted = (tt, tt) })
 
-pub one_behind : (b st o s : List ℕ) (r : TxRow) (rows txs : List TxRow) → rows ≡ r ∷ [] → o ≡ b → s ≡ st → last_of b st txs < r.number → AllByRecursion (λ x. last_of o s txs < x.number) rows
-one_behind b st o s r rows txs are same_op same_station below =
-    subst (AllByRecursion (λ x. last_of o s txs < x.number)) (sym are) (subst (λ p. last_of p s txs < r.number) (sym same_op) (subst (λ q. last_of b q txs < r.number) (sym same_station) below), tt)
+  pub one_behind : (b st o s : List ℕ) (r : R) (rows all : List R) → rows ≡ r ∷ [] → o ≡ b → s ≡ st → last_at b st all < number r → AllByRecursion (λ x. last_at o s all < number x) rows
+  one_behind b st o s r rows all are same_op same_station below =
+      subst (AllByRecursion (λ x. last_at o s all < number x)) (sym are) (subst (λ p. last_at p s all < number r) (sym same_op) (subst (λ q. last_at b q all < number r) (sym same_station) below), tt)
 
 -- ---- readings
 

@@ -432,5 +432,11 @@ module _ {R : Type 0} (op station : R → List ℕ) (number : R → ℕ) (b st :
         let behind_these = subst (λ xs. AllByRecursion (λ r. greatest (map number xs) < number r) s.rows.items) (those-parts ss (all_rows (take i ss)) [] (all_rows (drop i ss)) no_parts) behind in
         (insert-groups ss i good s its_op its_station gap are, insert-rows ss i good s its_op its_station gap are ∙ sym (put-parts ss (all_rows (take i ss)) [] (all_rows (drop i ss)) no_parts s.rows.items are behind_these))
 
+    -- a group with no rows is put there
+    pub insert-none : (s : NamedGroup R) → s.op ≡ b → s.name ≡ st → s.rows.items ≡ [] → IsChanged (take i ss ++ s ∷ drop i ss) (all_rows ss)
+    insert-none s its_op its_station are =
+        let of = subst (AreOf op station number b st) (sym are) no_parts.of_station in
+        (insert-groups ss i good s its_op its_station gap of, insert-rows ss i good s its_op its_station gap of ∙ ap (λ xs. all_rows (take i ss) ++ (xs ++ all_rows (drop i ss))) are ∙ sym no_parts.split)
+
     pub changed-none : (n : ℕ) (f : R → R) → map (λ r. cond (bytes_eq (op r) b && (bytes_eq (station r) st && number r == n)) (f r) r) (all_rows ss) ≡ all_rows ss
     changed-none n f = changed-parts ss (all_rows (take i ss)) [] (all_rows (drop i ss)) n f no_parts ∙ sym no_parts.split

@@ -5,4 +5,6 @@ pub mod Lists
 pub mod Open
 pub mod Received
 pub mod Starts
+pub mod TxOwners
+pub mod Uses
 pub mod Edits

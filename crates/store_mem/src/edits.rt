@@ -1,16 +1,15 @@
 //! The changes that the store in memory makes.
 ghost use Rattle.std.specs.Prelude.{◌≡◌, OnOk, OnErr};
-ghost use Rattle.hub_rows.specs.Keyed.{changed};
-ghost use Rattle.hub_rows.specs.Changes.{edit, with_stop, after_change, EditFits, Fits};
-ghost use Rattle.hub_rows.specs.Transactions.{is_tx};
-ghost use Rattle.hub_rows.specs.declared.change.Edit.TheVariants.{StationAdded, BootSeen, PolicySet, ConnectorSeen, TagPut, TagDropped, GrantPut, GrantDropped, TxStarted, ReadingsAdded, ReservationPut, ReservationDropped, ListSet, ReportSeen};
+ghost use Rattle.hub_rows.specs.Changes.{edit, after_change, EditFits, Fits};
+ghost use Rattle.hub_rows.specs.declared.change.Edit.TheVariants.{StationAdded, BootSeen, PolicySet, ConnectorSeen, TagPut, TagDropped, GrantPut, GrantDropped, TxStarted, TxStopped, ReadingsAdded, ReservationPut, ReservationDropped, ListSet, ReportSeen};
 ghost use Rattle.store_mem.specs.Edits.{IsOfStations, IsOfTags, IsOfTransactions, IsOfReservations};
 ghost use Rattle.store_mem.specs.Lists.{rows_in};
 
-use crate::local_lists::copy_of;
 use crate::mem_store::MemStore;
 use crate::reservations::{drop_named, drop_reservation};
+use crate::station_copies::copy_of;
 use crate::stations::{StationChange, change_station};
+use crate::tx_owners::owner_row;
 use hub_rows::{
     Boot, Change, ConnectorReport, ConnectorRow, Edit, GrantRow, ListRow, LocalList, Reading,
     ReportRow, ReportedStatus, Reservation, ReservationId, ReservationRow, Start, StationRow, Stop,
@@ -193,25 +192,62 @@ impl MemStore {
     }
 }
 
+/// A transaction of a station, by what tells it apart.
+#[derive(Clone, Copy, Drop)]
+struct TxAt<'a> {
+    op: &'a Text,
+    station: &'a Text,
+    number: u32,
+}
+
+impl<'a> TxAt<'a> {
+    /// The transaction of that number.
+    fn new(op: &'a Text, station: &'a Text, number: u32) -> TxAt<'a>
+        ensures op { result.op.now ≡ op.now }
+        ensures station { result.station.now ≡ station.now }
+        ensures number { result.number ≡ number }
+    {
+        TxAt {
+            op,
+            station,
+            number,
+        }
+    }
+}
+
 impl MemStore {
-    /// Adds a transaction after those of its station, and removes the reservation that it names.
-    fn start_tx(&mut self, op: &Text, station: &Text, number: u32, start: &Start) -> Mem<()>
-        requires { EditFits op.now (TxStarted station.now number start.now) (rows_in self.old.lists) }
-        ensures ok { OnOk result (rows_in self.new.lists ≡ edit op.now (TxStarted station.now number start.now) (rows_in self.old.lists)) }
+    /// Adds a transaction after those of its station, and the owner of its tag if another operator granted it.
+    /// Removes the reservation that it names.
+    fn start_tx(&mut self, at: &TxAt<'_>, start: &Start, owner: &Option<Text>) -> Mem<()>
+        requires { EditFits at.now.op.now (TxStarted at.now.station.now at.now.number start.now owner.now) (rows_in self.old.lists) }
+        ensures ok { OnOk result (rows_in self.new.lists ≡ edit at.now.op.now (TxStarted at.now.station.now at.now.number start.now owner.now) (rows_in self.old.lists)) }
         ensures err { OnErr result (rows_in self.new.lists ≡ rows_in self.old.lists) }
     {
-        self.lists.transactions.start(op, station, number, start)?;
+        let owner = owner_row(at.op, at.station, at.number, owner)?;
+        self.lists.tx_owners.make_room_for(&owner)?;
+        self.lists
+            .transactions
+            .start(at.op, at.station, at.number, start)?;
+        self.lists.tx_owners.put_ready(owner);
         let rows = &mut self.lists.reservations;
-        drop_named(rows, op.as_str(), station.as_str(), start.reservation);
+        drop_named(rows, at.op.as_str(), at.station.as_str(), start.reservation);
         Ok(())
     }
 
-    /// Stops a transaction, which can't fail.
-    fn stop_tx(&mut self, op: &Text, station: &Text, number: u32, stop: Stop)
-        ensures { rows_in self.new.lists ≡ record (rows_in self.old.lists) { transactions = changed (λ r. r.op) op.now (is_tx station.now number) (with_stop stop) (rows_in self.old.lists).transactions } }
+    /// Stops a transaction, adds the readings that came with it, and puts the use that it settles.
+    fn stop_tx(&mut self, at: &TxAt<'_>, stop: &Stop, first: u32, readings: &[Reading]) -> Mem<()>
+        requires { EditFits at.now.op.now (TxStopped at.now.station.now at.now.number stop.now first readings.now) (rows_in self.old.lists) }
+        ensures ok { OnOk result (rows_in self.new.lists ≡ edit at.now.op.now (TxStopped at.now.station.now at.now.number stop.now first readings.now) (rows_in self.old.lists)) }
+        ensures err { OnErr result (rows_in self.new.lists ≡ rows_in self.old.lists) }
     {
+        let settled = self.lists.settled_use(at.op, at.station, at.number, stop)?;
+        let stop = stop.clone()?;
+        self.lists.uses.make_room_for(&settled)?;
+        self.lists.readings.add(at.op, at.station, first, readings)?;
         let txs = &mut self.lists.transactions;
-        txs.stop(op.as_str(), station.as_str(), number, stop);
+        txs.stop(at.op.as_str(), at.station.as_str(), at.number, stop);
+        self.lists.uses.put_ready(settled);
+        Ok(())
     }
 
     /// Adds readings after those of their station.
@@ -236,12 +272,6 @@ impl MemStore {
         ensures err { OnErr result (rows_in self.new.lists ≡ rows_in self.old.lists) }
     {
         match change.edit.as_ref() {
-            Edit::StationAdded { .. }
-            | Edit::BootSeen { .. }
-            | Edit::PolicySet { .. }
-            | Edit::ConnectorSeen { .. }
-            | Edit::ListSet { .. }
-            | Edit::ReportSeen { .. } => self.edit_stations(change),
             Edit::TagPut { .. }
             | Edit::TagDropped { .. }
             | Edit::GrantPut { .. }
@@ -252,6 +282,7 @@ impl MemStore {
             Edit::ReservationPut { .. } | Edit::ReservationDropped { .. } => {
                 self.edit_reservations(change)
             }
+            _ => self.edit_stations(change),
         }
     }
 
@@ -326,7 +357,8 @@ impl MemStore {
                 station,
                 number,
                 start,
-            } => self.start_tx(op, station, *number, start)?,
+                owner,
+            } => self.start_tx(&TxAt::new(op, station, *number), start, owner)?,
             Edit::TxStopped {
                 station,
                 number,
@@ -334,9 +366,8 @@ impl MemStore {
                 first,
                 readings,
             } => {
-                let stop = stop.clone()?;
-                self.add_readings(op, station, *first, readings.as_slice())?;
-                self.stop_tx(op, station, *number, stop);
+                let at = TxAt::new(op, station, *number);
+                self.stop_tx(&at, stop, *first, readings.as_slice())?
             }
             Edit::ReadingsAdded {
                 station,

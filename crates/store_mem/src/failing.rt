@@ -4,7 +4,7 @@ ghost use Rattle.std.specs.Prelude.{◌≡◌, ◌+◌, Some, OnOk, OnErr};
 use hub_rows::{
     Change, ConnectorRow, GrantRow, GrantedTag, Info, LastNumbers, LocalList, ReadingRow,
     Registration, ReportRow, ReservationId, ReservationRow, StartKey, StationRow, Store,
-    StoreFault, TagRow, TxKey, TxRow, TxState,
+    StoreFault, TagRow, TxKey, TxRow, TxState, UseRow,
 };
 use ocpp_types::{Listed, Moment, TagKey};
 
@@ -177,6 +177,11 @@ impl<S: Store> Store for Failing<S> {
     fn reports(&mut self, op: &str, station: &str) -> Result<Listed<ReportRow>, StoreFault> {
         self.count_call()?;
         self.store.reports(op, station)
+    }
+
+    fn uses(&mut self, op: &str) -> Result<Listed<UseRow>, StoreFault> {
+        self.count_call()?;
+        self.store.uses(op)
     }
 
     fn apply(&mut self, change: &Change) -> Result<(), StoreFault> {

@@ -67,5 +67,6 @@ fn info_by(tags: &Tags, grant: &GrantRow) -> Mem<Option<Info>>
     let Some(info) = tags.own_tag(grant.op.as_str(), &grant.key)? else {
         return Ok(None);
     };
-    Ok(Some(info.until(grant.until)))
+    let owner = grant.op.clone()?;
+    Ok(Some(info.granted(owner, grant.until)))
 }

@@ -8,7 +8,6 @@ mod granted;
 mod grants;
 mod groups;
 mod lists;
-mod local_lists;
 mod mem_store;
 mod named_groups;
 mod open;
@@ -23,7 +22,9 @@ mod stations;
 mod tags;
 mod transactions;
 mod triples;
+mod tx_owners;
 mod tx_rows;
+mod uses;
 
 pub use failing::Failing;
 pub use mem_store::MemStore;

@@ -1,13 +1,17 @@
 //! The lists that the store keeps.
-ghost use Rattle.std.specs.Prelude.{◌≡◌};
+ghost use Rattle.std.specs.Prelude.{◌≡◌, IfOk};
 ghost use Rattle.hub_rows.specs.Rows.{no_rows};
+ghost use Rattle.hub_rows.specs.Uses.{settled_use};
 ghost use Rattle.store_mem.specs.Lists.{rows_in};
 
 use crate::grants::Grants;
 use crate::readings::Readings;
 use crate::tags::Tags;
 use crate::transactions::Transactions;
-use hub_rows::{ConnectorRow, ListRow, ReportRow, ReservationRow, StationRow};
+use crate::tx_owners::TxOwners;
+use crate::uses::{Uses, next_use};
+use hub_rows::{ConnectorRow, ListRow, ReportRow, ReservationRow, StationRow, Stop, UseRow};
+use ocpp_types::{Mem, Text};
 use std::alloc::Global;
 
 /// The records of all operators, each kind in the order of its keys or in groups.
@@ -22,6 +26,8 @@ pub struct Lists {
     pub reservations: Vec<ReservationRow>,
     pub local_lists: Vec<ListRow>,
     pub reports: Vec<ReportRow>,
+    pub tx_owners: TxOwners,
+    pub uses: Uses,
 }
 
 impl Lists {
@@ -39,6 +45,29 @@ impl Lists {
             reservations: Vec::new(alloc),
             local_lists: Vec::new(alloc),
             reports: Vec::new(alloc),
+            tx_owners: TxOwners::new(alloc),
+            uses: Uses::new(alloc),
         }
+    }
+
+    /// The use that the stop of a transaction settles, if another operator granted its tag.
+    pub fn settled_use(
+        &self,
+        op: &Text,
+        station: &Text,
+        number: u32,
+        stop: &Stop,
+    ) -> Mem<Option<UseRow>>
+        ensures { IfOk result (λ u. u ≡ settled_use op.now station.now number stop.now (rows_in self.now)) }
+    {
+        let txs = &self.transactions;
+        let Some(owner) = self.tx_owners.owner(op.as_str(), station.as_str(), number) else {
+            return Ok(None);
+        };
+        let Some(row) = txs.row(op.as_str(), station.as_str(), number) else {
+            return Ok(None);
+        };
+        let last = self.uses.last_number(owner.as_str());
+        next_use(owner, last, op, row, stop)
     }
 }

@@ -9,14 +9,13 @@ use crate::copies::{copies, own_copies};
 use crate::granted::{granted, granted_tag};
 use crate::groups::rows_of_group;
 use crate::lists::Lists;
-use crate::local_lists::local_list_of;
 use crate::reservations::reserved_until;
-use crate::station_copies::copies_of_station;
+use crate::station_copies::{copies_of_station, local_list_of};
 use crate::stations::registration_of;
 use hub_rows::{
     Change, ConnectorRow, GrantRow, GrantedTag, Info, LastNumbers, LocalList, ReadingRow,
     Registration, ReportRow, ReservationId, ReservationRow, StartKey, StationRow, Store,
-    StoreFault, TagRow, TxKey, TxRow, TxState,
+    StoreFault, TagRow, TxKey, TxRow, TxState, UseRow,
 };
 use ocpp_types::{Listed, Moment, TagKey};
 use std::alloc::Global;
@@ -157,6 +156,10 @@ impl Store for MemStore {
 
     fn reports(&mut self, op: &str, station: &str) -> Result<Listed<ReportRow>, StoreFault> {
         Ok(copies_of_station(self.alloc, &self.lists.reports, op, station)?)
+    }
+
+    fn uses(&mut self, op: &str) -> Result<Listed<UseRow>, StoreFault> {
+        Ok(copies(self.alloc, self.lists.uses.of_owner(op))?)
     }
 
     fn apply(&mut self, change: &Change) -> Result<(), StoreFault> {

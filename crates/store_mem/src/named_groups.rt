@@ -4,7 +4,7 @@ ghost use Rattle.std.specs.Prelude.{◌≡◌, ℕ, ◌<◌, List, ◌&&◌, if�
 ghost use Rattle.std.specs.List.Sorted.{IsStrictlySortedBy};
 ghost use Rattle.std.specs.Str.{bytes_eq};
 ghost use Rattle.hub_rows.specs.Keyed.{by_key, put};
-ghost use Rattle.store_mem.specs.NamedGroups.{rows_at, AreInPlace, HasRoomAt};
+ghost use Rattle.store_mem.specs.NamedGroups.{rows_at, all_rows, AreGrouped, AreInPlace, HasRoomAt};
 
 use hub_rows::{Keyed, NamedRow, place_of_name, put_ready};
 use ocpp_types::{Mem, Text};
@@ -53,6 +53,8 @@ pub fn make_room_at<R: Drop>(
     requires { AreInPlace groups.old.items }
     ensures in_place { AreInPlace groups.new.items }
     ensures rows { (b n : List ℕ) → rows_at b n groups.new.items ≡ rows_at b n groups.old.items }
+    ensures grouped { (o n : R → List ℕ) (number : R → ℕ) → AreGrouped o n number groups.old.items
+        → AreGrouped o n number groups.new.items × (all_rows groups.new.items ≡ all_rows groups.old.items) }
     ensures room { OnOk result (HasRoomAt op.now name.now groups.new.items) }
 {
     match place_of_name(groups.as_slice(), op, name) {

@@ -12,7 +12,7 @@ ghost use Rattle.store_mem.specs.NamedGroups.{all_rows, AreGrouped, rows_at, Are
 ghost use Rattle.store_mem.specs.Open.{open_key, open_of, has_other, is_excepted, is_open_tx, AreOpens};
 
 use crate::named_groups::{NamedGroup, drop_if_empty, make_room_at, put_at};
-use crate::station_rows::{place_of_number, rows_of};
+use crate::station_rows::row_of_number;
 use hub_rows::{Keyed, TxKey, TxRow, place_of_name};
 use ocpp_types::{Mem, TagKey, Text};
 use std::alloc::Global;
@@ -89,11 +89,7 @@ fn tag_of<'a>(
     ensures { option_map (λ k. k.now) result
         ≡ option_map (λ r. r.start.id.key) (found (λ r. r.op) op.now (is_tx station.now number) (all_rows groups.now)) }
 {
-    let rows = rows_of(groups, op, station);
-    match place_of_number(rows, number) {
-        Ok(place) => Some(&rows[place].start.id.key),
-        Err(_) => None,
-    }
+    row_of_number(groups, op, station, number).map(|row| &row.start.id.key)
 }
 
 /// Makes room for a transaction among those by which the tag of a key is in use, if it counts.

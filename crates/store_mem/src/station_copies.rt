@@ -1,84 +1,58 @@
-//! Copies of the rows of a station.
-ghost use Rattle.std.specs.Prelude.{◌≡◌, ℕ, List, IfOk};
+//! Copies of what a station has: its rows, and its local list.
+ghost use Rattle.std.specs.Prelude.{◌≡◌, IfOk};
+ghost use Rattle.std.specs.List.Sorted.{IsStrictlySortedBy};
 ghost use Rattle.std.specs.Str.{bytes_eq};
-ghost use Rattle.hub_rows.specs.Keyed.{those};
+ghost use Rattle.hub_rows.specs.Keyed.{by_key, those};
+ghost use Rattle.hub_rows.specs.Lookups.{local_list_in};
+ghost use Rattle.hub_rows.specs.Rows.{list_key};
 
-use hub_rows::{ConnectorRow, ReportRow, ReservationRow};
+use crate::copies::copies;
+use hub_rows::{ListRow, LocalList, NamedRow, row_of};
 use ocpp_types::{Listed, Mem};
 use std::alloc::Global;
 
-/// A row of a station.
-pub trait OfStation: Drop {
-    ghost op: { Self → List ℕ };
-
-    ghost station: { Self → List ℕ };
-
-    /// The operator that hosts the station.
-    fn op(&self) -> &str
-        ensures { result.now ≡ op self.now };
-
-    fn station(&self) -> &str
-        ensures { result.now ≡ station self.now };
-}
-
-impl OfStation for ConnectorRow {
-    ghost op = { λ r. r.op };
-
-    ghost station = { λ r. r.station };
-
-    fn op(&self) -> &str {
-        self.op.as_str()
-    }
-
-    fn station(&self) -> &str {
-        self.station.as_str()
-    }
-}
-
-impl OfStation for ReservationRow {
-    ghost op = { λ r. r.op };
-
-    ghost station = { λ r. r.station };
-
-    fn op(&self) -> &str {
-        self.op.as_str()
-    }
-
-    fn station(&self) -> &str {
-        self.station.as_str()
-    }
-}
-
-impl OfStation for ReportRow {
-    ghost op = { λ r. r.op };
-
-    ghost station = { λ r. r.station };
-
-    fn op(&self) -> &str {
-        self.op.as_str()
-    }
-
-    fn station(&self) -> &str {
-        self.station.as_str()
-    }
-}
-
 /// Copies of the rows of one station.
 #[tactic(auto, using(hub_rows::proofs::Steps::drop_here))]
-pub fn copies_of_station<R: OfStation + Clone>(
+pub fn copies_of_station<R: NamedRow + Clone>(
     alloc: Global,
     rows: &[R],
     op: &str,
     station: &str,
 ) -> Mem<Listed<R>>
     requires { (row copy : R) → R.is_clone row copy → copy ≡ row }
-    ensures { IfOk result (λ l. l ≡ those R.op op.now (λ r. bytes_eq (R.station r) station.now) rows.now) }
+    ensures { IfOk result (λ l. l ≡ those R.op op.now (λ r. bytes_eq (R.name r) station.now) rows.now) }
 {
     let mut list = Listed::new(alloc);
     for row in rows {
-        if row.op() == op && row.station() == station {
+        if row.op() == op && row.name() == station {
             list.push(row.clone()?)?;
         }
     }
     Ok(list)
+}
+
+/// A copy of the local list of a station.
+pub fn local_list_of(
+    alloc: Global,
+    rows: &[ListRow],
+    op: &str,
+    station: &str,
+) -> Mem<Option<LocalList>>
+    requires { IsStrictlySortedBy (by_key list_key) rows.now }
+    ensures { IfOk result (λ l. l ≡ local_list_in op.now station.now rows.now) }
+{
+    match row_of(rows, op, station) {
+        Some(row) => Ok(Some(copy_of(alloc, &row.list)?)),
+        None => Ok(None),
+    }
+}
+
+/// A copy of a local list.
+pub fn copy_of(alloc: Global, list: &LocalList) -> Mem<LocalList>
+    ensures { IfOk result (λ copy. copy ≡ list.now) }
+{
+    Ok(LocalList {
+        version: list.version,
+        entries: copies(alloc, list.entries.as_slice())?,
+    })
 }

@@ -1,14 +1,14 @@
 //! Rows that are kept station by station, in the order of their numbers.
-ghost use Rattle.std.specs.Prelude.{◌≡◌, ◌<◌, ℕ, List, [], ◌∷◌, ◌++◌, map, OnOk, OnErr};
+ghost use Rattle.std.specs.Prelude.{◌≡◌, ◌<◌, ◌==◌, ◌&&◌, ℕ, List, [], ◌∷◌, ◌++◌, map, option_map, OnOk, OnErr};
 ghost use Rattle.std.specs.List.{AllByRecursion};
 ghost use Rattle.std.specs.List.Sorted.{IsStrictlySortedBy};
 ghost use Rattle.std.specs.Str.{bytes_eq};
-ghost use Rattle.hub_rows.specs.Keyed.{by_key, greatest, numbered_key, put_all, those};
+ghost use Rattle.hub_rows.specs.Keyed.{by_key, found, greatest, numbered_key, put, put_all, those};
 ghost use Rattle.hub_rows.specs.Places.{IsPlace};
-ghost use Rattle.store_mem.specs.NamedGroups.{number_key, all_rows, AreOf, AreGrouped};
+ghost use Rattle.store_mem.specs.NamedGroups.{number_key, all_rows, AreOf, AreGrouped, HasRoomAt};
 
 use crate::named_groups::{NamedGroup, rows_at};
-use hub_rows::{ReadingRow, TxRow, place_of_name};
+use hub_rows::{ReadingRow, TxOwnerRow, TxRow, place_of_name};
 use ocpp_types::{Mem, Text};
 use std::alloc::{AllocError, Global};
 
@@ -19,6 +19,14 @@ pub trait NumberedRow: Drop {
     ghost station: { Self → List ℕ };
 
     ghost number: { Self → ℕ };
+
+    /// Its operator.
+    fn op(&self) -> &str
+        ensures { result.now ≡ op self.now };
+
+    /// Its station.
+    fn station(&self) -> &str
+        ensures { result.now ≡ station self.now };
 
     /// Its number among the rows of its station.
     fn number(&self) -> u32
@@ -32,6 +40,14 @@ impl NumberedRow for TxRow {
 
     ghost number = { λ r. r.number };
 
+    fn op(&self) -> &str {
+        self.op.as_str()
+    }
+
+    fn station(&self) -> &str {
+        self.station.as_str()
+    }
+
     fn number(&self) -> u32 {
         self.number
     }
@@ -43,6 +59,34 @@ impl NumberedRow for ReadingRow {
     ghost station = { λ r. r.station };
 
     ghost number = { λ r. r.number };
+
+    fn op(&self) -> &str {
+        self.op.as_str()
+    }
+
+    fn station(&self) -> &str {
+        self.station.as_str()
+    }
+
+    fn number(&self) -> u32 {
+        self.number
+    }
+}
+
+impl NumberedRow for TxOwnerRow {
+    ghost op = { λ r. r.op };
+
+    ghost station = { λ r. r.station };
+
+    ghost number = { λ r. r.number };
+
+    fn op(&self) -> &str {
+        self.op.as_str()
+    }
+
+    fn station(&self) -> &str {
+        self.station.as_str()
+    }
 
     fn number(&self) -> u32 {
         self.number
@@ -64,6 +108,24 @@ pub fn place_of_number<R: NumberedRow>(rows: &[R], number: u32) -> Result<usize,
     ensures { IsPlace (number_key R.number) ((number ∷ []) ∷ []) rows.now result }
 {
     rows.binary_search_by(|row| row.number().cmp(&number))
+}
+
+/// The row of a number of a station.
+pub fn row_of_number<'a, R: NumberedRow>(
+    groups: &'a [NamedGroup<R>],
+    op: &str,
+    station: &str,
+    number: u32,
+) -> Option<&'a R>
+    requires { AreGrouped R.op R.station R.number groups.now }
+    ensures { option_map (λ r. r.now) result
+        ≡ found R.op op.now (λ r. bytes_eq (R.station r) station.now && R.number r == number) (all_rows groups.now) }
+{
+    let rows = rows_of(groups, op, station);
+    match place_of_number(rows, number) {
+        Ok(place) => Some(&rows[place]),
+        Err(_) => None,
+    }
 }
 
 /// The greatest number among the rows of a station, 0 where there are none.
@@ -114,4 +176,18 @@ fn extend_group<R: NumberedRow>(group: &mut NamedGroup<R>, rows: Vec<R>) -> Resu
 {
     let mut rows = rows;
     group.rows.append(&mut rows)
+}
+
+/// Puts a row behind those of its station. There is room for it, so that it can't fail.
+pub fn put_last<R: NumberedRow>(groups: &mut Vec<NamedGroup<R>>, row: R)
+    requires groups { AreGrouped R.op R.station R.number groups.old.items }
+    requires room { HasRoomAt (R.op row) (R.station row) groups.old.items }
+    requires behind { greatest (map R.number (those R.op (R.op row) (λ x. bytes_eq (R.station x) (R.station row)) (all_rows groups.old.items))) < R.number row }
+    ensures groups { AreGrouped R.op R.station R.number groups.new.items }
+    ensures rows { all_rows groups.new.items ≡ put (by_key (numbered_key R.op R.station R.number)) row (all_rows groups.old.items) }
+{
+    match place_of_name(groups.as_slice(), row.op(), row.station()) {
+        Ok(place) => groups[place].rows.push_reserved(row),
+        Err(_) => unreachable!(),
+    }
 }

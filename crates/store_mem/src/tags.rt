@@ -78,6 +78,7 @@ fn tag_among(alloc: Global, tags: &[TagRow], op: &str, key: &TagKey) -> Mem<Opti
         parent: copied(&tag.parent)?,
         blocked: tag.blocked || by_parent,
         expiry: tag.expiry,
+        owner: None,
     }))
 }
 

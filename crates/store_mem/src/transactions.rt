@@ -1,9 +1,9 @@
 //! Transactions, with what finds them.
-ghost use Rattle.std.specs.Prelude.{◌≡◌, [], map, OnOk, OnErr};
+ghost use Rattle.std.specs.Prelude.{◌≡◌, [], map, option_map, OnOk, OnErr};
 ghost use Rattle.std.specs.List.Sorted.{IsStrictlySortedBy};
 ghost use Rattle.std.proofs.Props.{props};
 ghost use Rattle.hub_rows.specs.Changes.{tx_row, with_stop};
-ghost use Rattle.hub_rows.specs.Keyed.{by_key, changed, greatest, put};
+ghost use Rattle.hub_rows.specs.Keyed.{by_key, changed, found, greatest, put};
 ghost use Rattle.hub_rows.specs.Rows.{tx_key};
 ghost use Rattle.hub_rows.specs.Transactions.{counts, is_open, is_tx, is_used_in, same_start_in, tx_in, has_open_in, txs_in, AreNext};
 ghost use Rattle.store_mem.specs.NamedGroups.{all_rows, AreGrouped};
@@ -16,8 +16,8 @@ use crate::open::{
 };
 use crate::started::{start_tx, started};
 use crate::starts::{StartRow, number_of, start_of};
-use crate::station_rows::{last_number, rows_of};
-use crate::tx_rows::{stop_tx, tx_state};
+use crate::station_rows::{last_number, row_of_number, rows_of};
+use crate::tx_rows::stop_tx;
 use hub_rows::{Start, StartKey, Stop, TxKey, TxRow, TxState};
 use ocpp_types::{Mem, Text};
 use std::alloc::Global;
@@ -109,10 +109,17 @@ impl Transactions {
     }
 
     /// A transaction of a station, by its number.
+    pub fn row(&self, op: &str, station: &str, number: u32) -> Option<&TxRow>
+        ensures { option_map (λ r. r.now) result ≡ found (λ r. r.op) op.now (is_tx station.now number) (all_rows self.now.rows.items) }
+    {
+        row_of_number(&self.rows, op, station, number)
+    }
+
+    /// What rules ask of it.
     pub fn state(&self, op: &str, station: &str, number: u32) -> Option<TxState>
         ensures { result ≡ tx_in op.now station.now number (all_rows self.now.rows.items) }
     {
-        tx_state(&self.rows, op, station, number)
+        self.row(op, station, number).map(|row| row.state())
     }
 
     /// The transactions of a station.

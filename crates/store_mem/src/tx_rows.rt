@@ -1,31 +1,14 @@
-//! The rows of transactions, kept station by station: found, and stopped.
+//! The rows of transactions, kept station by station, are stopped.
 ghost use Rattle.std.specs.Prelude.{◌≡◌, ◌==◌, if◌then◌else◌, map};
 ghost use Rattle.std.specs.List.Sorted.{IsStrictlySortedBy};
 ghost use Rattle.hub_rows.specs.Changes.{with_stop};
 ghost use Rattle.hub_rows.specs.Keyed.{by_key, changed};
-ghost use Rattle.hub_rows.specs.Transactions.{tx_in, is_tx};
+ghost use Rattle.hub_rows.specs.Transactions.{is_tx};
 ghost use Rattle.store_mem.specs.NamedGroups.{number_key, all_rows, AreGrouped};
 
 use crate::named_groups::NamedGroup;
-use crate::station_rows::{place_of_number, rows_of};
-use hub_rows::{Stop, TxRow, TxState, place_of_name};
-
-/// A transaction of a station, by its number.
-pub fn tx_state(
-    groups: &[NamedGroup<TxRow>],
-    op: &str,
-    station: &str,
-    number: u32,
-) -> Option<TxState>
-    requires { AreGrouped (λ r. r.op) (λ r. r.station) (λ r. r.number) groups.now }
-    ensures { result ≡ tx_in op.now station.now number (all_rows groups.now) }
-{
-    let rows = rows_of(groups, op, station);
-    match place_of_number(rows, number) {
-        Ok(place) => Some(rows[place].state()),
-        Err(_) => None,
-    }
-}
+use crate::station_rows::place_of_number;
+use hub_rows::{Stop, TxRow, place_of_name};
 
 /// Stops a transaction, if it is there.
 pub fn stop_tx(

@@ -16,6 +16,7 @@ use crate::reservations::{drop_reservation, put_reservation};
 use crate::stations::{add_station, see_boot, set_policy};
 use crate::tags::{drop_tag, put_tag};
 use crate::tx_edits::{start_tx, stop_tx};
+use crate::uses::put_owner;
 use hub_rows::{Change, Edit, StoreFault};
 use sqlite::{Alter, Connection, Error, Transaction};
 use std::alloc::Global;
@@ -95,7 +96,12 @@ fn edit_transactions<S: Alter>(
             station,
             number,
             start,
-        } => start_tx(tx, op, station.as_str(), *number, start),
+            owner,
+        } => {
+            let station = station.as_str();
+            start_tx(tx, op, station, *number, start)?;
+            put_owner(tx, op, station, *number, owner)
+        }
         Edit::TxStopped {
             station,
             number,
@@ -152,11 +158,6 @@ fn make<S: Alter>(
     ensures goes { MayMake op.now change.now (state S.Store tx.old.conn.now) → IsInside (state S.Store tx.old.conn.now) → Goes (IsMade (edit op.now change.now)) (state S.Store tx.old.conn.now) (state S.Store tx.new.conn.now) result }
 {
     match change {
-        Edit::StationAdded { .. }
-        | Edit::BootSeen { .. }
-        | Edit::PolicySet { .. }
-        | Edit::ConnectorSeen { .. }
-        | Edit::ReportSeen { .. } => edit_stations(tx, op, change),
         Edit::TagPut { .. }
         | Edit::TagDropped { .. }
         | Edit::GrantPut { .. }
@@ -166,6 +167,7 @@ fn make<S: Alter>(
         }
         Edit::ReservationPut { .. } | Edit::ReservationDropped { .. } | Edit::ListSet { .. } =>
             edit_holdings(tx, alloc, op, change),
+        _ => edit_stations(tx, op, change),
     }
 }
 

@@ -88,7 +88,7 @@ fn info_of<S: Alter>(
     ensures stops { CommitsNothing (state S.Store conn.old) (state S.Store conn.new) result }
 {
     match own_tag(conn, alloc, grant.op.as_str(), grant.key.as_str())? {
-        Some(info) => Ok(Some(info.until(grant.until))),
+        Some(info) => Ok(Some(info.granted(grant.op.clone()?, grant.until))),
         None => Ok(None),
     }
 }

@@ -22,6 +22,7 @@ mod tables;
 mod tags;
 mod tx_edits;
 mod txs;
+mod uses;
 
 pub use opening::{PrepareFault, prepare};
 pub use sql_store::SqlStore;

@@ -19,7 +19,7 @@ use thiserror::Error as ThisError;
 const LIST_META: &str = "SELECT * FROM hub_meta";
 
 /// How many tables this schema has.
-const TABLES: usize = 11;
+const TABLES: usize = 13;
 
 /// All rows of `hub_meta`, as it is in any database. Nothing changes, whatever the text means there.
 fn meta_rows<S: Alter>(conn: &mut Connection<S>) -> Result<Vec<Row>, Error>

@@ -173,7 +173,7 @@ pub(crate) fn last_number<S: Alter>(
     ensures same { Rests (state S.Store conn.old) (state S.Store conn.new) }
     ensures stops { CommitsNothing (state S.Store conn.old) (state S.Store conn.new) result }
 {
-    only_number(find_last(conn, op, station))
+    only_number(find_last(conn, op, station), 2)
 }
 
 /// Puts the row of a reading.

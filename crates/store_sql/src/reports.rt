@@ -3,7 +3,7 @@ ghost use Rattle.std.specs.Prelude.{◌≡◌, ◌&&◌, IfOk};
 ghost use Rattle.std.specs.Str.{bytes_eq};
 ghost use Rattle.sqlite_value.specs.Order.{column};
 ghost use Rattle.sqlite.specs.Held.{state};
-ghost use Rattle.hub_rows.specs.Reports.{reports_in};
+ghost use Rattle.hub_rows.specs.Lookups.{reports_in};
 ghost use Rattle.sql_shelf.specs.Kept.{IsServing, Finds, Rests, CommitsNothing, Shows, IsInside, IsMade, Goes};
 ghost use Rattle.sql_shelf.specs.Shelves.{reports, status_in};
 ghost use Rattle.hub_rows.specs.Changes.{edit};

@@ -6,12 +6,12 @@ ghost use Rattle.hub_rows.specs.declared.store.StoreFault.TheVariants as store_f
 use crate::opening::{PrepareFault, fault, prepare};
 use crate::{
     changes, connectors, granted, grants, last_numbers, local_lists, readings, reports,
-    reservations, stations, tags, txs,
+    reservations, stations, tags, txs, uses,
 };
 use hub_rows::{
     Change, ConnectorRow, GrantRow, GrantedTag, Info, LastNumbers, LocalList, ReadingRow,
     Registration, ReportRow, ReservationId, ReservationRow, StartKey, StationRow, Store,
-    StoreFault, TagRow, TxKey, TxRow, TxState,
+    StoreFault, TagRow, TxKey, TxRow, TxState, UseRow,
 };
 use ocpp_types::{Listed, Moment, TagKey};
 use sqlite::{Alter, Connection, FileFrom, FileStore, MemStore, Start};
@@ -292,6 +292,11 @@ impl<A: Alter> Store for SqlStore<A> {
 
     fn reports(&mut self, op: &str, station: &str) -> Result<Listed<ReportRow>, StoreFault> {
         let found = reports::reports(&mut self.conn, op, station);
+        self.counted(found)
+    }
+
+    fn uses(&mut self, op: &str) -> Result<Listed<UseRow>, StoreFault> {
+        let found = uses::uses(&mut self.conn, op);
         self.counted(found)
     }
 

@@ -127,6 +127,7 @@ pub(crate) fn own_tag<S: Alter>(
                 parent: tag.parent,
                 blocked: tag.blocked || by_parent,
                 expiry: tag.expiry,
+                owner: None,
             }))
         }
     }

@@ -1,5 +1,5 @@
 //! Transactions of stations, put in their table and changed there.
-ghost use Rattle.std.specs.Prelude.{◌≡◌, ◌&&◌, IfOk, IsTrue};
+ghost use Rattle.std.specs.Prelude.{◌≡◌, ◌&&◌, IfOk, IsTrue, None};
 ghost use Rattle.std.specs.Str.{bytes_eq};
 ghost use Rattle.sqlite.specs.Held.{state};
 ghost use Rattle.hub_rows.specs.Keyed.{found, by_key, changed, put};
@@ -9,11 +9,13 @@ ghost use Rattle.sql_shelf.specs.Shelves.{txs, rows_of};
 ghost use Rattle.hub_rows.specs.Changes.{edit, tx_row, with_stop};
 ghost use Rattle.hub_rows.specs.declared.change.Edit.TheVariants.{TxStarted};
 ghost use Rattle.hub_rows.specs.Rows.{tx_key};
+ghost use Rattle.hub_rows.specs.Uses.{settled_use, with_use};
 
 use crate::binds::{done, lent, seconds};
 use crate::reservations::drop_named;
 use crate::stored::first_row;
 use crate::txs::FIND;
+use crate::uses::settle;
 use hub_rows::{Start, Stop, StoreFault, TxRow};
 use ocpp_types::{AuthorizationStatus, Named};
 use sqlite::{Alter, Error, Row, Transaction, params};
@@ -163,13 +165,13 @@ pub(crate) fn start_tx<S: Alter>(
     start: &Start,
 ) -> Result<(), StoreFault>
     ensures same_reference { tx.new.conn.ghost_name ≡ tx.old.conn.ghost_name }
-    ensures goes { IsInside (state S.Store tx.old.conn.now) → Goes (IsMade (edit op.now (TxStarted station.now number start.now))) (state S.Store tx.old.conn.now) (state S.Store tx.new.conn.now) result }
+    ensures goes { IsInside (state S.Store tx.old.conn.now) → Goes (IsMade (edit op.now (TxStarted station.now number start.now None))) (state S.Store tx.old.conn.now) (state S.Store tx.new.conn.now) result }
 {
     put_started(tx, op, station, number, start)?;
     drop_named(tx, op, station, start.reservation)
 }
 
-/// Keeps the stop of a transaction. The transaction is on record, or else this answers Failed.
+/// Keeps the stop of a transaction, and settles its use. The transaction is on record, or else this answers Failed.
 pub(crate) fn stop_tx<S: Alter>(
     tx: &mut Transaction<'_, S>,
     op: &str,
@@ -178,10 +180,13 @@ pub(crate) fn stop_tx<S: Alter>(
     stop: &Stop,
 ) -> Result<(), StoreFault>
     ensures same_reference { tx.new.conn.ghost_name ≡ tx.old.conn.ghost_name }
-    ensures goes { IsInside (state S.Store tx.old.conn.now) → Goes (IsMade (λ rows. record rows { transactions = changed (λ r. r.op) op.now (is_tx station.now number) (with_stop stop.now) rows.transactions })) (state S.Store tx.old.conn.now) (state S.Store tx.new.conn.now) result }
+    ensures goes { IsInside (state S.Store tx.old.conn.now) → Goes (IsMade (λ rows. record rows { transactions = changed (λ r. r.op) op.now (is_tx station.now number) (with_stop stop.now) rows.transactions; uses = with_use (settled_use op.now station.now number stop.now rows) rows.uses })) (state S.Store tx.old.conn.now) (state S.Store tx.new.conn.now) result }
 {
     match tx_inside(tx, op, station, number)? {
-        Some(row) => put_ended(tx, &row, stop),
+        Some(row) => {
+            put_ended(tx, &row, stop)?;
+            settle(tx, &row, stop)
+        }
         None => Err(StoreFault::Failed),
     }
 }

@@ -288,23 +288,23 @@ pub(crate) fn same_start<S: Alter>(
     }
 }
 
-/// The number of the row of an answer of one row at most, 0 where there is none.
-pub(crate) fn only_number(answer: Result<Vec<Row>, Error>) -> Result<u32, StoreFault>
+/// The number in a column of the row of an answer of one row at most, 0 where there is none.
+pub(crate) fn only_number(answer: Result<Vec<Row>, Error>, at: usize) -> Result<u32, StoreFault>
     ensures ok { OnOk result (IsOk answer) }
-    ensures number { IfOk answer (λ rows. IfOk result (λ n. n ≡ greatest (map (λ r. count_in (column r 2)) rows.items))) }
+    ensures number { IfOk answer (λ rows. IfOk result (λ n. n ≡ greatest (map (λ r. count_in (column r at)) rows.items))) }
 {
     match answer {
-        Ok(rows) => number_of(&rows),
+        Ok(rows) => number_of(&rows, at),
         Err(error) => Err(told(error)),
     }
 }
 
-fn number_of(rows: &[Row]) -> Result<u32, StoreFault>
-    ensures { IfOk result (λ n. n ≡ greatest (map (λ r. count_in (column r 2)) rows.now)) }
+fn number_of(rows: &[Row], at: usize) -> Result<u32, StoreFault>
+    ensures { IfOk result (λ n. n ≡ greatest (map (λ r. count_in (column r at)) rows.now)) }
 {
     match rows {
         [] => Ok(0),
-        [row] => count(row, 2),
+        [row] => count(row, at),
         _ => Err(StoreFault::Failed),
     }
 }
@@ -319,5 +319,5 @@ pub(crate) fn last_number<S: Alter>(
     ensures same { Rests (state S.Store conn.old) (state S.Store conn.new) }
     ensures stops { CommitsNothing (state S.Store conn.old) (state S.Store conn.new) result }
 {
-    only_number(find_last(conn, op, station))
+    only_number(find_last(conn, op, station), 2)
 }

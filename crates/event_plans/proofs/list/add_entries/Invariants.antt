@@ -1,6 +1,6 @@
 use Rattle.std.proofs.Common.{◌≡◌, ◌++◌, map}
 use Rattle.hub_events.specs.declared.out.Said.TheVariants.{Row}
-use Rattle.hub_events.specs.declared.row.Row.TheVariants.{LocalTag}
+use Rattle.hub_events.specs.declared.listing.Row.TheVariants.{LocalTag}
 use Rattle.event_plans.proofs.list.add_entries.Given as goal
 
 abbrev pub invariant-loop-entry : goal.invariant-loop-entry

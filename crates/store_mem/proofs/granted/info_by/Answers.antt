@@ -7,10 +7,12 @@ use Rattle.store_mem.proofs.granted.info_by.Goals as goal
 
 pub returns-in_default : goal.returns-in_default
 returns-in_default c =
-    let info = c.in_ok-info.ensures ∙ ap (λ o. own_tag_in o c.args.grant.now.key (all_of c.args.tags.now.groups.items)) c.as_str.ensures in
-    ap (option_map (granted_until c.args.grant.now.until)) (sym c.in_default.is ∙ info)
+    let g = c.args.grant.now in
+    let info = c.in_ok-info.ensures ∙ ap (λ o. own_tag_in o g.key (all_of c.args.tags.now.groups.items)) c.as_str.ensures in
+    ap (option_map (granted_until g.op g.until)) (sym c.in_default.is ∙ info)
 
 pub returns : goal.returns
 returns c =
-    let info = c.in_ok-info.ensures ∙ ap (λ o. own_tag_in o c.args.grant.now.key (all_of c.args.tags.now.groups.items)) c.as_str.ensures in
-    ap Some c.until.ensures ∙ ap (option_map (granted_until c.args.grant.now.until)) (sym c.in-Some.is ∙ info)
+    let g = c.args.grant.now in
+    let info = c.in_ok-info.ensures ∙ ap (λ o. own_tag_in o g.key (all_of c.args.tags.now.groups.items)) c.as_str.ensures in
+    ap Some (c.granted.ensures ∙ ap (λ o. granted_until o g.until c.in-Some.info) c.in_ok-owner.ensures.cases) ∙ ap (option_map (granted_until g.op g.until)) (sym c.in-Some.is ∙ info)

@@ -5,5 +5,5 @@ use Rattle.store_mem.proofs.station_copies.copies_of_station.Given as goal
 
 abbrev pub invariant-loop-row : goal.invariant-loop-row
 invariant-loop-row g l =
-    l.list ++ those g.R.OfStation.op l.op (λ r. bytes_eq (g.R.OfStation.station r) l.station) (drop l.row-index l.rows)
-    ≡ those g.R.OfStation.op l.op (λ r. bytes_eq (g.R.OfStation.station r) l.station) l.rows
+    l.list ++ those g.R.NamedRow.op l.op (λ r. bytes_eq (g.R.NamedRow.name r) l.station) (drop l.row-index l.rows)
+    ≡ those g.R.NamedRow.op l.op (λ r. bytes_eq (g.R.NamedRow.name r) l.station) l.rows

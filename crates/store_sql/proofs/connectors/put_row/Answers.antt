@@ -1,6 +1,6 @@
 use Rattle.std.proofs.Common.{refl, rules, SFits, w64}
 use Rattle.sqlite.specs.Held.{state}
-use Rattle.sql_shelf.proofs.Edits.{puts_connector}
+use Rattle.sql_shelf.proofs.StationShelves.{puts_connector}
 use Rattle.sql_shelf.proofs.StoreLemmas.{open_is_clean}
 use Rattle.sql_shelf.proofs.TxLemmas.{step}
 use Rattle.std.proofs.lemmas.Int.{to_z-of_z}

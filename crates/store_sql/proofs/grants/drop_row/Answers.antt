@@ -1,6 +1,6 @@
 use Rattle.std.proofs.Common.{refl}
 use Rattle.sqlite.specs.Held.{state}
-use Rattle.sql_shelf.proofs.Edits.{drops_grant}
+use Rattle.sql_shelf.proofs.TagShelves.{drops_grant}
 use Rattle.sql_shelf.proofs.StoreLemmas.{open_is_clean}
 use Rattle.sql_shelf.proofs.TxLemmas.{step}
 use Rattle.store_sql.proofs.grants.drop_row.Goals as goal

@@ -1,6 +1,6 @@
 use Rattle.std.proofs.Common.{refl}
 use Rattle.sqlite.specs.Held.{state}
-use Rattle.sql_shelf.proofs.Listings.{reads_grant}
+use Rattle.sql_shelf.proofs.TagShelves.{reads_grant}
 use Rattle.sql_shelf.proofs.Selects.{shows}
 use Rattle.sql_shelf.proofs.StoreLemmas.{open_is_clean}
 use Rattle.store_sql.proofs.grants.find.Goals as goal

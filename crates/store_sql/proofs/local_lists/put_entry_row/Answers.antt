@@ -1,7 +1,7 @@
 use Rattle.std.proofs.Common.{refl}
 use Rattle.sqlite.specs.Held.{state}
 use Rattle.sql_shelf.specs.Shelves.{entry_row}
-use Rattle.sql_shelf.proofs.Edits.{adds_entry}
+use Rattle.sql_shelf.proofs.HoldingShelves.{adds_entry}
 use Rattle.sql_shelf.proofs.ValueLaws.{optional}
 use Rattle.sql_shelf.proofs.StoreLemmas.{open_is_clean}
 use Rattle.sql_shelf.proofs.TxLemmas.{step}

@@ -1,6 +1,6 @@
 use Rattle.std.proofs.Common.{refl}
 use Rattle.sqlite.specs.Held.{state}
-use Rattle.sql_shelf.proofs.Edits.{puts_list}
+use Rattle.sql_shelf.proofs.HoldingShelves.{puts_list}
 use Rattle.sql_shelf.proofs.StoreLemmas.{open_is_clean}
 use Rattle.sql_shelf.proofs.TxLemmas.{step}
 use Rattle.store_sql.proofs.local_lists.put_row.Goals as goal

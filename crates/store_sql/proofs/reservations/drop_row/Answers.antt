@@ -1,6 +1,6 @@
 use Rattle.std.proofs.Common.{refl, rules, SFits, w32}
 use Rattle.sqlite.specs.Held.{state}
-use Rattle.sql_shelf.proofs.Edits.{drops_reservation}
+use Rattle.sql_shelf.proofs.HoldingShelves.{drops_reservation}
 use Rattle.sql_shelf.proofs.StoreLemmas.{open_is_clean}
 use Rattle.sql_shelf.proofs.TxLemmas.{step}
 use Rattle.std.proofs.lemmas.Int.{to_z-of_z}

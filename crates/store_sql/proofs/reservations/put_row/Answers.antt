@@ -1,6 +1,6 @@
 use Rattle.std.proofs.Common.{refl, rules, SFits, w32, w64}
 use Rattle.sqlite.specs.Held.{state}
-use Rattle.sql_shelf.proofs.Edits.{puts_reservation}
+use Rattle.sql_shelf.proofs.HoldingShelves.{puts_reservation}
 use Rattle.sql_shelf.proofs.StoreLemmas.{open_is_clean}
 use Rattle.sql_shelf.proofs.TxLemmas.{step}
 use Rattle.std.proofs.lemmas.Int.{to_z-of_z}

@@ -4,7 +4,7 @@ use Rattle.sqlite.specs.Held.{state}
 use Rattle.sqlite.specs.Values.{bound_value}
 use Rattle.sqlite_value.specs.declared.value.Value.TheVariants.{Int, Text}
 use Rattle.sql_shelf.specs.Values.{text_or_null}
-use Rattle.sql_shelf.proofs.Edits.{puts_station}
+use Rattle.sql_shelf.proofs.StationShelves.{puts_station}
 use Rattle.sql_shelf.proofs.StoreLemmas.{open_is_clean}
 use Rattle.sql_shelf.proofs.TxLemmas.{step}
 use Rattle.sql_shelf.proofs.ValueLaws.{optional}

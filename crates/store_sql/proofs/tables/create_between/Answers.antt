@@ -1,6 +1,6 @@
 use Rattle.std.proofs.Common.{◌≡◌, ◌<◌, ◌∙◌, arith, rules, subst}
 use Rattle.sqlite.specs.Held.{state}
-use Rattle.sql_tables.specs.Opening.{our_number, schema_at}
+use Rattle.sql_tables.specs.Opening.{our_number, tables_at}
 use Rattle.sql_shelf.specs.Opening.{IsInsideAs}
 use Rattle.sql_shelf.proofs.RaisingLemmas.{cut_later}
 use Rattle.sql_shelf.proofs.TxLemmas.{leaves_then}
@@ -20,4 +20,4 @@ schemas-preserved g c =
 pub returns-clause-makes : goal.returns-clause-makes
 returns-clause-makes g c = λ rows cut begun.
     let last : c.schemas.number ≡ c.args.to = search rules in
-    subst (λ n. IsInsideAs rows (schema_at n) (state g.S.Store c.schemas.tx.conn.now)) last (c.schemas.invariant.2 rows cut begun).1
+    subst (λ n. IsInsideAs rows (tables_at n) (state g.S.Store c.schemas.tx.conn.now)) last (c.schemas.invariant.2 rows cut begun).1

@@ -9,4 +9,4 @@ itself t = omega arith
 
 pub returns-clause-makes : goal.returns-clause-makes
 returns-clause-makes g c = λ rows cut begun.
-    subst (λ s. OnOk c.then_create.result (IsInsideAs rows s (state g.S.Store c.then_create.new.tx.conn.now))) second_made (c.then_create.ensures.table rows _ _ report_made (cut _ (itself _)) begun)
+    subst (λ s. OnOk c.then_alter.result (IsInsideAs rows s (state g.S.Store c.then_alter.new.tx.conn.now))) second_made (c.then_alter.ensures.table rows _ _ report_made (cut _ (itself _)) begun)

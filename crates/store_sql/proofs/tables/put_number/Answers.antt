@@ -3,7 +3,7 @@ use Rattle.sqlite.specs.Held.{state}
 use Rattle.sql_shelf.specs.Opening.{our_meta}
 use Rattle.sql_shelf.proofs.StoreLemmas.{open_is_clean}
 use Rattle.sql_shelf.proofs.TxLemmas.{step}
-use Rattle.sql_shelf.proofs.Edits.{puts_meta}
+use Rattle.sql_shelf.proofs.MetaShelf.{puts_meta}
 use Rattle.sql_shelf.proofs.CreateLemmas.{made_mode, made_up, made_leaves}
 use Rattle.sql_shelf.proofs.RaisingLemmas.{inside_as, filled_if}
 use Rattle.store_sql.proofs.tables.put_number.Goals as goal

@@ -1,6 +1,6 @@
 use Rattle.std.proofs.Common.{refl}
 use Rattle.sqlite.specs.Held.{state}
-use Rattle.sql_shelf.proofs.Listings.{reads_tag}
+use Rattle.sql_shelf.proofs.TagShelves.{reads_tag}
 use Rattle.sql_shelf.proofs.Selects.{shows}
 use Rattle.sql_shelf.proofs.StoreLemmas.{open_is_clean}
 use Rattle.store_sql.proofs.tags.find_one.Goals as goal

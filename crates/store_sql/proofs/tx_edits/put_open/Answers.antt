@@ -5,7 +5,7 @@ use Rattle.hub_rows.specs.Changes.{tx_row}
 use Rattle.sqlite.specs.Values.{bound_value}
 use Rattle.sqlite_value.specs.declared.value.Value.TheVariants.{Int, Text}
 use Rattle.sql_shelf.specs.Values.{flag}
-use Rattle.sql_shelf.proofs.Edits.{adds_tx}
+use Rattle.sql_shelf.proofs.TxShelves.{adds_tx}
 use Rattle.sql_shelf.proofs.StoreLemmas.{open_is_clean}
 use Rattle.sql_shelf.proofs.TxLemmas.{step}
 use Rattle.store_sql.proofs.tx_edits.put_open.Goals as goal

@@ -1,4 +1,4 @@
-use Rattle.std.proofs.Common.{ap, ◌∙◌}
+use Rattle.std.proofs.Common.{None, ap, ◌∙◌}
 use Rattle.sqlite.specs.Held.{state}
 use Rattle.hub_rows.specs.Changes.{edit, tx_row}
 use Rattle.hub_rows.specs.declared.change.Edit.TheVariants.{TxStarted}
@@ -20,6 +20,6 @@ returns-clause-goes g c = λ inside.
     let new = state g.S.Store c.drop_named.new.tx.conn.now in
     let first = (c.in_ok-put_started.ensures.goes inside).ok in
     goes_then (IsMade (λ rows. record rows { transactions = put (by_key tx_key) row rows.transactions }))
-    (IsMade (λ rows. record rows { reservations = without_named op station start.reservation rows.reservations })) (IsMade (edit op (TxStarted station c.args.number start))) old mid new c.drop_named.result
+    (IsMade (λ rows. record rows { reservations = without_named op station start.reservation rows.reservations })) (IsMade (edit op (TxStarted station c.args.number start None))) old mid new c.drop_named.result
     (λ up made dropped. dropped ∙ ap {A = Rows} (λ rows. record rows { reservations = without_named op station start.reservation rows.reservations }) made)
     first (c.drop_named.ensures.goes first.within)

@@ -1,6 +1,6 @@
 use Rattle.std.proofs.Common.{refl, rules, SFits, w64}
 use Rattle.sqlite.specs.Held.{state}
-use Rattle.sql_shelf.proofs.Listings.{reads_same_starts}
+use Rattle.sql_shelf.proofs.TxShelves.{reads_same_starts}
 use Rattle.sql_shelf.proofs.Selects.{shows}
 use Rattle.sql_shelf.proofs.StoreLemmas.{open_is_clean}
 use Rattle.std.proofs.lemmas.Int.{to_z-of_z}

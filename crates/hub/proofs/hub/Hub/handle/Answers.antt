@@ -28,7 +28,8 @@ pub returns-clause-others : goal.returns-clause-others
 returns-clause-others g c = λ clean a.
     let st : Setting = setting g.V.VendorHandler.view c.args.self.now in
     let w : World = world g.S.Store.view c.args.self.now in
-    leaves_alone st a w c.args.event.now c.take.new.outs.items (world g.S.Store.view c.take.new.self)
+    let good : WellFormed w = record { rows = g.met.S.Store.well_formed c.args.self.now.book.store (c.in_ok-take.ensures.counted.was_clean clean); slots = slots-sorted c.args.self.now.slots } in
+    leaves_alone st a w c.args.event.now c.take.new.outs.items (world g.S.Store.view c.take.new.self) good
     (c.in_ok-take.ensures.outs clean ∙ ap (λ outs. outs ++ world_outputs st w c.args.event.now) c.new-outs.ensures.items) (c.in_ok-take.ensures.world clean)
 
 pub returns-clause-stations : goal.returns-clause-stations

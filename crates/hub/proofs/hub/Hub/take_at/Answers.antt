@@ -16,7 +16,7 @@ commit-requires-clause-fits g c = λ clean.
     let w : World = world g.S.Store.view c.args.self.now in
     let p = c.in_ok-plan.plan in
     subst (λ rows. ForSome (edit_of p.effect) (λ e. EditFits c.args.lent.now.op.now e rows)) (sym (c.in_ok-plan.ensures.reads.kept clean))
-    (edit_of_plan_fits st.first_number st.is_hosted st.answers c.args.lent.now.op.now c.args.lent.now.what.now c.args.lent.now.moment w p (rw c.as_slice-hosted.ensures.value at (c.in_ok-plan.ensures.plan clean)))
+    (edit_of_plan_fits st.first_number st.is_hosted st.answers c.args.lent.now.op.now c.args.lent.now.what.now c.args.lent.now.moment w (g.met.S.Store.well_formed c.args.self.now.book.store (c.in_ok-plan.ensures.reads.was_clean clean)) p (rw c.as_slice-hosted.ensures.value at (c.in_ok-plan.ensures.plan clean)))
 
 pub returns-in_err-plan-clause-setting : goal.returns-in_err-plan-clause-setting
 unfolding setting

@@ -1,4 +1,0 @@
-use Rattle.lines.proofs.held.print_report.Goals as goal
-
-pub returns : goal.returns
-returns c = (rw (c.as_str-station.ensures, c.kind-kind.ensures, c.name-status.ensures, c.seconds-moment.ensures.value) at c.in_ok-format.ensures.ok)

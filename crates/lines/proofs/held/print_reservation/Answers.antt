@@ -1,4 +1,0 @@
-use Rattle.lines.proofs.held.print_reservation.Goals as goal
-
-pub returns : goal.returns
-returns c = (rw (c.as_str-station.ensures, c.in_ok-id.ensures, c.in_ok-fields.ensures) at c.in_ok-format.ensures.ok)

@@ -1,0 +1,12 @@
+use Rattle.std.proofs.Common.{refl}
+use Rattle.sqlite.specs.Held.{state}
+use Rattle.sql_shelf.proofs.TxShelves.{reads_last_use}
+use Rattle.sql_shelf.proofs.StoreLemmas.{open_is_clean}
+use Rattle.sql_shelf.proofs.TxReads.{shows_last_inside}
+use Rattle.store_sql.proofs.uses.find_last.Goals as goal
+
+pub returns-clause-shows : goal.returns-clause-shows
+returns-clause-shows g c =
+    let new = c.query_all.new.self.conn.now in
+    shows_last_inside (reads_last_use c.args.owner.now) (λ v. v.items) (state g.S.Store c.args.tx.now.conn.now) (state g.S.Store new) _ c.query_all.result c.query_all.ensures.ok c.query_all.ensures.err c.query_all.ensures.survives
+    (rw c.params-to_sql.ensures refl) (open_is_clean _ _ (g.met.S.Store.shut_if_dirty new.store))
