@@ -37,6 +37,11 @@ STATUSES = {
 }
 
 
+def granted_tag(owner, name):
+    """The tag that an owner grants to the other operator, for a station of the other with this name."""
+    return f"ROAM{owner}{name}"
+
+
 class Load:
     """What one peer does, step by step, and the rows of the lists that its steps change."""
 
@@ -77,6 +82,7 @@ class Station(Load):
         super().__init__(op, lists, seed)
         self.op, self.name, self.path = op, name, f"/ocpp/{op}/{name}"
         self.transactions, self.readings, self.connectors, self.reports = self.rows
+        self.granted = granted_tag(OPERATORS[op], name)
 
     def begin(self):
         self.ask(BOOT)
@@ -99,7 +105,7 @@ class Station(Load):
 
     def energies(self):
         """The Wh of its transactions that are stopped and began with the granted tag."""
-        words = [row.split(" ") for row in self.rows[self.transactions] if f' "ROAM{self.name}" ' in row]
+        words = [row.split(" ") for row in self.rows[self.transactions] if f' "{self.granted}" ' in row]
         return [int(row[11]) - int(row[8]) for row in words if row[11] != "-"]
 
     def step(self):
@@ -137,7 +143,7 @@ class Station(Load):
             text = f'[2,"e","StopTransaction",{{"meterStop":{value},{AT},"transactionId":{number},{data}}}]'
         else:
             meter = self.steps
-            tag = self.random.choice((f"OWN{self.name}", f"ROAM{self.name}"))
+            tag = self.random.choice((f"OWN{self.name}", self.granted))
             row = f'{self.op} row transaction {self.name} {number + 1} 1 "{tag}" Accepted {meter} {MS} - - - - -'
             flight = {self.transactions: rows + [row]}
             text = f'[2,"s","StartTransaction",{{"connectorId":1,"idTag":"{tag}","meterStart":{meter},{AT}}}]'
@@ -155,8 +161,10 @@ class Operator(Load):
         lists = ["tags", "grants", *(f"{what} {name}" for name in STATIONS[op] for what in ("reservations", "locallist"))]
         super().__init__(op, lists, seed)
         self.op, self.path = op, f"/operator/{op}"
-        self.rows["tags"] = [f'{op} row tag "{kind}{name}" - 0 -' for kind in ("OWN", "ROAM") for name in STATIONS[op]]
-        self.rows["grants"] = [f'{op} row grant "roam{name.lower()}" {OPERATORS[op]} -' for name in STATIONS[op]]
+        granted = [granted_tag(op, name) for name in STATIONS[op]]
+        own = [f"OWN{name}" for name in STATIONS[op]]
+        self.rows["tags"] = [f'{op} row tag "{tag}" - 0 -' for tag in sorted(granted + own)]
+        self.rows["grants"] = [f'{op} row grant "{tag.lower()}" {OPERATORS[op]} -' for tag in granted]
         self.rows.update({f"locallist {name}": [f"{op} row locallist {name} 0"] for name in STATIONS[op]})
         self.version = 0
 
@@ -312,8 +320,8 @@ class Checks:
             for name in STATIONS[op]:
                 peer.ask(f"station add {name} Accepted 300")
                 peer.ask(f"tag put OWN{name} - 0 -")
-                peer.ask(f"tag put ROAM{name} - 0 -")
-                peer.ask(f"grant ROAM{name} {OPERATORS[op]} -")
+                peer.ask(f"tag put {granted_tag(op, name)} - 0 -")
+                peer.ask(f"grant {granted_tag(op, name)} {OPERATORS[op]} -")
         server.kill()
 
     def one_kill(self, number):
@@ -354,7 +362,7 @@ class Checks:
         self.check(f"kill {number}: the uses of {owner}", [use[:5] for use in words] == counted, uses)
         stations = [load for load in self.loads if load.owner == host and isinstance(load, Station)]
         for load in stations:
-            settled = [int(use[7]) for use in words if use[5] == f'"roam{load.name.lower()}"']
+            settled = [int(use[7]) for use in words if use[5] == f'"{load.granted.lower()}"']
             self.check(f"kill {number}: uses at {load.path}", settled == load.energies(), (settled, load.energies()))
         self.uses[owner] = len(words)
 
