@@ -27,16 +27,17 @@ use Rattle.hub_events.specs.declared.event.What.TheVariants as what
 use Rattle.hub_events.specs.declared.event.Admin.{Admin}
 use Rattle.hub_events.specs.declared.event.Admin.TheVariants as admin
 use Rattle.event_plans.specs.declared.plan.Plan.{Plan}
-use Rattle.event_plans.specs.Listing.{rows_rule}
+use Rattle.event_plans.specs.Listing.{connections, rows_rule}
 use Rattle.event_plans.specs.Commands.{command_plan, command_rule, failure_plan, result_plan}
 use Rattle.event_plans.specs.Effects.{StationSlot}
 use Rattle.event_plans.specs.Plans.{nothing, turned_plan, connect_plan, disconnect_plan, error_plan, decided_plan, edit_plan, list_plan}
 
--- what an operator's answers are made of: its own records and the tags that are granted to it, and the
--- slots of its stations
+-- what an operator's answers are made of: its own records and the tags that are granted to it, the slot of
+-- each of its stations, and the slots of those that were ever connected, in the order of their names
 pub record Facts : Type 0 where
   pub lookups : Lookups
   pub slot : List ℕ → StationSlot
+  pub slots : List StationSlot
 
 -- ---- frames
 
@@ -92,3 +93,4 @@ plan is_hosted answers (what.Frame station text) m f = text_plan answers station
 plan is_hosted answers (what.Do station command) m f = command_plan station command (command_rule station command (f.lookups.registration station) (f.slot station) m f.lookups)
 plan is_hosted answers (what.Admin a) m f = edit_plan (admin_rule is_hosted a f.lookups)
 plan is_hosted answers (what.List listing) m f = list_plan (rows_rule listing m f.lookups)
+plan is_hosted answers what.Connections m f = list_plan (Ok (connections f.slots))
