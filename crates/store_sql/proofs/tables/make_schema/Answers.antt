@@ -1,4 +1,3 @@
-use Rattle.std.proofs.Common.{◌<◌, arith}
 use Rattle.store_sql.proofs.tables.make_schema.Goals as goal
 
 pub returns-clause-makes : goal.returns-clause-makes
