@@ -301,10 +301,10 @@ def vacuum(db, *settings):
             database.execute(statement).fetchall()
 
 
-def names_in(db):
-    """The names of the tables and indexes, in their order."""
+def schema_in(db):
+    """The names and texts of the tables and indexes, in their order."""
     with contextlib.closing(sqlite3.connect(db)) as database:
-        return database.execute("SELECT name FROM sqlite_schema ORDER BY rowid").fetchall()
+        return database.execute("SELECT name, sql FROM sqlite_schema ORDER BY rowid").fetchall()
 
 
 def check_vacuum(checks):
@@ -320,9 +320,9 @@ def check_vacuum(checks):
             wanted = script.with_suffix(f".{part}_expected").read_text()
             got = checks.run(*words, db, lines=script.with_suffix(f".{part}").read_bytes())
             checks.check(f"{name} after VACUUM, {part}", got, (0, wanted, ""))
-            checks.check(f"its tables and indexes, {part}", names_in(db), names_in(new))
+            checks.check(f"its tables and indexes, {part}", schema_in(db), schema_in(new))
         vacuum(db)
-        checks.check("the order after VACUUM", names_in(db), names_in(new))
+        checks.check("the order after VACUUM", schema_in(db), schema_in(new))
 
 
 def check_pages(checks):
