@@ -1,5 +1,5 @@
 -- A text before which a sign stands.
-use Rattle.std.proofs.Common.{◌≡◌, ◌≢◌, ℕ, List, [], ◌∷◌, Option, Some, None, Bor, MatchOption, option_map, ap, sym, refl, if◌then◌else◌, false}
+use Rattle.std.proofs.Common.{◌≡◌, ◌≢◌, ℕ, List, [], ◌∷◌, Option, Some, None, Bor, MatchOption, option_map, ap, sym, refl, if◌then◌else◌}
 use Rattle.std.proofs.lemmas.Bool.{ne_eqb}
 use Rattle.lines.specs.Marks.{after_sign}
 
