@@ -222,12 +222,7 @@ impl<S: Store> Store for Cached<S> {
         self.store.connectors(op, station)
     }
 
-    fn txs(
-        &mut self,
-        op: &str,
-        station: &str,
-        first: u32,
-    ) -> Result<Listed<TxRow>, StoreFault> {
+    fn txs(&mut self, op: &str, station: &str, first: u32) -> Result<Listed<TxRow>, StoreFault> {
         self.store.txs(op, station, first)
     }
 

@@ -36,8 +36,11 @@ pub fn plan_event<S: Store, V: VendorHandler>(
 ) -> Result<Plan, StoreFault>
     ensures reads { OnlyReads (book_view S.view) book.old book.new result }
     ensures plan { IsCleanBook S.view book.new → IfOk result (λ p. p ≡ plan (is_hosted hosted.now) (book_answers V.view book.old) event.now.what.now event.now.moment
-        (record { lookups = lookups_at event.now.op.now (book_rows S.view book.old); slot = λ st. slot_at event.now.op.now st slots.now;
-        slots = own_slots event.now.op.now (all_slots slots.now) })) }
+        (record {
+          lookups = lookups_at event.now.op.now (book_rows S.view book.old);
+          slot = λ st. slot_at event.now.op.now st slots.now;
+          slots = own_slots event.now.op.now (all_slots slots.now);
+        })) }
     ensures answers { book_answers V.view book.new ≡ book_answers V.view book.old }
     ensures ready { IfOk result (λ p. IsReady (λ st. slot_at event.now.op.now st slots.now) p.effect) }
 {

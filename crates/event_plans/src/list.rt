@@ -93,11 +93,7 @@ fn connectors<S: Store>(
     Ok(show(alloc, rows)?)
 }
 
-fn open_transactions<S: Store>(
-    alloc: Global,
-    store: &mut S,
-    op: &Text,
-) -> Result<Plan, StoreFault>
+fn open_transactions<S: Store>(alloc: Global, store: &mut S, op: &Text) -> Result<Plan, StoreFault>
     ensures { Lists S.view op.now (λ l. Ok (map row.Transaction l.open_txs)) store.old store.new result }
 {
     let rows = store.open_txs(op.as_str())?;

@@ -194,12 +194,7 @@ pub trait Store {
             → IfOk result (λ r. r ≡ connectors_in op.now station.now (view self.old).rows.connectors) };
 
     /// The transactions of a station from that number on, in the order of their numbers.
-    fn txs(
-        &mut self,
-        op: &str,
-        station: &str,
-        first: u32,
-    ) -> Result<Listed<TxRow>, StoreFault>
+    fn txs(&mut self, op: &str, station: &str, first: u32) -> Result<Listed<TxRow>, StoreFault>
         ensures reads { OnlyReads view self.old self.new result }
         ensures found { (view self.new).clean
             → IfOk result (λ r. r ≡ txs_from_in op.now station.now first (view self.old).rows.transactions) };

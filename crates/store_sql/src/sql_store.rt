@@ -266,12 +266,7 @@ impl<A: Alter> Store for SqlStore<A> {
         self.counted(found)
     }
 
-    fn txs(
-        &mut self,
-        op: &str,
-        station: &str,
-        first: u32,
-    ) -> Result<Listed<TxRow>, StoreFault> {
+    fn txs(&mut self, op: &str, station: &str, first: u32) -> Result<Listed<TxRow>, StoreFault> {
         let found = txs::txs(&mut self.conn, op, station, first);
         self.counted(found)
     }

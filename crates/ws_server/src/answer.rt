@@ -85,7 +85,7 @@ impl<T: Read + Write + Served + Drop> Gateway<T> {
         requires { n < length (peers_of self.old) }
         ensures takes { Takes S.view V.view hub.old hub.new
             (λ steps. Between T.contents n (string_bytes bounds.now.begin) (string_bytes bounds.now.end)
-                (HandsOrRefuses T.contents (setting V.view hub.old).is_hosted n event.now) (peers_of self.old) (peers_of self.new) steps result) }
+            (HandsOrRefuses T.contents (setting V.view hub.old).is_hosted n event.now) (peers_of self.old) (peers_of self.new) steps result) }
         ensures counted { IsCounted (hub_view S.view) hub.old hub.new (result ≡ Err Fault.Store) }
         ensures setting { setting V.view hub.new ≡ setting V.view hub.old }
         ensures count { length (peers_of self.new) ≡ length (peers_of self.old) }
