@@ -1,5 +1,5 @@
 -- The open transactions of an operator: whether one is of a station, and which they are.
-use Rattle.std.specs.Prelude.{◌≡◌, ◌⊎◌, ℕ, zero, suc, ◌<◌, ◌≤◌, List, [], ◌∷◌, length, get_or, Bool, true, false, cond, ◌&&◌, ◌||◌, ◌==◌, Option, Some, map, filter, Result, Ok, Err, is_ok}
+use Rattle.std.specs.Prelude.{◌≡◌, ℕ, zero, suc, ◌<◌, ◌≤◌, List, [], ◌∷◌, length, get_or, Bool, true, false, cond, ◌&&◌, ◌||◌, ◌==◌, Some, map, filter, Result, Ok, Err, is_ok}
 use Rattle.std.specs.List.{AllByRecursion, HoldsAt, cons_option}
 use Rattle.std.specs.List.Sorted.{IsStrictlySortedBy, IsNonDecreasingBy, IsSearchInRange, IsBinarySearchResult}
 use Rattle.std.specs.Ordering.{ordering_then, ordering_index, is_eq}
@@ -12,7 +12,7 @@ use Rattle.std.proofs.lemmas.Bool.{and_parts, cases_lt}
 use Rattle.std.proofs.lemmas.Cmp.{tied_itself, nat_list_cmp_total}
 use Rattle.std.proofs.lemmas.Map.Text.{is_eq-slice_cmp}
 use Rattle.hub_rows.specs.declared.tx_row.TxRow.{TxRow}
-use Rattle.hub_rows.specs.Keyed.{text_cmp, by_key, key_cmp, found, those}
+use Rattle.hub_rows.specs.Keyed.{text_cmp, by_key, key_cmp, those}
 use Rattle.hub_rows.specs.Rows.{tx_key}
 use Rattle.hub_rows.specs.Transactions.{has_open_in, is_open, is_tx, open_txs_in}
 use Rattle.hub_rows.proofs.ListLaws.{all-filter, all-weaker, and-true, keys_total, same_text, text_itself}
