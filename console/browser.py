@@ -100,7 +100,8 @@ class Browser:
         self.command("Emulation.setTimezoneOverride", timezoneId=zone)
         self.command("Page.navigate", url="about:blank")
         self.command("Page.navigate", url=f"{PAGE.as_uri()}?{query}")
-        self.wait("document.readyState === 'complete' && typeof fillAddress === 'function'")
+        if not self.wait("document.readyState === 'complete' && document.getElementById('zone')?.textContent !== ''"):
+            raise RuntimeError(f"the page has not started: {self.faults}")
 
     def open(self, server, operator, zone="UTC"):
         self.load(f"server={server}&operator={operator}", zone)

@@ -119,7 +119,7 @@ def check_many(cases):
     heard = [line.split(" ")[1] for line in mock.heard]
     counts = {what: heard.count(what) for what in sorted(set(heard))}
     cases.check("1,000 stations: what is asked", counts == {
-        "connections": 1, "connectors": 1000, "open": 1, "readings": 40, "stations": 1, "tags": 1}, counts)
+        "connections": 1, "connectors": 1000, "open": 1, "readings": 40, "stations": 1}, counts)
     count = browser.run("TABLES.stations.count.textContent")
     cases.check("1,000 stations: all are counted", count.startswith("1–15 of 1,000."), count)
     elements = browser.run("document.querySelectorAll('main *').length")

@@ -15,7 +15,7 @@ ZONE = "Europe/Berlin"
 VIEWS = ("stations", "station/NORTH-01", "station/NORTH-01/2", "records", "tags", "uses", "calls")
 FIRST = ["list connections", "list open", "list stations",
          *(f"list connectors {name}" for name in ("NORTH-01", "NORTH-02", "NORTH-10", "ok")),
-         "list readings NORTH-01 2", "list tags"]
+         "list readings NORTH-01 2"]
 
 
 def utc(moment):
@@ -53,12 +53,17 @@ def check_stations(cases):
                 == "2 connected, 2 offline, 1 with a fault. Running sessions: 1. Calls waiting: 2.")
     last = both((BEGUN + 59 * 60000) // 1000, hours)
     cases.check("running sessions", cases.rows("sessions") == [
-        ["NORTH-01 / 2", "1", "K2", "Accepted", both(BEGUN // 1000, hours), "1 h 05 min", "10.856", "11.279", "70", last, "Stop"]], cases.rows("sessions"))
+        ["NORTH-01 / 2", "1 h 05 min", "10.856", "11.279", "70", "1", "K2", "Accepted", both(BEGUN // 1000, hours), last, "Stop"]], cases.rows("sessions"))
+    for number in range(2, 8):
+        mock.records.transaction("NORTH-02", number, "K1", NOW, connector=number)
+    cases.poll()
+    seen = cases.rows("stations")[1][3]
+    cases.check("of many sessions the latest", seen == "#7, 0 min #6, 0 min #5, 0 min #4, 0 min and 2 more", seen)
     mock.heard.clear()
     browser.run("document.querySelector('#stations tbody a').click()")
     cases.check("a station is opened", browser.wait("state.view === 'station' && state.history.has('NORTH-01')"))
     cases.is_at_rest()
-    wanted = {"list reservations NORTH-01", "list locallist NORTH-01", "list reports NORTH-01", "list connectors NORTH-01", "list transactions NORTH-01 1"}
+    wanted = {"list tags", "list reservations NORTH-01", "list locallist NORTH-01", "list reports NORTH-01", "list connectors NORTH-01", "list transactions NORTH-01 1"}
     cases.check("what is asked when a station is opened", wanted <= set(mock.heard), mock.heard)
     check_station(cases, hours)
     mock.stop()

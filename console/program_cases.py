@@ -1,6 +1,7 @@
 """A charging session over the built program, which the page and a second console watch."""
 
 import re
+import socket
 import subprocess
 import sys
 import tempfile
@@ -81,6 +82,7 @@ def check_session(cases):
     browser.open(f"127.0.0.1:{PORT}", "ACME")
     cases.check("connects", cases.is_connected(), cases.text("status"))
     cases.check("the first poll ends", cases.is_idle(), cases.text("refreshed"))
+    browser.run("{ const pace = document.getElementById('pace'); pace.value = '0'; pace.dispatchEvent(new Event('change')); }")
     other = Peer(PORT, "/operator/ACME")
     said = cases.order("stations", "Add a station", dict(station="CP01"))
     cases.check("a station is added", said == "Taken.", said)
@@ -106,26 +108,37 @@ def check_session(cases):
     desk_cases.take_pictures(cases, "program", ("stations", "station/CP01", "station/CP01/1", "records", "tags", "uses", "calls"))
 
 
+def ended(cases):
+    """What the open form says of the end of its call, which the station's answer brings. Closes it."""
+    cases.send()
+    cases.browser.wait("/^Call/.test(document.getElementById('answer').textContent)", 5)
+    said = cases.text("answer")
+    cases.browser.run("document.getElementById('form').close()")
+    cases.is_at_rest()
+    return said
+
+
 def check_commands(cases, station):
+    """Commands that the station accepts: a stop, a reservation, a local list."""
     cases.go("station/CP01")
-    said = cases.order("commands", "Stop a session", {})
+    cases.click("commands", "Stop a session")
+    said = ended(cases)
     cases.check("a session is stopped", said == "Call 1: Done: Accepted.", said)
     cases.check("the station was told", any("RemoteStopTransaction" in call for call in station.calls), station.calls)
     station.ask("StopTransaction", f'{{"meterStop":4000,"timestamp":"{time_text(0)}","transactionId":1,"reason":"Remote"}}')
     cases.poll()
     rows = cases.rows("history")
     cases.check("its end is shown", [row[0] for row in rows] == ["1"] and rows[0][6:8] == ["3", "Remote"], rows)
-    cases.order("ownReservations", "Reserve", dict(idTag="K1"))
-    cases.is_at_rest()
+    cases.click("ownReservations", "Reserve")
+    cases.fill(dict(idTag="K1"))
+    ended(cases)
     cases.check("a reservation", [row[:3] for row in cases.rows("ownReservations")] == [["1", "any", "K1"]], cases.rows("ownReservations"))
     cases.click("ownList", "Send a list")
     cases.click("fields", "Add all id tags of this operator")
-    said = cases.send()
+    said = ended(cases)
     cases.check("a local list", said == "Call 3: Done: Accepted.", said)
-    cases.browser.run("document.getElementById('form').close()")
-    cases.is_at_rest()
     cases.check("is on record", [row[:2] for row in cases.rows("ownList")] == [["K1", "Accepted"]], cases.rows("ownList"))
-    station.peer.stream.close()
+    station.peer.stream.shutdown(socket.SHUT_RDWR)
     time.sleep(1)
     cases.poll()
     cases.go("stations")

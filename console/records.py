@@ -136,6 +136,7 @@ def nasty_records():
     for number in (1, 2):
         records.reading(NASTY_WORD, number, START, "Voltage", "-", "V", 230000000, NASTY)
         records.reading(NASTY_WORD, number, "x", "SoC", "-", "V", "y", "232")
+        records.reading(NASTY_WORD, number, START, "-", "-", "-", 5, "5")
         records.reading(NASTY_WORD, number, START + 60000, "<svg/onload=window.ran=1>", "<b>", "<i>V</i>", 231000000, "231")
     return records
 
