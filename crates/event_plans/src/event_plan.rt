@@ -1,13 +1,11 @@
 //! The plan for an event of an operator: the store is asked, nothing is changed.
 ghost use Rattle.std.specs.Prelude.{◌≡◌, Err, IfOk};
 ghost use Rattle.hub_rows.specs.Reads.{OnlyReads};
-ghost use Rattle.hub_rows.specs.Lookups.{lookups_at};
 ghost use Rattle.hub_rows.specs.Operators.{is_hosted};
-ghost use Rattle.pending_calls.specs.OwnSlots.{own_slots};
-ghost use Rattle.pending_calls.specs.Slots.{all_slots, slot_at};
+ghost use Rattle.pending_calls.specs.Slots.{slot_at};
 ghost use Rattle.station_calls.specs.Book.{book_view, book_rows, book_answers, IsCleanBook};
 ghost use Rattle.event_plans.specs.Effects.{IsReady};
-ghost use Rattle.event_plans.specs.Table.{plan};
+ghost use Rattle.event_plans.specs.Table.{facts_of, plan};
 
 use crate::admin::decide_admin;
 use crate::commands::plan_command;
@@ -36,11 +34,7 @@ pub fn plan_event<S: Store, V: VendorHandler>(
 ) -> Result<Plan, StoreFault>
     ensures reads { OnlyReads (book_view S.view) book.old book.new result }
     ensures plan { IsCleanBook S.view book.new → IfOk result (λ p. p ≡ plan (is_hosted hosted.now) (book_answers V.view book.old) event.now.what.now event.now.moment
-        (record {
-          lookups = lookups_at event.now.op.now (book_rows S.view book.old);
-          slot = λ st. slot_at event.now.op.now st slots.now;
-          slots = own_slots event.now.op.now (all_slots slots.now);
-        })) }
+        (facts_of event.now.op.now (book_rows S.view book.old) slots.now)) }
     ensures answers { book_answers V.view book.new ≡ book_answers V.view book.old }
     ensures ready { IfOk result (λ p. IsReady (λ st. slot_at event.now.op.now st slots.now) p.effect) }
 {
