@@ -6,8 +6,6 @@ mod client;
 mod clock;
 mod command;
 mod fault;
-mod help;
-mod hosted;
 mod journal;
 mod new_file;
 mod records;
@@ -33,7 +31,6 @@ fn main(rt: HostRuntime) -> anyhow::Result<ExitCode> {
     let answer = run(&rt);
     if let Err(fault) = &answer {
         eprintln!(rt; "fault {fault}")?;
-        fault.write_detail(&rt)?;
     }
     Ok(ExitCode::from(status::of_run(&answer)))
 }

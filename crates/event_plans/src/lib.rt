@@ -4,7 +4,6 @@
 mod admin;
 mod answers;
 mod commands;
-mod connections;
 mod event_plan;
 mod frames;
 mod list;

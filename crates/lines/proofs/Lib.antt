@@ -1,3 +1,2 @@
 pub mod Returns
 pub mod Utf8Lines
-pub mod MarkLaws

@@ -4,4 +4,3 @@ pub mod InputLines
 pub mod RowLines
 pub mod OutputLines
 pub mod Orders
-pub mod Marks

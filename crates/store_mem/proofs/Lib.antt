@@ -2,7 +2,6 @@ pub mod Kept
 pub mod NeverKept
 pub mod RowLaws
 pub mod StationRowsLaws
-pub mod FromLaws
 pub mod GroupLaws
 pub mod RoomLaws
 pub mod DroppedLaws
@@ -11,7 +10,6 @@ pub mod ReceivedLaws
 pub mod GrantedLaws
 pub mod NamedGroupLaws
 pub mod OpenLaws
-pub mod OpenTxLaws
 pub mod StartLaws
 pub mod NewRows
 pub mod TxOwnerLaws

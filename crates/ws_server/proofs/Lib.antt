@@ -2,4 +2,3 @@ pub mod StepLaws
 pub mod HandshakeLaws
 pub mod AdmitLaws
 pub mod ProbeLaws
-pub mod SayLaws

@@ -3,7 +3,6 @@
 #![tactic(auto)]
 
 mod admit;
-mod answer;
 mod arrival;
 mod events;
 mod gateway;
