@@ -23,6 +23,7 @@ STATUS = '[2,"6","StatusNotification",{"connectorId":1,"errorCode":"NoError","st
 REPORT = '[2,"8","FirmwareStatusNotification",{"status":"Installed"}]'
 LISTS = (
     "list transactions CP01",
+    "list open",
     "list tags",
     "list readings CP01",
     "list connectors CP01",

@@ -118,7 +118,7 @@ class Script:
             self.command(operator, station, "CancelReservation", f'{{"reservationId":{turn}}}', '{"status":"Accepted"}')
 
     def listings(self, operator):
-        for what in ("stations", "tags", "grants", "granted", "uses"):
+        for what in ("stations", "connections", "tags", "grants", "granted", "uses", "open"):
             yield f"{self.end} {operator} list {what}"
         for what in LISTINGS:
             for name, *_ in self.stations:

@@ -47,6 +47,7 @@ ROWS = [
     r"locallist \S+ \d+",
     r"localtag \S+ \{.*\}",
     r"report \S+ (Diagnostics|Firmware) [A-Za-z]+ \d+",
+    r"connection \S+ \d+",
 ]
 OUTCOME = rf"(Answer \{{.*\}}|BadAnswer [A-Za-z]+ [A-Za-z]+|Error \[{TEXT},{TEXT}\]|Timeout|Disconnected)"
 FORMS = [

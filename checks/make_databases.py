@@ -15,10 +15,11 @@ TEXTS = dict(re.findall(r'^(create_\w+) = codes "(.*)"$', open("crates/sql_table
 META = TEXTS["create_meta"]
 NUMBER = "INSERT INTO hub_meta VALUES ('schema', %d)"
 # the tables and indexes of each schema, in their order
-THIRD = ("create_tx_owner", "create_use")
+EARLIER = ("create_earlier_tx_is_open",)
+THIRD = ("create_tx_owner", "create_use", "create_tx_is_open")
 FIRST_TABLES = [text for name, text in TEXTS.items() if name not in ("create_report", *THIRD)]
 SECOND_TABLES = [text for name, text in TEXTS.items() if name not in THIRD]
-TABLES = list(TEXTS.values())
+TABLES = [text for name, text in TEXTS.items() if name not in EARLIER]
 FIRST = FIRST_TABLES + [NUMBER % 1]
 SECOND = SECOND_TABLES + [NUMBER % 2]
 OURS = TABLES + [NUMBER % 3]
@@ -92,6 +93,7 @@ database("ours_without_a_table", [text for text in OURS if text != TEXTS["create
 database("ours_without_an_index", [text for text in OURS if text != TEXTS["create_tx_in_use"]])
 database("ours_with_another_table", OURS + ["CREATE TABLE person (name TEXT)"])
 database("ours_with_another_column", [text.replace("until INTEGER", "until INTEGER, note TEXT") for text in OURS])
+database("ours_with_an_earlier_index", [TEXTS["create_earlier_tx_is_open"] if text == TEXTS["create_tx_is_open"] else text for text in OURS])
 database("ours_with_the_number_1", TABLES + [NUMBER % 1])
 database("ours_with_the_number_2", TABLES + [NUMBER % 2])
 database("second", SECOND)
@@ -100,6 +102,7 @@ database("second_after_vacuum", SECOND + SECOND_ROWS, vacuum=True)
 database("second_with_tables_last", FIRST_TABLES + [TEXTS["create_report"], NUMBER % 2])
 database("second_without_a_table", [text for text in SECOND if text != TEXTS["create_report"]])
 database("second_with_a_table_of_ours", SECOND + [TEXTS["create_tx_owner"]])
+database("second_with_a_later_index", [TEXTS["create_tx_is_open"] if text == TEXTS["create_earlier_tx_is_open"] else text for text in SECOND])
 database("second_with_the_number_3", SECOND_TABLES + [NUMBER % 3])
 database("first", FIRST)
 database("first_with_rows", FIRST + [STATION, TAG])

@@ -30,6 +30,11 @@ EARLIER = {1: "records_in_each_list", 2: "records_of_schema_2"}
 MORE = {1: [], 2: ["hub_report"], 3: ["hub_report", "hub_tx_owner", "hub_use"]}
 
 PORT = 9281
+# What the second lines of faults say, and the warning of an address.
+NO_NAME = "can't be a name: 1 to 32 letters, digits, - and _"
+IN_USE = "Address already in use (os error 98)"
+NOT_FOUND = f"fault Stream\n127.0.0.1:{PORT}: the handshake was answered 404\n"
+WARNED = "may be reached from other machines, and the server authenticates nobody (docs/OPERATIONS.md, A TLS proxy)"
 MOST = 1 << 20
 TIME = re.compile(r"\d{4}-\d\d-\d\dT\d\d:\d\d:\d\dZ")
 
@@ -93,6 +98,10 @@ class Checks:
             server.kill()
             server.wait()
 
+    def fault(self, what, words, fault, detail):
+        """A run ends with that fault, and with that detail on the line after it."""
+        self.check(what, self.run(*words.split(" ")), (2, "", f"fault {fault}\n{detail}\n"))
+
     def ends(self, what, words, status, text):
         code, _, errors = self.run(*words.split(" "))
         self.check(f"{what}: status", code, status)
@@ -114,23 +123,66 @@ def check_statuses(checks):
     serve = f"serve --port {PORT} --db {db} --turns 0 --operators"
     checks.check("0 turns", checks.run(*serve.split(" "), "ACME", "--log", "errors"), (0, "", ""))
     checks.ends("no such log", f"{serve} A --log all", 1, "--log")
-    checks.ends("an operator twice", f"{serve} A,A", 2, "fault BadOperators")
-    checks.ends("an operator with no name", f"{serve} ", 2, "fault BadOperators")
+    checks.fault("an operator twice", f"{serve} A,B,A", "BadOperators", '--operators: "A" comes twice')
+    checks.fault("an operator with no name", f"{serve} A,", "BadOperators", f'--operators: "" {NO_NAME}')
+    checks.fault("a name with a tab", f"{serve} A\tB", "BadOperators", f'--operators: "A\\tB" {NO_NAME}')
     checks.ends("no operators", f"serve --port {PORT} --db {db}", 1, "--operators")
     checks.ends("no file", f"serve --port {PORT} --operators A", 1, "--db")
     checks.ends("no port", f"serve --operators A --db {db}", 1, "--port")
-    checks.ends("port 0", f"serve --port 0 --operators A --db {db}", 1, "port")
-    checks.ends("port 65536", f"serve --port 65536 --operators A --db {db}", 1, "port")
-    checks.ends("too many turns", f"serve --port {PORT} --operators A --db {db} --turns 1000001", 1, "turns")
+    for port in (0, 65536, 99999):
+        refused = f"error: invalid value '{port}' for '--port <P>': {port} is not in 1..=65535\n"
+        for words in (f"serve --operators A --db {db}", "sim --path /ocpp/A/S", "ask --operator A"):
+            checks.ends(f"port {port}", f"{words} --port {port}", 1, refused)
+    checks.ends("no port", f"serve --port P --operators A --db {db}", 1, "invalid value 'P' for '--port <P>'")
+    many = "invalid value '1000001' for '--turns <N>': 1000001 is not in 0..=1000000"
+    checks.ends("too many turns", f"serve --port {PORT} --operators A --db {db} --turns 1000001", 1, many)
     checks.ends("no such command", "charge", 1, "charge")
-    checks.ends("nobody listens", "sim --port 9 --path /ocpp/ACME/CP01", 2, "fault Stream")
+    nobody = "127.0.0.1:9: Connection refused (os error 111)"
+    checks.fault("nobody listens", "sim --port 9 --path /ocpp/ACME/CP01", "Stream", nobody)
+    checks.fault("no path", "sim --port 9 --path ocpp", "Stream", "127.0.0.1:9: the path can't be asked for")
     with socket.create_server(("127.0.0.1", PORT)):
-        checks.ends("a port in use", f"{serve} ACME", 2, "fault Stream")
-        checks.ends("operators before the port", f"{serve} A,A", 2, "fault BadOperators")
+        checks.fault("a port in use", f"{serve} ACME", "Stream", f"127.0.0.1:{PORT}: {IN_USE}")
+        checks.fault("operators before the port", f"{serve} A,A", "BadOperators", '--operators: "A" comes twice')
     code, text, _ = checks.run("--version")
     checks.check("--version", (code, text.split(" ")[0]), (0, "central"))
-    code, text, _ = checks.run("--help")
-    checks.check("--help", (code, "serve" in text and "sim" in text), (0, True))
+
+
+def check_help(checks):
+    """The help of each command has an example, its statuses, and where more is written."""
+    code, text, errors = checks.run("--help")
+    commands = ("replay", "serve", "sim", "ask")
+    checks.check("--help", (code, errors, all(f"  {word} " in text for word in commands)), (0, "", True))
+    for word, statuses in zip(commands, (3, 3, 3, 4)):
+        code, text, errors = checks.run(word, "--help")
+        checks.check(f"{word} --help", (code, errors), (0, ""))
+        for part in (f"  central {word} --", "docs/OPERATIONS.md", *(f"\n  {status}  " for status in range(statuses))):
+            checks.check(f"{word} --help has {part}", part in text, True)
+    text = checks.run("serve", "--help")[1]
+    for part in ("--bind <ADDRESS>", "[default: 127.0.0.1]", "authenticates nobody"):
+        checks.check(f"serve --help has {part}", part in text, True)
+
+
+def check_bind(checks):
+    """Where the server listens, and the warning of an address that other machines may reach."""
+    db = checks.new_file()
+    serve = f"serve --port {PORT} --db {db} --operators ACME --turns 0 --log none --bind"
+    for address in ("127.0.0.1", "127.0.0.2"):
+        checks.check(f"--bind {address}", checks.run(*serve.split(" "), address), (0, "", ""))
+    for word in ("localhost", "127.0.0.1:9180", "1.2.3"):
+        refused = f"error: invalid value '{word}' for '--bind <ADDRESS>': not an IP address\n"
+        checks.ends(f"--bind {word}", f"{serve} {word}", 1, refused)
+    warning = f"warning: 0.0.0.0:{PORT} {WARNED}\n"
+    checks.check("--bind 0.0.0.0", checks.run(*serve.split(" "), "0.0.0.0"), (0, "", warning))
+    nowhere = "fault Stream\n192.0.2.1:9281: Cannot assign requested address (os error 99)\n"
+    checks.check("--bind 192.0.2.1", checks.run(*serve.split(" "), "192.0.2.1"), (2, "", nowhere))
+    with tempfile.TemporaryFile("w+") as errors:
+        with checks.serve("--operators", "ACME", "--bind", "0.0.0.0", errors=errors):
+            checks.check("where it listens", list(listening(PORT)), ["00000000"])
+            checks.check("it serves", Peer(PORT, "/operator/ACME").ask("list stations"), "ACME ok")
+        errors.seek(0)
+        told = errors.read().splitlines()
+        checks.check("it warns first", told[0], warning.rstrip("\n"))
+        checks.check("its log has the address", f" serves ACME on 0.0.0.0:{PORT}, records in " in told[1], True)
 
 
 def made(checks, *statements):
@@ -301,10 +353,10 @@ def vacuum(db, *settings):
             database.execute(statement).fetchall()
 
 
-def names_in(db):
-    """The names of the tables and indexes, in their order."""
+def schema_in(db):
+    """The names and texts of the tables and indexes, in their order."""
     with contextlib.closing(sqlite3.connect(db)) as database:
-        return database.execute("SELECT name FROM sqlite_schema ORDER BY rowid").fetchall()
+        return database.execute("SELECT name, sql FROM sqlite_schema ORDER BY rowid").fetchall()
 
 
 def check_vacuum(checks):
@@ -320,9 +372,9 @@ def check_vacuum(checks):
             wanted = script.with_suffix(f".{part}_expected").read_text()
             got = checks.run(*words, db, lines=script.with_suffix(f".{part}").read_bytes())
             checks.check(f"{name} after VACUUM, {part}", got, (0, wanted, ""))
-            checks.check(f"its tables and indexes, {part}", names_in(db), names_in(new))
+            checks.check(f"its tables and indexes, {part}", schema_in(db), schema_in(new))
         vacuum(db)
-        checks.check("the order after VACUUM", names_in(db), names_in(new))
+        checks.check("the order after VACUUM", schema_in(db), schema_in(new))
 
 
 def check_pages(checks):
@@ -346,12 +398,14 @@ def check_pages(checks):
 def check_ask(checks):
     """The operator's tool: a line, lines of standard input, a command that is followed to its end."""
     ask = ["ask", "--port", str(PORT), "--operator", "ACME"]
-    checks.check("nobody listens", checks.run(*ask, "list tags"), (2, "", "fault Stream\n"))
+    nobody = f"fault Stream\n127.0.0.1:{PORT}: Connection refused (os error 111)\n"
+    checks.check("nobody listens", checks.run(*ask, "list tags"), (2, "", nobody))
     with checks.serve("--operators", "ACME"):
         checks.check("a line", checks.run(*ask, "tag put K1 - 0 -"), (0, "ACME ok\n", ""))
         checks.check("a listing", checks.run(*ask, "list tags"), (0, 'ACME row tag "K1" - 0 -\nACME ok\n', ""))
         refused = "ACME refused 7 NotConnected\n"
         checks.check("a bad line", checks.run(*ask, "list"), (3, "bad line\n", ""))
+        checks.check("a line with a word", checks.run(*ask, "#1 list tags"), (3, "bad line\n", ""))
         lines = "".join(f"tag put K{n} - 0 -\n" for n in range(1000)).encode()
         checks.check("lines", checks.run(*ask, lines=lines), (0, "ACME ok\n" * 1000, ""))
         mixed = checks.run(*ask, lines=b"station add CP01 Accepted 300\n\ncall CP01 ClearCache {}\nlist grants\n")
@@ -366,6 +420,49 @@ def check_ask(checks):
         told = waiting.communicate(timeout=10)[0].splitlines()
         checks.check("a command to its end", told, ["ACME ok 1", 'ACME CP01 done 1 Answer {"status":"Accepted"}'])
         checks.check("its status", waiting.returncode, 0)
+        checks.check("another path", checks.run(*ask[:-1], "BETA", "list tags"), (2, "", NOT_FOUND))
+
+
+def check_ask_beside(checks):
+    """What the operator's other consoles ask for, and how their calls end, is no answer to a line of `ask`."""
+    ask = [checks.program, "ask", "--port", str(PORT), "--operator", "ACME"]
+    pipes = {"stdin": subprocess.PIPE, "stdout": subprocess.PIPE, "text": True}
+    with checks.serve("--operators", "ACME"):
+        console, station = connected("CP01")
+        refused = "ACME refused 3 NoSuchTag\n"
+        runs = {"tag drop X\n": (3, refused), "list grants\n": (0, "ACME ok\n"), "list\n": (3, "bad line\n")}
+        asking = [subprocess.Popen(ask, **pipes) for _ in runs]
+        for each, line in zip(asking, runs):
+            each.stdin.write(line * 1000)
+        for each, (line, (status, text)) in zip(asking, runs.items()):
+            told = each.communicate(timeout=60)[0]
+            checks.check(f"{line.strip()}, beside others", (each.returncode, told), (status, text * 1000))
+        heard = [console.next() for _ in range(2000)]
+        checks.check("a console hears all", sorted(set(heard)), ["ACME ok", "ACME refused 3 NoSuchTag"])
+        waiting = subprocess.Popen([*ask, "--wait", "call CP01 ClearCache {}"], **pipes)
+        checks.check("its call", station.next(), '[2,"1","ClearCache",{}]')
+        checks.check("it is taken", console.next(), "ACME ok 1")
+        console.ask("call CP01 UnlockConnector {\"connectorId\":1}")
+        console.ask("list stations")
+        station.send('[3,"1",{"status":"Rejected"}]')
+        told = waiting.communicate(timeout=10)[0].splitlines()
+        checks.check("its end alone", told, ["ACME ok 1", 'ACME CP01 done 1 Answer {"status":"Rejected"}'])
+        checks.check("its status", waiting.returncode, 0)
+
+
+def check_words(checks):
+    """The sender of an order with a word is told where the answer begins and where it ends, and no other console."""
+    with checks.serve("--operators", "ACME"):
+        acme, other = Peer(PORT, "/operator/ACME"), Peer(PORT, "/operator/ACME")
+        for order, answer in (("tag put K1 - 0 -", ["ACME ok"]), ("list tags", ['ACME row tag "K1" - 0 -', "ACME ok"])):
+            acme.send(f"#a-1_Z {order}")
+            wanted = ["#a-1_Z begin", *answer, "#a-1_Z end"]
+            checks.check(f"{order} with a word", [acme.next() for _ in wanted], wanted)
+            checks.check(f"{order}, at another console", [other.next() for _ in answer], answer)
+        acme.send("#2 list everything")
+        checks.check("a bad line with a word", [acme.next() for _ in range(3)], ["#2 begin", "bad line", "#2 end"])
+        checks.check("a bad word", acme.ask(f"#{'x' * 33} list tags"), "bad line")
+        checks.check("none of it at another console", other.ask("list grants"), "ACME ok")
 
 
 def log_of(checks, level, talk):
@@ -449,9 +546,9 @@ def check_session(checks):
         checks.check("a station is added", acme.ask("station add CP01 Accepted 300"), "ACME ok")
         checks.check("a tag is put", acme.ask("tag put SIM1 - 0 -"), "ACME ok")
         unknown = checks.run("sim", "--port", str(PORT), "--path", "/ocpp/ACME/CP02")
-        checks.check("an unknown station", unknown, (2, "", "fault Stream\n"))
+        checks.check("an unknown station", unknown, (2, "", NOT_FOUND))
         unknown = checks.run("sim", "--port", str(PORT), "--path", "/ocpp/BETA/CP01")
-        checks.check("another operator's station", unknown, (2, "", "fault Stream\n"))
+        checks.check("another operator's station", unknown, (2, "", NOT_FOUND))
         code, text, errors = checks.run("sim", "--port", str(PORT), "--path", "/ocpp/ACME/CP01")
         checks.check("a session: status", (code, errors), (0, ""))
         checks.check("a session", TIME.sub("T", text), SESSION)
@@ -627,8 +724,9 @@ def check_files(checks):
             checks.check("files again", Peer(PORT, "/operator/ACME").ask("list stations")[:8], "ACME row")
         errors.seek(0)
         told = errors.read().splitlines()
-        checks.check("no file left is told", set(told), {"fault Stream"})
-        checks.check("once a second", len(told) <= 4, True)
+        no_file = f"127.0.0.1:{PORT}: Too many open files (os error 24)"
+        checks.check("no file left is told", set(zip(told[::2], told[1::2])), {("fault Stream", no_file)})
+        checks.check("once a second", len(told) <= 8, True)
 
 
 def check_idle(checks):
@@ -669,6 +767,8 @@ def main():
 
 def check_all(checks):
     check_statuses(checks)
+    check_help(checks)
+    check_bind(checks)
     check_databases(checks)
     check_earlier_schemas(checks)
     check_first_schema(checks)
@@ -679,6 +779,8 @@ def check_all(checks):
     check_pages(checks)
     check_vacuum(checks)
     check_ask(checks)
+    check_ask_beside(checks)
+    check_words(checks)
     check_log(checks)
     check_turns(checks)
     check_session(checks)

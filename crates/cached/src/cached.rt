@@ -222,8 +222,12 @@ impl<S: Store> Store for Cached<S> {
         self.store.connectors(op, station)
     }
 
-    fn txs(&mut self, op: &str, station: &str) -> Result<Listed<TxRow>, StoreFault> {
-        self.store.txs(op, station)
+    fn txs(&mut self, op: &str, station: &str, first: u32) -> Result<Listed<TxRow>, StoreFault> {
+        self.store.txs(op, station, first)
+    }
+
+    fn open_txs(&mut self, op: &str) -> Result<Listed<TxRow>, StoreFault> {
+        self.store.open_txs(op)
     }
 
     fn readings(

@@ -1,10 +1,11 @@
 //! Lines that are sent as an operator, and what is said to them.
 
-use crate::client::{PATIENCE, Socket, connect};
+use crate::client::{PATIENCE, Socket, connect, server_at};
 use crate::command::AskOptions;
-use crate::fault::RunFault;
-use crate::reply::{Reply, is_done, reply_of};
+use crate::fault::{Lost, RunFault};
+use crate::reply::{Bound, Reply, bound_of, is_done, reply_of};
 use std::io::{ErrorKind, Input};
+use std::net::SocketAddr;
 use tungstenite::{Error as SocketError, Message, Utf8Bytes};
 
 /// The most seconds of silence before a line is answered.
@@ -18,11 +19,14 @@ const MAX_CALL: u64 = 3600;
 struct Asking<'a> {
     rt: &'a HostRuntime,
     options: &'a AskOptions,
+    address: SocketAddr,
     socket: Socket<'a>,
+    /// How many lines were sent. The word of each is its number.
+    sent: u64,
 }
 
-/// Sends the line, or each line of standard input, and prints all that comes until it is answered. Whether all were
-/// taken. Errors: no connection, one that ends, an answer that doesn't come, standard input that can't be read.
+/// Sends the line, or each line of standard input, and prints what each is answered. Whether all were taken. Errors: no
+/// connection, one that ends, an answer that doesn't come, standard input that can't be read.
 pub fn ask(rt: &HostRuntime, options: &AskOptions) -> Result<bool, RunFault> {
     let alloc = rt.alloc();
     let operator = options.operator.as_str();
@@ -31,7 +35,9 @@ pub fn ask(rt: &HostRuntime, options: &AskOptions) -> Result<bool, RunFault> {
     let mut asking = Asking {
         rt,
         options,
+        address: server_at(options.port),
         socket,
+        sent: 0,
     };
     match &options.line {
         Some(line) => asking.line(line.as_str()),
@@ -52,10 +58,11 @@ impl Asking<'_> {
         Ok(all_taken)
     }
 
-    /// Sends a line and prints what comes until it is answered, and with `--wait` until its call has ended. Whether it
-    /// was taken.
+    /// Sends a line and prints what it is answered, and with `--wait` how its call has ended. Whether it was taken.
     fn line(&mut self, line: &str) -> Result<bool, RunFault> {
+        self.sent = self.sent.saturating_add(1);
         self.send(line)?;
+        self.begin()?;
         match self.answer()? {
             Reply::Call(call) if self.options.wait => {
                 let station = line.split(' ').nth(1).unwrap_or("");
@@ -66,71 +73,92 @@ impl Asking<'_> {
         }
     }
 
+    /// Sends a line with its word.
     fn send(&mut self, line: &str) -> Result<(), RunFault> {
-        let Ok(message) = Message::text(self.rt.alloc(), line) else {
+        let alloc = self.rt.alloc();
+        let word = self.sent;
+        let text = format!(in alloc; "#{word} {line}")?;
+        let Ok(message) = Message::text(alloc, text.as_str()) else {
             return Err(RunFault::NoMemory);
         };
         match self.socket.send(message) {
             Ok(()) => Ok(()),
-            Err(_) => Err(RunFault::Stream),
+            Err(error) => Err(lost(self.address, error)),
         }
     }
 
-    /// Prints what comes until a line is answered.
+    /// Reads up to the line with which the answer begins. What comes before it is said to all connections of the
+    /// operator, and isn't printed.
+    fn begin(&mut self) -> Result<(), RunFault> {
+        for _ in 0..u64::MAX {
+            let text = self.next(MAX_ANSWER)?;
+            if bound_of(self.sent, text.as_str()) == Some(Bound::Begin) {
+                return Ok(());
+            }
+        }
+        Err(self.silent())
+    }
+
+    /// Prints what comes up to the line with which the answer ends. What its last line says.
     fn answer(&mut self) -> Result<Reply, RunFault> {
-        let mut silent: u64 = 0;
+        let mut reply = Reply::Other;
         for _ in 0..u64::MAX {
-            match self.read()? {
-                Some(text) => {
-                    silent = 0;
-                    println!(self.rt; "{text}")?;
-                    let reply = reply_of(self.options.operator.as_str(), text.as_str());
-                    if reply != Reply::Other {
-                        return Ok(reply);
-                    }
-                }
-                None if silent >= MAX_ANSWER => break,
-                None => silent = silent.saturating_add(PATIENCE),
+            let text = self.next(MAX_ANSWER)?;
+            if bound_of(self.sent, text.as_str()) == Some(Bound::End) {
+                return Ok(reply);
             }
+            println!(self.rt; "{text}")?;
+            reply = reply_of(self.options.operator.as_str(), text.as_str());
         }
-        Err(RunFault::Stream)
+        Err(self.silent())
     }
 
-    /// Prints what comes until a call has ended.
+    /// Reads up to the line that says how a call has ended, and prints it.
     fn end_of(&mut self, station: &str, call: u64) -> Result<(), RunFault> {
-        let mut silent: u64 = 0;
         for _ in 0..u64::MAX {
-            match self.read()? {
-                Some(text) => {
-                    silent = 0;
-                    println!(self.rt; "{text}")?;
-                    if is_done(self.options.operator.as_str(), station, call, text.as_str()) {
-                        return Ok(());
-                    }
-                }
-                None if silent >= MAX_CALL => break,
-                None => silent = silent.saturating_add(PATIENCE),
+            let text = self.next(MAX_CALL)?;
+            if is_done(self.options.operator.as_str(), station, call, text.as_str()) {
+                println!(self.rt; "{text}")?;
+                return Ok(());
             }
         }
-        Err(RunFault::Stream)
+        Err(self.silent())
     }
 
-    /// Reads once: a text, or none in the time that a read waits.
-    fn read(&mut self) -> Result<Option<Utf8Bytes>, RunFault> {
-        let gave = self.socket.read();
-        heard(gave)
+    /// The next text, which may take so many seconds to come.
+    fn next(&mut self, patience: u64) -> Result<Utf8Bytes, RunFault> {
+        for _ in 0..=patience / PATIENCE {
+            let gave = self.socket.read();
+            if let Some(text) = heard(self.address, gave)? {
+                return Ok(text);
+            }
+        }
+        Err(self.silent())
+    }
+
+    fn silent(&self) -> RunFault {
+        RunFault::Stream(self.address, Lost::Silent)
     }
 }
 
 /// The text of a read. A ping, a pong, a binary message and a Close give none.
-fn heard(gave: Result<Message, SocketError>) -> Result<Option<Utf8Bytes>, RunFault> {
+fn heard(
+    address: SocketAddr,
+    gave: Result<Message, SocketError>,
+) -> Result<Option<Utf8Bytes>, RunFault> {
     match gave {
         Ok(Message::Text(text)) => Ok(Some(text)),
         Ok(_) => Ok(None),
-        Err(SocketError::Io(error)) => match error.kind() {
-            ErrorKind::WouldBlock => Ok(None),
-            _ => Err(RunFault::Stream),
-        },
-        Err(_) => Err(RunFault::Stream),
+        Err(SocketError::Io(error)) if error.kind() == ErrorKind::WouldBlock => Ok(None),
+        Err(error) => Err(lost(address, error)),
+    }
+}
+
+/// What became of a connection that failed so.
+fn lost(address: SocketAddr, error: SocketError) -> RunFault {
+    match error {
+        SocketError::Io(error) => RunFault::at(address, error),
+        SocketError::OutOfMemory => RunFault::NoMemory,
+        _ => RunFault::Stream(address, Lost::Ended),
     }
 }

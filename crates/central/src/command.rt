@@ -1,11 +1,13 @@
 //! The words of a command line.
 
+use crate::help;
 use crate::journal::level_of;
 use clap::error::ErrorKind;
 use clap::{Arg, ArgAction, ArgMatches, Command, Error, value_parser};
 use log::LevelFilter;
 use ocpp_types::Text;
 use std::alloc::{AllocError, Global};
+use std::net::{IpAddr, SocketAddr};
 
 /// The version of the program.
 pub const VERSION: &str = "0.1.0";
@@ -14,7 +16,7 @@ pub const VERSION: &str = "0.1.0";
 const LOGS: &[&str] = &["none", "errors", "connections"];
 
 /// The most turns that `--turns` takes.
-const MAX_TURNS: u32 = 1_000_000;
+const MAX_TURNS: i64 = 1_000_000;
 
 /// What a command line asks for.
 #[derive(Drop)]
@@ -40,7 +42,8 @@ pub struct ReplayOptions {
 /// What a server is to do.
 #[derive(Drop)]
 pub struct ServeOptions {
-    pub port: u16,
+    /// Where it listens.
+    pub address: SocketAddr,
     pub operators: Vec<Text>,
     /// The path of the file with the records.
     pub db: Text,
@@ -110,51 +113,53 @@ fn text_if_any(alloc: Global, value: Option<&str>) -> Result<Option<Text>, Alloc
 }
 
 fn serve_options(alloc: Global, found: &ArgMatches) -> Result<ServeOptions, Error> {
-    let turns = found.get_one::<u32>("turns");
-    if turns.unwrap_or(0) > MAX_TURNS {
-        return Err(invalid(alloc, "turns: more than 1000000")?);
-    }
     Ok(ServeOptions {
-        port: port_of(alloc, found)?,
+        address: SocketAddr::new(bind_of(alloc, found)?, port_of(found)),
         operators: parts(alloc, found.get_str("operators"))?,
         db: Text::from(found.get_str("db").unwrap_or("").to_string(alloc)?),
-        turns,
+        turns: found.get_one::<u32>("turns"),
         log: level_of(found.get_str("log").unwrap_or("connections")),
     })
 }
 
 fn sim_options(alloc: Global, found: &ArgMatches) -> Result<SimOptions, Error> {
     Ok(SimOptions {
-        port: port_of(alloc, found)?,
+        port: port_of(found),
         path: Text::from(found.get_str("path").unwrap_or("").to_string(alloc)?),
     })
 }
 
 fn ask_options(alloc: Global, found: &ArgMatches) -> Result<AskOptions, Error> {
     Ok(AskOptions {
-        port: port_of(alloc, found)?,
+        port: port_of(found),
         operator: Text::from(found.get_str("operator").unwrap_or("").to_string(alloc)?),
         line: text_if_any(alloc, found.get_str("line"))?,
         wait: found.get_flag("wait"),
     })
 }
 
-/// The port, from 1 to 65535.
-fn port_of(alloc: Global, found: &ArgMatches) -> Result<u16, Error> {
-    match found.get_one::<u16>("port") {
-        Some(port) if port > 0 => Ok(port),
-        _ => Err(invalid(alloc, "port: not from 1 to 65535")?),
+/// The address to listen on.
+fn bind_of(alloc: Global, found: &ArgMatches) -> Result<IpAddr, Error> {
+    if let Some(address) = found.get_one::<IpAddr>("bind") {
+        return Ok(address);
     }
+    let given = found.get_str("bind").unwrap_or("");
+    let reason = format!(in alloc;
+        "invalid value '{given}' for '--bind <ADDRESS>': not an IP address"
+    )?;
+    Err(central(alloc)?.error(ErrorKind::ValueValidation, reason.as_str())?)
 }
 
-fn invalid(alloc: Global, reason: &str) -> Result<Error, AllocError> {
-    central(alloc)?.error(ErrorKind::ValueValidation, reason)
+/// The port, which the command line can't do without.
+fn port_of(found: &ArgMatches) -> u16 {
+    found.get_one::<u16>("port").unwrap_or(0)
 }
 
 fn central<'a>(alloc: Global) -> Result<Command<'a>, AllocError> {
     let central = Command::new(alloc, "central")
         .version(VERSION)
         .about("A central system for charging stations of several operators (OCPP 1.6 JSON)")
+        .after_help(help::CENTRAL)
         .subcommand_required(true);
     let central = with(central, replay_command(alloc))?;
     let central = with(central, serve_command(alloc))?;
@@ -172,6 +177,7 @@ fn with<'a>(
 fn replay_command<'a>(alloc: Global) -> Result<Command<'a>, AllocError> {
     Command::new(alloc, "replay")
         .about("Reads lines of events from standard input and writes what the hub answers")
+        .after_help(help::REPLAY)
         .arg(operators_arg(alloc))?
         .arg(db_arg(
             alloc,
@@ -180,11 +186,18 @@ fn replay_command<'a>(alloc: Global) -> Result<Command<'a>, AllocError> {
 }
 
 fn serve_command<'a>(alloc: Global) -> Result<Command<'a>, AllocError> {
+    let bind = Arg::new(alloc, "bind")
+        .long("bind")
+        .value_name("ADDRESS")
+        .help(
+            "The IP address to listen on. Nobody is authenticated, so one that other machines reach has to stand behind a proxy that does",
+        )
+        .default_value("127.0.0.1");
     let turns = Arg::new(alloc, "turns")
         .long("turns")
         .value_name("N")
         .help("Ends after N turns, up to 1000000, without waiting; else serves until it is ended")
-        .value_parser(value_parser!(u32));
+        .value_parser(value_parser!(u32).range(..=MAX_TURNS));
     let log = Arg::new(alloc, "log")
         .long("log")
         .value_name("LEVEL")
@@ -193,8 +206,10 @@ fn serve_command<'a>(alloc: Global) -> Result<Command<'a>, AllocError> {
         )
         .value_parser(LOGS);
     Command::new(alloc, "serve")
-        .about("Serves stations and operators over WebSocket on 127.0.0.1")
-        .arg(port_arg(alloc, "The port to listen on"))?
+        .about("Serves stations and operators over WebSocket")
+        .after_help(help::SERVE)
+        .arg(port_arg(alloc, "The port to listen on, from 1 to 65535"))?
+        .arg(bind)?
         .arg(db_arg(alloc, "The file with the records, made if there is none").required(true))?
         .arg(operators_arg(alloc))?
         .arg(turns)?
@@ -210,6 +225,7 @@ fn sim_command<'a>(alloc: Global) -> Result<Command<'a>, AllocError> {
         .required(true);
     Command::new(alloc, "sim")
         .about("Runs one charging session as a station, and prints each message")
+        .after_help(help::SIM)
         .arg(port_arg(alloc, "The port of the server on 127.0.0.1"))?
         .arg(path)
 }
@@ -218,9 +234,7 @@ fn ask_command<'a>(alloc: Global) -> Result<Command<'a>, AllocError> {
     let operator = Arg::new(alloc, "operator")
         .long("operator")
         .value_name("OP")
-        .help(
-            "The operator that asks. What other connections of it are answered is printed too, and counts",
-        )
+        .help("The operator that asks")
         .allow_hyphen_values(true)
         .required(true);
     let wait = Arg::new(alloc, "wait")
@@ -231,9 +245,8 @@ fn ask_command<'a>(alloc: Global) -> Result<Command<'a>, AllocError> {
         "The line to send; without it each line of standard input, one after the other",
     );
     Command::new(alloc, "ask")
-        .about(
-            "Sends lines as an operator, and prints what they are answered. Status 3: one was refused",
-        )
+        .about("Sends lines as an operator, and prints what they are answered")
+        .after_help(help::ASK)
         .arg(port_arg(alloc, "The port of the server on 127.0.0.1"))?
         .arg(operator)?
         .arg(wait)?
@@ -245,7 +258,7 @@ fn port_arg<'a>(alloc: Global, help: &'a str) -> Arg<'a> {
         .long("port")
         .value_name("P")
         .help(help)
-        .value_parser(value_parser!(u16))
+        .value_parser(value_parser!(u16).range(1..))
         .required(true)
 }
 

@@ -1,13 +1,45 @@
 //! Why a run stops.
 
+use crate::hosted::BadOperators;
 use cached::CacheFault;
 use ocpp_types::NoMemory;
 use replay::ReplayFault;
-use station_sim::SimFault;
 use std::alloc::{AllocError, AllocFailed};
-use std::io;
+use std::fmt::{Display, Formatter, Write};
+use std::net::SocketAddr;
+use std::{fmt, io};
 use store_sql::PrepareFault;
 use thiserror::Error;
+
+/// What became of a socket.
+#[derive(Debug, Drop)]
+pub enum Lost {
+    /// The system says so.
+    Failed(io::Error),
+    /// The path can't be asked for.
+    NoPath,
+    /// The handshake was answered with that status.
+    Answered(u16),
+    /// The handshake ended before it was done.
+    NoHandshake,
+    /// The connection has ended.
+    Ended,
+    /// No answer came in time.
+    Silent,
+}
+
+impl Display for Lost {
+    fn fmt<W: Write>(&self, f: &mut Formatter<W>) -> fmt::Result {
+        match self {
+            Lost::Failed(error) => write!(f, "{error}"),
+            Lost::NoPath => write!(f, "the path can't be asked for"),
+            Lost::Answered(status) => write!(f, "the handshake was answered {status}"),
+            Lost::NoHandshake => write!(f, "the handshake was not done"),
+            Lost::Ended => write!(f, "the connection has ended"),
+            Lost::Silent => write!(f, "no answer in time"),
+        }
+    }
+}
 
 /// Why a run stops.
 #[derive(Debug, Drop, Error)]
@@ -23,16 +55,43 @@ pub enum RunFault {
     NoMemory,
     /// The operators can't be hosted.
     #[error("BadOperators")]
-    BadOperators,
-    /// A socket isn't opened or fails, or the wait for the system's reports fails.
+    BadOperators(BadOperators),
+    /// A socket of that address isn't opened or fails.
     #[error("Stream")]
-    Stream,
+    Stream(SocketAddr, Lost),
+    /// Standard input or output fails.
+    #[error("Stream")]
+    Console(io::Error),
     /// The script of a station is out of its bounds.
     #[error("Script")]
     Script,
     /// The clock gives no moment.
     #[error("Clock")]
     Clock,
+}
+
+impl RunFault {
+    /// A call on a socket of that address failed so.
+    pub fn at(address: SocketAddr, error: io::Error) -> RunFault {
+        match error.kind() {
+            io::ErrorKind::OutOfMemory => RunFault::NoMemory,
+            _ => RunFault::Stream(address, Lost::Failed(error)),
+        }
+    }
+
+    /// Writes the line that follows the name of a fault: whose name or which address it is about. Most have none.
+    pub fn write_detail(&self, rt: &HostRuntime) -> io::Result<()> {
+        match self {
+            RunFault::BadOperators(why) => eprintln!(rt; "{why}"),
+            RunFault::Stream(address, lost) => eprintln!(rt; "{address}: {lost}"),
+            RunFault::Console(error) => eprintln!(rt; "standard input or output: {error}"),
+            RunFault::Database(_)
+            | RunFault::Replay(_)
+            | RunFault::NoMemory
+            | RunFault::Script
+            | RunFault::Clock => Ok(()),
+        }
+    }
 }
 
 impl From<PrepareFault> for RunFault {
@@ -79,16 +138,7 @@ impl From<io::Error> for RunFault {
     fn from(fault: io::Error) -> RunFault {
         match fault.kind() {
             io::ErrorKind::OutOfMemory => RunFault::NoMemory,
-            _ => RunFault::Stream,
-        }
-    }
-}
-
-impl From<SimFault> for RunFault {
-    fn from(fault: SimFault) -> RunFault {
-        match fault {
-            SimFault::NoMemory => RunFault::NoMemory,
-            SimFault::Stream => RunFault::Stream,
+            _ => RunFault::Console(fault),
         }
     }
 }

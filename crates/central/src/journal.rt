@@ -35,11 +35,11 @@ pub fn start_text(
         }
         operators.push_str(operator.as_str())?;
     }
-    let port = options.port;
+    let address = options.address;
     let db = options.db.as_str().escape_debug();
     let took = opening.as_millis();
     Ok(format!(in alloc;
-        "central {VERSION} serves {} on 127.0.0.1:{port}, records in {db}, opened in {took} ms, stations on record: {stations}",
+        "central {VERSION} serves {} on {address}, records in {db}, opened in {took} ms, stations on record: {stations}",
         operators.escape_debug()
     )?)
 }

@@ -6,6 +6,8 @@ mod client;
 mod clock;
 mod command;
 mod fault;
+mod help;
+mod hosted;
 mod journal;
 mod new_file;
 mod records;
@@ -31,6 +33,7 @@ fn main(rt: HostRuntime) -> anyhow::Result<ExitCode> {
     let answer = run(&rt);
     if let Err(fault) = &answer {
         eprintln!(rt; "fault {fault}")?;
+        fault.write_detail(&rt)?;
     }
     Ok(ExitCode::from(status::of_run(&answer)))
 }

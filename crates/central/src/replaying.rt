@@ -2,9 +2,9 @@
 
 use crate::command::ReplayOptions;
 use crate::fault::RunFault;
+use crate::hosted::{fault_of, hub_of};
 use crate::records::{ANSWERS, open};
 use cached::Cached;
-use hub::Hub;
 use hub_rows::Store;
 use ocpp_types::Text;
 use replay::{replay, replay_in_memory};
@@ -26,6 +26,9 @@ pub fn replay_lines<V: VendorHandler>(
             replay_database(rt, store, operators, vendors)
         }
         None => {
+            if let Some(why) = fault_of(operators.as_slice())? {
+                return Err(RunFault::BadOperators(why));
+            }
             let mut writer = io::writer(rt);
             replay_in_memory(
                 rt.alloc(),
@@ -58,9 +61,7 @@ fn replay_over<S: Store + Drop, V: VendorHandler>(
     vendors: Vec<V>,
 ) -> Result<(), RunFault> {
     let alloc = rt.alloc();
-    let Ok(mut hub) = Hub::new(alloc, store, operators, vendors) else {
-        return Err(RunFault::BadOperators);
-    };
+    let mut hub = hub_of(alloc, store, operators, vendors)?;
     replay(alloc, &mut hub, &mut rt.reader(), &mut io::writer(rt))?;
     Ok(())
 }

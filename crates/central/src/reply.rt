@@ -13,6 +13,28 @@ pub enum Reply {
     Other,
 }
 
+/// Where the answer to a line stands among what an operator is sent.
+#[derive(Clone, Copy, Debug, PartialEq, Eq, Drop)]
+pub enum Bound {
+    /// It follows.
+    Begin,
+    /// It has come.
+    End,
+}
+
+/// What a text says of the answer to the line with that number as its word: `#WORD begin` or `#WORD end`.
+pub fn bound_of(word: u64, text: &str) -> Option<Bound> {
+    let (named, place) = text.strip_prefix('#')?.split_once(' ')?;
+    if number(named) != Some(word) {
+        return None;
+    }
+    match place {
+        "begin" => Some(Bound::Begin),
+        "end" => Some(Bound::End),
+        _ => None,
+    }
+}
+
 /// What a text says of the operator's line: `OP ok`, `OP ok N`, `OP refused NUMBER ..` and `bad line` answer it.
 pub fn reply_of(operator: &str, text: &str) -> Reply {
     if text == "bad line" {

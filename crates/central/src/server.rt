@@ -3,6 +3,7 @@
 use crate::clock::now;
 use crate::command::ServeOptions;
 use crate::fault::RunFault;
+use crate::hosted::hub_of;
 use crate::journal::{start_text, write_notes, write_start};
 use crate::records::{ANSWERS, open};
 use cached::Cached;
@@ -16,7 +17,7 @@ use sqlite::Alter;
 use station_calls::VendorHandler;
 use std::alloc::Global;
 use std::fmt::Display;
-use std::io;
+use std::net::SocketAddr;
 use std::time::{Duration, Instant};
 use store_sql::SqlStore;
 use ws_server::{Gateway, Lobby};
@@ -43,6 +44,8 @@ const MAX_ACCEPTS: usize = 64;
 #[derive(Drop)]
 struct Server<S, V> {
     alloc: Global,
+    /// Where it listens.
+    address: SocketAddr,
     hub: Hub<S, V>,
     gateway: Gateway<ReadyStream>,
     lobby: Lobby<ReadyStream>,
@@ -66,7 +69,7 @@ struct Server<S, V> {
 
 /// Serves, by the records of a file and by those handlers of vendors' messages. A fault of a turn is written to
 /// standard error as `fault NAME`, and the next turn follows. Errors: a file that can't be opened or isn't ours,
-/// operators that can't be hosted, a port that can't be listened on, a wait that fails, a clock without a moment, no
+/// operators that can't be hosted, an address that can't be listened on, a wait that fails, a clock without a moment, no
 /// memory at the start.
 pub fn serve<V: VendorHandler>(
     rt: &HostRuntime,
@@ -103,11 +106,13 @@ fn serve_over<S: Store + Drop, V: VendorHandler>(
     let start = start_text(rt.alloc(), &options, opening, stations)?;
     let turns = options.turns;
     let level = options.log;
+    let address = options.address;
     let mut server = Server::new(rt, store, options, vendors)?;
     if level != LevelFilter::Off {
         server.lobby.keep_notes();
         server.gateway.keep_notes();
     }
+    warn_of(rt, address);
     let log = Logged::new(*rt, level, Console(*rt));
     write_start(
         &log,
@@ -116,6 +121,15 @@ fn serve_over<S: Store + Drop, V: VendorHandler>(
         start.as_str(),
     );
     server.run(rt, &log, turns)
+}
+
+/// Warns on standard error of an address that is reached from other machines. If the warning can't be written it is lost.
+fn warn_of(rt: &HostRuntime, address: SocketAddr) {
+    if !address.ip().is_loopback() {
+        let _ = eprintln!(rt;
+            "warning: {address} may be reached from other machines, and the server authenticates nobody (docs/OPERATIONS.md, A TLS proxy)"
+        );
+    }
 }
 
 /// How many stations the operators have on record. Those that can't be read don't count.
@@ -138,13 +152,16 @@ impl<S: Store + Drop, V: VendorHandler> Server<S, V> {
     ) -> Result<Server<S, V>, RunFault> {
         let alloc = rt.alloc();
         let second = now(rt).ok_or(RunFault::Clock)?;
-        let Ok(hub) = Hub::new(alloc, store, options.operators, vendors) else {
-            return Err(RunFault::BadOperators);
+        let hub = hub_of(alloc, store, options.operators, vendors)?;
+        let address = options.address;
+        let mut streams = match Streams::listen(alloc, rt, address) {
+            Ok(streams) => streams,
+            Err(error) => return Err(RunFault::at(address, error)),
         };
-        let mut streams = Streams::listen(alloc, rt, options.port)?;
         streams.set_second(second.seconds());
         Ok(Server {
             alloc,
+            address,
             hub,
             gateway: Gateway::new(alloc),
             lobby: Lobby::new(alloc)?,
@@ -177,7 +194,7 @@ impl<S: Store + Drop, V: VendorHandler> Server<S, V> {
 
     /// Takes the system's reports on streams. It waits for one where nothing can be done without, and at most 10 ms after
     /// a turn that ended in a fault, so that a fault that stays doesn't take a whole processor.
-    fn wait(&mut self, may_wait: bool) -> io::Result<()> {
+    fn wait(&mut self, may_wait: bool) -> Result<(), RunFault> {
         let accepts = self.may_accept() && self.lobby.has_room(self.moment);
         let time = if may_wait && !self.streams.is_pending(accepts) {
             Duration::from_secs(MAX_WAIT)
@@ -186,7 +203,10 @@ impl<S: Store + Drop, V: VendorHandler> Server<S, V> {
         } else {
             Duration::from_secs(0)
         };
-        self.streams.wait(time)
+        match self.streams.wait(time) {
+            Ok(()) => Ok(()),
+            Err(error) => Err(RunFault::at(self.address, error)),
+        }
     }
 
     /// Reads the clock. A moment is never before that of the turn before, so that a clock that is set back ends no
@@ -223,6 +243,7 @@ impl<S: Store + Drop, V: VendorHandler> Server<S, V> {
         if let Err(fault) = self.accept() {
             self.failed_accept = true;
             self.tell_fault(rt, &fault, matches!(fault, RunFault::NoMemory));
+            let _ = fault.write_detail(rt);
         }
         let welcomed = self
             .lobby
@@ -292,10 +313,13 @@ impl<S: Store + Drop, V: VendorHandler> Server<S, V> {
             if !self.lobby.has_room(self.moment) {
                 break;
             }
-            let Some((stream, address)) = self.streams.accept()? else {
-                break;
-            };
-            self.lobby.enter(stream, Some(address), self.moment)?;
+            match self.streams.accept() {
+                Ok(Some((stream, client))) => {
+                    self.lobby.enter(stream, Some(client), self.moment)?;
+                }
+                Ok(None) => break,
+                Err(error) => return Err(RunFault::at(self.address, error)),
+            }
         }
         Ok(())
     }

@@ -1,12 +1,13 @@
 //! The simulated station.
 
-use crate::client::{Socket, connect};
+use crate::client::{Socket, connect, server_at};
 use crate::clock::now;
 use crate::command::SimOptions;
-use crate::fault::RunFault;
+use crate::fault::{Lost, RunFault};
 use ocpp_types::{Mem, Text};
-use station_sim::{Drove, Script, Sim, drive};
+use station_sim::{Drove, Script, Sim, SimFault, drive};
 use std::alloc::Global;
+use std::net::SocketAddr;
 
 /// The most drives of one run.
 const MAX_DRIVES: u32 = 10_000;
@@ -15,28 +16,36 @@ const MAX_DRIVES: u32 = 10_000;
 /// of the server as `< TEXT`, and what it is answered as `> REPLY`.
 pub fn simulate(rt: &HostRuntime, options: &SimOptions) -> Result<(), RunFault> {
     let mut socket = connect(rt, options.port, options.path.as_str())?;
-    run(rt, &mut socket)?;
+    run(rt, server_at(options.port), &mut socket)?;
     let _closed = socket.close(None);
     Ok(())
 }
 
-fn run(rt: &HostRuntime, socket: &mut Socket<'_>) -> Result<(), RunFault> {
+fn run(rt: &HostRuntime, address: SocketAddr, socket: &mut Socket<'_>) -> Result<(), RunFault> {
     let alloc = rt.alloc();
     match Sim::new(alloc, script(alloc)?) {
-        Ok(mut station) => drive_all(rt, &mut station, socket),
+        Ok(mut station) => drive_all(rt, address, &mut station, socket),
         Err(_) => Err(RunFault::Script),
     }
 }
 
 /// Drives a station until its session has ended.
-fn drive_all(rt: &HostRuntime, station: &mut Sim, socket: &mut Socket<'_>) -> Result<(), RunFault> {
+fn drive_all(
+    rt: &HostRuntime,
+    address: SocketAddr,
+    station: &mut Sim,
+    socket: &mut Socket<'_>,
+) -> Result<(), RunFault> {
     for _ in 0..MAX_DRIVES {
         if station.done() {
             break;
         }
         let moment = now(rt).ok_or(RunFault::Clock)?;
-        let drove = drive(station, socket, moment)?;
-        print(rt, &drove)?;
+        match drive(station, socket, moment) {
+            Ok(drove) => print(rt, &drove)?,
+            Err(SimFault::NoMemory) => return Err(RunFault::NoMemory),
+            Err(SimFault::Stream) => return Err(RunFault::Stream(address, Lost::Ended)),
+        }
     }
     Ok(())
 }

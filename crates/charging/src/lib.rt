@@ -8,7 +8,6 @@ mod start;
 mod stop;
 
 pub use meter_values::on_meter_values;
-pub use numbers::LAST_NUMBER;
 pub use readings::readings_of;
 pub use start::on_start;
 pub use stop::on_stop;

@@ -2,8 +2,7 @@
 ghost use Rattle.std.specs.Prelude.{◌≡◌};
 ghost use Rattle.charging.specs.Numbers.{has_room};
 
-/// The last number that a transaction or a reading can have.
-pub const LAST_NUMBER: u32 = i32::MAX as u32;
+use hub_rows::LAST_NUMBER;
 
 /// Whether so many numbers are left after the last one that was given.
 pub fn has_room(last: u32, count: usize) -> bool

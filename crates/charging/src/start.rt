@@ -6,8 +6,7 @@ ghost use Rattle.id_tags.specs.Judge.{judge_with_owner};
 ghost use Rattle.id_tags.specs.declared.judgement.Purpose.TheVariants as purpose;
 ghost use Rattle.charging.specs.Start.{start_rule, start_key, start_of, repeat_decision, new_start, start_by_key, begin_decision};
 
-use crate::numbers::LAST_NUMBER;
-use hub_rows::{Edit, Start, StartKey, Store, StoreFault, TxKey};
+use hub_rows::{Edit, LAST_NUMBER, Start, StartKey, Store, StoreFault, TxKey};
 use id_tags::{Judged, Purpose, judge, judge_with_owner};
 use ocpp_payload::{Conf, StartTransaction};
 use ocpp_types::{AuthorizationStatus, Boxed, Mem, Moment, TagKey};

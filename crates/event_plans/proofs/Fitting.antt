@@ -335,6 +335,7 @@ plan_fits is_hosted answers (what.Disconnect station) m f = tt
 plan_fits is_hosted answers (what.Frame station text) m f = elim (f.slot station).is_connected as (λ c. PlanFits f (cond c (frame_plan answers station (frame text) m f) (turned_plan station))) [ true ↦ frame_fits answers station (frame text) m f | false ↦ tt ]
 plan_fits is_hosted answers (what.Do station command) m f = command_fits station command (command_rule station command (f.lookups.registration station) (f.slot station) m f.lookups) f
 plan_fits is_hosted answers (what.Admin a) m f = admin_fits is_hosted a f
+plan_fits is_hosted answers what.Connections m f = tt
 plan_fits is_hosted answers (what.List listing) m f = elim (rows_rule listing m f.lookups) as (λ r. PlanFits f (list_plan r)) [ Ok rows ↦ tt | Err refusal ↦ tt ]
 
 -- the owner of a granted tag is another operator

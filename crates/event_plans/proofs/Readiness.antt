@@ -6,13 +6,14 @@ use Rattle.hub_rows.specs.declared.store.StoreFault.{StoreFault}
 use Rattle.hub_rows.specs.declared.station_row.Registration.{Registration}
 use Rattle.registry.specs.declared.decision.Decision.{Decision}
 use Rattle.operator_cmds.specs.declared.command.Command.{Command}
+use Rattle.hub_events.specs.declared.listing.Row.{Row}
 use Rattle.hub_events.specs.declared.out.Outcome.{Outcome}
 use Rattle.hub_events.specs.declared.out.Outcome.TheVariants as outcome
 use Rattle.event_plans.specs.declared.plan.Plan.{Plan}
 use Rattle.pending_calls.specs.Slot.{answered_command}
 use Rattle.event_plans.specs.Commands.{end_plan, failure_plan}
 use Rattle.event_plans.specs.Effects.{StationSlot, IsReady, edit_effect}
-use Rattle.event_plans.specs.Plans.{connect_plan, decided_plan, edit_plan}
+use Rattle.event_plans.specs.Plans.{connect_plan, decided_plan, edit_plan, list_plan}
 
 pub connect_ready : (slot : List ℕ → StationSlot) (station : List ℕ) (o : Option Registration) (p : Plan) → p ≡ connect_plan station o → IsReady slot p.effect
 connect_ready slot station None p is = rw is tt
@@ -21,6 +22,9 @@ connect_ready slot station (Some r) p is = rw is tt
 pub edit_ready : (slot : List ℕ → StationSlot) (answer : Result Edit Refusal) (p : Plan) → p ≡ edit_plan answer → IsReady slot p.effect
 edit_ready slot (Ok e) p is = rw is tt
 edit_ready slot (Err refusal) p is = rw is tt
+
+pub list_ready : (slot : List ℕ → StationSlot) (rows : List Row) (p : Plan) → p ≡ list_plan (Ok rows) → IsReady slot p.effect
+list_ready slot rows p is = rw is tt
 
 effect_ready : (slot : List ℕ → StationSlot) (o : Option Edit) → IsReady slot (edit_effect o)
 effect_ready slot None = tt

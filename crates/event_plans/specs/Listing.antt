@@ -14,6 +14,7 @@ use Rattle.hub_events.specs.declared.listing.Listing.{Listing}
 use Rattle.hub_events.specs.declared.listing.Listing.TheVariants as listing
 use Rattle.hub_events.specs.declared.listing.Row.{Row}
 use Rattle.hub_events.specs.declared.listing.Row.TheVariants as row
+use Rattle.pending_calls.specs.Slot.{count_calls}
 use Rattle.event_plans.specs.declared.plan.Plan.{Plan}
 use Rattle.event_plans.specs.Effects.{StationSlot, IsReady}
 use Rattle.event_plans.specs.Plans.{list_plan}
@@ -40,11 +41,20 @@ rows_rule listing.Grants m l = Ok (map row.Grant l.grants)
 rows_rule listing.Granted m l = Ok (map row.Granted l.granted)
 rows_rule listing.Uses m l = Ok (map row.Use l.uses)
 rows_rule (listing.Connectors station) m l = of_station (l.registration station) (map row.Connector (l.connectors station))
-rows_rule (listing.Transactions station) m l = of_station (l.registration station) (map row.Transaction (l.txs station))
+rows_rule listing.OpenTransactions m l = Ok (map row.Transaction l.open_txs)
+rows_rule (listing.Transactions station first) m l = of_station (l.registration station) (map row.Transaction (l.txs station first))
 rows_rule (listing.Readings station n) m l = of_station (l.registration station) (map row.Reading (l.readings station n))
 rows_rule (listing.Reservations station) m l = of_station (l.registration station) (map row.Reservation (current m (l.reservations station)))
 rows_rule (listing.LocalList station) m l = of_station (l.registration station) (list_rows station (l.local_list station))
 rows_rule (listing.Reports station) m l = of_station (l.registration station) (map row.Report (l.reports station))
+
+-- a connected station, and how many calls are in flight and waiting there
+abbrev pub connection : StationSlot → Row
+connection s = row.Connection s.station (count_calls s)
+
+-- the connected ones of an operator's stations
+abbrev pub connections : List StationSlot → List Row
+connections slots = map connection (filter (λ s. s.is_connected) slots)
 
 -- an operator's listing, whose rows or refusal are those of a rule: it only reads, and it submits no
 -- command

@@ -15,7 +15,8 @@ use Rattle.ocpp_payload.specs.ActionClass.{action_class}
 use Rattle.ocpp_payload.specs.Request.{request}
 use Rattle.hub_rows.specs.declared.change.Edit.{Edit}
 use Rattle.hub_rows.specs.declared.station_row.Registration.{Registration}
-use Rattle.hub_rows.specs.Lookups.{Lookups}
+use Rattle.hub_rows.specs.Lookups.{Lookups, lookups_at}
+use Rattle.hub_rows.specs.Rows.{Rows}
 use Rattle.id_tags.specs.Plan.{put_rule, drop_rule, grant_rule, revoke_rule}
 use Rattle.registry.specs.Allowed.{is_allowed}
 use Rattle.registry.specs.PolicySet.{policy_rule}
@@ -26,17 +27,26 @@ use Rattle.hub_events.specs.declared.event.What.{What}
 use Rattle.hub_events.specs.declared.event.What.TheVariants as what
 use Rattle.hub_events.specs.declared.event.Admin.{Admin}
 use Rattle.hub_events.specs.declared.event.Admin.TheVariants as admin
+use Rattle.operator_cmds.specs.declared.command.Command.{Command}
+use Rattle.pending_calls.specs.declared.slots.Slots.{Slots}
+use Rattle.pending_calls.specs.OwnSlots.{own_slots}
+use Rattle.pending_calls.specs.Slots.{all_slots, slot_at}
 use Rattle.event_plans.specs.declared.plan.Plan.{Plan}
-use Rattle.event_plans.specs.Listing.{rows_rule}
+use Rattle.event_plans.specs.Listing.{connections, rows_rule}
 use Rattle.event_plans.specs.Commands.{command_plan, command_rule, failure_plan, result_plan}
 use Rattle.event_plans.specs.Effects.{StationSlot}
 use Rattle.event_plans.specs.Plans.{nothing, turned_plan, connect_plan, disconnect_plan, error_plan, decided_plan, edit_plan, list_plan}
 
--- what an operator's answers are made of: its own records and the tags that are granted to it, and the
--- slots of its stations
+-- what an operator's answers are made of: its own records and the tags that are granted to it, the slot of
+-- each of its stations, and the slots of those that were ever connected, in the order of their names
 pub record Facts : Type 0 where
   pub lookups : Lookups
   pub slot : List ℕ → StationSlot
+  pub slots : List StationSlot
+
+-- the facts of operator b, over the records and the slots of all
+abbrev pub facts_of : List ℕ → Rows → Slots Command → Facts
+facts_of b rows slots = record { lookups = lookups_at b rows; slot = λ station. slot_at b station slots; slots = own_slots b (all_slots slots) }
 
 -- ---- frames
 
@@ -92,3 +102,4 @@ plan is_hosted answers (what.Frame station text) m f = text_plan answers station
 plan is_hosted answers (what.Do station command) m f = command_plan station command (command_rule station command (f.lookups.registration station) (f.slot station) m f.lookups)
 plan is_hosted answers (what.Admin a) m f = edit_plan (admin_rule is_hosted a f.lookups)
 plan is_hosted answers (what.List listing) m f = list_plan (rows_rule listing m f.lookups)
+plan is_hosted answers what.Connections m f = list_plan (Ok (connections f.slots))

@@ -9,10 +9,9 @@ ghost use Rattle.event_plans.specs.Effects.{IsReady};
 ghost use Rattle.event_plans.specs.declared.plan.Effect.TheVariants as effect;
 
 use crate::plan::{Effect, Plan, one};
-use charging::LAST_NUMBER;
 use holdings::{plan_cancel, plan_reserve};
 use hub_events::Said;
-use hub_rows::{Registration, Store, StoreFault, TxState};
+use hub_rows::{LAST_NUMBER, Registration, Store, StoreFault, TxState};
 use id_tags::refuse_tag;
 use ocpp_frame::write_call;
 use ocpp_types::{Boxed, Mem, Refusal, State, Text};

@@ -1,15 +1,15 @@
 //! The plan for an event of an operator: the store is asked, nothing is changed.
 ghost use Rattle.std.specs.Prelude.{◌≡◌, Err, IfOk};
 ghost use Rattle.hub_rows.specs.Reads.{OnlyReads};
-ghost use Rattle.hub_rows.specs.Lookups.{lookups_at};
 ghost use Rattle.hub_rows.specs.Operators.{is_hosted};
 ghost use Rattle.pending_calls.specs.Slots.{slot_at};
 ghost use Rattle.station_calls.specs.Book.{book_view, book_rows, book_answers, IsCleanBook};
 ghost use Rattle.event_plans.specs.Effects.{IsReady};
-ghost use Rattle.event_plans.specs.Table.{plan};
+ghost use Rattle.event_plans.specs.Table.{facts_of, plan};
 
 use crate::admin::decide_admin;
 use crate::commands::plan_command;
+use crate::connections::plan_connections;
 use crate::frames::plan_text;
 use crate::list::plan_list;
 use crate::plan::Plan;
@@ -24,7 +24,7 @@ use station_calls::{Book, VendorHandler};
 use std::alloc::Global;
 
 /// The plan for an event of an operator. `hosted` are the hosted operators.
-#[tactic(auto, using(crate::proofs::Readiness::connect_ready, crate::proofs::Readiness::edit_ready))]
+#[tactic(auto, using(crate::proofs::Readiness::connect_ready, crate::proofs::Readiness::edit_ready, crate::proofs::Readiness::list_ready))]
 pub fn plan_event<S: Store, V: VendorHandler>(
     alloc: Global,
     book: &mut Book<S, V>,
@@ -34,7 +34,7 @@ pub fn plan_event<S: Store, V: VendorHandler>(
 ) -> Result<Plan, StoreFault>
     ensures reads { OnlyReads (book_view S.view) book.old book.new result }
     ensures plan { IsCleanBook S.view book.new → IfOk result (λ p. p ≡ plan (is_hosted hosted.now) (book_answers V.view book.old) event.now.what.now event.now.moment
-        (record { lookups = lookups_at event.now.op.now (book_rows S.view book.old); slot = λ st. slot_at event.now.op.now st slots.now })) }
+        (facts_of event.now.op.now (book_rows S.view book.old) slots.now)) }
     ensures answers { book_answers V.view book.new ≡ book_answers V.view book.old }
     ensures ready { IfOk result (λ p. IsReady (λ st. slot_at event.now.op.now st slots.now) p.effect) }
 {
@@ -69,5 +69,6 @@ pub fn plan_event<S: Store, V: VendorHandler>(
             Ok(edit_plan(alloc, answer)?)
         }
         What::List(listing) => plan_list(alloc, &mut book.store, op, listing, moment),
+        What::Connections => Ok(plan_connections(alloc, slots, op.as_str())?),
     }
 }

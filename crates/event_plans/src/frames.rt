@@ -6,7 +6,7 @@ ghost use Rattle.pending_calls.specs.Slots.{slot_at};
 ghost use Rattle.ocpp_frame.specs.Frame.{frame};
 ghost use Rattle.station_calls.specs.Book.{book_view, book_rows, book_answers, IsCleanBook};
 ghost use Rattle.event_plans.specs.Effects.{StationSlot, IsReady};
-ghost use Rattle.event_plans.specs.Table.{frame_plan, call_plan, state_plan};
+ghost use Rattle.event_plans.specs.Table.{facts_of, frame_plan, call_plan, state_plan};
 
 use crate::answers::{plan_error, plan_result};
 use crate::message_at::MessageAt;
@@ -34,7 +34,7 @@ pub fn plan_text<S: Store, V: VendorHandler>(
     ensures reads { OnlyReads (book_view S.view) book.old book.new result }
     ensures plan { IsCleanBook S.view book.new → IfOk result (λ p. p
         ≡ frame_plan (book_answers V.view book.old) at.now.station.now (frame text.now) at.now.moment
-        (record { lookups = lookups_at at.now.op.now (book_rows S.view book.old); slot = λ st. slot_at at.now.op.now st slots.now })) }
+        (facts_of at.now.op.now (book_rows S.view book.old) slots.now)) }
     ensures answers { book_answers V.view book.new ≡ book_answers V.view book.old }
     ensures ready { IfOk result (λ p. IsReady (λ st. slot_at at.now.op.now st slots.now) p.effect) }
 {

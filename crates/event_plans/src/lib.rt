@@ -4,6 +4,7 @@
 mod admin;
 mod answers;
 mod commands;
+mod connections;
 mod event_plan;
 mod frames;
 mod list;

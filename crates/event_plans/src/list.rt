@@ -29,7 +29,10 @@ pub fn plan_list<S: Store>(
         Listing::Granted => granted(alloc, store, op),
         Listing::Uses => uses(alloc, store, op),
         Listing::Connectors { station } => connectors(alloc, store, op, station),
-        Listing::Transactions { station } => transactions(alloc, store, op, station),
+        Listing::OpenTransactions => open_transactions(alloc, store, op),
+        Listing::Transactions { station, first } => {
+            transactions(alloc, store, op, station, *first)
+        }
         Listing::Readings {
             station,
             transaction,
@@ -90,18 +93,26 @@ fn connectors<S: Store>(
     Ok(show(alloc, rows)?)
 }
 
+fn open_transactions<S: Store>(alloc: Global, store: &mut S, op: &Text) -> Result<Plan, StoreFault>
+    ensures { Lists S.view op.now (λ l. Ok (map row.Transaction l.open_txs)) store.old store.new result }
+{
+    let rows = store.open_txs(op.as_str())?;
+    Ok(show(alloc, rows)?)
+}
+
 fn transactions<S: Store>(
     alloc: Global,
     store: &mut S,
     op: &Text,
     station: &Text,
+    first: u32,
 ) -> Result<Plan, StoreFault>
-    ensures { Lists S.view op.now (λ l. of_station (l.registration station.now) (map row.Transaction (l.txs station.now))) store.old store.new result }
+    ensures { Lists S.view op.now (λ l. of_station (l.registration station.now) (map row.Transaction (l.txs station.now first))) store.old store.new result }
 {
     if store.station(op.as_str(), station.as_str())?.is_none() {
         return Ok(no_station(alloc)?);
     }
-    let rows = store.txs(op.as_str(), station.as_str())?;
+    let rows = store.txs(op.as_str(), station.as_str(), first)?;
     Ok(show(alloc, rows)?)
 }
 

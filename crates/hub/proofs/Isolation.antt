@@ -40,7 +40,7 @@ use Rattle.hub.proofs.SlotLaws.{AreFor, append-for, differs, effect-for, outputs
 
 -- the facts of an operator are those of its view
 same_facts : (first : ℕ) (a : List ℕ) (w : World) → WellFormed w → facts_at first a w ≡ own_facts first a (view a w)
-same_facts first a w good = λ i. record { lookups = same_lookups a w.rows good.rows i; slot = λ station. slot_of-own a first station w.slots i }
+same_facts first a w good = λ i. record { lookups = same_lookups a w.rows good.rows i; slot = λ station. slot_of-own a first station w.slots i; slots = own_slots a w.slots }
 
 -- ---- records after a step of one's own, and of another
 

@@ -49,7 +49,7 @@ view a w = record { rows = own_rows a w.rows; slots = own_slots a w.slots; grant
 
 -- the facts of an operator, over its view alone
 abbrev pub own_facts : ℕ → List ℕ → View → Facts
-own_facts first a v = record { lookups = own_lookups a v.rows v.granted; slot = λ station. slot_in first a station v.slots }
+own_facts first a v = record { lookups = own_lookups a v.rows v.granted; slot = λ station. slot_in first a station v.slots; slots = v.slots }
 
 -- its records after an edit of its own, if there is one
 abbrev pub own_rows_after : List ℕ → Option Edit → Rows → Rows

@@ -16,6 +16,7 @@ use Rattle.event_plans.specs.declared.plan.Effect.{Effect}
 use Rattle.event_plans.specs.Effects.{StationSlot}
 use Rattle.hub.specs.Effects.{edit_of, effect_outputs, slots_after, tick_outputs}
 use Rattle.event_plans.specs.Table.{Facts, plan}
+use Rattle.pending_calls.specs.OwnSlots.{own_slots}
 use Rattle.pending_calls.specs.SlotList.{slot_of}
 use Rattle.pending_calls.specs.Tick.{tick}
 
@@ -33,7 +34,7 @@ pub record World : Type 0 where
 
 -- the facts of operator b, over the records and slots of all
 abbrev pub facts_at : ℕ → List ℕ → World → Facts
-facts_at first b w = record { lookups = lookups_at b w.rows; slot = λ station. slot_of first b station w.slots }
+facts_at first b w = record { lookups = lookups_at b w.rows; slot = λ station. slot_of first b station w.slots; slots = own_slots b w.slots }
 
 -- the records after an edit of operator b, if there is one
 abbrev pub rows_after : List ℕ → Option Edit → Rows → Rows

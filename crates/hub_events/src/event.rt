@@ -57,6 +57,8 @@ pub enum What {
     Admin(Admin),
     /// The operator asks for a list of its records.
     List(Listing),
+    /// The operator asks which of its stations are connected.
+    Connections,
 }
 
 /// An operator's edit of its records.

@@ -26,9 +26,12 @@ pub enum Listing {
     Connectors {
         station: Text,
     },
-    /// The transactions of a station.
+    /// The open transactions of all its stations.
+    OpenTransactions,
+    /// The transactions of a station from that number on.
     Transactions {
         station: Text,
+        first: u32,
     },
     /// All readings of a station, or those that were sent with the number of a transaction.
     Readings {
@@ -69,6 +72,8 @@ pub enum Row {
     /// An entry of a station's local list.
     LocalTag { station: Text, entry: LocalTag },
     Report(ReportRow),
+    /// A connected station, and how many calls are in flight and waiting there.
+    Connection { station: Text, calls: usize },
 }
 
 /// A record that listings show.

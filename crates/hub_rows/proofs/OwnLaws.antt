@@ -1,5 +1,5 @@
 -- What a change does to the rows of each operator.
-use Rattle.std.specs.Prelude.{◌≡◌, ◌≢◌, ℕ, max, ℤ, pos, negsuc, ◌+◌, List, [], ◌∷◌, Option, None, Some, Bool, true, false, cond, ◌≤◌, ◌++◌, nat_lt, ◌&&◌, ◌==◌, not, is_none, filter, map}
+use Rattle.std.specs.Prelude.{◌≡◌, ◌≢◌, ℕ, max, ℤ, pos, negsuc, ◌+◌, List, [], ◌∷◌, Option, None, Some, Bool, true, false, cond, ◌≤◌, ◌++◌, nat_le, nat_lt, ◌&&◌, ◌==◌, not, is_none, filter, map}
 use Rattle.std.proofs.Common.{refl, sym, subst, ap, ◌∙◌, arith}
 use Rattle.std.proofs.lemmas.Int.{ints}
 use Rattle.std.proofs.lemmas.Bool.Decides.{nat_tests}
@@ -250,7 +250,8 @@ same_lookups a rows good =
       grants = own-those (λ r. r.op) a rows.grants i;
       granted = granted_in a rows.tags rows.grants;
       connectors = λ station. those-own (λ r. r.op) a (λ r. bytes_eq r.station station) rows.connectors i;
-      txs = λ station. those-own (λ r. r.op) a (λ r. bytes_eq r.station station) rows.transactions i;
+      txs = λ station first. those-own (λ r. r.op) a (λ r. bytes_eq r.station station && nat_le first r.number) rows.transactions i;
+      open_txs = those-own (λ r. r.op) a (λ r. is_none r.stop) rows.transactions i;
       readings = λ station n. those_readings station n i;
       reservations = λ station. those-own (λ r. r.op) a (λ r. bytes_eq r.station station) rows.reservations i;
       reports = λ station. those-own (λ r. r.op) a (λ r. bytes_eq r.station station) rows.reports i;

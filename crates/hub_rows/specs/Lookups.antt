@@ -31,7 +31,7 @@ use Rattle.hub_rows.specs.Grants.{granted_in, granted_tag_in, grants_in, has_gra
 use Rattle.hub_rows.specs.Reservations.{reservations_in, reserved_until_in}
 use Rattle.hub_rows.specs.Rows.{Rows, registration_at}
 use Rattle.hub_rows.specs.Tags.{own_tag_in}
-use Rattle.hub_rows.specs.Transactions.{is_used_in, same_start_in, tx_in, has_open_in, txs_in, readings_in, last_numbers_in}
+use Rattle.hub_rows.specs.Transactions.{is_used_in, same_start_in, tx_in, has_open_in, open_txs_in, txs_from_in, readings_in, last_numbers_in}
 use Rattle.hub_rows.specs.Uses.{uses_in}
 
 pub record Lookups : Type 0 where
@@ -66,7 +66,10 @@ pub record Lookups : Type 0 where
   -- the tags that are granted to it, in the order of key, then owner
   pub granted : List GrantedTag
   pub connectors : List ℕ → List ConnectorRow
-  pub txs : List ℕ → List TxRow
+  -- those of a station from a number on
+  pub txs : List ℕ → ℕ → List TxRow
+  -- the open ones of all stations
+  pub open_txs : List TxRow
   -- of all transactions, or of those sent with a number
   pub readings : List ℕ → Option ℕ → List ReadingRow
   pub reservations : List ℕ → List ReservationRow
@@ -115,7 +118,8 @@ lookups_at b rows = record {
   grants = grants_in b rows.grants;
   granted = granted_in b rows.tags rows.grants;
   connectors = λ station. connectors_in b station rows.connectors;
-  txs = λ station. txs_in b station rows.transactions;
+  txs = λ station first. txs_from_in b station first rows.transactions;
+  open_txs = open_txs_in b rows.transactions;
   readings = λ station n. readings_in b station n rows.readings;
   reservations = λ station. reservations_in b station rows.reservations;
   reports = λ station. reports_in b station rows.reports;
@@ -211,7 +215,8 @@ own_lookups a rows granted = record {
   grants = rows.grants;
   granted = granted;
   connectors = λ station. filter (λ r. bytes_eq r.station station) rows.connectors;
-  txs = λ station. filter (λ r. bytes_eq r.station station) rows.transactions;
+  txs = λ station first. filter (λ r. bytes_eq r.station station && nat_le first r.number) rows.transactions;
+  open_txs = filter (λ r. is_none r.stop) rows.transactions;
   readings = λ station n. filter (own_reading station n) rows.readings;
   reservations = λ station. filter (λ r. bytes_eq r.station station) rows.reservations;
   reports = λ station. filter (λ r. bytes_eq r.station station) rows.reports;

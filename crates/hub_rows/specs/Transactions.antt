@@ -1,5 +1,5 @@
 -- Transactions and meter readings, and what rules ask of them.
-use Rattle.std.specs.Prelude.{◌≡◌, ℕ, ℤ, pos, ◌+◌, ◌≤◌, ◌⊎◌, List, [], ◌∷◌, map, Bool, true, false, not, ◌&&◌, ◌==◌, is_none, Option, Some, None}
+use Rattle.std.specs.Prelude.{◌≡◌, ℕ, nat_le, ℤ, pos, ◌+◌, ◌≤◌, ◌⊎◌, List, [], ◌∷◌, map, Bool, true, false, not, ◌&&◌, ◌==◌, is_none, Option, Some, None}
 use Rattle.std.specs.Option.{option_map}
 use Rattle.std.specs.Ordering.{int_eq}
 use Rattle.std.specs.Str.{bytes_eq}
@@ -72,6 +72,14 @@ has_open_in b station txs = any_of (λ r. r.op) b (λ r. bytes_eq r.station stat
 
 abbrev pub txs_in : List ℕ → List ℕ → List TxRow → List TxRow
 txs_in b station txs = those (λ r. r.op) b (λ r. bytes_eq r.station station) txs
+
+-- those of a station from that number on
+abbrev pub txs_from_in : List ℕ → List ℕ → ℕ → List TxRow → List TxRow
+txs_from_in b station first txs = those (λ r. r.op) b (λ r. bytes_eq r.station station && nat_le first r.number) txs
+
+-- the open ones of all stations
+abbrev pub open_txs_in : List ℕ → List TxRow → List TxRow
+open_txs_in b txs = those (λ r. r.op) b is_open txs
 
 -- ---- readings
 

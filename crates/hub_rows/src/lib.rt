@@ -32,5 +32,7 @@ pub use reservation_row::{Reservation, ReservationId, ReservationRow};
 pub use station_row::{Boot, Registration, StationRow};
 pub use store::{Store, StoreFault};
 pub use tag_row::{Tag, TagRow};
-pub use tx_row::{LastNumbers, Start, StartKey, Stop, TxKey, TxOwnerRow, TxRow, TxState};
+pub use tx_row::{
+    LAST_NUMBER, LastNumbers, Start, StartKey, Stop, TxKey, TxOwnerRow, TxRow, TxState,
+};
 pub use use_row::UseRow;

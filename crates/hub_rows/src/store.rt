@@ -4,7 +4,7 @@ ghost use Rattle.hub_rows.specs.Rows.{registration_at};
 ghost use Rattle.hub_rows.specs.WellFormed.{WellFormedRows};
 ghost use Rattle.hub_rows.specs.Tags.{own_tag_in};
 ghost use Rattle.hub_rows.specs.Lookups.{stations_in, tags_in, connectors_in, local_list_in, reports_in};
-ghost use Rattle.hub_rows.specs.Transactions.{is_used_in, same_start_in, tx_in, has_open_in, txs_in, readings_in, last_numbers_in};
+ghost use Rattle.hub_rows.specs.Transactions.{is_used_in, same_start_in, tx_in, has_open_in, open_txs_in, txs_from_in, readings_in, last_numbers_in};
 ghost use Rattle.hub_rows.specs.Changes.{after_change, Fits};
 ghost use Rattle.hub_rows.specs.Grants.{granted_in, granted_tag_in, grants_in, has_grant_in};
 ghost use Rattle.hub_rows.specs.Reservations.{reservations_in, reserved_until_in};
@@ -193,11 +193,17 @@ pub trait Store {
         ensures found { (view self.new).clean
             → IfOk result (λ r. r ≡ connectors_in op.now station.now (view self.old).rows.connectors) };
 
-    /// The transactions of a station, in the order of their numbers.
-    fn txs(&mut self, op: &str, station: &str) -> Result<Listed<TxRow>, StoreFault>
+    /// The transactions of a station from that number on, in the order of their numbers.
+    fn txs(&mut self, op: &str, station: &str, first: u32) -> Result<Listed<TxRow>, StoreFault>
         ensures reads { OnlyReads view self.old self.new result }
         ensures found { (view self.new).clean
-            → IfOk result (λ r. r ≡ txs_in op.now station.now (view self.old).rows.transactions) };
+            → IfOk result (λ r. r ≡ txs_from_in op.now station.now first (view self.old).rows.transactions) };
+
+    /// The open transactions of an operator, in the order of their stations, then of their numbers.
+    fn open_txs(&mut self, op: &str) -> Result<Listed<TxRow>, StoreFault>
+        ensures reads { OnlyReads view self.old self.new result }
+        ensures found { (view self.new).clean
+            → IfOk result (λ r. r ≡ open_txs_in op.now (view self.old).rows.transactions) };
 
     /// The readings of a station in the order of their numbers: all, or those that were sent with
     /// the number of a transaction.

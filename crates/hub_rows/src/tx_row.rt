@@ -6,6 +6,9 @@ use ocpp_types::{AuthorizationStatus, Moment, Reason, TagKey, Text, copied};
 use std::alloc::AllocError;
 use std::cmp::Ordering;
 
+/// The last number that a transaction, a reading or a use can have.
+pub const LAST_NUMBER: u32 = i32::MAX as u32;
+
 /// A transaction of a station. Its key is `op`, `station` and `number`.
 #[derive(Drop)]
 pub struct TxRow {

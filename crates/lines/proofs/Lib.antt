@@ -1,2 +1,3 @@
 pub mod Returns
 pub mod Utf8Lines
+pub mod MarkLaws

@@ -3,14 +3,13 @@ use Rattle.std.specs.Prelude.{ℕ, List, [], ◌∷◌, codes, Bool, true, false
 use Rattle.hub_events.specs.declared.event.What.{What}
 use Rattle.hub_events.specs.declared.event.What.TheVariants as what
 use Rattle.hub_events.specs.declared.event.Admin.TheVariants as admin
-use Rattle.hub_events.specs.declared.listing.Listing.{Listing}
 use Rattle.hub_events.specs.declared.listing.Listing.TheVariants as listing
 use Rattle.ocpp_types.specs.Named.{named}
 use Rattle.operator_cmds.specs.Command.{command}
 use Rattle.ocpp_types.specs.Policy.{policies}
 use Rattle.ocpp_types.specs.declared.policy.Policy.{Policy}
 use Rattle.serde_json.specs.Read.{read}
-use Rattle.lines.specs.Words.{first_word, only_word, number_of, parent_of, is_expiry, expiry_of, ◌>>=◌}
+use Rattle.lines.specs.Words.{first_word, only_word, number_of, transaction_number, parent_of, is_expiry, expiry_of, ◌>>=◌}
 
 -- `connect ST`
 abbrev pub connect_form : List ℕ → Option What
@@ -114,11 +113,20 @@ connectors_form rest = do
   station ← only_word rest
   Some (what.List (listing.Connectors station))
 
--- `transactions ST`
+-- `transactions ST FROM`
+abbrev pub later_transactions_form : List ℕ → Option What
+later_transactions_form rest = do
+  station ← first_word rest
+  first ← transaction_number station.1
+  Some (what.List (listing.Transactions station.0 first))
+
+-- `transactions ST`, which is from 0 on, or with a number
+abbrev pub transactions_by_words : Option (List ℕ) → List ℕ → Option What
+transactions_by_words (Some station) rest = Some (what.List (listing.Transactions station 0))
+transactions_by_words None rest = later_transactions_form rest
+
 abbrev pub transactions_form : List ℕ → Option What
-transactions_form rest = do
-  station ← only_word rest
-  Some (what.List (listing.Transactions station))
+transactions_form rest = transactions_by_words (only_word rest) rest
 
 -- `readings ST N`
 abbrev pub numbered_readings_form : List ℕ → Option What
@@ -158,12 +166,12 @@ abbrev pub station_list_form : List ℕ → Option What
 station_list_form = by_word ((codes "connectors", connectors_form) ∷ (codes "transactions", transactions_form) ∷ (codes "readings", readings_form) ∷ (codes "reservations", reservations_form) ∷ (codes "locallist", local_list_form) ∷ (codes "reports", reports_form) ∷ [])
 
 -- the listings of an operator
-abbrev pub plain_list : List ℕ → Option Listing
-plain_list = named ((codes "stations", listing.Stations) ∷ (codes "tags", listing.Tags) ∷ (codes "grants", listing.Grants) ∷ (codes "granted", listing.Granted) ∷ (codes "uses", listing.Uses) ∷ [])
+abbrev pub plain_list : List ℕ → Option What
+plain_list = named ((codes "stations", what.List listing.Stations) ∷ (codes "connections", what.Connections) ∷ (codes "tags", what.List listing.Tags) ∷ (codes "grants", what.List listing.Grants) ∷ (codes "granted", what.List listing.Granted) ∷ (codes "uses", what.List listing.Uses) ∷ (codes "open", what.List listing.OpenTransactions) ∷ [])
 
 -- the forms after `list`
-abbrev pub list_by_word : Option Listing → List ℕ → Option What
-list_by_word (Some l) rest = Some (what.List l)
+abbrev pub list_by_word : Option What → List ℕ → Option What
+list_by_word (Some w) rest = Some w
 list_by_word None rest = station_list_form rest
 
 abbrev pub list_form : List ℕ → Option What

@@ -4,3 +4,4 @@ pub mod InputLines
 pub mod RowLines
 pub mod OutputLines
 pub mod Orders
+pub mod Marks

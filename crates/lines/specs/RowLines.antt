@@ -166,6 +166,10 @@ local_tag_line op station e = op ++ (codes " row localtag " ++ (station ++ (code
 abbrev pub report_line : List ℕ → ReportRow → List ℕ
 report_line op r = op ++ (codes " row report " ++ (r.station ++ (codes " " ++ (kind_of r.status ++ (codes " " ++ (reported_name r.status ++ (codes " " ++ decimal r.moment)))))))
 
+-- `OP row connection ST CALLS`
+abbrev pub connection_line : List ℕ → List ℕ → ℕ → List ℕ
+connection_line op station calls = op ++ (codes " row connection " ++ (station ++ (codes " " ++ decimal calls)))
+
 abbrev pub row_line : List ℕ → Row → List ℕ
 row_line op (row.Station r) = station_line op r
 row_line op (row.Tag r) = tag_line op r
@@ -179,3 +183,4 @@ row_line op (row.Reservation r) = reservation_line op r
 row_line op (row.LocalList station version) = local_list_line op station version
 row_line op (row.LocalTag station entry) = local_tag_line op station entry
 row_line op (row.Report r) = report_line op r
+row_line op (row.Connection station calls) = connection_line op station calls

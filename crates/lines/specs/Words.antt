@@ -1,7 +1,8 @@
 -- Words that are separated by one space.
-use Rattle.std.specs.Prelude.{ℕ, nat_lt, ◌==◌, Bool, ◌&&◌, ◌||◌, is_some, List, length, Option, Some, None, codes, if◌then◌else◌, option_and_then}
+use Rattle.std.specs.Prelude.{ℕ, nat_le, nat_lt, ◌==◌, slice_index, Bool, ◌&&◌, ◌||◌, is_some, List, length, Option, Some, None, codes, if◌then◌else◌, option_and_then}
 use Rattle.std.specs.List.{position_or_len, before_first, after_first}
 use Rattle.std.specs.Str.{bytes_eq}
+use Rattle.hub_rows.specs.Transactions.{last_of_all}
 use Rattle.ocpp_types.specs.Digits.{number_of_digits}
 use Rattle.ocpp_types.specs.Moment.{moment_of}
 
@@ -19,6 +20,14 @@ only_word text = if nat_lt 0 (length text) && (position_or_len is_space text == 
 -- the number that 1 to 12 decimal digits are
 abbrev pub number_of : List ℕ → Option ℕ
 number_of text = number_of_digits 12 text
+
+-- whether a text begins with the digit 0
+abbrev pub begins_with_0 : List ℕ → Bool
+begins_with_0 text = slice_index text 0 == 48
+
+-- the number from 1 to 2147483647 that decimal digits without a 0 in front are
+abbrev pub transaction_number : List ℕ → Option ℕ
+transaction_number text = if begins_with_0 text then None else option_and_then (λ n. if nat_le n last_of_all then Some n else None) (number_of text)
 
 -- the moment of that number of seconds
 abbrev pub moment_at : List ℕ → Option ℕ

@@ -6,6 +6,7 @@ mod fields;
 mod forms;
 mod input_line;
 mod list_forms;
+mod mark;
 mod order;
 mod output_line;
 mod rows;
@@ -13,5 +14,6 @@ mod words;
 
 pub use added_line::add_line;
 pub use input_line::{Line, MAX_LINE, read_line};
+pub use mark::{Bounds, bounds_of, mark_of};
 pub use order::read_order;
 pub use output_line::print_out;

@@ -1,8 +1,8 @@
 //! The forms of listings (docs/RULES.md, Lines).
 ghost use Rattle.std.specs.Prelude.{◌≡◌, IfOk};
-ghost use Rattle.lines.specs.Forms.{list_form, plain_list, station_list_form, connectors_form, transactions_form, readings_form, numbered_readings_form, reservations_form, local_list_form, reports_form};
+ghost use Rattle.lines.specs.Forms.{list_form, plain_list, station_list_form, connectors_form, transactions_form, later_transactions_form, readings_form, numbered_readings_form, reservations_form, local_list_form, reports_form};
 
-use crate::words::{first_word, name_of, number_of};
+use crate::words::{first_word, name_of, number_of, transaction_number};
 use hub_events::{Listing, What};
 use ocpp_types::{Mem, Text};
 use std::alloc::Global;
@@ -12,21 +12,23 @@ pub fn list(alloc: Global, rest: &str) -> Mem<Option<What>>
     ensures { IfOk result (λ w. w ≡ list_form rest.now) }
 {
     match plain_list(rest) {
-        Some(listing) => Ok(Some(What::List(listing))),
+        Some(what) => Ok(Some(what)),
         None => station_list_form(alloc, rest),
     }
 }
 
 /// A listing of the operator, which names no station.
-fn plain_list(rest: &str) -> Option<Listing>
+fn plain_list(rest: &str) -> Option<What>
     ensures { result ≡ plain_list rest.now }
 {
     match rest {
-        "stations" => Some(Listing::Stations),
-        "tags" => Some(Listing::Tags),
-        "grants" => Some(Listing::Grants),
-        "granted" => Some(Listing::Granted),
-        "uses" => Some(Listing::Uses),
+        "stations" => Some(What::List(Listing::Stations)),
+        "connections" => Some(What::Connections),
+        "tags" => Some(What::List(Listing::Tags)),
+        "grants" => Some(What::List(Listing::Grants)),
+        "granted" => Some(What::List(Listing::Granted)),
+        "uses" => Some(What::List(Listing::Uses)),
+        "open" => Some(What::List(Listing::OpenTransactions)),
         _ => None,
     }
 }
@@ -61,9 +63,25 @@ fn transactions(alloc: Global, rest: &str) -> Mem<Option<What>>
     ensures { IfOk result (λ w. w ≡ transactions_form rest.now) }
 {
     let Some(station) = name_of(alloc, rest)? else {
+        return later_transactions_form(alloc, rest);
+    };
+    Ok(Some(What::List(Listing::Transactions { station, first: 0 })))
+}
+
+/// The transactions from a number on.
+fn later_transactions_form(alloc: Global, rest: &str) -> Mem<Option<What>>
+    ensures { IfOk result (λ w. w ≡ later_transactions_form rest.now) }
+{
+    let Some((station, rest)) = first_word(rest) else {
         return Ok(None);
     };
-    Ok(Some(What::List(Listing::Transactions { station })))
+    let Some(first) = transaction_number(rest) else {
+        return Ok(None);
+    };
+    Ok(Some(What::List(Listing::Transactions {
+        station: Text::copy_of(alloc, station)?,
+        first,
+    })))
 }
 
 fn readings(alloc: Global, rest: &str) -> Mem<Option<What>>

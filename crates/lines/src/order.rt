@@ -50,6 +50,6 @@ fn is_order(what: &What) -> bool
 {
     match what {
         What::Connect { .. } | What::Disconnect { .. } | What::Frame { .. } => false,
-        What::Do { .. } | What::Admin(_) | What::List(_) => true,
+        What::Do { .. } | What::Admin(_) | What::List(_) | What::Connections => true,
     }
 }

@@ -38,6 +38,9 @@ pub fn print_row(alloc: Global, op: &Text, row: &Row) -> Mem<String>
         }
         Row::LocalTag { station, entry } => print_local_tag(alloc, op, station, entry),
         Row::Report(row) => print_report(alloc, op, row),
+        Row::Connection { station, calls } => {
+            Ok(format!(in alloc; "{op} row connection {station} {calls}")?)
+        }
     }
 }
 

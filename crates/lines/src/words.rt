@@ -1,7 +1,8 @@
 //! The words of a line.
 ghost use Rattle.std.specs.Prelude.{◌≡◌, IfOk, option_map};
-ghost use Rattle.lines.specs.Words.{first_word, only_word, number_of, moment_at, is_expiry, expiry_of};
+ghost use Rattle.lines.specs.Words.{first_word, only_word, number_of, begins_with_0, transaction_number, moment_at, is_expiry, expiry_of};
 
+use hub_rows::LAST_NUMBER;
 use ocpp_types::{Mem, Moment, Text, number_of_digits};
 use std::alloc::Global;
 
@@ -67,4 +68,23 @@ pub fn number_of(text: &str) -> Option<u64>
     ensures { result ≡ number_of text.now }
 {
     number_of_digits(text, MAX_DIGITS)
+}
+
+/// The number of a transaction, 1 to 2147483647, in decimal without a 0 in front.
+pub fn transaction_number(text: &str) -> Option<u32>
+    ensures { result ≡ transaction_number text.now }
+{
+    if begins_with_0(text) {
+        return None;
+    }
+    match u32::try_from(number_of(text)?) {
+        Ok(number) if number <= LAST_NUMBER => Some(number),
+        _ => None,
+    }
+}
+
+fn begins_with_0(text: &str) -> bool
+    ensures { result ≡ begins_with_0 text.now }
+{
+    matches!(text.as_bytes(), [b'0', ..])
 }

@@ -4,9 +4,11 @@
 
 mod call;
 mod ended;
+mod own_rows;
 mod slot;
 mod slots;
 
 pub use call::{Call, Message, Moved, NewCall};
 pub use ended::Ended;
+pub use slot::Slot;
 pub use slots::Slots;

@@ -1,6 +1,6 @@
 //! The calls of one station.
 ghost use Rattle.std.specs.Prelude.{◌≡◌, ◌≤◌, false, length, option_map, IsOk, IfOk, OnOk, OnErr, OnSome, IfNone};
-ghost use Rattle.pending_calls.specs.Slot.{IsSlot, most_calls, fresh, ready, call_of, message_of, answered_command, submitted, sent_now, moved_on, move, is_answered, answered, answer_move, is_overdue, expired, expiry, cut, ended_calls, with_connection};
+ghost use Rattle.pending_calls.specs.Slot.{IsSlot, most_calls, count_calls, fresh, ready, call_of, message_of, answered_command, submitted, sent_now, moved_on, move, is_answered, answered, answer_move, is_overdue, expired, expiry, cut, ended_calls, with_connection};
 
 use crate::call::{Call, InFlight, Message, Moved, NewCall, Waiting};
 use crate::ended::Ended;
@@ -61,7 +61,7 @@ impl<C: Drop> NamedRow for Slot<C> {
 
 impl<C: Drop> Slot<C> {
     /// A station that isn't connected. Its first call has the number `number`.
-    pub fn new(alloc: Global, number: u32, op: Text, station: Text) -> Slot<C>
+    pub(crate) fn new(alloc: Global, number: u32, op: Text, station: Text) -> Slot<C>
         ensures { result ≡ fresh number op station }
     {
         Slot {
@@ -74,6 +74,13 @@ impl<C: Drop> Slot<C> {
         }
     }
 
+    /// The station.
+    pub fn station(&self) -> &Text
+        ensures { result.now ≡ self.now.station }
+    {
+        &self.station
+    }
+
     /// Whether the station is connected.
     pub fn is_connected(&self) -> bool
         ensures { result ≡ self.now.is_connected }
@@ -81,15 +88,22 @@ impl<C: Drop> Slot<C> {
         self.is_connected
     }
 
+    /// How many calls are in flight and waiting.
+    pub fn call_count(&self) -> usize
+        ensures { result ≡ count_calls self.now }
+    {
+        let in_flight = if self.in_flight.is_some() { 1 } else { 0 };
+        in_flight + self.waiting.len()
+    }
+
     /// The number of the next call, or why there can be none.
-    pub fn ready(&self) -> Result<u32, Refusal>
+    pub(crate) fn ready(&self) -> Result<u32, Refusal>
         ensures number { result ≡ ready self.now }
         ensures slot { IsSlot self.now }
     {
-        let in_flight = if self.in_flight.is_some() { 1 } else { 0 };
         if !self.is_connected {
             Err(Refusal::NotConnected)
-        } else if MOST_CALLS <= in_flight + self.waiting.len() {
+        } else if MOST_CALLS <= self.call_count() {
             Err(Refusal::QueueFull)
         } else if self.next_number <= LAST_NUMBER {
             Ok(self.next_number)
@@ -99,7 +113,7 @@ impl<C: Drop> Slot<C> {
     }
 
     /// Whether the answer time of the call in flight has passed at `moment`.
-    pub fn is_overdue(&self, moment: Moment) -> bool
+    pub(crate) fn is_overdue(&self, moment: Moment) -> bool
         ensures { result ≡ is_overdue moment self.now }
     {
         match &self.in_flight {
@@ -109,7 +123,7 @@ impl<C: Drop> Slot<C> {
     }
 
     /// The last second at which the call in flight isn't overdue.
-    pub fn quiet_until(&self) -> u64
+    pub(crate) fn quiet_until(&self) -> u64
         ensures { is_overdue result self.now ≡ false }
     {
         match &self.in_flight {
@@ -129,7 +143,7 @@ impl<C: Drop> Slot<C> {
     }
 
     /// The command of the call in flight, if an answer with that id ends it.
-    pub fn answered_command(&self, id: &str) -> Option<&C>
+    pub(crate) fn answered_command(&self, id: &str) -> Option<&C>
         ensures { option_map (λ c. c.now) result ≡ answered_command id.now self.now }
     {
         if !self.is_answered(id) {
@@ -162,7 +176,7 @@ impl<C: Drop> Slot<C> {
 
     /// Where `id` is the number of the call in flight, in decimal, that call ends and the next one
     /// is sent at `moment`.
-    pub fn answer(&mut self, id: &str, moment: Moment) -> Option<Moved<C>>
+    pub(crate) fn answer(&mut self, id: &str, moment: Moment) -> Option<Moved<C>>
         ensures moved { result ≡ answer_move id.now self.old }
         ensures slot { self.new ≡ answered id.now moment self.old }
     {
@@ -175,7 +189,7 @@ impl<C: Drop> Slot<C> {
 
     /// Where the answer time of the call in flight has passed, that call ends and the next one is
     /// sent at `moment`.
-    pub fn expire(&mut self, moment: Moment) -> Option<Moved<C>>
+    pub(crate) fn expire(&mut self, moment: Moment) -> Option<Moved<C>>
         ensures moved { result ≡ expiry moment self.old }
         ensures slot { self.new ≡ expired moment self.old }
     {
@@ -187,7 +201,7 @@ impl<C: Drop> Slot<C> {
     }
 
     /// The station is no longer connected, and all its calls end.
-    pub fn cut(&mut self, alloc: Global) -> Ended<C>
+    pub(crate) fn cut(&mut self, alloc: Global) -> Ended<C>
         ensures ended { result ≡ ended_calls self.old }
         ensures few { length result ≤ most_calls }
         ensures slot { self.new ≡ cut self.old }
@@ -199,7 +213,7 @@ impl<C: Drop> Slot<C> {
     }
 
     /// The station is connected, and the calls of its last connection end.
-    pub fn connect(&mut self, alloc: Global) -> Ended<C>
+    pub(crate) fn connect(&mut self, alloc: Global) -> Ended<C>
         ensures ended { result ≡ ended_calls self.old }
         ensures few { length result ≤ most_calls }
         ensures slot { self.new ≡ with_connection self.old }
@@ -243,7 +257,7 @@ impl<C: Drop> Slot<C> {
     }
 
     /// A call that is sent at `moment` where none is in flight, and else waits.
-    pub fn submit(&mut self, new: NewCall<C>, moment: Moment) -> Mem<Option<Message>>
+    pub(crate) fn submit(&mut self, new: NewCall<C>, moment: Moment) -> Mem<Option<Message>>
         requires { IsOk (ready self.old) }
         ensures sent { IfOk result (λ message. message ≡ sent_now new.text self.old) }
         ensures ok { OnOk result (self.new ≡ submitted new.command new.text moment self.old) }

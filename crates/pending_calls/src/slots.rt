@@ -4,10 +4,12 @@ ghost use Rattle.std.specs.List.Sorted.{IsStrictlySortedBy};
 ghost use Rattle.std.proofs.Props.{props};
 ghost use Rattle.hub_rows.specs.Keyed.{by_key, put};
 ghost use Rattle.pending_calls.specs.Slot.{IsSlot, most_calls, ready, answered_command, submitted, sent_now, expired, answered, answer_move, is_overdue, cut, ended_calls, with_connection};
+ghost use Rattle.pending_calls.specs.OwnSlots.{own_slots};
 ghost use Rattle.pending_calls.specs.SlotList.{slot_key, changed_at, first_changed, next_expiry, IsFirstThat, NoneDue};
 
 use crate::call::{Message, Moved, NewCall};
 use crate::ended::Ended;
+use crate::own_rows::own_rows;
 use crate::slot::{ANSWER_SECONDS, Slot};
 use hub_rows::{place_of_name, row_of};
 use ocpp_types::{Boxed, Mem, Moment, Refusal, Text};
@@ -56,6 +58,14 @@ impl<C: Drop> Slots<C> {
             searched: 0,
             searched_at: 0,
         }
+    }
+
+    /// The slots of an operator, in the order of their stations: of each that was ever connected. It
+    /// takes no memory.
+    pub fn of_operator<'a>(&'a self, op: &str) -> &'a [Boxed<Slot<C>>]
+        ensures { result.now ≡ own_slots op.now (all_slots self.now) }
+    {
+        own_rows(&self.list, op)
     }
 
     /// Whether a station is connected. It takes no memory.

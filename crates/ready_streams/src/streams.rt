@@ -9,7 +9,7 @@ use mio::{Events, Interest, Poll, Token};
 use std::alloc::{AllocError, Global};
 use std::io;
 use std::io::ErrorKind;
-use std::net::{Ipv4Addr, Net, SocketAddr};
+use std::net::{Net, SocketAddr};
 use std::rc::Rc;
 use std::time::Duration;
 
@@ -44,11 +44,11 @@ pub struct Streams {
 }
 
 impl Streams {
-    /// The streams of a listener on 127.0.0.1 at a port, with the longest queue of connections that the system allows.
-    /// `rt` gives the network. Errors: the port is in use or not allowed, and those of the system's epoll.
-    pub fn listen<N: Net>(alloc: Global, rt: &N, port: u16) -> io::Result<Streams> {
+    /// The streams of a listener at an address, with the longest queue of connections that the system allows. `rt`
+    /// gives the network. Errors: the address is in use, not allowed or none of this machine, and those of the
+    /// system's epoll.
+    pub fn listen<N: Net>(alloc: Global, rt: &N, address: SocketAddr) -> io::Result<Streams> {
         let poll = Poll::new(rt)?;
-        let address = SocketAddr::from((Ipv4Addr::LOCALHOST, port));
         let mut listener = TcpListener::bind(rt, address)?;
         poll.registry()
             .register(&mut listener, LISTENER, Interest::READABLE)?;

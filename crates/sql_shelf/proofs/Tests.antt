@@ -1,6 +1,6 @@
 -- What the WHERE of each statement is as a test of typed rows. A range is one key where both its ends are that key,
--- and all where it goes from the least to a blob, which is above every text and every number.
-use Rattle.std.proofs.Common.{◌≡◌, ◌∙◌, ◌&&◌, ◌==◌, ℕ, ℤ, pos, negsuc, List, [], ◌∷◌, ◌++◌, ap, ap₂, subst, refl, sym, arith, Option, Some, None, Bool, true, false, true≢false, inl, inr, eqb-true, eq-eqb, Ordering, Less, Equal, Greater, int_cmp}
+-- and all from a key on where it goes from that to a blob, which is above every text and every number.
+use Rattle.std.proofs.Common.{◌≡◌, ◌∙◌, ◌&&◌, ◌==◌, ℕ, nat_le, ℤ, pos, negsuc, List, [], ◌∷◌, ◌++◌, ap, ap₂, subst, refl, sym, arith, Option, Some, None, Bool, true, false, true≢false, inl, inr, eqb-true, eq-eqb, Ordering, Less, Equal, Greater, int_cmp}
 use Rattle.std.specs.Str.{bytes_eq}
 use Rattle.std.specs.Ordering.{int_eq, is_eq, is_le, is_ge, nat_cmp}
 use Rattle.std.specs.Cmp.Lexicographic.{slice_cmp}
@@ -122,8 +122,8 @@ below_blob : (n : ℤ) (b : List ℕ) → is_true (binary (Compare Le Binary) (I
 unfolding binary value_cmp lib.Ieee.is_nan lib.Ieee.lt
 below_blob n b = refl
 
-not_below : (n : ℕ) → is_ge (int_cmp (pos n) (pos 0)) ≡ true
-not_below n = grind (arith, nat_tests)
+not_less : (m n : ℕ) → is_ge (int_cmp (pos m) (pos n)) ≡ nat_le n m
+not_less m n = grind (arith, nat_tests)
 
 -- no shifted number is below the least number of 32 bits
 not_below_least : (n : ℕ) → is_ge (int_cmp (unshifted n) (negsuc 2147483647)) ≡ true
@@ -132,8 +132,8 @@ not_below_least n = grind (arith, nat_tests, ints)
 one_number : (m n : ℤ) → between (Int m) (Int n) (Int n) ≡ int_eq m n
 one_number m n = ap₂ (λ a b. a && (b && true)) (at_least m n) (at_most m n) ∙ both_ends (int_cmp m n)
 
-all_counts : (n : ℕ) → between (Int (pos n)) (Int (pos 0)) (Blob []) ≡ true
-all_counts n = ap₂ (λ a b. a && (b && true)) (at_least (pos n) (pos 0) ∙ not_below n) (below_blob (pos n) [])
+counts_from : (m n : ℕ) → between (Int (pos m)) (Int (pos n)) (Blob []) ≡ nat_le n m
+counts_from m n = ap₂ (λ a b. a && (b && true)) (at_least (pos m) (pos n) ∙ not_less m n) (below_blob (pos m) []) ∙ and_true (nat_le n m)
 
 all_signed : (n : ℕ) → between (Int (unshifted n)) (Int (negsuc 2147483647)) (Blob []) ≡ true
 all_signed n = ap₂ (λ a b. a && (b && true)) (at_least (unshifted n) (negsuc 2147483647) ∙ not_below_least n) (below_blob (unshifted n) [])
@@ -173,8 +173,8 @@ module _ (op station : List ℕ) where
   pub one_tx : (n : ℕ) → IsTest txs (where_is 0 (1 ∷ 2 ∷ []) ++ range_is 2 3) (Text op ∷ Text station ∷ Int (pos n) ∷ Int (pos n) ∷ []) (λ r. bytes_eq r.op op && is_tx station n r)
   one_tx n = λ id r. ap₂ ◌&&◌ (text_test r.op op) (ap₂ ◌&&◌ (text_test r.station station) (one_number (pos r.number) (pos n) ∙ same_count r.number n))
 
-  pub all_txs : IsTest txs (where_is 0 (1 ∷ 2 ∷ []) ++ range_is 2 3) (Text op ∷ Text station ∷ Int (pos 0) ∷ Blob [] ∷ []) (λ r. bytes_eq r.op op && bytes_eq r.station station)
-  all_txs = λ id r. ap₂ ◌&&◌ (text_test r.op op) (ap₂ ◌&&◌ (text_test r.station station) (all_counts r.number) ∙ and_true (bytes_eq r.station station))
+  pub txs_from : (n : ℕ) → IsTest txs (where_is 0 (1 ∷ 2 ∷ []) ++ range_is 2 3) (Text op ∷ Text station ∷ Int (pos n) ∷ Blob [] ∷ []) (λ r. bytes_eq r.op op && (bytes_eq r.station station && nat_le n r.number))
+  txs_from n = λ id r. ap₂ ◌&&◌ (text_test r.op op) (ap₂ ◌&&◌ (text_test r.station station) (counts_from r.number n))
 
   pub of_txs : IsTest txs (where_is 0 (1 ∷ 2 ∷ [])) (Text op ∷ Text station ∷ []) (λ r. bytes_eq r.op op && bytes_eq r.station station)
   of_txs = λ id r. ap₂ ◌&&◌ (text_test r.op op) (last_text r.station station)
@@ -226,6 +226,9 @@ module _ (op : List ℕ) where
 
   pub used_txs : (key : List ℕ) → IsTest txs (where_is 0 (1 ∷ 5 ∷ 13 ∷ [])) (Text op ∷ Text key ∷ Int (pos 1) ∷ []) (λ r. bytes_eq r.op op && (bytes_eq r.start.id.key key && counts r))
   used_txs key = λ id r. ap₂ ◌&&◌ (text_test r.op op) (ap₂ ◌&&◌ (text_test r.start.id.key key) (ap (λ b. b && true) (flag_test (counts r)) ∙ and_true (counts r)))
+
+  pub all_open_txs : IsTest txs (where_is 0 (1 ∷ 12 ∷ [])) (Text op ∷ Int (pos 1) ∷ []) (λ r. bytes_eq r.op op && is_open r)
+  all_open_txs = λ id r. ap₂ ◌&&◌ (text_test r.op op) (ap (λ b. b && true) (flag_test (is_open r)) ∙ and_true (is_open r))
 
   pub of_uses : IsTest uses (where_is 0 (1 ∷ [])) (Text op ∷ []) (λ r. bytes_eq r.op op && true)
   of_uses = λ id r. ap (λ b. b && true) (text_test r.op op)

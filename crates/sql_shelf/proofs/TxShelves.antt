@@ -1,6 +1,6 @@
 -- Transactions, the owners of their tags, readings and uses: their shelves, and what the texts that write and show them
 -- mean.
-use Rattle.std.proofs.Common.{◌&&◌, ◌++◌, ◌∷◌, ◌≡◌, ℕ, pos, List, [], Option, Some, None, option_map, refl, inl, inr, true}
+use Rattle.std.proofs.Common.{◌&&◌, ◌++◌, ◌∷◌, ◌≡◌, ℕ, nat_le, pos, List, [], Option, Some, None, option_map, refl, inl, inr, true}
 use Rattle.sql_tables.specs.Tables.{hub_schema, hub_tx}
 use Rattle.sql_tables.specs.Forms.{cols, where_is, range_is, by_column}
 use Rattle.sql_shelf.specs.Shelves.{hub_good, txs, tx_owners, readings, uses, stop_tag, rows_of}
@@ -102,8 +102,8 @@ adds_tx r = means_as (adds 5 txs on_txs sql.add_tx 15 put_txs texts.add_tx_is r)
 pub reads_tx : (op station : List ℕ) (n : ℕ) → ReadsRows sql.find_txs (Text op ∷ Text station ∷ Int (pos n) ∷ Int (pos n) ∷ []) txs (λ r. bytes_eq r.op op && is_tx station n r)
 reads_tx op station n = record { at = 5; is = on_txs; wanted = where_is 0 (1 ∷ 2 ∷ []) ++ range_is 2 3; project = cols 1 1 18; whole = whole_txs; order = by_column 3 ∷ []; names = sql.tx_columns; text = texts.find_txs_is; test = tests.one_tx op station n }
 
-pub reads_txs : (op station : List ℕ) → ReadsRows sql.find_txs (Text op ∷ Text station ∷ Int (pos 0) ∷ Blob [] ∷ []) txs (λ r. bytes_eq r.op op && bytes_eq r.station station)
-reads_txs op station = record { at = 5; is = on_txs; wanted = where_is 0 (1 ∷ 2 ∷ []) ++ range_is 2 3; project = cols 1 1 18; whole = whole_txs; order = by_column 3 ∷ []; names = sql.tx_columns; text = texts.find_txs_is; test = tests.all_txs op station }
+pub reads_txs : (op station : List ℕ) (n : ℕ) → ReadsRows sql.find_txs (Text op ∷ Text station ∷ Int (pos n) ∷ Blob [] ∷ []) txs (λ r. bytes_eq r.op op && (bytes_eq r.station station && nat_le n r.number))
+reads_txs op station n = record { at = 5; is = on_txs; wanted = where_is 0 (1 ∷ 2 ∷ []) ++ range_is 2 3; project = cols 1 1 18; whole = whole_txs; order = by_column 3 ∷ []; names = sql.tx_columns; text = texts.find_txs_is; test = tests.txs_from op station n }
 
 pub reads_last_tx : (op station : List ℕ) → ReadsLast sql.find_last_tx (Text op ∷ Text station ∷ []) txs (λ r. r.number) (λ r. bytes_eq r.op op && bytes_eq r.station station)
 reads_last_tx op station = record { at = 5; is = on_txs; wanted = where_is 0 (1 ∷ 2 ∷ []); project = cols 1 1 18; whole = whole_txs; place = 3; numbered = λ id r. refl; names = sql.tx_columns; text = texts.find_last_tx_is; test = tests.of_txs op station }
@@ -113,6 +113,9 @@ reads_txs_in_use op key = record { at = 5; is = on_txs; wanted = where_is 0 (1 �
 
 pub reads_open_txs : (op station : List ℕ) → ReadsRows sql.list_open_txs (Text op ∷ Text station ∷ Int (pos 1) ∷ []) txs (λ r. bytes_eq r.op op && (bytes_eq r.station station && is_open r))
 reads_open_txs op station = record { at = 5; is = on_txs; wanted = where_is 0 (1 ∷ 2 ∷ 12 ∷ []); project = cols 1 1 18; whole = whole_txs; order = []; names = sql.tx_columns; text = texts.list_open_txs_is; test = tests.open_txs op station }
+
+pub reads_all_open_txs : (op : List ℕ) → ReadsRows sql.list_all_open_txs (Text op ∷ Int (pos 1) ∷ []) txs (λ r. bytes_eq r.op op && is_open r)
+reads_all_open_txs op = record { at = 5; is = on_txs; wanted = where_is 0 (1 ∷ 12 ∷ []); project = cols 1 1 18; whole = whole_txs; order = by_column 2 ∷ by_column 3 ∷ []; names = sql.tx_columns; text = texts.list_all_open_txs_is; test = tests.all_open_txs op }
 
 pub reads_same_starts : (op station : List ℕ) (k : StartKey) → ReadsRows sql.list_same_starts (Text op ∷ Text station ∷ Int (pos k.connector) ∷ Text k.key ∷ Int k.meter_start ∷ Int k.at ∷ []) txs (λ r. bytes_eq r.op op && is_started station k r)
 reads_same_starts op station k = record { at = 5; is = on_txs; wanted = where_is 0 (1 ∷ 2 ∷ 4 ∷ 5 ∷ 6 ∷ 7 ∷ []); project = cols 1 1 18; whole = whole_txs; order = by_column 3 ∷ []; names = sql.tx_columns; text = texts.list_same_starts_is; test = tests.same_starts op station k }

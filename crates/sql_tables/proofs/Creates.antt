@@ -6,8 +6,8 @@ use Rattle.sqlite_catalog.specs.Change.{created, indexed, next_tree, without_ind
 use Rattle.sqlite_tied.specs.Compute.{everything}
 use Rattle.sqlite.specs.Listing.{understood}
 use Rattle.sql_tables.specs.Tables.{first_tables, second_tables, third_tables, hub_meta, hub_station, hub_connector, hub_tag, hub_grant, hub_tx, hub_reading, hub_reservation, hub_list, hub_list_entry, hub_report, hub_tx_owner, hub_use, hub_grant_to, hub_tx_in_use, hub_tx_is_open, hub_tx_start_at, hub_reading_transaction}
-use Rattle.sql_tables.specs.Statements.{create_meta, create_station, create_connector, create_tag, create_grant, create_tx, create_reading, create_reservation, create_list, create_list_entry, create_grant_to, create_tx_in_use, create_tx_is_open, create_tx_start_at, create_reading_transaction, create_report, create_tx_owner, create_use, drop_grant_to, drop_tx_in_use, drop_tx_is_open, drop_tx_start_at, drop_reading_transaction}
-use Rattle.sql_tables.specs.Opening.{no_schema, tables_at, schema_at, IsCreate, IsIndexCreate, IsIndexDrop}
+use Rattle.sql_tables.specs.Statements.{create_meta, create_station, create_connector, create_tag, create_grant, create_tx, create_reading, create_reservation, create_list, create_list_entry, create_grant_to, create_tx_in_use, create_tx_start_at, create_reading_transaction, create_report, create_tx_owner, create_use, drop_grant_to, drop_tx_in_use, drop_tx_is_open, drop_tx_start_at, drop_reading_transaction}
+use Rattle.sql_tables.specs.Opening.{no_schema, tables_at, open_columns_at, create_tx_is_open_at, schema_at, IsCreate, IsIndexCreate, IsIndexDrop}
 
 -- ---- the tables of schema 1
 
@@ -136,9 +136,9 @@ tx_in_use_made (suc (suc zero)) made = record { command = refl; plain = (refl, r
 tx_in_use_made (suc (suc (suc n))) made = record { command = refl; plain = (refl, refl); text = refl; here = refl; defined = refl }
 
 abbrev pub with_tx_is_open : ℕ → Schema
-with_tx_is_open n = indexed (with_tx_in_use n) hub_tx (hub_tx_is_open 0)
+with_tx_is_open n = indexed (with_tx_in_use n) hub_tx (hub_tx_is_open (open_columns_at n) 0)
 
-pub tx_is_open_made : (n : ℕ) → 0 < n → IsIndexCreate create_tx_is_open (with_tx_in_use n) 5 hub_tx (hub_tx_is_open 0)
+pub tx_is_open_made : (n : ℕ) → 0 < n → IsIndexCreate (create_tx_is_open_at n) (with_tx_in_use n) 5 hub_tx (hub_tx_is_open (open_columns_at n) 0)
 unfolding understood everything digits
 tx_is_open_made zero made = absurd (omega (arith, made))
 tx_is_open_made (suc zero) made = record { command = refl; plain = (refl, refl); text = refl; here = refl; defined = refl }
@@ -198,7 +198,7 @@ tx_in_use_dropped (suc (suc (suc n))) made = record { at = 13; command = refl; p
 abbrev pub without_tx_is_open : ℕ → Schema
 without_tx_is_open n = without_index (without_tx_in_use n) (next_tree (tables_at n) + 2)
 
-pub tx_is_open_dropped : (n : ℕ) → 0 < n → IsIndexDrop drop_tx_is_open (without_tx_in_use n) (hub_tx_is_open (next_tree (tables_at n) + 2))
+pub tx_is_open_dropped : (n : ℕ) → 0 < n → IsIndexDrop drop_tx_is_open (without_tx_in_use n) (hub_tx_is_open (open_columns_at n) (next_tree (tables_at n) + 2))
 unfolding understood everything digits
 tx_is_open_dropped zero made = absurd (omega (arith, made))
 tx_is_open_dropped (suc zero) made = record { at = 10; command = refl; plain = (refl, refl); here = refl }

@@ -5,7 +5,7 @@ use Rattle.sqlite.specs.Listing.{understood}
 use Rattle.sqlite_sql.specs.Query.{inner, end}
 use Rattle.sql_tables.specs.Forms.{add_command, by_column, cols, drop_command, last_query, plain_query, put_command, range_is, where_is}
 use Rattle.sql_tables.specs.Meanings.{IsRead, IsWrite}
-use Rattle.sql_tables.specs.Statements.{put_meta, put_station, put_connector, put_tag, put_grant, add_tx, put_tx, add_reading, put_reservation, put_list, add_list_entry, put_report, add_tx_owner, add_use, drop_tag, drop_grant, drop_reservation, drop_entries, find_stations, list_connectors, find_tags, find_grant, list_grants, find_received, find_txs, find_last_tx, list_txs_in_use, list_open_txs, list_same_starts, list_readings, list_tx_readings, find_last_reading, find_reservations, find_list, list_entries, list_reports, find_tx_owner, list_uses, find_last_use, station_columns, connector_columns, tag_columns, grant_columns, tx_columns, reading_columns, reservation_columns, list_columns, list_entry_columns, report_columns, tx_owner_columns, use_columns}
+use Rattle.sql_tables.specs.Statements.{put_meta, put_station, put_connector, put_tag, put_grant, add_tx, put_tx, add_reading, put_reservation, put_list, add_list_entry, put_report, add_tx_owner, add_use, drop_tag, drop_grant, drop_reservation, drop_entries, find_stations, list_connectors, find_tags, find_grant, list_grants, find_received, find_txs, find_last_tx, list_txs_in_use, list_open_txs, list_all_open_txs, list_same_starts, list_readings, list_tx_readings, find_last_reading, find_reservations, find_list, list_entries, list_reports, find_tx_owner, list_uses, find_last_use, station_columns, connector_columns, tag_columns, grant_columns, tx_columns, reading_columns, reservation_columns, list_columns, list_entry_columns, report_columns, tx_owner_columns, use_columns}
 
 pub put_meta_is : IsWrite put_meta (put_command 0 0 1 1)
 unfolding understood everything
@@ -118,6 +118,10 @@ list_txs_in_use_is = (refl, (refl, refl), refl)
 pub list_open_txs_is : IsRead list_open_txs (plain_query (inner 10 end) (where_is 0 (1 ∷ 2 ∷ 12 ∷ [])) (cols 1 1 18) ([])) tx_columns
 unfolding understood everything
 list_open_txs_is = (refl, (refl, refl), refl)
+
+pub list_all_open_txs_is : IsRead list_all_open_txs (plain_query (inner 10 end) (where_is 0 (1 ∷ 12 ∷ [])) (cols 1 1 18) (by_column 2 ∷ by_column 3 ∷ [])) tx_columns
+unfolding understood everything
+list_all_open_txs_is = (refl, (refl, refl), refl)
 
 pub list_same_starts_is : IsRead list_same_starts (plain_query (inner 10 end) (where_is 0 (1 ∷ 2 ∷ 4 ∷ 5 ∷ 6 ∷ 7 ∷ [])) (cols 1 1 18) (by_column 3 ∷ [])) tx_columns
 unfolding understood everything

@@ -1,5 +1,5 @@
 -- How the tables and their indexes come to be.
-use Rattle.std.specs.Prelude.{◌≡◌, ℕ, zero, suc, false, List, [], slice_get, Some, Result, Ok, Err}
+use Rattle.std.specs.Prelude.{◌≡◌, ℕ, zero, suc, false, List, [], ◌∷◌, slice_get, Some, Result, Ok, Err}
 use Rattle.sqlite_schema.specs.declared.schema.Schema.{Schema}
 use Rattle.sqlite_schema.specs.declared.schema.Table.{Table}
 use Rattle.sqlite_schema.specs.declared.schema.Index.{Index}
@@ -14,6 +14,7 @@ use Rattle.sqlite.specs.Given.{IsPlain}
 use Rattle.sqlite.specs.Listing.{understood}
 use Rattle.sqlite.specs.State.{text_of}
 use Rattle.sql_tables.specs.Tables.{first_tables, second_tables, third_tables, with_indexes}
+use Rattle.sql_tables.specs.Statements.{create_tx_is_open, create_earlier_tx_is_open}
 
 -- an empty database
 abbrev pub no_schema : Schema
@@ -30,10 +31,24 @@ tables_at (suc zero) = first_tables
 tables_at (suc (suc zero)) = second_tables
 tables_at (suc (suc (suc n))) = third_tables
 
+-- the columns of hub_tx_is_open in the schemas by their numbers
+abbrev pub open_columns_at : ℕ → List ℕ
+open_columns_at zero = []
+open_columns_at (suc zero) = 1 ∷ 2 ∷ 12 ∷ []
+open_columns_at (suc (suc zero)) = 1 ∷ 2 ∷ 12 ∷ []
+open_columns_at (suc (suc (suc n))) = 1 ∷ 12 ∷ 2 ∷ []
+
+-- the text that makes it there
+abbrev pub create_tx_is_open_at : ℕ → List ℕ
+create_tx_is_open_at zero = create_earlier_tx_is_open
+create_tx_is_open_at (suc zero) = create_earlier_tx_is_open
+create_tx_is_open_at (suc (suc zero)) = create_earlier_tx_is_open
+create_tx_is_open_at (suc (suc (suc n))) = create_tx_is_open
+
 -- the schemas by their numbers: all tables, and then the further indexes
 abbrev pub schema_at : ℕ → Schema
 schema_at zero = no_schema
-schema_at (suc n) = with_indexes (tables_at (suc n))
+schema_at (suc n) = with_indexes (open_columns_at (suc n)) (tables_at (suc n))
 
 abbrev pub command_in : Result Compiled CompileError → Command
 command_in (Ok c) = c.command

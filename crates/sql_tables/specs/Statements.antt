@@ -124,7 +124,7 @@ list_grants = codes "SELECT op, tag_key, to_op, until FROM hub_grant WHERE op = 
 abbrev pub find_received : List ℕ
 find_received = codes "SELECT op, tag_key, to_op, until FROM hub_grant WHERE to_op = ?1 AND tag_key BETWEEN ?2 AND ?3 ORDER BY tag_key, op"
 
--- one transaction or all of a station
+-- the transactions of a station whose numbers lie in a range
 abbrev pub find_txs : List ℕ
 find_txs = codes "SELECT op, station, number, connector, tag_key, meter_start, start_at, id_tag, reservation_id, status, begun, is_open, in_use, meter_stop, stop_at, stop_reason, stop_id_tag, ended FROM hub_tx WHERE op = ?1 AND station = ?2 AND number BETWEEN ?3 AND ?4 ORDER BY number"
 
@@ -139,6 +139,10 @@ list_txs_in_use = codes "SELECT op, station, number, connector, tag_key, meter_s
 -- the open transactions of a station
 abbrev pub list_open_txs : List ℕ
 list_open_txs = codes "SELECT op, station, number, connector, tag_key, meter_start, start_at, id_tag, reservation_id, status, begun, is_open, in_use, meter_stop, stop_at, stop_reason, stop_id_tag, ended FROM hub_tx WHERE op = ?1 AND station = ?2 AND is_open = ?3"
+
+-- the open transactions of an operator
+abbrev pub list_all_open_txs : List ℕ
+list_all_open_txs = codes "SELECT op, station, number, connector, tag_key, meter_start, start_at, id_tag, reservation_id, status, begun, is_open, in_use, meter_stop, stop_at, stop_reason, stop_id_tag, ended FROM hub_tx WHERE op = ?1 AND is_open = ?2 ORDER BY station, number"
 
 -- the transactions of a station with one start
 abbrev pub list_same_starts : List ℕ
@@ -232,7 +236,11 @@ abbrev pub create_tx_in_use : List ℕ
 create_tx_in_use = codes "CREATE INDEX hub_tx_in_use ON hub_tx (op, tag_key, in_use)"
 
 abbrev pub create_tx_is_open : List ℕ
-create_tx_is_open = codes "CREATE INDEX hub_tx_is_open ON hub_tx (op, station, is_open)"
+create_tx_is_open = codes "CREATE INDEX hub_tx_is_open ON hub_tx (op, is_open, station)"
+
+-- that of schemas 1 and 2
+abbrev pub create_earlier_tx_is_open : List ℕ
+create_earlier_tx_is_open = codes "CREATE INDEX hub_tx_is_open ON hub_tx (op, station, is_open)"
 
 abbrev pub create_tx_start_at : List ℕ
 create_tx_start_at = codes "CREATE INDEX hub_tx_start_at ON hub_tx (op, station, start_at)"

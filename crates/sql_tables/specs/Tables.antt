@@ -126,8 +126,9 @@ hub_grant_to tree = more_index (codes "hub_grant_to") tree 8 (3 ∷ 2 ∷ 1 ∷ 
 abbrev pub hub_tx_in_use : ℕ → Index
 hub_tx_in_use tree = more_index (codes "hub_tx_in_use") tree 10 (1 ∷ 5 ∷ 13 ∷ [])
 
-abbrev pub hub_tx_is_open : ℕ → Index
-hub_tx_is_open tree = more_index (codes "hub_tx_is_open") tree 10 (1 ∷ 2 ∷ 12 ∷ [])
+-- of these columns: op, station, is_open in schemas 1 and 2, and op, is_open, station since then
+abbrev pub hub_tx_is_open : List ℕ → ℕ → Index
+hub_tx_is_open columns tree = more_index (codes "hub_tx_is_open") tree 10 columns
 
 abbrev pub hub_tx_start_at : ℕ → Index
 hub_tx_start_at tree = more_index (codes "hub_tx_start_at") tree 10 (1 ∷ 2 ∷ 7 ∷ [])
@@ -135,9 +136,9 @@ hub_tx_start_at tree = more_index (codes "hub_tx_start_at") tree 10 (1 ∷ 2 ∷
 abbrev pub hub_reading_transaction : ℕ → Index
 hub_reading_transaction tree = more_index (codes "hub_reading_transaction") tree 12 (1 ∷ 2 ∷ 5 ∷ 3 ∷ [])
 
--- the five further indexes, from that tree on
-abbrev pub further_indexes : ℕ → List Index
-further_indexes tree = hub_grant_to tree ∷ hub_tx_in_use (tree + 1) ∷ hub_tx_is_open (tree + 2) ∷ hub_tx_start_at (tree + 3) ∷ hub_reading_transaction (tree + 4) ∷ []
+-- the five further indexes, from that tree on, where hub_tx_is_open is of these columns
+abbrev pub further_indexes : List ℕ → ℕ → List Index
+further_indexes columns tree = hub_grant_to tree ∷ hub_tx_in_use (tree + 1) ∷ hub_tx_is_open columns (tree + 2) ∷ hub_tx_start_at (tree + 3) ∷ hub_reading_transaction (tree + 4) ∷ []
 
 -- ---- the schemas, by their numbers
 
@@ -166,9 +167,9 @@ third_tables = record {
 }
 
 -- tables, and after them the further indexes
-abbrev pub with_indexes : Schema → Schema
-with_indexes schema = record schema { indexes = schema.indexes ++ further_indexes (next_tree schema) }
+abbrev pub with_indexes : List ℕ → Schema → Schema
+with_indexes columns schema = record schema { indexes = schema.indexes ++ further_indexes columns (next_tree schema) }
 
 -- schema 3, which is that of this program
 abbrev pub hub_schema : Schema
-hub_schema = with_indexes third_tables
+hub_schema = with_indexes (1 ∷ 12 ∷ 2 ∷ []) third_tables

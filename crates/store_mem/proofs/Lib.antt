@@ -2,6 +2,7 @@ pub mod Kept
 pub mod NeverKept
 pub mod RowLaws
 pub mod StationRowsLaws
+pub mod FromLaws
 pub mod GroupLaws
 pub mod RoomLaws
 pub mod DroppedLaws
@@ -10,6 +11,7 @@ pub mod ReceivedLaws
 pub mod GrantedLaws
 pub mod NamedGroupLaws
 pub mod OpenLaws
+pub mod OpenTxLaws
 pub mod StartLaws
 pub mod NewRows
 pub mod TxOwnerLaws

@@ -20,7 +20,7 @@ use Rattle.hub_rows.specs.declared.tx_row.Stop.{Stop}
 use Rattle.hub_rows.specs.Changes.{with_stop}
 use Rattle.hub_rows.specs.Keyed.{text_cmp, by_key, key_cmp, put, changed, found, those, greatest}
 use Rattle.hub_rows.specs.Rows.{tx_key}
-use Rattle.hub_rows.specs.Transactions.{counts, has_open_in, is_open, is_tx, is_left_out, is_used_in}
+use Rattle.hub_rows.specs.Transactions.{counts, is_tx, is_left_out, is_used_in}
 use Rattle.hub_rows.proofs.ListLaws.{by_key_total, all-filter, all-weaker, put-front, put-agree, same_key, same_text, text_itself, two_parts, head, keys_total, and-true}
 use Rattle.store_mem.specs.declared.named_groups.NamedGroup.{NamedGroup}
 use Rattle.store_mem.specs.declared.open.OpenRow.{OpenRow}
@@ -55,22 +55,6 @@ used-other b key except (r ∷ txs) =
     step true true false rest more = more
     step true false k rest more = more
     step false s k rest more = more
-
--- a station has an open transaction where one is under it
-pub open-any : (b st : List ℕ) (txs : List TxRow) → has_open_in b st txs ≡ has_other None (opens_of is_open (λ r. r.station) b st txs)
-open-any b st [] = refl
-open-any b st (r ∷ txs) = step (bytes_eq r.op b) (is_open r) (bytes_eq r.station st) (those (λ x. x.op) b (λ x. is_open x && bytes_eq x.station st) txs) (open-any b st txs)
-  where
-    step : (o s k : Bool) (rest : List TxRow) → has_open_in b st txs ≡ has_other None (map open_of rest) → ((o && (k && s)) || has_open_in b st txs) ≡ has_other None (map open_of (cond (o && (s && k)) (r ∷ rest) rest))
-    step true true true rest more = refl
-    step true true false rest more = more
-    step true false true rest more = more
-    step true false false rest more = more
-    step false s k rest more = more
-
-pub any-other : (opens : List OpenRow) → 1 ≤ length opens → has_other None opens ≡ true
-any-other [] more = absurd (omega (arith, more))
-any-other (x ∷ opens) more = refl
 
 -- of two, one is not left out
 excepted_key : (except : Option TxKey) (x y : OpenRow) → is_excepted except x ≡ true → is_excepted except y ≡ true → by_key open_key x y ≡ Equal
@@ -303,8 +287,7 @@ none-found o st m (x ∷ txs) it_is =
 pub open_agrees : (st : List ℕ) (m : ℕ) (o : OpenRow) → is_open_tx st m o ≡ is_eq (key_cmp (open_key o) (st ∷ (m ∷ []) ∷ []))
 open_agrees st m o = ap (λ t. bytes_eq o.station st && t) (sym (and-true (o.number == m))) ∙ two_parts o.station (o.number ∷ []) st (m ∷ [])
 
--- a transaction of a station stands under it
-pub at_station : (o st : List ℕ) (m : ℕ) (txs : List TxRow) → AllByRecursion (λ r. (bytes_eq r.op o && is_tx st m r) ≡ true → r.station ≡ st) txs
-at_station o st m [] = tt
-at_station o st m (r ∷ txs) =
-    ((λ e. same_text r.station st (and_parts (bytes_eq r.station st) (r.number == m) (and_parts (bytes_eq r.op o) (is_tx st m r) e).1).0), at_station o st m txs)
+-- a transaction of an operator stands under it
+pub at_operator : (o st : List ℕ) (m : ℕ) (txs : List TxRow) → AllByRecursion (λ r. (bytes_eq r.op o && is_tx st m r) ≡ true → r.op ≡ o) txs
+at_operator o st m [] = tt
+at_operator o st m (r ∷ txs) = ((λ e. same_text r.op o (and_parts (bytes_eq r.op o) (is_tx st m r) e).0), at_operator o st m txs)

@@ -150,9 +150,14 @@ impl<S: Store> Store for Failing<S> {
         self.store.connectors(op, station)
     }
 
-    fn txs(&mut self, op: &str, station: &str) -> Result<Listed<TxRow>, StoreFault> {
+    fn txs(&mut self, op: &str, station: &str, first: u32) -> Result<Listed<TxRow>, StoreFault> {
         self.count_call()?;
-        self.store.txs(op, station)
+        self.store.txs(op, station, first)
+    }
+
+    fn open_txs(&mut self, op: &str) -> Result<Listed<TxRow>, StoreFault> {
+        self.count_call()?;
+        self.store.open_txs(op)
     }
 
     fn readings(

@@ -131,9 +131,13 @@ impl Store for MemStore {
         Ok(copies_of_station(self.alloc, &self.lists.connectors, op, station)?)
     }
 
-    fn txs(&mut self, op: &str, station: &str) -> Result<Listed<TxRow>, StoreFault> {
-        let rows = self.lists.transactions.of_station(op, station);
+    fn txs(&mut self, op: &str, station: &str, first: u32) -> Result<Listed<TxRow>, StoreFault> {
+        let rows = self.lists.transactions.of_station(op, station, first);
         Ok(copies(self.alloc, rows)?)
+    }
+
+    fn open_txs(&mut self, op: &str) -> Result<Listed<TxRow>, StoreFault> {
+        Ok(self.lists.transactions.open_copies(op)?)
     }
 
     fn readings(

@@ -1,5 +1,5 @@
-//! The open transactions, by their stations and by the keys of the tags in use.
-ghost use Rattle.std.specs.Prelude.{◌≡◌, ℕ, List, [], ◌∷◌, ◌&&◌, if◌then◌else◌, not, filter, option_map, true, None, IfOk, OnOk};
+//! The open transactions, by their operators and by the keys of the tags in use.
+ghost use Rattle.std.specs.Prelude.{◌≡◌, ℕ, List, [], ◌∷◌, ◌&&◌, if◌then◌else◌, not, filter, option_map, true, IfOk, OnOk};
 ghost use Rattle.std.specs.List.Sorted.{IsStrictlySortedBy};
 ghost use Rattle.std.specs.Str.{bytes_eq};
 ghost use Rattle.hub_rows.specs.Changes.{with_stop};
@@ -9,12 +9,12 @@ ghost use Rattle.hub_rows.specs.Transactions.{counts, is_tx};
 ghost use Rattle.hub_rows.specs.Rows.{tx_key};
 ghost use Rattle.hub_rows.specs.declared.tx_row.Stop.{Stop};
 ghost use Rattle.store_mem.specs.NamedGroups.{all_rows, AreGrouped, rows_at, AreInPlace, HasRoomAt};
-ghost use Rattle.store_mem.specs.Open.{open_key, open_of, has_other, is_excepted, is_open_tx, AreOpens};
+ghost use Rattle.store_mem.specs.Open.{open_key, open_of, has_at, has_other, is_excepted, is_open_tx, tx_of, txs_of, AreOpens};
 
 use crate::named_groups::{NamedGroup, drop_if_empty, make_room_at, put_at};
 use crate::station_rows::row_of_number;
 use hub_rows::{Keyed, TxKey, TxRow, place_of_name};
-use ocpp_types::{Mem, TagKey, Text};
+use ocpp_types::{Listed, Mem, TagKey, Text};
 use std::alloc::Global;
 use std::cmp::Ordering;
 
@@ -57,13 +57,43 @@ pub fn has_other(opens: &[OpenRow], except: &Option<TxKey>) -> bool
     }
 }
 
-/// Whether there is an open transaction.
-pub fn has_any(opens: &[OpenRow]) -> bool
-    ensures { result ≡ has_other None opens.now }
+/// Whether one of some transactions is of a station, by a binary search.
+pub fn has_at(opens: &[OpenRow], station: &str) -> bool
+    requires { IsStrictlySortedBy (by_key open_key) opens.now }
+    ensures { result ≡ has_at station.now opens.now }
 {
-    match opens {
-        [] => false,
-        [_, ..] => true,
+    opens
+        .binary_search_by(|row| row.station.as_str().cmp(station))
+        .is_ok()
+}
+
+/// Copies of the transactions of an operator that some open ones name.
+#[tactic(auto, using(hub_rows::proofs::Steps::drop_here))]
+pub fn txs_of(
+    alloc: Global,
+    groups: &[NamedGroup<TxRow>],
+    op: &str,
+    opens: &[OpenRow],
+) -> Mem<Listed<TxRow>>
+    requires { AreGrouped (λ r. r.op) (λ r. r.station) (λ r. r.number) groups.now }
+    ensures { IfOk result (λ l. l ≡ txs_of op.now (all_rows groups.now) opens.now) }
+{
+    let mut list = Listed::new(alloc);
+    for row in opens {
+        if let Some(tx) = tx_of(groups, op, row)? {
+            list.push(tx)?;
+        }
+    }
+    Ok(list)
+}
+
+fn tx_of(groups: &[NamedGroup<TxRow>], op: &str, row: &OpenRow) -> Mem<Option<TxRow>>
+    requires { AreGrouped (λ r. r.op) (λ r. r.station) (λ r. r.number) groups.now }
+    ensures { IfOk result (λ r. r ≡ tx_of op.now (all_rows groups.now) row.now) }
+{
+    match row_of_number(groups, op, row.station.as_str(), row.number) {
+        Some(tx) => Ok(Some(tx.clone()?)),
+        None => Ok(None),
     }
 }
 

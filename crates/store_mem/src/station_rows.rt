@@ -1,5 +1,5 @@
 //! Rows that are kept station by station, in the order of their numbers.
-ghost use Rattle.std.specs.Prelude.{◌≡◌, ◌<◌, ◌==◌, ◌&&◌, ℕ, List, [], ◌∷◌, ◌++◌, map, option_map, OnOk, OnErr};
+ghost use Rattle.std.specs.Prelude.{◌≡◌, ◌<◌, ◌≤◌, nat_le, ◌==◌, ◌&&◌, ℕ, List, [], ◌∷◌, ◌++◌, length, drop, filter, map, option_map, OnOk, OnErr};
 ghost use Rattle.std.specs.List.{AllByRecursion};
 ghost use Rattle.std.specs.List.Sorted.{IsStrictlySortedBy};
 ghost use Rattle.std.specs.Str.{bytes_eq};
@@ -125,6 +125,32 @@ pub fn row_of_number<'a, R: NumberedRow>(
     match place_of_number(rows, number) {
         Ok(place) => Some(&rows[place]),
         Err(_) => None,
+    }
+}
+
+/// The rows of a station from a number on, by a binary search.
+pub fn rows_from<'a, R: NumberedRow>(
+    groups: &'a [NamedGroup<R>],
+    op: &str,
+    station: &str,
+    first: u32,
+) -> &'a [R]
+    requires { AreGrouped R.op R.station R.number groups.now }
+    ensures { result.now
+        ≡ those R.op op.now (λ r. bytes_eq (R.station r) station.now && nat_le first (R.number r)) (all_rows groups.now) }
+{
+    let rows = rows_of(groups, op, station);
+    &rows[place_from(rows, first)..]
+}
+
+/// How many of the rows of a station are before those from a number on.
+fn place_from<R: NumberedRow>(rows: &[R], first: u32) -> usize
+    requires { IsStrictlySortedBy (by_key (number_key R.number)) rows.now }
+    ensures in_range { result ≤ length rows.now }
+    ensures from { filter (λ r. nat_le first (R.number r)) rows.now ≡ drop result rows.now }
+{
+    match place_of_number(rows, first) {
+        Ok(place) | Err(place) => place,
     }
 }
 

@@ -1,25 +1,25 @@
 //! Transactions, with what finds them.
-ghost use Rattle.std.specs.Prelude.{◌≡◌, [], map, option_map, OnOk, OnErr};
+ghost use Rattle.std.specs.Prelude.{◌≡◌, [], map, option_map, IfOk, OnOk, OnErr};
 ghost use Rattle.std.specs.List.Sorted.{IsStrictlySortedBy};
 ghost use Rattle.std.proofs.Props.{props};
 ghost use Rattle.hub_rows.specs.Changes.{tx_row, with_stop};
 ghost use Rattle.hub_rows.specs.Keyed.{by_key, changed, found, greatest, put};
 ghost use Rattle.hub_rows.specs.Rows.{tx_key};
-ghost use Rattle.hub_rows.specs.Transactions.{counts, is_open, is_tx, is_used_in, same_start_in, tx_in, has_open_in, txs_in, AreNext};
+ghost use Rattle.hub_rows.specs.Transactions.{counts, is_open, is_tx, is_used_in, same_start_in, tx_in, has_open_in, open_txs_in, txs_in, txs_from_in, AreNext};
 ghost use Rattle.store_mem.specs.NamedGroups.{all_rows, AreGrouped};
 ghost use Rattle.store_mem.specs.Open.{AreOpens};
 ghost use Rattle.store_mem.specs.Starts.{AreStarts};
 
 use crate::named_groups::{NamedGroup, make_room_at, put_at, rows_at};
 use crate::open::{
-    OpenRow, close, close_tag, has_any, has_other, make_room_if, open_of, put_counted,
+    OpenRow, close, close_tag, has_at, has_other, make_room_if, open_of, put_counted, txs_of,
 };
 use crate::started::{start_tx, started};
 use crate::starts::{StartRow, number_of, start_of};
-use crate::station_rows::{last_number, row_of_number, rows_of};
+use crate::station_rows::{last_number, row_of_number, rows_from, rows_of};
 use crate::tx_rows::stop_tx;
 use hub_rows::{Start, StartKey, Stop, TxKey, TxRow, TxState};
-use ocpp_types::{Mem, Text};
+use ocpp_types::{Listed, Mem, Text};
 use std::alloc::Global;
 
 /// The transactions of all operators.
@@ -30,14 +30,14 @@ pub struct Transactions {
     pub rows: Vec<NamedGroup<TxRow>>,
     /// Those by which tags are in use, by the keys of the tags.
     opens: Vec<NamedGroup<OpenRow>>,
-    /// The open ones, by their stations.
-    open_at: Vec<NamedGroup<OpenRow>>,
+    /// The open ones, those of each operator under its own name.
+    open_txs: Vec<NamedGroup<OpenRow>>,
     /// The starts of each station's, in the order of their times.
     starts: Vec<NamedGroup<StartRow>>,
     ghost by_station: { AreGrouped (λ r. r.op) (λ r. r.station) (λ r. r.number) rows.items } by { Prim.hlevel props },
     ghost sorted: { IsStrictlySortedBy (by_key tx_key) (all_rows rows.items) } by { Prim.hlevel props },
     ghost in_use: { AreOpens counts (λ r. r.start.id.key) opens.items (all_rows rows.items) } by { Prim.hlevel props },
-    ghost opened: { AreOpens is_open (λ r. r.station) open_at.items (all_rows rows.items) } by { Prim.hlevel props },
+    ghost opened: { AreOpens is_open (λ r. r.op) open_txs.items (all_rows rows.items) } by { Prim.hlevel props },
     ghost started: { AreStarts starts.items (all_rows rows.items) } by { Prim.hlevel props },
 }
 
@@ -50,7 +50,7 @@ impl Transactions {
             alloc,
             rows: Vec::new(alloc),
             opens: Vec::new(alloc),
-            open_at: Vec::new(alloc),
+            open_txs: Vec::new(alloc),
             starts: Vec::new(alloc),
         }
     }
@@ -69,12 +69,12 @@ impl Transactions {
         let key = start.id.key.as_str();
         make_room_at(self.alloc, &mut self.starts, op.as_str(), station.as_str())?;
         make_room_if(self.alloc, &mut self.opens, op.as_str(), key, counts)?;
-        make_room_at(self.alloc, &mut self.open_at, op.as_str(), station.as_str())?;
+        make_room_at(self.alloc, &mut self.open_txs, op.as_str(), op.as_str())?;
         start_tx(self.alloc, &mut self.rows, op, station, row)?;
         let (op, station) = (op.as_str(), station.as_str());
         put_at(&mut self.starts, op, station, start_row);
         put_counted(&mut self.opens, op, key, used_row, counts);
-        put_at(&mut self.open_at, op, station, open_row);
+        put_at(&mut self.open_txs, op, op, open_row);
         Ok(())
     }
 
@@ -82,7 +82,7 @@ impl Transactions {
     pub fn stop(&mut self, op: &str, station: &str, number: u32, stop: Stop)
         ensures { all_rows self.new.rows.items ≡ changed (λ r. r.op) op.now (is_tx station.now number) (with_stop stop) (all_rows self.old.rows.items) }
     {
-        close(&mut self.open_at, op, station, station, number);
+        close(&mut self.open_txs, op, op, station, number);
         close_tag(&mut self.opens, &self.rows, op, station, number);
         stop_tx(&mut self.rows, op, station, number, stop);
     }
@@ -105,7 +105,7 @@ impl Transactions {
     pub fn has_open(&self, op: &str, station: &str) -> bool
         ensures { result ≡ has_open_in op.now station.now (all_rows self.now.rows.items) }
     {
-        has_any(rows_at(&self.open_at, op, station))
+        has_at(rows_at(&self.open_txs, op, op), station)
     }
 
     /// A transaction of a station, by its number.
@@ -122,11 +122,19 @@ impl Transactions {
         self.row(op, station, number).map(|row| row.state())
     }
 
-    /// The transactions of a station.
-    pub fn of_station(&self, op: &str, station: &str) -> &[TxRow]
-        ensures { result.now ≡ txs_in op.now station.now (all_rows self.now.rows.items) }
+    /// The transactions of a station from a number on.
+    pub fn of_station(&self, op: &str, station: &str, first: u32) -> &[TxRow]
+        ensures { result.now ≡ txs_from_in op.now station.now first (all_rows self.now.rows.items) }
     {
-        rows_of(&self.rows, op, station)
+        rows_from(&self.rows, op, station, first)
+    }
+
+    /// Copies of the open transactions of an operator.
+    pub fn open_copies(&self, op: &str) -> Mem<Listed<TxRow>>
+        ensures { IfOk result (λ l. l ≡ open_txs_in op.now (all_rows self.now.rows.items)) }
+    {
+        let opens = rows_at(&self.open_txs, op, op);
+        txs_of(self.alloc, &self.rows, op, opens)
     }
 
     /// The number of a station's last transaction, 0 where there is none.

@@ -8,12 +8,9 @@ ghost use Rattle.store_mem.specs.Groups.{all_of, AreGroups};
 ghost use Rattle.store_mem.specs.Uses.{HasRoomFor};
 
 use crate::groups::{Group, GroupedRow, make_room, put_in_room, rows_of_group};
-use hub_rows::{Stop, TxRow, UseRow};
+use hub_rows::{LAST_NUMBER, Stop, TxRow, UseRow};
 use ocpp_types::{Mem, Text};
 use std::alloc::Global;
-
-/// The last number of a use.
-const LAST_NUMBER: u32 = 2_147_483_647;
 
 impl GroupedRow for UseRow {
     ghost use Rattle.std.specs.Prelude.{refl};

@@ -266,8 +266,13 @@ impl<A: Alter> Store for SqlStore<A> {
         self.counted(found)
     }
 
-    fn txs(&mut self, op: &str, station: &str) -> Result<Listed<TxRow>, StoreFault> {
-        let found = txs::txs(&mut self.conn, op, station);
+    fn txs(&mut self, op: &str, station: &str, first: u32) -> Result<Listed<TxRow>, StoreFault> {
+        let found = txs::txs(&mut self.conn, op, station, first);
+        self.counted(found)
+    }
+
+    fn open_txs(&mut self, op: &str) -> Result<Listed<TxRow>, StoreFault> {
+        let found = txs::open_txs(&mut self.conn, op);
         self.counted(found)
     }
 

@@ -7,7 +7,7 @@ ghost use Rattle.sqlite_schema.specs.declared.schema.Index as any_index;
 ghost use Rattle.sqlite.specs.Held.{state};
 ghost use Rattle.sqlite.specs.State.{HasCleanDisk};
 ghost use Rattle.sql_tables.specs.Tables.{first_tables, second_tables, third_tables, hub_schema};
-ghost use Rattle.sql_tables.specs.Opening.{no_schema, our_number, schema_at, tables_at, IsCreate, IsIndexCreate, IsIndexDrop};
+ghost use Rattle.sql_tables.specs.Opening.{create_tx_is_open_at, no_schema, our_number, schema_at, tables_at, IsCreate, IsIndexCreate, IsIndexDrop};
 ghost use Rattle.sqlite_catalog.specs.Change.{created, indexed, without_index, next_tree};
 ghost use Rattle.sql_shelf.specs.Kept.{Leaves};
 ghost use Rattle.sql_shelf.specs.Shelf.{AreShelved};
@@ -59,7 +59,11 @@ const CREATE_GRANT_TO: &str = "CREATE INDEX hub_grant_to ON hub_grant (to_op, ta
 
 const CREATE_TX_IN_USE: &str = "CREATE INDEX hub_tx_in_use ON hub_tx (op, tag_key, in_use)";
 
-const CREATE_TX_IS_OPEN: &str = "CREATE INDEX hub_tx_is_open ON hub_tx (op, station, is_open)";
+const CREATE_TX_IS_OPEN: &str = "CREATE INDEX hub_tx_is_open ON hub_tx (op, is_open, station)";
+
+/// That of schemas 1 and 2.
+const CREATE_EARLIER_TX_IS_OPEN: &str =
+    "CREATE INDEX hub_tx_is_open ON hub_tx (op, station, is_open)";
 
 const CREATE_TX_START_AT: &str = "CREATE INDEX hub_tx_start_at ON hub_tx (op, station, start_at)";
 
@@ -181,15 +185,28 @@ fn create_between<S: Alter>(tx: &mut Transaction<'_, S>, from: u32, to: u32) -> 
     Ok(())
 }
 
-/// The further indexes, after the tables of a schema.
-fn create_indexes<S: Alter>(tx: &mut Transaction<'_, S>) -> Result<(), Error>
+/// The text that makes the index of open transactions in the schema of that number.
+fn create_tx_is_open(number: u32) -> &'static str
+    requires { number ≤ our_number }
+    ensures { result.now ≡ create_tx_is_open_at number }
+{
+    match number {
+        0 | 1 | 2 => CREATE_EARLIER_TX_IS_OPEN,
+        _ => CREATE_TX_IS_OPEN,
+    }
+}
+
+/// The further indexes, after the tables of the schema of that number.
+fn create_indexes<S: Alter>(tx: &mut Transaction<'_, S>, number: u32) -> Result<(), Error>
+    requires some { 0 < number }
+    requires known { number ≤ our_number }
     ensures same_reference { tx.new.conn.ghost_name ≡ tx.old.conn.ghost_name }
-    ensures makes { (rows : Trees) (number : ℕ) → 0 < number → IsInsideAs rows (tables_at number) (state S.Store tx.old.conn.now) → OnOk result (IsInsideAs rows (schema_at number) (state S.Store tx.new.conn.now)) }
+    ensures makes { (rows : Trees) → IsInsideAs rows (tables_at number) (state S.Store tx.old.conn.now) → OnOk result (IsInsideAs rows (schema_at number) (state S.Store tx.new.conn.now)) }
     ensures leaves { Leaves (state S.Store tx.old.conn.now) (state S.Store tx.new.conn.now) }
 {
     let done = then_alter(tx, Ok(()), CREATE_GRANT_TO);
     let done = then_alter(tx, done, CREATE_TX_IN_USE);
-    let done = then_alter(tx, done, CREATE_TX_IS_OPEN);
+    let done = then_alter(tx, done, create_tx_is_open(number));
     let done = then_alter(tx, done, CREATE_TX_START_AT);
     then_alter(tx, done, CREATE_READING_TRANSACTION)
 }
@@ -232,7 +249,7 @@ fn make_schema<S: Alter>(tx: &mut Transaction<'_, S>, from: u32, to: u32) -> Res
     }
     leave_tables(tx, from)?;
     create_between(tx, from, to)?;
-    create_indexes(tx)
+    create_indexes(tx, to)
 }
 
 /// The number of the schema.

@@ -1,11 +1,11 @@
 //! Transactions in their table.
-ghost use Rattle.std.specs.Prelude.{◌≡◌, ◌&&◌, not, filter, map, IfOk, OnOk, IsOk, None, Some};
+ghost use Rattle.std.specs.Prelude.{◌≡◌, ◌&&◌, nat_le, not, filter, map, IfOk, OnOk, IsOk, None, Some};
 ghost use Rattle.std.specs.List.{list_any};
 ghost use Rattle.std.specs.Str.{bytes_eq};
 ghost use Rattle.sqlite.specs.Held.{state};
 ghost use Rattle.sqlite_value.specs.Order.{column};
 ghost use Rattle.hub_rows.specs.Keyed.{found, greatest};
-ghost use Rattle.hub_rows.specs.Transactions.{counts, has_open_in, is_left_out, is_open, is_started, is_tx, is_used_in, numbers_of, same_start_in, tx_in, txs_in};
+ghost use Rattle.hub_rows.specs.Transactions.{counts, has_open_in, is_left_out, is_open, is_started, is_tx, is_used_in, numbers_of, open_txs_in, same_start_in, tx_in, txs_from_in, txs_in};
 ghost use Rattle.sql_shelf.specs.Kept.{IsServing, Finds, Rests, CommitsNothing, Shows, ShowsLast};
 ghost use Rattle.sql_shelf.specs.Shelves.{stop_in, txs};
 ghost use Rattle.sql_shelf.specs.Values.{count_in};
@@ -32,6 +32,9 @@ const IN_USE: &str =
 
 const OPEN: &str =
     "SELECT op, station, number, connector, tag_key, meter_start, start_at, id_tag, reservation_id, status, begun, is_open, in_use, meter_stop, stop_at, stop_reason, stop_id_tag, ended FROM hub_tx WHERE op = ?1 AND station = ?2 AND is_open = ?3";
+
+const ALL_OPEN: &str =
+    "SELECT op, station, number, connector, tag_key, meter_start, start_at, id_tag, reservation_id, status, begun, is_open, in_use, meter_stop, stop_at, stop_reason, stop_id_tag, ended FROM hub_tx WHERE op = ?1 AND is_open = ?2 ORDER BY station, number";
 
 const SAME_STARTS: &str =
     "SELECT op, station, number, connector, tag_key, meter_start, start_at, id_tag, reservation_id, status, begun, is_open, in_use, meter_stop, stop_at, stop_reason, stop_id_tag, ended FROM hub_tx WHERE op = ?1 AND station = ?2 AND connector = ?3 AND tag_key = ?4 AND meter_start = ?5 AND start_at = ?6 ORDER BY number";
@@ -97,11 +100,16 @@ fn find_one<S: Alter>(
     conn.query_all(FIND, params![op, station, number, number])
 }
 
-fn find_all<S: Alter>(conn: &mut Connection<S>, op: &str, station: &str) -> Result<Vec<Row>, Error>
-    ensures shows { IsServing (state S.Store conn.old) → Shows (λ v. v.items) txs (λ r. bytes_eq r.op op.now && bytes_eq r.station station.now) (state S.Store conn.old) (state S.Store conn.new) result }
+fn find_from<S: Alter>(
+    conn: &mut Connection<S>,
+    op: &str,
+    station: &str,
+    first: u32,
+) -> Result<Vec<Row>, Error>
+    ensures shows { IsServing (state S.Store conn.old) → Shows (λ v. v.items) txs (λ r. bytes_eq r.op op.now && (bytes_eq r.station station.now && nat_le first r.number)) (state S.Store conn.old) (state S.Store conn.new) result }
 {
     let above: &[u8] = &[];
-    conn.query_all(FIND, params![op, station, 0i64, above])
+    conn.query_all(FIND, params![op, station, first, above])
 }
 
 fn find_last<S: Alter>(conn: &mut Connection<S>, op: &str, station: &str) -> Result<Vec<Row>, Error>
@@ -120,6 +128,12 @@ fn list_open<S: Alter>(conn: &mut Connection<S>, op: &str, station: &str) -> Res
     ensures shows { IsServing (state S.Store conn.old) → Shows (λ v. v.items) txs (λ r. bytes_eq r.op op.now && (bytes_eq r.station station.now && is_open r)) (state S.Store conn.old) (state S.Store conn.new) result }
 {
     conn.query_all(OPEN, params![op, station, true])
+}
+
+fn list_all_open<S: Alter>(conn: &mut Connection<S>, op: &str) -> Result<Vec<Row>, Error>
+    ensures shows { IsServing (state S.Store conn.old) → Shows (λ v. v.items) txs (λ r. bytes_eq r.op op.now && is_open r) (state S.Store conn.old) (state S.Store conn.new) result }
+{
+    conn.query_all(ALL_OPEN, params![op, true])
 }
 
 fn list_same<S: Alter>(
@@ -174,17 +188,30 @@ pub(crate) fn tx<S: Alter>(
     }
 }
 
-/// The transactions of a station.
+/// The transactions of a station from that number on.
 pub(crate) fn txs<S: Alter>(
     conn: &mut Connection<S>,
     op: &str,
     station: &str,
+    first: u32,
 ) -> Result<Listed<TxRow>, StoreFault>
-    ensures found { Finds (state S.Store conn.old) (state S.Store conn.new) result (λ rows list. list ≡ txs_in op.now station.now rows.transactions) }
+    ensures found { Finds (state S.Store conn.old) (state S.Store conn.new) result (λ rows list. list ≡ txs_from_in op.now station.now first rows.transactions) }
     ensures same { Rests (state S.Store conn.old) (state S.Store conn.new) }
     ensures stops { CommitsNothing (state S.Store conn.old) (state S.Store conn.new) result }
 {
-    listed(find_all(conn, op, station))
+    listed(find_from(conn, op, station, first))
+}
+
+/// The open transactions of an operator.
+pub(crate) fn open_txs<S: Alter>(
+    conn: &mut Connection<S>,
+    op: &str,
+) -> Result<Listed<TxRow>, StoreFault>
+    ensures found { Finds (state S.Store conn.old) (state S.Store conn.new) result (λ rows list. list ≡ open_txs_in op.now rows.transactions) }
+    ensures same { Rests (state S.Store conn.old) (state S.Store conn.new) }
+    ensures stops { CommitsNothing (state S.Store conn.old) (state S.Store conn.new) result }
+{
+    listed(list_all_open(conn, op))
 }
 
 /// The transactions by which a tag is in use.

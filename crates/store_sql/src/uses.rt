@@ -12,7 +12,7 @@ use crate::binds::{done, seconds};
 use crate::columns::{count, key, moment, number, text};
 use crate::stored::{Stored, first_row, listed};
 use crate::txs::only_number;
-use hub_rows::{Stop, StoreFault, TxOwnerRow, TxRow, UseRow};
+use hub_rows::{LAST_NUMBER, Stop, StoreFault, TxOwnerRow, TxRow, UseRow};
 use ocpp_types::{Listed, Text};
 use sqlite::{Alter, Connection, Error, Row, Transaction, params};
 use std::alloc::Global;
@@ -31,9 +31,6 @@ const FIND_LAST: &str =
 
 const ADD: &str =
     "INSERT INTO hub_use (op, number, host, tag_key, moment, wh) VALUES (?1, ?2, ?3, ?4, ?5, ?6)";
-
-/// The last number of a use.
-const LAST_NUMBER: u32 = 2_147_483_647;
 
 impl Stored for TxOwnerRow {
     ghost use Rattle.sql_shelf.specs.Shelves.{tx_owners};

@@ -7,7 +7,7 @@ use Rattle.std.specs.List.{list_all}
 use Rattle.std.specs.Io.BufRead.{strip_last}
 use Rattle.std.specs.Option.{IfSome}
 use Rattle.std.specs.Prelude.{is_some}
-use Rattle.std.specs.Result.{IsErr, IsErrAnd}
+use Rattle.std.specs.Result.{IsErr, IsErrAnd, is_err}
 use Rattle.hub_events.specs.declared.event.Event.{Event}
 use Rattle.hub_events.specs.declared.event.Event.TheVariants.{At}
 use Rattle.hub_events.specs.declared.event.What.{What}
@@ -21,6 +21,7 @@ use Rattle.hub_rows.specs.Reads.{IsCounted}
 use Rattle.hub_rows.specs.StoreView.{StoreView}
 use Rattle.station_calls.specs.Vendors.{HandlerView}
 use Rattle.lines.specs.Forms.{what_of}
+use Rattle.lines.specs.Marks.{begin_line, end_line}
 use Rattle.lines.specs.Orders.{order_of, order_in, is_order, has_line_feed}
 use Rattle.lines.specs.Words.{◌>>=◌}
 use Rattle.ws_peers.specs.Lists as lists
@@ -33,8 +34,8 @@ use Rattle.ws_peers.specs.declared.routes.Route.{Route}
 use Rattle.ws_peers.specs.declared.routes.Route.TheVariants.{Station, Operator}
 use Rattle.tungstenite.specs.Socket.{Socket}
 use Rattle.ws_server.specs.Admits.{Connects, WelcomesOne, WelcomesSome}
-use Rattle.ws_server.specs.Events.{event_of, parting, parting_at, is_route_of_hosted}
-use Rattle.ws_server.specs.Turns.{Change, Then, Becomes, AtPlace, EachOf, ascending, is_above, FirstPlaces, Hands, HandsText, Means, Parts, PartsAs}
+use Rattle.ws_server.specs.Events.{word_of, order_text, event_of, parting, parting_at, is_route_of_hosted}
+use Rattle.ws_server.specs.Turns.{Change, Then, Becomes, AtPlace, EachOf, ascending, is_above, FirstPlaces, HandsOrRefuses, Between, Answers, HandsText, Means, Parts, PartsAs}
 use Rattle.ws_server.specs.Steps.{Step, Runs, Takes}
 
 -- ---- what a fault says of an operator
@@ -66,16 +67,35 @@ order-hosted hosts op m text = order-unless (λ event. is_of_hosted hosts event 
 -- the event of a text is of the operator of its route
 text-hosted : (hosts : List ℕ → Bool) (route : Route) (m : ℕ) (text : List ℕ) → IfSome (event_of route m text) (λ event. is_of_hosted hosts event ≡ is_route_of_hosted hosts route)
 text-hosted hosts (Station op station) m text = refl
-text-hosted hosts (Operator op) m text = order-hosted hosts op m text
+text-hosted hosts (Operator op) m text = order-hosted hosts op m (order_text text)
 
 module _ {T : Type 0} (contents : T → Option (List ℕ)) (hosts : List ℕ → Bool) where
-  -- a text whose event is handed to the hub
-  pub hands-text : (m n : ℕ) (text : List ℕ) (event : Event) (old new : List (Peer T)) (steps : List Step) (r : Result (Unit {0}) Fault) (p : Peer T)
-      → ((d : Peer T) → p ≡ slice_index_or old n d) → Some event ≡ event_of (route_of p) m text → Hands contents hosts event old new steps r → HandsText contents hosts m n text old new steps r
-  hands-text m n text event old new steps (Ok u) p at is change = (Some event, λ d. is ∙ ap (λ q. event_of (route_of q) m text) (at d), change)
-  hands-text m n text event old new steps (Err f) p at is change =
-      let hosted = subst (λ e. IfSome e (λ event. is_of_hosted hosts event ≡ is_route_of_hosted hosts (route_of p))) (sym is) (text-hosted hosts (route_of p) m text) in
-      (change.0, change.1, λ d no. ap (λ q. is_route_of_hosted hosts (route_of q)) (sym (at d)) ∙ sym hosted ∙ change.2 no)
+  -- an order that meets a fault
+  lost : (m n : ℕ) (text : List ℕ) (route : Route) (event : Option Event) (old new : List (Peer T)) (steps : List Step) (f : Fault)
+      → ((d : Peer T) → route ≡ route_of (slice_index_or old n d)) → event ≡ event_of route m text → HandsOrRefuses contents hosts n event old new steps (Err f) → HandsText contents hosts m n text old new steps (Err f)
+  lost m n text route None old new steps f at is change = absurd (true≢false (ap is_err change.2))
+  lost m n text route (Some event) old new steps f at is change =
+      let hosted = subst (λ e. IfSome e (λ event. is_of_hosted hosts event ≡ is_route_of_hosted hosts route)) (sym is) (text-hosted hosts route m text) in
+      (change.0, change.1, λ d no. ap (λ r. is_route_of_hosted hosts r) (sym (at d)) ∙ sym hosted ∙ change.2 no)
+
+  -- a text that is answered
+  pub answers-text : (m n : ℕ) (text : List ℕ) (route : Route) (word : Option (List ℕ)) (event : Option Event) (old new : List (Peer T)) (steps : List Step) (r : Result (Unit {0}) Fault)
+      → ((d : Peer T) → route ≡ route_of (slice_index_or old n d)) → word ≡ word_of route text → event ≡ event_of route m text
+      → Answers contents n word (HandsOrRefuses contents hosts n event) old new steps r → HandsText contents hosts m n text old new steps r
+  answers-text m n text route word event old new steps (Ok u) at named is change =
+      let with-word = subst (λ w. Answers contents n w (HandsOrRefuses contents hosts n event) old new steps (Ok u)) named change in
+      (route, at, subst (λ e. Answers contents n (word_of route text) (HandsOrRefuses contents hosts n e) old new steps (Ok u)) is with-word)
+  answers-text m n text route None event old new steps (Err f) at named is change = lost m n text route event old new steps f at is change
+  answers-text m n text route (Some word) event old new steps (Err f) at named is change = lost m n text route event old new steps f at is change
+
+  -- the same between the lines of a word
+  pub answers-between : (m n : ℕ) (text begin end : List ℕ) (route : Route) (word : List ℕ) (event : Option Event) (old new : List (Peer T)) (steps : List Step) (r : Result (Unit {0}) Fault)
+      → ((d : Peer T) → route ≡ route_of (slice_index_or old n d)) → Some word ≡ word_of route text → event ≡ event_of route m text
+      → begin ≡ begin_line word → end ≡ end_line word → Between contents n begin end (HandsOrRefuses contents hosts n event) old new steps r → HandsText contents hosts m n text old new steps r
+  answers-between m n text begin end route word event old new steps r at named is first last change =
+      let C = HandsOrRefuses contents hosts n event in
+      let begun = subst (λ b. Between contents n b end C old new steps r) first change in
+      answers-text m n text route (Some word) event old new steps r at named is (subst (λ e. Between contents n (begin_line word) e C old new steps r) last begun)
 
   -- a peer that found no memory to part stays
   parts_as : (n : ℕ) (event : Option Event) (ps : List (Peer T)) (r : Result (Unit {0}) Fault) → IsErr r → IsErrAnd r (λ f. f ≡ fault.NoMemory) → is_some event ≡ true → PartsAs contents hosts n event ps ps [] r

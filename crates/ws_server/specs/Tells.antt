@@ -1,17 +1,24 @@
 -- What sending outputs does to the peers.
-use Rattle.std.specs.Prelude.{ℕ, List, [], ◌∷◌, Option, ◌≡◌}
+use Rattle.std.specs.Prelude.{ℕ, List, [], ◌∷◌, Option, ◌≡◌, true, false}
 use Rattle.hub_events.specs.declared.out.Out.{Out}
 use Rattle.hub_events.specs.declared.out.Said.{Said}
 use Rattle.hub_events.specs.declared.out.Said.TheVariants as said
 use Rattle.lines.specs.OutputLines.{line_of}
 use Rattle.ws_peers.specs.declared.peer.Peer.{Peer}
 use Rattle.ws_peers.specs.Lists.{peers, ToStation, ToOperator}
+use Rattle.ws_peers.specs.Peers.{is_open_peer}
+use Rattle.ws_peers.specs.Sends.{Sent}
 use Rattle.ws_server.specs.declared.gateway.Gateway.{Gateway}
 
 module _ {T : Type 0} where
   -- its peers, in order of admission
   abbrev pub peers_of : Gateway T → List (Peer T)
   peers_of g = peers g.peers
+
+  -- a peer is sent a text, and none once its connection has ended
+  pub record SentWhileOpen (contents : T → Option (List ℕ)) (text : List ℕ) (old new : Peer T) : Type 0 where
+    pub while_open : is_open_peer old ≡ true → Sent contents text old new
+    pub once_ended : is_open_peer old ≡ false → new ≡ old
 
   -- a text is sent to its station, and all else as a line to the operator
   abbrev pub TellsSaid : (T → Option (List ℕ)) → List ℕ → Said → List ℕ → List (Peer T) → List (Peer T) → Type 0

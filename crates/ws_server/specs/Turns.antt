@@ -7,6 +7,7 @@ use Rattle.hub_events.specs.declared.out.Out.{Out}
 use Rattle.hub.specs.declared.fault.Fault.{Fault}
 use Rattle.hub.specs.declared.fault.Fault.TheVariants.{NoSuchOperator}
 use Rattle.hub.specs.Hub.{is_of_hosted}
+use Rattle.lines.specs.Marks.{begin_line, end_line}
 use Rattle.ws_peers.specs.declared.cause.Cause.TheVariants.{Fault as Failed}
 use Rattle.ws_peers.specs.declared.peer.Peer.{Peer}
 use Rattle.ws_peers.specs.Lists as lists
@@ -14,9 +15,10 @@ use Rattle.ws_peers.specs.Peers.{route_of, stage_of, ends, leaves, finishes}
 use Rattle.ws_peers.specs.Reads.{Took}
 use Rattle.ws_peers.specs.Sends.{Sent}
 use Rattle.ws_peers.specs.Stages.{is_held}
-use Rattle.ws_server.specs.Events.{event_of, parting, is_route_of_hosted}
+use Rattle.ws_peers.specs.declared.routes.Route.{Route}
+use Rattle.ws_server.specs.Events.{word_of, event_of, parting, is_route_of_hosted}
 use Rattle.ws_server.specs.Steps.{Step}
-use Rattle.ws_server.specs.Tells.{TellsAll}
+use Rattle.ws_server.specs.Tells.{SentWhileOpen, TellsAll}
 
 -- a change of peers: those before, those after, the steps that the hub takes, and how it ends
 abbrev pub Change : Type 0 → Type 1
@@ -74,6 +76,18 @@ module _ {P : Type 0} where
 abbrev pub Means : Bool → Fault → Type 0
 Means hosted fault = fault ≡ NoSuchOperator → hosted ≡ false
 
+module _ {T : Type 0} (contents : T → Option (List ℕ)) where
+  -- peer n alone is sent a text before a change, and another after it; where the change ends in a fault it is sent none
+  abbrev pub Between : ℕ → List ℕ → List ℕ → Change (Peer T) → Change (Peer T)
+  Between n begin end C old new steps (Ok u) =
+      (begun told : List (Peer T)) × lists.At (SentWhileOpen contents begin) n old begun × C begun told steps (Ok u) × lists.At (SentWhileOpen contents end) n told new
+  Between n begin end C old new steps (Err fault) = C old new steps (Err fault)
+
+  -- the answer to a text of peer n: where it has a word, between the two lines of that word
+  abbrev pub Answers : ℕ → Option (List ℕ) → Change (Peer T) → Change (Peer T)
+  Answers n None C old new steps r = C old new steps r
+  Answers n (Some word) C old new steps r = Between n (begin_line word) (end_line word) C old new steps r
+
 module _ {T : Type 0} (contents : T → Option (List ℕ)) (is_hosted : List ℕ → Bool) where
   -- an event is handed to the hub: its outputs are sent, or nothing has changed
   abbrev pub Hands : Event → Change (Peer T)
@@ -87,7 +101,8 @@ module _ {T : Type 0} (contents : T → Option (List ℕ)) (is_hosted : List ℕ
 
   -- a text of peer n at moment m; after a fault nothing has changed
   abbrev pub HandsText : ℕ → ℕ → List ℕ → Change (Peer T)
-  HandsText m n text old new steps (Ok u) = (event : Option Event) × ((d : Peer T) → event ≡ event_of (route_of (slice_index_or old n d)) m text) × HandsOrRefuses n event old new steps (Ok u)
+  HandsText m n text old new steps (Ok u) =
+      (route : Route) × ((d : Peer T) → route ≡ route_of (slice_index_or old n d)) × Answers contents n (word_of route text) (HandsOrRefuses n (event_of route m text)) old new steps (Ok u)
   HandsText m n text old new steps (Err fault) = (new ≡ old) × (steps ≡ []) × ((d : Peer T) → Means (is_route_of_hosted is_hosted (route_of (slice_index_or old n d))) fault)
 
   -- what was read from peer n; a text that ends in a fault is lost, and the connection ends

@@ -1,18 +1,41 @@
 //! What a peer hands to the hub.
-ghost use Rattle.std.specs.Prelude.{◌≡◌, IfOk, OnErr, is_some, true};
+ghost use Rattle.std.specs.Prelude.{◌≡◌, IfOk, OnErr, is_some, option_map, true};
 ghost use Rattle.hub_events.specs.declared.event.Event.TheVariants as event;
 ghost use Rattle.hub_events.specs.declared.event.What.TheVariants as what;
-ghost use Rattle.ws_server.specs.Events.{event_of, disconnect_of, parting, is_turned, turns_away};
+ghost use Rattle.ws_server.specs.Events.{word_of, order_text, event_of, disconnect_of, parting, is_turned, turns_away};
 
 use hub_events::{Event, Out, Said, What};
-use lines::read_order;
+use lines::{mark_of, read_order};
 use ocpp_types::{Mem, Moment, Text};
 use std::alloc::Global;
 use std::io::{Read, Write};
 use ws_peers::{Peer, Route, Stage};
 
-/// The event that a text of a peer is: a frame of a station, or an order of an operator. `None` is
-/// a text of an operator that is no order.
+/// The word of a text of a peer. That of a station has none.
+pub fn word_of<'a>(route: &Route, text: &'a str) -> Option<&'a str>
+    ensures { option_map (λ w. w.now) result ≡ word_of route.now text.now }
+{
+    match route {
+        Route::Station(_, _) => None,
+        Route::Operator(_) => {
+            let (word, _order) = mark_of(text)?;
+            Some(word)
+        }
+    }
+}
+
+/// A text of an operator without its word.
+fn order_text(text: &str) -> &str
+    ensures { result.now ≡ order_text text.now }
+{
+    match mark_of(text) {
+        Some((_word, order)) => order,
+        None => text,
+    }
+}
+
+/// The event that a text of a peer is: a frame of a station, or an order of an operator, which may have a word. `None`
+/// is a text of an operator that has no order.
 pub fn event_of(alloc: Global, route: &Route, moment: Moment, text: &str) -> Mem<Option<Event>>
     ensures { IfOk result (λ e. e ≡ event_of route.now moment text.now) }
 {
@@ -24,7 +47,7 @@ pub fn event_of(alloc: Global, route: &Route, moment: Moment, text: &str) -> Mem
             let what = What::Frame { station, text };
             Ok(Some(Event::At { op, moment, what }))
         }
-        Route::Operator(op) => read_order(alloc, op, moment, text),
+        Route::Operator(op) => read_order(alloc, op, moment, order_text(text)),
     }
 }
 

@@ -3,6 +3,7 @@
 #![tactic(auto)]
 
 mod admit;
+mod answer;
 mod arrival;
 mod events;
 mod gateway;

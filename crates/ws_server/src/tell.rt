@@ -12,9 +12,9 @@ use ws_peers::{Peer, Peers};
 
 impl<T: Read + Write + Served + Drop> Gateway<T> {
     ghost use Rattle.lines.specs.OutputLines.{line_of};
-    ghost use Rattle.ws_peers.specs.Lists.{ToOperator};
+    ghost use Rattle.ws_peers.specs.Lists.{At, ToOperator};
     ghost use Rattle.ws_peers.specs.Peers.{is_operator_peer};
-    ghost use Rattle.ws_server.specs.Tells.{peers_of, Tells, TellsAll};
+    ghost use Rattle.ws_server.specs.Tells.{peers_of, SentWhileOpen, Tells, TellsAll};
 
     /// No peer. It takes no memory yet.
     pub fn new(alloc: Global) -> Gateway<T>
@@ -103,5 +103,17 @@ impl<T: Read + Write + Served + Drop> Gateway<T> {
         for out in outs {
             self.tell_near(near, out);
         }
+    }
+
+    /// Sends a text to peer n alone, if its connection is open.
+    pub(crate) fn say(&mut self, n: usize, text: &str)
+        requires { n < length (peers_of self.old) }
+        ensures said { At (SentWhileOpen T.contents text.now) n (peers_of self.old) (peers_of self.new) }
+        ensures count { length (peers_of self.new) ≡ length (peers_of self.old) }
+    {
+        if !self.peers.peer(n).stage().is_open() {
+            return;
+        }
+        self.peers.send(n, text);
     }
 }

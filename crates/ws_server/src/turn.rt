@@ -6,7 +6,7 @@ ghost use Rattle.ws_server.specs.Steps.{Takes};
 ghost use Rattle.ws_server.specs.Tells.{peers_of};
 ghost use Rattle.ws_server.specs.Turns.{is_above};
 
-use crate::events::{event_of, parting};
+use crate::events::parting;
 use crate::gateway::Gateway;
 use crate::notes::{Happened, Notes};
 use hub::{Event, Fault, Hub};
@@ -19,7 +19,7 @@ use ws_peers::{Cause, Peers, Stage};
 
 #[tactic(auto, using(crate::proofs::StepLaws::handed, crate::proofs::StepLaws::nothing))]
 impl<T: Read + Write + Served + Drop> Gateway<T> {
-    ghost use Rattle.ws_server.specs.Turns.{Hands, HandsText, Serves, Parts, Each, SweepsAndTicks, PartsAndTicks, Turns};
+    ghost use Rattle.ws_server.specs.Turns.{Hands, Serves, Parts, Each, SweepsAndTicks, PartsAndTicks, Turns};
 
     /// Hands an event to the hub, and sends its outputs. After a fault nothing has changed.
     pub(crate) fn hand<S: Store + Drop, V: VendorHandler>(
@@ -37,32 +37,6 @@ impl<T: Read + Write + Served + Drop> Gateway<T> {
         let outs = hub.handle(event)?;
         self.tell_all(near, &outs);
         Ok(())
-    }
-
-    /// Hands a text of peer n to the hub. A text of an operator that is no order is answered
-    /// `bad line`.
-    fn hand_text<S: Store + Drop, V: VendorHandler>(
-        &mut self,
-        hub: &mut Hub<S, V>,
-        n: usize,
-        moment: Moment,
-        text: &str,
-    ) -> Result<(), Fault>
-        requires { n < length (peers_of self.old) }
-        ensures takes { Takes S.view V.view hub.old hub.new
-            (λ steps. HandsText T.contents (setting V.view hub.old).is_hosted moment n text.now (peers_of self.old) (peers_of self.new) steps result) }
-        ensures counted { IsCounted (hub_view S.view) hub.old hub.new (result ≡ Err Fault.Store) }
-        ensures setting { setting V.view hub.new ≡ setting V.view hub.old }
-        ensures count { length (peers_of self.new) ≡ length (peers_of self.old) }
-    {
-        let route = self.peers.peer(n).route();
-        match event_of(self.alloc, route, moment, text)? {
-            Some(event) => self.hand(hub, n, &event),
-            None => {
-                self.peers.send(n, "bad line");
-                Ok(())
-            }
-        }
     }
 
     /// Serves peer n: reads once, and hands the text that was read, if there is one, to the hub.

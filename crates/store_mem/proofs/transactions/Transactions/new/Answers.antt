@@ -23,7 +23,7 @@ invariant_of-result c =
       };
       opened = record {
         in_place = subst AreInPlace (sym c.new-3.ensures.items) (none_in_place OpenRow);
-        each = λ b n. ap (rows_at b n) c.new-3.ensures.items ∙ sym (ap (λ gs. opens_of is_open (λ r. r.station) b n (all_rows gs)) empty);
+        each = λ b n. ap (rows_at b n) c.new-3.ensures.items ∙ sym (ap (λ gs. opens_of is_open (λ r. r.op) b n (all_rows gs)) empty);
       };
       started = record {
         in_place = subst AreInPlace (sym c.new-4.ensures.items) (none_in_place StartRow);

@@ -27,9 +27,8 @@ pub put_at-requires-2-clause-sorted : goal.put_at-requires-2-clause-sorted
 put_at-requires-2-clause-sorted c =
     let s = c.args.self.now in
     let b = c.as_str-op.result.now in
-    let st = c.as_str-station.result.now in
-    subst (IsStrictlySortedBy (by_key open_key)) (sym (c.make_room_at-2.ensures.rows b st ∙ s.opened.each b st))
-    (sorted-opens is_open (λ r. r.station) b st (all_rows s.rows.items) s.sorted)
+    subst (IsStrictlySortedBy (by_key open_key)) (sym (c.make_room_at-2.ensures.rows b b ∙ s.opened.each b b))
+    (sorted-opens is_open (λ r. r.op) b b (all_rows s.rows.items) s.sorted)
 
 pub put_counted-requires-clause-sorted : goal.put_counted-requires-clause-sorted
 put_counted-requires-clause-sorted c =
@@ -58,8 +57,8 @@ invariant_of-self-2 c =
           (is_new row txs behind) c.in_ok-start_tx.ensures.ok its_op (ap (λ r. r.start.id.key) c.in_ok-row.ensures ∙ sym c.as_str-key.ensures) c.in_ok-used_row.ensures (sym c.counts-counts.ensures)
           (record { in_place = c.make_room_if.ensures.in_place; each = λ b n. c.make_room_if.ensures.rows b n ∙ s.in_use.each b n })
           c.put_counted.ensures.in_place c.put_counted.ensures.rows;
-      opened = opens-started is_open (λ r. r.station) c.as_str-op.result.now c.as_str-station.result.now true row c.in_ok-open_row.open_row txs _ c.make_room_at-2.new.groups.items c.put_at-2.new.groups.items s.sorted
-          (is_new row txs behind) c.in_ok-start_tx.ensures.ok its_op its_station c.in_ok-open_row.ensures (ap is_open c.in_ok-row.ensures)
+      opened = opens-started is_open (λ r. r.op) c.as_str-op.result.now c.as_str-op.result.now true row c.in_ok-open_row.open_row txs _ c.make_room_at-2.new.groups.items c.put_at-2.new.groups.items s.sorted
+          (is_new row txs behind) c.in_ok-start_tx.ensures.ok its_op its_op c.in_ok-open_row.ensures (ap is_open c.in_ok-row.ensures)
           (record { in_place = c.make_room_at-2.ensures.in_place; each = λ b n. c.make_room_at-2.ensures.rows b n ∙ s.opened.each b n })
           c.put_at-2.ensures.in_place c.put_at-2.ensures.rows;
       started = starts-started c.as_str-op.result.now c.as_str-station.result.now row c.in_ok-start_row.start_row txs _ c.make_room_at.new.groups.items c.put_at.new.groups.items s.sorted

@@ -10,7 +10,7 @@ use Rattle.hub_rows.proofs.ListLaws.{sorted-changed}
 use Rattle.store_mem.specs.NamedGroups.{all_rows}
 use Rattle.store_mem.specs.Open.{open_key, is_open_tx, opens_of, AreOpens}
 use Rattle.store_mem.specs.Starts.{start_key, starts_of}
-use Rattle.store_mem.proofs.OpenLaws.{sorted-opens, opens-ended, at_station}
+use Rattle.store_mem.proofs.OpenLaws.{sorted-opens, opens-ended, at_operator}
 use Rattle.store_mem.proofs.StartLaws.{starts-stopped}
 use Rattle.store_mem.proofs.transactions.Transactions.stop.Goals as goal
 
@@ -18,8 +18,7 @@ pub close-requires-clause-sorted : goal.close-requires-clause-sorted
 close-requires-clause-sorted c =
     let s = c.args.self.now in
     let b = c.args.op.now in
-    let st = c.args.station.now in
-    subst (IsStrictlySortedBy (by_key open_key)) (sym (s.opened.each b st)) (sorted-opens is_open (λ r. r.station) b st (all_rows s.rows.items) s.sorted)
+    subst (IsStrictlySortedBy (by_key open_key)) (sym (s.opened.each b b)) (sorted-opens is_open (λ r. r.op) b b (all_rows s.rows.items) s.sorted)
 
 pub invariant_of-self : goal.invariant_of-self
 invariant_of-self c =
@@ -36,8 +35,8 @@ invariant_of-self c =
       opened = record {
         in_place = c.close.ensures.in_place;
         each = λ u v. c.close.ensures.rows u v
-            ∙ (λ i. cond (bytes_eq b u && bytes_eq st v) (filter (λ o. not (is_open_tx st n o)) (s.opened.each u v i)) (s.opened.each u v i))
-            ∙ sym (ap (opens_of is_open (λ r. r.station) u v) c.stop_tx.ensures.rows ∙ opens-ended is_open (λ r. r.station) (λ t r. refl) b st n c.args.stop st txs (at_station b st n txs) u v);
+            ∙ (λ i. cond (bytes_eq b u && bytes_eq b v) (filter (λ o. not (is_open_tx st n o)) (s.opened.each u v i)) (s.opened.each u v i))
+            ∙ sym (ap (opens_of is_open (λ r. r.op) u v) c.stop_tx.ensures.rows ∙ opens-ended is_open (λ r. r.op) (λ t r. refl) b st n c.args.stop b txs (at_operator b st n txs) u v);
       };
       started = record {
         in_place = s.started.in_place;

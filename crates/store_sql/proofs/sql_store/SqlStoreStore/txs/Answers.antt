@@ -1,6 +1,6 @@
 use Rattle.std.proofs.Common.{◌≡◌}
 use Rattle.sqlite.specs.Held.{state}
-use Rattle.hub_rows.specs.Transactions.{txs_in}
+use Rattle.hub_rows.specs.Transactions.{txs_from_in}
 use Rattle.store_sql.specs.Store.{SqlView}
 use Rattle.store_sql.proofs.StopLaws.{leaves_last}
 use Rattle.store_sql.proofs.StoreLaws.{found_in, kept_still, only_reads}
@@ -17,5 +17,5 @@ returns-clause-reads g c =
 pub returns-clause-found : goal.returns-clause-found
 returns-clause-found g c =
     let inside : SqlView _ = record { conn = c.self.inside.conn; failures = c.self.inside.failures; taken = c.self.inside.taken.value } in
-    found_in g.A.Store inside c.args.self.now c.counted.new.self c.self.view_is c.self.invariant c.txs-found.new.conn c.counted.ensures.taken c.counted.ensures.conn c.txs-found.ensures.same c.txs-found.result c.counted.result c.counted.ensures.same (λ rows list. list ≡ txs_in c.args.op.now c.args.station.now rows.transactions)
+    found_in g.A.Store inside c.args.self.now c.counted.new.self c.self.view_is c.self.invariant c.txs-found.new.conn c.counted.ensures.taken c.counted.ensures.conn c.txs-found.ensures.same c.txs-found.result c.counted.result c.counted.ensures.same (λ rows list. list ≡ txs_from_in c.args.op.now c.args.station.now c.args.first rows.transactions)
     c.txs-found.ensures.found

@@ -1,0 +1,179 @@
+"""Cases of the forms: the lines that they send, what they say, and what changes on the page."""
+
+import json
+import time
+
+from desk_cases import opened
+from mock_server import NOW, START
+
+TAKEN = "Taken."
+ENDS = [
+    ('Answer {"status":"Rejected"}', "Done: Rejected"), ("Timeout", "Timeout: no answer within 30 s"),
+    ("Disconnected", "Disconnected: the station has left"), ('Error ["NotSupported","no such thing"]', "Error: NotSupported, no such thing"),
+    ("BadAnswer OccurenceConstraintViolation status", "Invalid answer: OccurenceConstraintViolation status"),
+]
+
+
+def check_orders(cases):
+    """Forms of tags, grants and stations."""
+    _, mock = opened(cases)
+    wanted = [
+        ("tags", "tags", "Put an id tag", None, dict(tag="K7", parent="P1", until="2024-01-01T01:00:00", blocked=True), TAKEN, "tag put K7 P1 1 1704067200"),
+        ("tags", "tags", "Put an id tag", None, dict(tag="K9"), TAKEN, "tag put K9 - 0 -"),
+        ("tags", "tags", "Change", "K2", dict(parent=""), TAKEN, f"tag put K2 - 0 {START // 1000 + 3650 * 86400}"),
+        ("tags", "tags", "Block", "K1", {}, "closed", "tag put K1 - 1 -"),
+        ("tags", "tags", "Unblock", "K3", {}, "closed", "tag put K3 - 0 -"),
+        ("tags", "tags", "Grant", "K1", dict(receiver="BETA", until=""), TAKEN, "grant K1 BETA -"),
+        ("tags", "tags", "Grant", "K1", dict(receiver="ACME"), "Refused, SelfGrant: a tag cannot be granted to its own operator.", "grant K1 ACME -"),
+        ("tags", "grants", "Grant an id tag", None, dict(tag="K2", receiver="GAMMA", until="2024-07-01T02:00:00"), TAKEN, "grant K2 GAMMA 1719792000"),
+        ("tags", "grants", "Revoke", "K1", {}, "closed", "revoke K1 BETA"),
+        ("tags", "tags", "Drop", "K9", {}, "closed", "tag drop K9"),
+        ("stations", "stations", "Add a station", None, dict(station="S9", policy="Pending", interval="60"), TAKEN, "station add S9 Pending 60"),
+        ("stations", "stations", "Add a station", None, dict(station="S9"), "Refused, StationExists: this operator already has a station of that name.",
+         "station add S9 Accepted 300"),
+        ("station/S9", "others", "Set its policy", None, dict(policy="Rejected", interval="0"), TAKEN, "station policy S9 Rejected 0"),
+        ("station/NORTH-01", "others", "Set its policy", None, dict(policy="Rejected"),
+         "Refused, HasOpenTransactions: the station has an open transaction.", "station policy NORTH-01 Rejected 300"),
+    ]
+    for view, section, button, row, values, said, line in wanted:
+        cases.go(view)
+        seen = cases.order(section, button, values, row)
+        cases.check(f"{line}: what the form says", seen == said, seen)
+        cases.check(f"{line}: the line", line in mock.heard, mock.heard[-3:])
+    cases.go("tags")
+    tags = [row[:3] for row in cases.rows("tags")]
+    cases.check("the tables have the changes", tags == [
+        ["K1", "–", "yes"], ["K2", "–", "no"], ["K3", "–", "no"], ["K7", "P1", "yes"], ["P1", "–", "no"]], tags)
+    cases.check("and the grants", [row[:2] for row in cases.rows("grants")] == [["K2", "BETA"], ["K2", "GAMMA"]], cases.rows("grants"))
+    cases.go("stations")
+    cases.check("and the stations", cases.rows("stations")[-1][0] == "S9", cases.rows("stations"))
+    mock.stop()
+
+
+def check_commands(cases):
+    """A form for each command of stations."""
+    _, mock = opened(cases)
+    cases.go("station/NORTH-01")
+    wanted = [
+        ("commands", "Start a session", dict(idTag="K1"), {"idTag": "K1"}, "RemoteStartTransaction"),
+        ("commands", "Start a session", dict(idTag="K1", connectorId="2"), {"connectorId": 2, "idTag": "K1"}, "RemoteStartTransaction"),
+        ("commands", "Stop a session", {}, {"transactionId": 2}, "RemoteStopTransaction"),
+        ("commands", "Cancel a reservation", dict(reservationId="4"), {"reservationId": 4}, "CancelReservation"),
+        ("commands", "Unlock a connector", dict(connectorId="3"), {"connectorId": 3}, "UnlockConnector"),
+        ("commands", "Change availability", dict(connectorId="0", type="Inoperative"), {"connectorId": 0, "type": "Inoperative"}, "ChangeAvailability"),
+        ("commands", "Reset the station", dict(type="Hard"), {"type": "Hard"}, "Reset"),
+        ("commands", "Ask for a message", dict(requestedMessage="MeterValues", connectorId="1"), {"connectorId": 1, "requestedMessage": "MeterValues"}, "TriggerMessage"),
+        ("commands", "Ask for a message", dict(requestedMessage="Heartbeat"), {"requestedMessage": "Heartbeat"}, "TriggerMessage"),
+        ("others", "Read the configuration", {}, {}, "GetConfiguration"),
+        ("others", "Read the configuration", dict(key="A\n B \n\n"), {"key": ["A", "B"]}, "GetConfiguration"),
+        ("others", "Change the configuration", dict(key="A", value='x "y"'), {"key": "A", "value": 'x "y"'}, "ChangeConfiguration"),
+        ("others", "Clear the cache of id tags", {}, {}, "ClearCache"),
+        ("others", "Send vendor data", dict(vendorId="org.example", data="a\nb"), {"data": "a\nb", "vendorId": "org.example"}, "DataTransfer"),
+        ("others", "Ask for the version of the local list", {}, {}, "GetLocalListVersion"),
+        ("ownReports", "Ask for a report", {}, {"requestedMessage": "FirmwareStatusNotification"}, "TriggerMessage"),
+    ]
+    for section, button, values, payload, action in wanted:
+        said = cases.order(section, button, values)
+        cases.check(f"{action}: its end is said", said == f"Call {mock.calls}: Done: Accepted.", said)
+        line = f"call NORTH-01 {action} {json.dumps(payload, separators=(',', ':'))}"
+        cases.check(f"{action}: the line", mock.heard.count(line) == 1, [one for one in mock.heard if one.startswith("call")][-1])
+    check_holdings(cases, mock)
+    check_ends(cases, mock)
+    mock.stop()
+
+
+def check_holdings(cases, mock):
+    """Reservations and local lists."""
+    cases.check("the reservation is gone", cases.is_at_rest() and cases.rows("ownReservations") == [], cases.rows("ownReservations"))
+    values = dict(connectorId="3", idTag="K 1", parentIdTag="P1", expiryDate="2027-01-01T01:00:00", reservationId="9")
+    cases.order("ownReservations", "Reserve", values)
+    line = 'call NORTH-01 ReserveNow {"connectorId":3,"expiryDate":"2027-01-01T00:00:00Z","idTag":"K 1","parentIdTag":"P1","reservationId":9}'
+    cases.check("ReserveNow: the line", line in mock.heard, mock.heard[-4:])
+    cases.is_at_rest()
+    row = ["9", "3", "K 1", "P1", "2027-01-01 01:00:00 00:00:00 UTC", "Cancel"]
+    cases.check("ReserveNow: the table", cases.rows("ownReservations") == [row], cases.rows("ownReservations"))
+    cases.order("connectors", "Reserve", dict(idTag="K1"), "1")
+    sent = json.loads(next(one for one in reversed(mock.heard) if "ReserveNow" in one).split(" ", 3)[3])
+    cases.check("ReserveNow of a connector's row", (sent["connectorId"], sent["reservationId"]) == (1, 10), sent)
+    soon = time.mktime(time.strptime(sent["expiryDate"], "%Y-%m-%dT%H:%M:%SZ")) - time.timezone
+    cases.check("ReserveNow: for an hour", abs(soon - time.time() - 3600) < 60, sent)
+    cases.is_at_rest()
+    cases.order("ownReservations", "Cancel", {}, "9")
+    cases.check("CancelReservation of a row", 'call NORTH-01 CancelReservation {"reservationId":9}' in mock.heard, mock.heard[-3:])
+    check_list(cases, mock)
+
+
+def check_list(cases, mock):
+    """SendLocalList: its entries are rows, at first those on record."""
+    browser = cases.browser
+    cases.click("ownList", "Send a list")
+    cases.click("fields", "Add an entry")
+    cases.fill(dict(idTag="K9", status="Expired", parentIdTag="P1", expiryDate="2026-06-01T02:00:00"), 2)
+    browser.run("document.querySelectorAll('#fields .entry button')[1].click()")
+    cases.send()
+    entries = [{"idTag": "K1", "idTagInfo": {"expiryDate": "2030-01-01T00:00:00Z", "status": "Accepted"}},
+               {"idTag": "K9", "idTagInfo": {"expiryDate": "2026-06-01T00:00:00Z", "parentIdTag": "P1", "status": "Expired"}}]
+    compact = json.dumps(entries, separators=(",", ":"))
+    line = f'call NORTH-01 SendLocalList {{"listVersion":7,"localAuthorizationList":{compact},"updateType":"Full"}}'
+    cases.check("SendLocalList: the line", line in mock.heard, mock.heard[-3:])
+    browser.run("document.getElementById('form').close()")
+    cases.is_at_rest()
+    cases.check("SendLocalList: the table", [row[0] for row in cases.rows("ownList")] == ["K1", "K9"], cases.rows("ownList"))
+    cases.click("ownList", "Send a list")
+    cases.click("fields", "Remove all")
+    cases.click("fields", "Add all id tags of this operator")
+    tags = browser.run("[...document.querySelectorAll('#fields .entry [name=idTag]')].map(one => one.value)")
+    statuses = browser.run("[...document.querySelectorAll('#fields .entry [name=status]')].map(one => one.value)")
+    cases.check("all own tags at once", (tags, statuses) == (["K1", "K2", "K3", "P1"], ["Accepted", "Accepted", "Blocked", "Accepted"]), [tags, statuses])
+    cases.fill(dict(status=""), 1)
+    browser.run("document.getElementById('send').click()")
+    fault = browser.run("document.querySelectorAll('#fields .entry [name=status]')[1].validationMessage")
+    cases.check("a full list takes nothing off", fault == "A full list has nothing to take off.", fault)
+    cases.fill(dict(updateType="Differential"))
+    cases.send()
+    sent = json.loads(mock.heard[-1 - mock.heard[::-1].index(next(one for one in reversed(mock.heard) if "SendLocalList" in one))].split(" ", 3)[3])
+    cases.check("a differential one does", sent["localAuthorizationList"][1] == {"idTag": "K2"} and sent["listVersion"] == 8, sent)
+    browser.run("document.getElementById('form').close()")
+
+
+def check_ends(cases, mock):
+    """How calls end, and refusals, are said at the form that made the order."""
+    browser = cases.browser
+    for outcome, text in ENDS:
+        mock.outcome = outcome
+        said = cases.order("commands", "Unlock a connector", {})
+        cases.check(f"the end of a call: {outcome}", said == f"Call {mock.calls}: {text}.", said)
+    mock.outcome = None
+    said = cases.order("commands", "Unlock a connector", {}, stays=True)
+    cases.check("a call that is taken", said == f"Taken as call {mock.calls}. The station has not answered yet.", said)
+    cases.check("calls in flight are counted", browser.wait("document.getElementById('ended').textContent === 'Calls and log (1 in flight)'"))
+    mock.outcome = 'Answer {"configurationKey":[{"key":"A","readonly":true,"value":"1"},{"key":"B","readonly":false}],"unknownKey":["C","D"]}'
+    mock.end("NORTH-01", "UnlockConnector", "{}")
+    pairs = "[...document.querySelectorAll('#answer dl div')].map(one => one.textContent)"
+    cases.check("its end is said later", browser.wait(f"{pairs}.join() === 'A1 (read-only),B(no value),unknownKeyC, D'", 3), browser.run(pairs))
+    browser.shot("form-answer", whole=False)
+    browser.run("document.getElementById('form').close()")
+    mock.outcome = 'Answer {"status":"Accepted"}'
+    cases.go("station/NORTH-10")
+    cases.click("commands", "Reset the station")
+    note = cases.text("note")
+    cases.check("a station without a connection is told", note.startswith("The station is offline, so the server will refuse this."), note)
+    said = cases.send()
+    cases.check("and the refusal is said at the form", said == "Refused, NotConnected: the station is not connected.", said)
+    browser.run("document.getElementById('form').close()")
+    cases.go("stations")
+    mock.records.add = lambda *_: ["refused 12 BadField interval"]
+    said = cases.order("stations", "Add a station", dict(station="S1"), stays=True)
+    cases.check("a field that is refused is named", said == 'Refused, BadField: the field "Interval, s" is out of its limits (interval).', said)
+    cases.check("and marked", browser.run("document.querySelector('#fields [aria-invalid]').name") == "interval")
+    browser.shot("form-refused", whole=False)
+    cases.fill(dict(interval="60"))
+    cases.check("until it is changed", browser.run("document.querySelector('#fields [aria-invalid]') === null"))
+    browser.run("document.getElementById('form').close()")
+    cases.go("calls")
+    cases.check("a line by hand", cases.free("list tags") == "Rows: 4", cases.text("said"))
+    said = cases.free("lost stations")
+    cases.check("a line of no form", said == "Refused, bad line: the server does not read this as an order.", said)
+
+
+CASES = (check_orders, check_commands)

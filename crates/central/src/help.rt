@@ -1,0 +1,59 @@
+//! What follows the help of each command: examples, exit statuses, and where more is written.
+
+/// What follows the help of the program.
+pub const CENTRAL: &str = "\
+`central COMMAND --help` has the options of a command, an example and its exit statuses.
+
+More: README.md, docs/OPERATIONS.md";
+
+/// What follows the help of `replay`.
+pub const REPLAY: &str = "\
+Example:
+  central replay --operators ACME,BETA < script
+
+Exit statuses:
+  0  the input was read to its end
+  1  the command line can't be read
+  2  a fault, which standard error names
+
+More: README.md, docs/RULES.md (Lines), docs/OPERATIONS.md (The server)";
+
+/// What follows the help of `serve`.
+pub const SERVE: &str = "\
+Example:
+  central serve --port 9180 --db doxeguir.db --operators ACME,BETA
+
+It has no TLS and authenticates nobody: a connection is the station or the operator that its path names.
+
+Exit statuses:
+  0  the turns of --turns were made
+  1  the command line can't be read
+  2  a fault, which standard error names
+
+More: docs/OPERATIONS.md";
+
+/// What follows the help of `sim`.
+pub const SIM: &str = "\
+Example:
+  central sim --port 9180 --path /ocpp/ACME/CP01
+
+Exit statuses:
+  0  the session has ended
+  1  the command line can't be read
+  2  a fault, which standard error names
+
+More: README.md, docs/RULES.md (The simulated station), docs/OPERATIONS.md (The server)";
+
+/// What follows the help of `ask`.
+pub const ASK: &str = "\
+Examples:
+  central ask --port 9180 --operator ACME \"list tags\"
+  central ask --port 9180 --operator ACME --wait \"call CP01 ClearCache {}\"
+
+Exit statuses:
+  0  each line was taken
+  1  the command line can't be read
+  2  a fault, which standard error names
+  3  a line was refused or bad
+
+More: docs/OPERATIONS.md (An operator's commands), docs/TABLES.md";

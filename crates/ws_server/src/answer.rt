@@ -1,0 +1,115 @@
+//! Answering the texts of peers.
+ghost use Rattle.std.specs.Prelude.{◌≡◌, ◌<◌, Err, List, codes, length, string_bytes};
+ghost use Rattle.hub_rows.specs.Reads.{IsCounted};
+ghost use Rattle.hub.specs.Hub.{hub_view, setting};
+ghost use Rattle.ws_peers.specs.Lists.{At};
+ghost use Rattle.ws_peers.specs.Sends.{Sent};
+ghost use Rattle.ws_server.specs.Steps.{Takes};
+ghost use Rattle.ws_server.specs.Tells.{SentWhileOpen, peers_of};
+
+use crate::events::{event_of, word_of};
+use crate::gateway::Gateway;
+use hub::{Event, Fault, Hub};
+use hub_rows::Store;
+use lines::{Bounds, bounds_of};
+use ocpp_types::Moment;
+use ready_streams::Served;
+use station_calls::VendorHandler;
+use std::io::{Read, Write};
+use ws_peers::Peer;
+
+#[tactic(auto, using(crate::proofs::StepLaws::nothing))]
+impl<T: Read + Write + Served + Drop> Gateway<T> {
+    ghost use Rattle.ws_server.specs.Turns.{HandsOrRefuses, Between, HandsText};
+
+    /// Hands a text of peer n to the hub, and sends the outputs. A text of an operator that is no order is answered
+    /// `bad line`. Where it has a word, peer n alone is sent `#WORD begin` before the answer and `#WORD end` after it.
+    /// After a fault nothing has changed.
+    pub(crate) fn hand_text<S: Store + Drop, V: VendorHandler>(
+        &mut self,
+        hub: &mut Hub<S, V>,
+        n: usize,
+        moment: Moment,
+        text: &str,
+    ) -> Result<(), Fault>
+        requires { n < length (peers_of self.old) }
+        ensures takes { Takes S.view V.view hub.old hub.new
+            (λ steps. HandsText T.contents (setting V.view hub.old).is_hosted moment n text.now (peers_of self.old) (peers_of self.new) steps result) }
+        ensures counted { IsCounted (hub_view S.view) hub.old hub.new (result ≡ Err Fault.Store) }
+        ensures setting { setting V.view hub.new ≡ setting V.view hub.old }
+        ensures count { length (peers_of self.new) ≡ length (peers_of self.old) }
+    {
+        let route = self.peers.peer(n).route();
+        let event = event_of(self.alloc, route, moment, text)?;
+        match word_of(route, text) {
+            Some(word) => {
+                let bounds = bounds_of(self.alloc, word)?;
+                self.answer_between(hub, n, &bounds, &event)
+            }
+            None => self.answer(hub, n, &event),
+        }
+    }
+
+    /// Hands an event of peer n to the hub, and sends its outputs. `None` is a text that has none, which is answered
+    /// `bad line`.
+    fn answer<S: Store + Drop, V: VendorHandler>(
+        &mut self,
+        hub: &mut Hub<S, V>,
+        n: usize,
+        event: &Option<Event>,
+    ) -> Result<(), Fault>
+        requires { n < length (peers_of self.old) }
+        ensures takes { Takes S.view V.view hub.old hub.new
+            (λ steps. HandsOrRefuses T.contents (setting V.view hub.old).is_hosted n event.now (peers_of self.old) (peers_of self.new) steps result) }
+        ensures counted { IsCounted (hub_view S.view) hub.old hub.new (result ≡ Err Fault.Store) }
+        ensures setting { setting V.view hub.new ≡ setting V.view hub.old }
+        ensures count { length (peers_of self.new) ≡ length (peers_of self.old) }
+    {
+        match event {
+            Some(event) => self.hand(hub, n, event),
+            None => {
+                self.peers.send(n, "bad line");
+                Ok(())
+            }
+        }
+    }
+
+    /// As `answer`, between two lines that peer n alone is sent. Neither is sent before the hub has taken the event.
+    fn answer_between<S: Store + Drop, V: VendorHandler>(
+        &mut self,
+        hub: &mut Hub<S, V>,
+        n: usize,
+        bounds: &Bounds,
+        event: &Option<Event>,
+    ) -> Result<(), Fault>
+        requires { n < length (peers_of self.old) }
+        ensures takes { Takes S.view V.view hub.old hub.new
+            (λ steps. Between T.contents n (string_bytes bounds.now.begin) (string_bytes bounds.now.end)
+            (HandsOrRefuses T.contents (setting V.view hub.old).is_hosted n event.now) (peers_of self.old) (peers_of self.new) steps result) }
+        ensures counted { IsCounted (hub_view S.view) hub.old hub.new (result ≡ Err Fault.Store) }
+        ensures setting { setting V.view hub.new ≡ setting V.view hub.old }
+        ensures count { length (peers_of self.new) ≡ length (peers_of self.old) }
+    {
+        let Some(event) = event else {
+            self.refuse_between(n, bounds.begin.as_str(), bounds.end.as_str());
+            return Ok(());
+        };
+        let outs = hub.handle(event)?;
+        self.say(n, bounds.begin.as_str());
+        self.tell_all(n, &outs);
+        self.say(n, bounds.end.as_str());
+        Ok(())
+    }
+
+    /// Sends `bad line` to peer n, between two lines.
+    fn refuse_between(&mut self, n: usize, begin: &str, end: &str)
+        requires { n < length (peers_of self.old) }
+        ensures refused { (begun told : List (Peer T)) × At (SentWhileOpen T.contents begin.now) n (peers_of self.old) begun
+            × At (Sent T.contents (codes "bad line")) n begun told × At (SentWhileOpen T.contents end.now) n told (peers_of self.new) }
+        ensures count { length (peers_of self.new) ≡ length (peers_of self.old) }
+    {
+        self.say(n, begin);
+        self.peers.send(n, "bad line");
+        self.say(n, end);
+    }
+}
