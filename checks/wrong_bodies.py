@@ -5,9 +5,12 @@
     python3 checks/wrong_bodies.py --due     tries those of each crate that has changed since they were refused
     python3 checks/wrong_bodies.py --check   says which crates are due, and which bodies can't be applied
 
-Each has the form of a must-fail edit (`rt help`). Where the prover refuses all of a crate for their meaning, the
+Each has the form of a must-fail edit (`rt help`). Those of different functions are tried in one check, over a copy of
+what `rt check` kept here. A body is refused where the prover refuses the function that it changes, at a goal of that
+function; a function that is refused only as it calls another that is, is tried again without that one. One that is not
+of a function is tried alone, and refused where its crate is. Where all of a crate are refused for their meaning, the
 crate gets a line in checks/wrong_bodies/refused.txt: its name, and a hash over its src, its specs and the bodies.
-They are tried in a copy of this checkout, over what `rt check` kept here.
+`--jobs N` is handed to `rt check`.
 """
 
 import hashlib
@@ -21,7 +24,12 @@ from pathlib import Path
 ROOT = Path(__file__).resolve().parent.parent
 BODIES = ROOT / "checks" / "wrong_bodies"
 STAMPS = BODIES / "refused.txt"
-REFUSED = re.compile(r"must-fail (\w+)/(\S+\.edit): refused, as it must be(?! \(only)")
+FUNCTION = re.compile(r"^\s*(?:pub(?:\([a-z]+\))? )?(?:const )?fn (\w+)")
+ITEM = re.compile(r"^(?:pub(?:\([a-z]+\))? )?(?:const|struct|enum|trait|impl|use|static|type|mod|macro_rules!) ?")
+VERDICT = re.compile(r"^fn \w+::(\S+): (no proof: expected answers|no proof|not proved)(.*)$", re.M)
+ERROR = re.compile(r"^(?:\./)?(\S+?):\d+:\d+: error: (.*)$", re.M)
+OF_NAMES = re.compile(r"has no field|is not in scope|has no `|was not admitted")
+UNREAD = re.compile(r"is not in scope|has no field|is no name|operand is missing|expected the end|cannot continue")
 
 
 def bodies_of(crate):
@@ -60,22 +68,29 @@ def due():
     return [crate for crate in crates() if kept.get(crate) != stamp_of(crate)]
 
 
-def faults(body):
-    """Why a wrong body can't be applied to its crate."""
-    crate = ROOT / "crates" / body.parent.name
-    path, texts, old = "", {}, None
+def pairs_of(body):
+    """The changes of a wrong body: a file of the crate, the text that stands in it, and the text in its place."""
+    path, old = "", None
     for line in body.read_text().splitlines():
         word, _, rest = line.partition(": ")
         if word == "file":
             path = rest.strip()
-            texts.setdefault(path, (crate / path).read_text() if (crate / path).is_file() else "")
         elif word == "old":
             old = rest
         elif word in ("new", "new:") and old is not None:
-            found = texts[path].count(old)
-            if found != 1:
-                yield f"{body.relative_to(ROOT)}: its text stands {found} times in {path}: {old}"
-            texts[path] = texts[path].replace(old, rest)
+            yield path, old, rest
+
+
+def faults(body):
+    """Why a wrong body can't be applied to its crate."""
+    crate, texts = ROOT / "crates" / body.parent.name, {}
+    for path, old, new in pairs_of(body):
+        file = crate / path
+        text = texts.get(path) or (file.read_text() if file.is_file() else "")
+        found = text.count(old)
+        if found != 1:
+            yield f"{body.relative_to(ROOT)}: its text stands {found} times in {path}: {old}"
+        texts[path] = text.replace(old, new)
 
 
 def check():
@@ -86,47 +101,163 @@ def check():
     return 1 if told else 0
 
 
-def copy_with_bodies(names, place):
-    """A copy of the crates in which those named have their wrong bodies as their must-fail edits."""
-    shutil.copytree(ROOT / "crates", place / "crates", ignore=shutil.ignore_patterns("out", "must-fail"))
-    for file in ("crates.txt", "HANDLES"):
-        shutil.copy(ROOT / file, place)
-    for name in names:
-        shutil.copytree(BODIES / name, place / "crates" / name / "must-fail")
+def function_at(text, at):
+    """The name of the function round a place of a file of src, if there is one."""
+    for line in reversed(text[:at].splitlines() + [text[at:].partition("\n")[0]]):
+        found = FUNCTION.match(line)
+        if found or ITEM.match(line):
+            return found and found[1]
+    return None
 
 
-def tries(names):
-    """Tries the wrong bodies of crates, and gives those that weren't refused for their meaning."""
-    before = {name: stamp_of(name) for name in names}
-    left = {f"{name}/{body.name}" for name in names for body in bodies_of(name)}
-    with tempfile.TemporaryDirectory(prefix="wrong-bodies-") as place:
-        copy_with_bodies(names, Path(place))
-        ran = subprocess.Popen(["rt", "must-fail", *names], cwd=place, stdout=subprocess.PIPE, text=True)
-        for line in ran.stdout:
-            print(line, end="", flush=True)
-            found = REFUSED.search(line)
-            if found:
-                left.discard(f"{found[1]}/{found[2]}")
-        ran.wait()
-    failed = {body.partition("/")[0] for body in left}
-    refused = {name: stamp for name, stamp in before.items() if name not in failed and stamp == stamp_of(name)}
-    write({**{crate: stamp for crate, stamp in stamps().items() if crate not in failed}, **refused})
-    return sorted(left)
+def place_of(body):
+    """The module and the function that a wrong body changes, if it is one function."""
+    home, places = ROOT / "crates" / body.parent.name, set()
+    for path, old, _ in pairs_of(body):
+        if not path.startswith("src/"):
+            return None
+        text = (home / path).read_text()
+        module = path.removeprefix("src/").removesuffix(".rt").removesuffix("/mod").replace("/", "::")
+        places.add((module, function_at(text, text.index(old)) if old in text else None))
+    place = places.pop() if len(places) == 1 else (None, None)
+    return place if place[1] else None
+
+
+def lines_of(crate):
+    """The lines of crates.txt for a crate and those below it, by their names."""
+    lines = (ROOT / "crates.txt").read_text().splitlines()
+    lines = {line.partition(":")[0].split()[0]: line for line in lines if not line.startswith("#") and line.strip()}
+    found, left = {}, [crate]
+    while left:
+        name = left.pop()
+        if name in lines and name not in found:
+            found[name] = lines[name]
+            left += lines[name].partition(":")[2].split()
+    return found
+
+
+class Copy:
+    """A copy of a crate and of those below it, with what `rt check` kept of them."""
+
+    def __init__(self, crate, room, jobs):
+        self.home, self.real, self.jobs = Path(room) / "crates" / crate, ROOT / "crates" / crate, jobs
+        lines = lines_of(crate)
+        for name in lines:
+            kept = "incremental" if name == crate else "rlib"
+            for part in ("src", "specs", "proofs", f"out/{kept}"):
+                if (ROOT / "crates" / name / part).is_dir():
+                    shutil.copytree(ROOT / "crates" / name / part, Path(room) / "crates" / name / part)
+        (Path(room) / "crates.txt").write_text("\n".join(lines.values()) + "\n")
+        shutil.copy(ROOT / "HANDLES", room)
+
+    def checked(self, bodies):
+        """What a check of the crate says with these bodies. The copy is then as it was."""
+        paths = set()
+        for path, old, new in (pair for body in bodies for pair in pairs_of(body)):
+            file = self.home / path
+            file.write_text(file.read_text().replace(old, new, 1))
+            paths.add(path)
+        words = ["rt", "check", *(["--jobs", self.jobs] if self.jobs else [])]
+        ran = subprocess.run(words, cwd=self.home, stdout=subprocess.PIPE, stderr=subprocess.STDOUT, text=True, errors="replace")
+        for path in paths:
+            shutil.copy(self.real / path, self.home / path)
+        return ran.stdout
+
+
+def errors_in(said):
+    return [(file.removeprefix("./"), text) for file, text in ERROR.findall(said)]
+
+
+def is_judged(said):
+    """Whether the prover has read all of the crate, and refused it."""
+    unread = [text for file, text in errors_in(said) if file.startswith(("src/", "specs/")) and (not text.startswith("`") or UNREAD.search(re.sub(r"`[^`]*`", "", text)))]
+    return "\nlogic=not-proved" in said and not unread
+
+
+def refused_at(said):
+    """The functions that were refused at a goal of their own: module and name."""
+    found = set()
+    for path, verdict, _ in VERDICT.findall(said):
+        *modules, name = path.split("::")
+        folder = "proofs/" + "/".join([*modules, name]) + "/"
+        own = [text for file, text in errors_in(said) if file.startswith(folder)]
+        if verdict == "no proof: expected answers" or any(not OF_NAMES.search(text) for text in own):
+            found.update(("::".join(modules[:count]), name) for count in range(1, len(modules) + 1))
+    return found
+
+
+def is_refused_alone(said):
+    """Whether a crate is refused for more than names that a proof has and a wrong body has taken away."""
+    errors = errors_in(said)
+    of_names = errors and all(file.startswith("proofs/") and OF_NAMES.search(text) for file, text in errors)
+    return is_judged(said) and (not of_names or bool(refused_at(said)))
+
+
+def round_of(left):
+    """Bodies that are tried in one check: one of each function, or one that is of none."""
+    chosen = {}
+    for body, place in left.items():
+        if place:
+            chosen.setdefault(place, body)
+    return list(chosen.values()) or list(left)[:1]
+
+
+def refused_of(bodies, left, said):
+    """Those of the bodies of one check that were refused."""
+    if len(bodies) == 1:
+        return bodies if is_refused_alone(said) else []
+    found = refused_at(said) if is_judged(said) else set()
+    return [body for body in bodies if left[body] in found]
+
+
+def tries(crate, jobs):
+    """Tries the wrong bodies of a crate, and gives those that weren't refused for their meaning."""
+    left, failed = {body: place_of(body) for body in bodies_of(crate)}, []
+    with tempfile.TemporaryDirectory(prefix="wrong-bodies-") as room:
+        copy = Copy(crate, room, jobs)
+        while left:
+            bodies = round_of(left)
+            said = copy.checked(bodies)
+            refused = refused_of(bodies, left, said)
+            for body in refused:
+                print(f"{crate}/{body.name}: refused, in a check of {len(bodies)}", flush=True)
+                del left[body]
+            if not refused and len(bodies) == 1:
+                print(f"{crate}/{bodies[0].name}: NOT REFUSED for its meaning\n{tail(said)}", flush=True)
+                failed += bodies
+                del left[bodies[0]]
+            elif not refused:
+                # each is tried alone
+                left.update(dict.fromkeys(bodies))
+    return failed
+
+
+def tail(said):
+    lines = [line for line in said.splitlines() if ": error: " in line or line.startswith(("fn ", "logic", "rt:")) and not line.endswith(": proved")]
+    return "\n".join(f"    {line[:200]}" for line in lines[:12])
 
 
 def main(words):
     if words == ["--check"]:
         return check()
+    jobs = words.pop(words.index("--jobs") + 1) if "--jobs" in words else ""
+    words = [word for word in words if word != "--jobs"]
     if not words:
         sys.exit(__doc__)
     names = due() if words == ["--due"] else words
     for name in names:
         if name not in crates():
             sys.exit(f"checks/wrong_bodies has nothing of {name}; it has {', '.join(crates())}")
-    left = tries(names) if names else []
+    failed = []
+    for name in names:
+        before = stamp_of(name)
+        left = tries(name, jobs)
+        failed += [f"{name}/{body.name}" for body in left]
+        is_kept = not left and before == stamp_of(name)
+        write({**{crate: stamp for crate, stamp in stamps().items() if crate != name}, **({name: before} if is_kept else {})})
     of = sum(len(bodies_of(name)) for name in names)
-    print(f"{of - len(left)} passed, {len(left)} failed", *left)
-    return 1 if left else 0
+    print(f"{of - len(failed)} passed, {len(failed)} failed", *failed)
+    return 1 if failed else 0
 
 
 if __name__ == "__main__":
