@@ -23,6 +23,7 @@ from heads import check_heads
 from peer import BOOT, HEAD, HEARTBEAT, Peer, frame
 
 SCRIPTS = Path(__file__).resolve().parent.parent / "crates" / "check_scripts" / "data"
+OPERATIONS = Path(__file__).resolve().parent.parent / "docs" / "OPERATIONS.md"
 # The number of the schema, and a file of each earlier one, in SCRIPTS.
 SCHEMA = 3
 EARLIER = {1: "records_in_each_list", 2: "records_of_schema_2"}
@@ -375,6 +376,19 @@ def check_vacuum(checks):
             checks.check(f"its tables and indexes, {part}", schema_in(db), schema_in(new))
         vacuum(db)
         checks.check("the order after VACUUM", schema_in(db), schema_in(new))
+
+
+def check_mended(checks):
+    """A file of schema 3 with an index of schema 2 is refused, and taken once it is mended as OPERATIONS says."""
+    words, db, new = ["replay", "--operators", "ACME", "--db"], checks.new_file(), checks.new_file()
+    checks.check("a new file", checks.run(*words, new), (0, "", ""))
+    shutil.copy(SCRIPTS / "ours_with_an_earlier_index.db", db)
+    checks.check("the earlier index", checks.run(*words, db), (2, "", "fault Store: the database is not one of this program\n"))
+    mend = re.search(r'sqlite3 FILE "(DROP INDEX hub_tx_is_open;.*?)"', OPERATIONS.read_text(), re.S)[1]
+    with contextlib.closing(sqlite3.connect(db)) as database:
+        database.executescript(mend)
+    checks.check("its indexes", schema_in(db), schema_in(new))
+    checks.check("the mended file", checks.run(*words, db, lines=b"1 ACME list open\n"), (0, "ACME ok\n", ""))
 
 
 def check_pages(checks):
@@ -776,6 +790,7 @@ def check_all(checks):
     check_two_runs(checks)
     check_uses(checks)
     check_restart(checks)
+    check_mended(checks)
     check_pages(checks)
     check_vacuum(checks)
     check_ask(checks)
