@@ -13,12 +13,16 @@ use store_mem::{Failing, MemStore};
 /// ACME has a booted station and a tag.
 const READY: &str = "1704067200 ACME tag put K1 - 0 -\n";
 
-/// ACME's station starts a transaction and sends the start again. It is sent commands. One answer bears the
-/// id of no call, one comes after its call has timed out.
+/// ACME's station starts a transaction and sends the start again. ACME lists its transactions and connections. The station
+/// is sent commands. One answer bears the id of no call, one comes after its call has timed out.
 const SCRIPT: &str =
     r#"1704067200 ACME frame CP01 [2,"7","StartTransaction",{"connectorId":1,"idTag":"K1","meterStart":100,"timestamp":"2024-01-01T00:00:00Z"}]
 1704067200 ACME frame CP01 [2,"8","StartTransaction",{"connectorId":1,"idTag":"K1","meterStart":100,"timestamp":"2024-01-01T00:00:00Z"}]
 1704067200 ACME list transactions CP01
+1704067200 ACME list transactions CP01 1
+1704067200 ACME list transactions CP01 2
+1704067200 ACME list open
+1704067200 ACME list connections
 1704067200 ACME call CP01 Reset {"type":"Soft"}
 1704067200 ACME call CP01 ClearCache {}
 1704067200 ACME frame CP01 [3,"7",{"status":"Accepted"}]
@@ -43,11 +47,19 @@ const SCRIPT: &str =
 1704067200 ACME call CP01 ClearCache {}
 1704067200 ACME call CP01 ClearCache {}
 1704067200 ACME call CP01 ClearCache {}
+1704067200 ACME list connections
 "#;
 
 const OUTPUT: &str = r#"ACME CP01 send [3,"7",{"idTagInfo":{"status":"Accepted"},"transactionId":1}]
 ACME CP01 send [3,"8",{"idTagInfo":{"status":"Accepted"},"transactionId":1}]
 ACME row transaction CP01 1 1 "K1" Accepted 100 1704067200000 - - - - -
+ACME ok
+ACME row transaction CP01 1 1 "K1" Accepted 100 1704067200000 - - - - -
+ACME ok
+ACME ok
+ACME row transaction CP01 1 1 "K1" Accepted 100 1704067200000 - - - - -
+ACME ok
+ACME row connection CP01 0
 ACME ok
 ACME ok 1
 ACME CP01 send [2,"1","Reset",{"type":"Soft"}]
@@ -73,6 +85,8 @@ ACME ok 16
 ACME ok 17
 ACME ok 18
 ACME refused 8 QueueFull
+ACME row connection CP01 16
+ACME ok
 "#;
 
 /// BETA has a station and a tag ZZ, which it doesn't grant.
