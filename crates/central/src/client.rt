@@ -57,8 +57,11 @@ fn stream_to(rt: &HostRuntime, address: SocketAddr) -> io::Result<TcpStream> {
     Ok(stream)
 }
 
-/// The request of the handshake, which offers the subprotocol.
+/// The request of the handshake, which offers the subprotocol. The path begins with `/` (RFC 6455, section 3).
 fn request_to(alloc: Global, address: SocketAddr, path: &str) -> Result<Request<()>, RunFault> {
+    if !path.starts_with('/') {
+        return Err(RunFault::Stream(address, Lost::NoPath));
+    }
     let uri = format!(in alloc; "ws://{address}{path}")?;
     let Ok(mut request) = request_of(alloc, uri.as_str()) else {
         return Err(RunFault::Stream(address, Lost::NoPath));
