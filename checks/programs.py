@@ -263,7 +263,9 @@ def check_replays(checks):
         hosted = operators.read_text().rstrip("\n") if operators.exists() else "ACME,BETA"
         words = ["replay", "--operators", hosted, "--db", checks.new_file()]
         _, text, errors = checks.run(*words, lines=script.read_bytes())
-        checks.check(f"{script.stem} over a file", text + errors, script.with_suffix(".expected").read_bytes().decode())
+        # the name of a fault, without the line about it
+        fault = "".join(errors.splitlines(keepends=True)[:1])
+        checks.check(f"{script.stem} over a file", text + fault, script.with_suffix(".expected").read_bytes().decode())
 
 
 def check_two_runs(checks):
