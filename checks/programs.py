@@ -385,7 +385,7 @@ def check_mended(checks):
     words, db, new = ["replay", "--operators", "ACME", "--db"], checks.new_file(), checks.new_file()
     checks.check("a new file", checks.run(*words, new), (0, "", ""))
     shutil.copy(SCRIPTS / "ours_with_an_earlier_index.db", db)
-    checks.check("the earlier index", checks.run(*words, db), (2, "", "fault Store: the database is not one of this program\n"))
+    checks.check("the earlier index", checks.run(*words, db), (2, "", "fault Store: the database failed\n"))
     mend = re.search(r'sqlite3 FILE "(DROP INDEX hub_tx_is_open;.*?)"', OPERATIONS.read_text(), re.S)[1]
     with contextlib.closing(sqlite3.connect(db)) as database:
         database.executescript(mend)
