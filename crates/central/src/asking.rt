@@ -149,8 +149,20 @@ fn heard(
     match gave {
         Ok(Message::Text(text)) => Ok(Some(text)),
         Ok(_) => Ok(None),
-        Err(SocketError::Io(error)) if error.kind() == ErrorKind::WouldBlock => Ok(None),
-        Err(error) => Err(lost(address, error)),
+        Err(error) => {
+            if is_wait(&error) {
+                return Ok(None);
+            }
+            Err(lost(address, error))
+        }
+    }
+}
+
+/// Whether nothing came in the time that a read waits.
+fn is_wait(error: &SocketError) -> bool {
+    match error {
+        SocketError::Io(error) => error.kind() == ErrorKind::WouldBlock,
+        _ => false,
     }
 }
 

@@ -242,7 +242,7 @@ impl<S: Store + Drop, V: VendorHandler> Server<S, V> {
     fn turn(&mut self, rt: &HostRuntime) {
         if let Err(fault) = self.accept() {
             self.failed_accept = true;
-            self.tell_fault(rt, &fault, matches!(fault, RunFault::NoMemory));
+            self.tell_fault(rt, &fault, matches!(&fault, RunFault::NoMemory));
             let _ = fault.write_detail(rt);
         }
         let welcomed = self
