@@ -110,17 +110,13 @@ def function_at(text, at):
     return None
 
 
-def place_of(body):
-    """The module and the function that a wrong body changes, if it is one function."""
-    home, places = ROOT / "crates" / body.parent.name, set()
+def function_of(body):
+    """The name of the function that a wrong body changes, if it is one function."""
+    home, names = ROOT / "crates" / body.parent.name, set()
     for path, old, _ in pairs_of(body):
-        if not path.startswith("src/"):
-            return None
         text = (home / path).read_text()
-        module = path.removeprefix("src/").removesuffix(".rt").removesuffix("/mod").replace("/", "::")
-        places.add((module, function_at(text, text.index(old)) if old in text else None))
-    place = places.pop() if len(places) == 1 else (None, None)
-    return place if place[1] else None
+        names.add(function_at(text, text.index(old)) if path.startswith("src/") and old in text else None)
+    return names.pop() if len(names) == 1 else None
 
 
 def lines_of(crate):
@@ -175,14 +171,13 @@ def is_judged(said):
 
 
 def refused_at(said):
-    """The functions that were refused at a goal of their own: module and name."""
+    """The names of the functions that were refused at a goal of their own."""
     found = set()
     for path, verdict, _ in VERDICT.findall(said):
-        *modules, name = path.split("::")
-        folder = "proofs/" + "/".join([*modules, name]) + "/"
+        folder = "proofs/" + path.replace("::", "/") + "/"
         own = [text for file, text in errors_in(said) if file.startswith(folder)]
         if verdict == "no proof: expected answers" or any(not OF_NAMES.search(text) for text in own):
-            found.update(("::".join(modules[:count]), name) for count in range(1, len(modules) + 1))
+            found.add(path.split("::")[-1])
     return found
 
 
@@ -193,12 +188,13 @@ def is_refused_alone(said):
     return is_judged(said) and (not of_names or bool(refused_at(said)))
 
 
-def round_of(left):
-    """Bodies that are tried in one check: one of each function, or one that is of none."""
+def round_of(left, blocked):
+    """Bodies that are tried in one check: one for each name of a function, or one that is of none. First come those that
+    the check before left open, since it proves no function that calls one that is refused."""
     chosen = {}
-    for body, place in left.items():
-        if place:
-            chosen.setdefault(place, body)
+    for body in blocked or left:
+        if left[body]:
+            chosen.setdefault(left[body], body)
     return list(chosen.values()) or list(left)[:1]
 
 
@@ -212,16 +208,17 @@ def refused_of(bodies, left, said):
 
 def tries(crate, jobs):
     """Tries the wrong bodies of a crate, and gives those that weren't refused for their meaning."""
-    left, failed = {body: place_of(body) for body in bodies_of(crate)}, []
+    left, blocked, failed = {body: function_of(body) for body in bodies_of(crate)}, [], []
     with tempfile.TemporaryDirectory(prefix="wrong-bodies-") as room:
         copy = Copy(crate, room, jobs)
         while left:
-            bodies = round_of(left)
+            bodies = round_of(left, blocked)
             said = copy.checked(bodies)
             refused = refused_of(bodies, left, said)
             for body in refused:
                 print(f"{crate}/{body.name}: refused, in a check of {len(bodies)}", flush=True)
                 del left[body]
+            blocked = [body for body in bodies if body in left] if refused else []
             if not refused and len(bodies) == 1:
                 print(f"{crate}/{bodies[0].name}: NOT REFUSED for its meaning\n{tail(said)}", flush=True)
                 failed += bodies
