@@ -155,7 +155,7 @@ def check_help(checks):
     checks.check("--help", (code, errors, all(f"  {word} " in text for word in commands)), (0, "", True))
     for word, statuses in zip(commands, (3, 3, 3, 4)):
         code, text, errors = checks.run(word, "--help")
-        checks.check(f"{word} --help", (code, errors), (0, ""))
+        checks.check(f"{word} --help", (code, errors, text[-2:].count("\n")), (0, "", 1))
         for part in (f"  central {word} --", "docs/OPERATIONS.md", *(f"\n  {status}  " for status in range(statuses))):
             checks.check(f"{word} --help has {part}", part in text, True)
     text = checks.run("serve", "--help")[1]

@@ -4,7 +4,7 @@
 pub const CENTRAL: &str = "\
 `central COMMAND --help` has the options of a command, an example and its exit statuses.
 
-More: README.md, docs/OPERATIONS.md";
+More: README.md, docs/OPERATIONS.md\n";
 
 /// What follows the help of `replay`.
 pub const REPLAY: &str = "\
@@ -16,7 +16,7 @@ Exit statuses:
   1  the command line can't be read
   2  a fault, which standard error names
 
-More: README.md, docs/RULES.md (Lines), docs/OPERATIONS.md (The server)";
+More: README.md, docs/RULES.md (Lines), docs/OPERATIONS.md (The server)\n";
 
 /// What follows the help of `serve`.
 pub const SERVE: &str = "\
@@ -30,7 +30,7 @@ Exit statuses:
   1  the command line can't be read
   2  a fault, which standard error names
 
-More: docs/OPERATIONS.md";
+More: docs/OPERATIONS.md\n";
 
 /// What follows the help of `sim`.
 pub const SIM: &str = "\
@@ -42,7 +42,7 @@ Exit statuses:
   1  the command line can't be read
   2  a fault, which standard error names
 
-More: README.md, docs/RULES.md (The simulated station), docs/OPERATIONS.md (The server)";
+More: README.md, docs/RULES.md (The simulated station), docs/OPERATIONS.md (The server)\n";
 
 /// What follows the help of `ask`.
 pub const ASK: &str = "\
@@ -56,4 +56,4 @@ Exit statuses:
   2  a fault, which standard error names
   3  a line was refused or bad
 
-More: docs/OPERATIONS.md (An operator's commands), docs/TABLES.md";
+More: docs/OPERATIONS.md (An operator's commands), docs/TABLES.md\n";
