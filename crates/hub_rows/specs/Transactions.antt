@@ -113,7 +113,7 @@ last_tx_in b station txs = greatest (numbers_of (λ r. r.number) (txs_in b stati
 abbrev pub last_reading_in : List ℕ → List ℕ → List ReadingRow → ℕ
 last_reading_in b station readings = greatest (numbers_of (λ r. r.number) (readings_in b station None readings))
 
--- the last number of a transaction or reading
+-- the last number of a transaction, a reading, a use or a call
 abbrev pub last_of_all : ℕ
 last_of_all = LAST_NUMBER
 

@@ -5,7 +5,7 @@ use crate::ordered::Keyed;
 use ocpp_types::{AuthorizationStatus, Moment, Reason, TagKey, Text};
 use std::cmp::Ordering;
 
-/// The last number that a transaction, a reading or a use can have.
+/// The last number that a transaction, a reading, a use or a call can have.
 pub const LAST_NUMBER: u32 = i32::MAX as u32;
 
 /// A transaction of a station. Its key is `op`, `station` and `number`.
