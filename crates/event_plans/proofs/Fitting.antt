@@ -225,7 +225,7 @@ list_fits : (station : List ℕ) (c : ListUpdate) (l : Lookups) → IsSome (l.re
 list_fits station c l here =
     let kept : List LocalTag = kept_for c.update_type (l.local_list station) in
     let sent : List AuthorizationData = unwrap_or c.entries [] in
-    elim (version_of c.list_version) as (λ o. IfSome (option_map (λ version. ListSet station (record { version = version; entries = entries_after kept sent })) o) (FitsLookups l)) [
+    elim (version_of c.list_version) as (λ o. IfSome (option_map (λ version. Holdings (ListSet station (record { version = version; entries = entries_after kept sent }))) o) (FitsLookups l)) [
       | None ↦ tt
       | Some version ↦ (here, sorted-entries (not_named sent kept ++ with_info sent))
     ]
@@ -242,7 +242,7 @@ reserved_fits station c l here =
     ]
 
 cancelled_fits : (station : List ℕ) (c : CancelReservation) (l : Lookups) → IfSome (cancelled station c) (FitsLookups l)
-cancelled_fits station c l = elim (reservation_id c.reservation_id) as (λ o. IfSome (option_map (λ id. ReservationDropped station id) o) (FitsLookups l)) [ None ↦ tt | Some id ↦ tt ]
+cancelled_fits station c l = elim (reservation_id c.reservation_id) as (λ o. IfSome (option_map (λ id. Holdings (ReservationDropped station id)) o) (FitsLookups l)) [ None ↦ tt | Some id ↦ tt ]
 
 accepted_fits : (station : List ℕ) (c : Command) (l : Lookups) → IsSome (l.registration station) → IfSome (accepted_edit station c l) (FitsLookups l)
 accepted_fits station (command.CancelReservation c) l here = cancelled_fits station c l
