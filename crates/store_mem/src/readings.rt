@@ -1,9 +1,8 @@
 //! Meter readings, kept station by station.
-ghost use Rattle.std.specs.Prelude.{◌≡◌, ◌+◌, ◌≤◌, [], length, filter, map, None, IfOk, OnOk, OnErr};
+ghost use Rattle.std.specs.Prelude.{◌≡◌, ◌+◌, ◌≤◌, [], length, filter, IfOk, OnOk, OnErr};
 ghost use Rattle.std.proofs.Props.{props};
 ghost use Rattle.hub_rows.specs.Changes.{with_readings};
-ghost use Rattle.hub_rows.specs.Keyed.{greatest};
-ghost use Rattle.hub_rows.specs.Transactions.{reading_rows, readings_in, is_sent_with, AreNext};
+ghost use Rattle.hub_rows.specs.Transactions.{last_reading_in, reading_rows, readings_in, is_sent_with, AreNext};
 ghost use Rattle.store_mem.specs.NamedGroups.{all_rows, AreGrouped};
 
 use crate::named_groups::NamedGroup;
@@ -34,7 +33,7 @@ impl Readings {
 
     /// Adds readings after those of their station, numbered from the first number on.
     pub fn add(&mut self, op: &Text, station: &Text, first: u32, readings: &[Reading]) -> Mem<()>
-        requires { AreNext (greatest (map (λ r. r.number) (readings_in op.now station.now None (all_rows self.old.rows.items)))) first (length readings.now) }
+        requires { AreNext (last_reading_in op.now station.now (all_rows self.old.rows.items)) first (length readings.now) }
         ensures ok { OnOk result (all_rows self.new.rows.items ≡ with_readings op.now station.now first readings.now (all_rows self.old.rows.items)) }
         ensures err { OnErr result (all_rows self.new.rows.items ≡ all_rows self.old.rows.items) }
     {
@@ -65,7 +64,7 @@ impl Readings {
 
     /// The number of a station's last reading, 0 where there is none.
     pub fn last_number(&self, op: &str, station: &str) -> u32
-        ensures { result ≡ greatest (map (λ r. r.number) (readings_in op.now station.now None (all_rows self.now.rows.items))) }
+        ensures { result ≡ last_reading_in op.now station.now (all_rows self.now.rows.items) }
     {
         last_number(rows_of(&self.rows, op, station))
     }
