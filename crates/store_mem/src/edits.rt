@@ -6,6 +6,7 @@ ghost use Rattle.hub_rows.specs.declared.change.StationEdit.TheVariants.{Station
 ghost use Rattle.hub_rows.specs.WellFormed.{WellFormedRows};
 ghost use Rattle.store_mem.specs.Lists.{rows_in};
 
+use crate::copies::copy;
 use crate::lists::Lists;
 use crate::reservations::{drop_named, drop_reservation};
 use crate::station_copies::copy_of;
@@ -115,7 +116,7 @@ impl Lists {
             op: op.clone()?,
             station: station.clone()?,
             connector,
-            report: report.clone()?,
+            report: copy(report)?,
         };
         put_row(&mut self.connectors, row)?;
         Ok(())

@@ -5,6 +5,7 @@ ghost use Rattle.hub_rows.specs.Changes.{with_readings};
 ghost use Rattle.hub_rows.specs.Transactions.{last_reading_in, reading_rows, readings_in, is_sent_with, AreNext};
 ghost use Rattle.store_mem.specs.NamedGroups.{all_rows, AreGrouped};
 
+use crate::copies::copy;
 use crate::named_groups::NamedGroup;
 use crate::station_rows::{append_rows, last_number, rows_of};
 use hub_rows::{Reading, ReadingRow};
@@ -89,7 +90,7 @@ fn reading_rows(
             op: op.clone()?,
             station: station.clone()?,
             number,
-            reading: reading.clone()?,
+            reading: copy(reading)?,
         })?;
         number += 1;
     }

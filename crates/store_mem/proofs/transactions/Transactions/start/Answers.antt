@@ -1,4 +1,4 @@
-use Rattle.std.proofs.Common.{true, refl, ◌<◌, List, map, arith, ap, sym, subst, ◌∙◌}
+use Rattle.std.proofs.Common.{◌≡◌, true, refl, ◌<◌, List, map, arith, ap, sym, subst, ◌∙◌}
 use Rattle.std.specs.List.Sorted.{IsStrictlySortedBy}
 use Rattle.std.specs.Str.{bytes_eq}
 use Rattle.hub_rows.specs.declared.tx_row.TxRow.{TxRow}
@@ -8,6 +8,7 @@ use Rattle.hub_rows.proofs.ListLaws.{by_key_total, sorted-put}
 use Rattle.hub_rows.proofs.OrderLaws.{sorted-in_order}
 use Rattle.store_mem.specs.Starts.{start_key, starts_of, AreStarts}
 use Rattle.store_mem.specs.NamedGroups.{all_rows, HasRoomAt}
+use Rattle.store_mem.proofs.Kept.{on_err}
 use Rattle.store_mem.proofs.NewRows.{follows-above}
 use Rattle.store_mem.specs.Open.{open_key, AreOpens}
 use Rattle.store_mem.proofs.OpenLaws.{is_new, opens-started, sorted-opens}
@@ -92,8 +93,22 @@ invariant_of-self-2 c =
           c.put_at.ensures.in_place c.put_at.ensures.rows;
     }
 
+pub returns-in_err-make_room_at-3-clause-err : goal.returns-in_err-make_room_at-3-clause-err
+returns-in_err-make_room_at-3-clause-err c = on_err _ _ (c.make_room_at-3.ensures.grouped (λ r. r.op) (λ r. r.station) (λ r. r.number) c.args.self.now.by_station).1
+
 pub invariant_of-self-in-Break-branch-7 : goal.invariant_of-self-in-Break-branch-7
 invariant_of-self-in-Break-branch-7 c =
+    let s = c.args.self.now in
+    record {
+      by_station = s.by_station;
+      sorted = s.sorted;
+      in_use = record { in_place = c.make_room_if.ensures.in_place; each = λ b n. c.make_room_if.ensures.rows b n ∙ s.in_use.each b n };
+      opened = record { in_place = c.make_room_at-2.ensures.in_place; each = λ b n. c.make_room_at-2.ensures.rows b n ∙ s.opened.each b n };
+      started = record { in_place = c.make_room_at.ensures.in_place; each = λ b st. c.make_room_at.ensures.rows b st ∙ s.started.each b st };
+    }
+
+pub invariant_of-self-in-Break-branch-8 : goal.invariant_of-self-in-Break-branch-8
+invariant_of-self-in-Break-branch-8 c =
     let s = c.args.self.now in
     let grouped = c.make_room_at-3.ensures.grouped (λ r. r.op) (λ r. r.station) (λ r. r.number) s.by_station in
     record {
