@@ -4,10 +4,11 @@ use crate::handed_again::{Answers, hand_all};
 use crate::script::{lines_of, operators_of, wanted_of};
 use anyhow::{Context, Result};
 use cached::Cached;
+use failing_store::Failing;
 use sqlite::Alter;
 use std::alloc::Global;
 use std::rt::Files;
-use store_mem::{Failing, MemStore};
+use store_mem::MemStore;
 use store_sql::SqlStore;
 
 /// The scripts that are tried.

@@ -1,6 +1,7 @@
 //! Two systems, in which ACME has the same and is shown the same, or isn't.
 
 use crate::scripts::{BOOTED, BOOTED_OUTPUT, events, hosting, hub_of, lines_of, operators, run};
+use failing_store::Failing;
 use hub::Fault;
 use hub::worlds::isolated;
 use hub_rows::{Change, Edit, Store, StoreFault, Tag};
@@ -8,7 +9,7 @@ use ocpp_types::{Boxed, Mem, TagKey, Text};
 use station_calls::Echo;
 use std::alloc::Global;
 use std::test::Fail;
-use store_mem::{Failing, MemStore};
+use store_mem::MemStore;
 
 /// ACME has a booted station and a tag.
 const READY: &str = "1704067200 ACME tag put K1 - 0 -\n";
