@@ -1,5 +1,5 @@
 #!/usr/bin/env python3
-"""Builds the test programs of this folder without proofs, runs them, and compares what each prints with its file stdout.
+"""Builds the test programs of this folder without proofs, runs them, and compares what each prints with its stdout.
 
     python3 tests/run.py [NAME..]    all of them, or those that are named
     python3 tests/run.py --show NAME -- ARGS    runs one with these arguments, and shows what it prints
@@ -37,6 +37,15 @@ def programs():
     return [line.partition(":")[0] for line in lines if line and not line.startswith("#")]
 
 
+def sources_of(name):
+    return sorted((TESTS / name / "src").rglob("*.rs"))
+
+
+def copy_of(root, source):
+    """Where a source is copied to."""
+    return root / "crates" / source.relative_to(TESTS).with_suffix(".rt")
+
+
 def make_root(root):
     """Makes a root of the crates and the test programs."""
     crates = (ROOT / "crates.txt").read_text() + (TESTS / "programs.txt").read_text()
@@ -46,8 +55,8 @@ def make_root(root):
         if part.name in ("src", "specs"):
             shutil.copytree(part, root / part.relative_to(ROOT))
     for name in programs():
-        for source in (TESTS / name / "src").rglob("*.rs"):
-            copy = root / "crates" / name / source.relative_to(TESTS / name).with_suffix(".rt")
+        for source in sources_of(name):
+            copy = copy_of(root, source)
             copy.parent.mkdir(parents=True, exist_ok=True)
             shutil.copy(source, copy)
 
@@ -67,9 +76,8 @@ def tried(root, name, words):
 
 def format_of(root, name):
     """Lays out the copies of a program's sources. Those files whose layout was another."""
-    folder = root / "crates" / name
-    subprocess.run(["rt", "fmt"], cwd=folder, check=True, stdout=subprocess.DEVNULL)
-    copies = {source: folder / source.relative_to(TESTS / name).with_suffix(".rt") for source in (TESTS / name).rglob("*.rs")}
+    subprocess.run(["rt", "fmt"], cwd=root / "crates" / name, check=True, stdout=subprocess.DEVNULL)
+    copies = {source: copy_of(root, source) for source in sources_of(name)}
     return {source: copy for source, copy in copies.items() if source.read_bytes() != copy.read_bytes()}
 
 
@@ -89,7 +97,7 @@ def run(root, name):
         return 0, 1, f"{name}: test functions failed\n{ran.stdout}{ran.stderr}"
     wanted = (TESTS / name / "stdout").read_text()
     if has_ended and ran.stdout == wanted:
-        return 1, 0, f"{name}: as wanted, {wanted.count(chr(10))} lines\n"
+        return 1, 0, f"{name}: as wanted\n"
     apart = difflib.unified_diff(wanted.splitlines(True), ran.stdout.splitlines(True), "wanted", "got")
     return 0, 1, f"{name}: not as wanted\n{''.join(apart)}{ran.stderr}"
 
