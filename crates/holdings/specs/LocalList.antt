@@ -4,7 +4,8 @@ use Rattle.std.specs.List.{filter_map, list_any}
 use Rattle.std.specs.Str.{bytes_eq}
 use Rattle.ocpp_types.specs.TagKey.{key_of}
 use Rattle.hub_rows.specs.declared.change.Edit.{Edit}
-use Rattle.hub_rows.specs.declared.change.Edit.TheVariants.{ListSet}
+use Rattle.hub_rows.specs.declared.change.Edit.TheVariants.{Holdings}
+use Rattle.hub_rows.specs.declared.change.HoldingEdit.TheVariants.{ListSet}
 use Rattle.hub_rows.specs.declared.list_row.LocalList.{LocalList}
 use Rattle.hub_rows.specs.declared.list_row.LocalTag.{LocalTag}
 use Rattle.hub_rows.specs.Keyed.{by_key, put_all}
@@ -51,4 +52,4 @@ version_of (negsuc n) = None
 
 -- the list of a station that has accepted a command; a command with a version out of its range edits nothing
 abbrev pub list_set : List ℕ → Option LocalList → ListUpdate → Option Edit
-list_set station kept c = option_map (λ version. ListSet station (record { version = version; entries = entries_after (kept_for c.update_type kept) (unwrap_or c.entries []) })) (version_of c.list_version)
+list_set station kept c = option_map (λ version. Holdings (ListSet station (record { version = version; entries = entries_after (kept_for c.update_type kept) (unwrap_or c.entries []) }))) (version_of c.list_version)
