@@ -2,9 +2,9 @@
 ghost use Rattle.std.specs.Prelude.{◌≡◌, ◌+◌, Some, OnOk, OnErr};
 
 use hub_rows::{
-    Change, ConnectorRow, GrantRow, GrantedTag, Info, LastNumbers, LocalList, ReadingRow,
-    Registration, ReportRow, ReservationId, ReservationRow, StartKey, StationRow, Store,
-    StoreFault, TagRow, TxKey, TxRow, TxState, UseRow,
+    Change, ConnectorRow, GrantRow, GrantedTag, Info, LocalList, ReadingRow, Registration,
+    ReportRow, ReservationId, ReservationRow, StartKey, StationRow, Store, StoreFault, TagRow,
+    TxKey, TxRow, TxState, UseRow,
 };
 use ocpp_types::{Listed, Moment, TagKey};
 
@@ -105,9 +105,14 @@ impl<S: Store> Store for Failing<S> {
         self.store.has_open(op, station)
     }
 
-    fn last_numbers(&mut self, op: &str, station: &str) -> Result<LastNumbers, StoreFault> {
+    fn last_tx(&mut self, op: &str, station: &str) -> Result<u32, StoreFault> {
         self.count_call()?;
-        self.store.last_numbers(op, station)
+        self.store.last_tx(op, station)
+    }
+
+    fn last_reading(&mut self, op: &str, station: &str) -> Result<u32, StoreFault> {
+        self.count_call()?;
+        self.store.last_reading(op, station)
     }
 
     fn reserved_until(
@@ -189,7 +194,7 @@ impl<S: Store> Store for Failing<S> {
         self.store.uses(op)
     }
 
-    fn apply(&mut self, change: &Change) -> Result<(), StoreFault> {
+    fn apply(&mut self, change: &Change<'_>) -> Result<(), StoreFault> {
         self.count_call()?;
         self.store.apply(change)
     }

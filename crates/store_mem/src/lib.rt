@@ -13,7 +13,6 @@ mod open;
 mod readings;
 mod received;
 mod reservations;
-mod started;
 mod starts;
 mod station_copies;
 mod station_rows;
