@@ -4,8 +4,8 @@
     python3 checks/gate.py             `rt ci`, and the test programs in tests/
     python3 checks/gate.py --program   also what checks the files that are kept, the console and the built program
 
-Run it at the top of the repository. It ends at the first step that fails. The last line is `N passed, M failed`, over
-all steps. A step that prints no such line counts as one.
+It ends at the first step that fails. The last line is `N passed, M failed`, over all steps. A step that prints no such
+line counts as one.
 """
 
 import re
