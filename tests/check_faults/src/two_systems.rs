@@ -1,14 +1,15 @@
 //! Two systems, in which ACME has the same and is shown the same, or isn't.
 
 use crate::scripts::{BOOTED, BOOTED_OUTPUT, events, hosting, hub_of, lines_of, operators, run};
+use failing_store::Failing;
 use hub::Fault;
 use hub::worlds::isolated;
-use hub_rows::{Change, Edit, Store, StoreFault, Tag};
-use ocpp_types::{Boxed, Mem, TagKey, Text};
+use hub_rows::{Change, Edit, Store, StoreFault, Tag, TagEdit};
+use ocpp_types::{Mem, TagKey, Text};
 use station_calls::Echo;
 use std::alloc::Global;
 use std::test::Fail;
-use store_mem::{Failing, MemStore};
+use store_mem::MemStore;
 
 /// ACME has a booted station and a tag.
 const READY: &str = "1704067200 ACME tag put K1 - 0 -\n";
@@ -283,22 +284,25 @@ fn put_tag<S: Store>(alloc: Global, store: &mut S) -> Result<(), StoreFault> {
         expiry: None,
     };
     let op = Text::copy_of(alloc, "BETA")?;
-    let edit = Boxed::new(alloc, Edit::TagPut { key, tag })?;
-    store.apply(&Change { op, edit })
+    let edit = Edit::Tags(TagEdit::TagPut { key, tag });
+    store.apply(&Change {
+        op: &op,
+        edit: &edit,
+    })
 }
 
-/// A grant of BETA's tag K2 to another, where it has that tag.
-#[tactic(auto, using(hub_rows::proofs::ListLaws::text_itself))]
+/// A grant of BETA's tag K2 to another.
 fn grant<S: Store>(alloc: Global, store: &mut S, to: &str) -> Result<(), StoreFault> {
-    let key = TagKey::of(alloc, "K2")?;
+    let edit = Edit::Tags(TagEdit::GrantPut {
+        key: TagKey::of(alloc, "K2")?,
+        to: Text::copy_of(alloc, to)?,
+        until: None,
+    });
     let op = Text::copy_of(alloc, "BETA")?;
-    if to == op.as_str() || store.own_tag(op.as_str(), &key)?.is_none() {
-        return Ok(());
-    }
-    let to = Text::copy_of(alloc, to)?;
-    let until = None;
-    let edit = Boxed::new(alloc, Edit::GrantPut { key, to, until })?;
-    store.apply(&Change { op, edit })
+    store.apply(&Change {
+        op: &op,
+        edit: &edit,
+    })
 }
 
 #[test]

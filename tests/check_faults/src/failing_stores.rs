@@ -1,11 +1,12 @@
 //! A run of events over a store that fails, and one of an operator that isn't hosted.
 
 use crate::scripts::{BOOTED, events, hub_of, run};
+use failing_store::Failing;
 use hub::Fault;
 use station_calls::Echo;
 use std::alloc::Global;
 use std::test::Fail;
-use store_mem::{Failing, MemStore};
+use store_mem::MemStore;
 
 /// Events of ACME, of ZETA, which isn't hosted, and of ACME.
 const FOREIGN: &str =

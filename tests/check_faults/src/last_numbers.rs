@@ -1,13 +1,12 @@
 //! Stations whose numbers of transactions, readings and calls come to their end.
-ghost use Rattle.std.specs.Prelude.{◌≡◌, IsTrue, IfOk};
-ghost use Rattle.ocpp_types.specs.TagKey.{key_of};
-ghost use Rattle.hub_rows.specs.Transactions.{AreNext};
 
 use crate::scripts::{events, hub_of, run};
-use hub_rows::{Change, Edit, Reading, Start, StartKey, Store, StoreFault};
+use hub_rows::{
+    Change, Edit, Reading, Start, StartKey, StationEdit, Store, StoreFault, TransactionEdit,
+};
 use ocpp_types::{
-    AuthorizationStatus, Boxed, Listed, Location, Measurand, Mem, Moment, Policy, ReadingContext,
-    Refusal, TagKey, Text, ValueFormat,
+    AuthorizationStatus, Listed, Location, Measurand, Mem, Moment, Policy, ReadingContext, Refusal,
+    TagKey, Text, ValueFormat,
 };
 use pending_calls::{NewCall, Slots};
 use station_calls::Echo;
@@ -18,39 +17,20 @@ use store_mem::MemStore;
 /// The last number that a transaction, a reading or a call can have.
 const LAST_NUMBER: u32 = 2147483647;
 
-/// Whether one row may have that number, after the last.
-fn is_next(last: u32, number: u32) -> bool
-    ensures { IsTrue result → AreNext last number 1 }
-{
-    if last != 0 && (last >= LAST_NUMBER || number != last + 1) {
-        return false;
-    }
-    1 <= number && number <= LAST_NUMBER
-}
-
-/// Whether the key of a start is the key of its tag.
-#[tactic(auto, using(hub_rows::proofs::ListLaws::same_text))]
-fn has_its_key(alloc: Global, start: &Start) -> Mem<bool>
-    ensures { IfOk result (λ same. IsTrue same → start.now.id.key ≡ key_of start.now.tag) }
-{
-    let key = TagKey::of(alloc, start.tag.as_str())?;
-    Ok(start.id.key.as_str() == key.as_str())
-}
-
-/// Adds CP01 of ACME, unless it is there.
-fn add<S: Store>(alloc: Global, store: &mut S) -> Result<(), StoreFault> {
+/// Makes a change of ACME's records.
+fn apply<S: Store>(alloc: Global, store: &mut S, edit: &Edit) -> Result<(), StoreFault> {
     let op = Text::copy_of(alloc, "ACME")?;
-    let station = Text::copy_of(alloc, "CP01")?;
-    if store.station(op.as_str(), station.as_str())?.is_some() {
-        return Ok(());
-    }
-    let edit = Edit::StationAdded {
-        station,
+    store.apply(&Change { op: &op, edit })
+}
+
+/// Adds CP01.
+fn add<S: Store>(alloc: Global, store: &mut S) -> Result<(), StoreFault> {
+    let edit = Edit::Stations(StationEdit::StationAdded {
+        station: Text::copy_of(alloc, "CP01")?,
         policy: Policy::Accepted,
         interval: 300,
-    };
-    let edit = Boxed::new(alloc, edit)?;
-    store.apply(&Change { op, edit })
+    });
+    apply(alloc, store, &edit)
 }
 
 /// A start of K1 on connector 1.
@@ -70,33 +50,20 @@ fn start_of(alloc: Global, moment: Moment) -> Mem<Start> {
     })
 }
 
-/// Begins a transaction of CP01, where its number may be the next and its key is that of its tag.
+/// Begins a transaction of CP01.
 fn begin<S: Store>(
     alloc: Global,
     store: &mut S,
     number: u32,
     start: Start,
 ) -> Result<(), StoreFault> {
-    if !has_its_key(alloc, &start)? {
-        return Ok(());
-    }
-    let op = Text::copy_of(alloc, "ACME")?;
-    let station = Text::copy_of(alloc, "CP01")?;
-    if store.station(op.as_str(), station.as_str())?.is_none() {
-        return Ok(());
-    }
-    let last = store.last_numbers(op.as_str(), station.as_str())?;
-    if !is_next(last.transaction, number) {
-        return Ok(());
-    }
-    let edit = Edit::TxStarted {
-        station,
+    let edit = Edit::Transactions(TransactionEdit::TxStarted {
+        station: Text::copy_of(alloc, "CP01")?,
         number,
         start,
         owner: None,
-    };
-    let edit = Boxed::new(alloc, edit)?;
-    store.apply(&Change { op, edit })
+    });
+    apply(alloc, store, &edit)
 }
 
 /// A reading on connector 1.
@@ -115,7 +82,7 @@ fn reading_of(alloc: Global) -> Mem<Reading> {
     })
 }
 
-/// Keeps a reading of CP01, where its number may be the next.
+/// Keeps a reading of CP01.
 fn keep<S: Store>(
     alloc: Global,
     store: &mut S,
@@ -124,22 +91,12 @@ fn keep<S: Store>(
 ) -> Result<(), StoreFault> {
     let mut readings = Listed::new(alloc);
     readings.push(reading)?;
-    let op = Text::copy_of(alloc, "ACME")?;
-    let station = Text::copy_of(alloc, "CP01")?;
-    if store.station(op.as_str(), station.as_str())?.is_none() {
-        return Ok(());
-    }
-    let last = store.last_numbers(op.as_str(), station.as_str())?;
-    if !is_next(last.reading, first) {
-        return Ok(());
-    }
-    let edit = Edit::ReadingsAdded {
-        station,
+    let edit = Edit::Transactions(TransactionEdit::ReadingsAdded {
+        station: Text::copy_of(alloc, "CP01")?,
         first,
         readings,
-    };
-    let edit = Boxed::new(alloc, edit)?;
-    store.apply(&Change { op, edit })
+    });
+    apply(alloc, store, &edit)
 }
 
 const SCRIPT: &str = r#"1704067200 ACME connect CP01

@@ -1,4 +1,4 @@
-//! A store that fails once, for tests of what uses a store.
+//! A store one call of which fails, for tests of what uses a store.
 ghost use Rattle.std.specs.Prelude.{◌≡◌, ◌+◌, Some, OnOk, OnErr};
 
 use hub_rows::{

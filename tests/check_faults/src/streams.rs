@@ -1,6 +1,7 @@
 //! Connections whose stream or store fails.
 
 use crate::scripts::{events, hub_of, run};
+use failing_store::Failing;
 use hub::{Fault, Hub};
 use ocpp_types::{Moment, Text};
 use ready_streams::Served;
@@ -11,7 +12,7 @@ use std::io;
 use std::io::{Error, ErrorKind, Read, Write};
 use std::rc::Rc;
 use std::test::Fail;
-use store_mem::{Failing, MemStore};
+use store_mem::MemStore;
 use tungstenite::{NoMask, Role, WebSocket};
 use ws_peers::Route;
 use ws_server::{Arrival, Gateway};

@@ -1,4 +1,4 @@
-//! Proved tests of what no file of cases can show: stores, handlers, readers, writers and streams
+//! Tests of what no file of cases can show: stores, handlers, readers, writers and streams
 //! that fail, numbers at their end, and two systems side by side.
 #![tactic(auto)]
 

@@ -4,13 +4,14 @@
 use crate::faulty::{Failure, FaultyReader, FaultyWriter};
 use crate::handlers::{Fixed, MESSAGES, handlers};
 use crate::scripts::{BOOTED, BOOTED_OUTPUT, hub_of, operators};
+use failing_store::Failing;
 use hub::Hub;
 use replay::{ReplayFault, replay, replay_in_memory, replay_within};
 use station_calls::Echo;
 use std::alloc::Global;
 use std::io::{ErrorKind, Read, Write};
 use std::test::Fail;
-use store_mem::{Failing, MemStore};
+use store_mem::MemStore;
 
 /// How a replay of ACME and BETA ends: `ok`, or the name of its fault.
 fn ended<R: Read, W: Write>(alloc: Global, reader: &mut R, writer: &mut W) -> Result<String, Fail> {
