@@ -8,6 +8,7 @@ use Rattle.websocket.specs.Headers.{Fields, eq_ignore_case, header_value}
 use Rattle.websocket.specs.Handshake.{IsValidKey, accept_key_of}
 use Rattle.ws_peers.specs.Paths.{route_of}
 use Rattle.ws_peers.specs.declared.routes.Route.{Route}
+use Rattle.ws_handshake.specs.declared.head.TheConstants.{MAX_FIELDS, MAX_HEAD}
 use Rattle.ws_handshake.specs.declared.answer.Answer.{Answer}
 use Rattle.ws_handshake.specs.declared.answer.Answer.TheVariants as answer
 use Rattle.ws_handshake.specs.declared.head.Asked.{Asked}
@@ -112,10 +113,10 @@ Asks bytes asked = (h : RequestHead) × (rest : List ℕ) × ReadsRequest bytes 
 -- are fewer than a head may have. They are answered where no bytes can follow that make a request of them, where they
 -- have more than 64 fields, or where they are as many as a head may have and no request yet
 abbrev pub NoHeadJudged : List ℕ → Asked → Type 0
-NoHeadJudged bytes More = (length bytes < 8192) × HasNoRequest bytes × MayBecomeRequest bytes
+NoHeadJudged bytes More = (length bytes < MAX_HEAD) × HasNoRequest bytes × MayBecomeRequest bytes
 NoHeadJudged bytes (Plain a) =
     ((a ≡ answer.BadRequest) × NeverHasRequest bytes)
-    ⊎ ((a ≡ answer.TooLarge) × (RequestExceeds 64 bytes ⊎ ((8192 ≤ length bytes) × HasNoRequest bytes)))
+    ⊎ ((a ≡ answer.TooLarge) × (RequestExceeds MAX_FIELDS bytes ⊎ ((MAX_HEAD ≤ length bytes) × HasNoRequest bytes)))
 NoHeadJudged bytes (Upgraded upgrade) = ⊥
 
 -- what the first bytes of a connection ask for

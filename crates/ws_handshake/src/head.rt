@@ -3,6 +3,7 @@ ghost use Rattle.std.specs.Prelude.{◌≡◌, ℕ, List, ◌≤◌, true, lengt
 ghost use Rattle.httparse.specs.Grammar.{RequestHead, ReadsRequest};
 ghost use Rattle.httparse.specs.Spans.{IsHeaderWithin};
 ghost use Rattle.websocket.specs.Headers.{fields_of};
+ghost use Rattle.ws_handshake.specs.declared.head.TheConstants.{MAX_FIELDS};
 ghost use Rattle.ws_handshake.specs.Heads.{BytesJudged, HeadJudged, Judged, PathJudged, UpgradeJudged, KeyJudged, asks_upgrade, lacks_host, is_version, plain_answer};
 
 use crate::answer::Answer;
@@ -50,7 +51,7 @@ pub struct Upgrade {
 /// 64 fields.
 pub fn judge(alloc: Global, bytes: &[u8]) -> Mem<Asked>
     ensures judged { IfOk result (λ a. (h : RequestHead) (rest : List ℕ) → ReadsRequest bytes.now h rest
-        → length h.fields ≤ 64 → HeadJudged h a) }
+        → length h.fields ≤ MAX_FIELDS → HeadJudged h a) }
     ensures bytes { IfOk result (BytesJudged bytes.now) }
 {
     let mut fields = [EMPTY_HEADER_SPAN; MAX_FIELDS];
