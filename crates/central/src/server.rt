@@ -82,10 +82,21 @@ pub fn serve<V: VendorHandler>(
     serve_database(rt, store, options, vendors, opening)
 }
 
-/// Serves by the records of a database, behind a cache.
+/// Serves by the records of a database.
 fn serve_database<A: Alter + Drop, V: VendorHandler>(
     rt: &HostRuntime,
     store: SqlStore<A>,
+    options: ServeOptions,
+    vendors: Vec<V>,
+    opening: Duration,
+) -> Result<(), RunFault> {
+    serve_cached(rt, store, options, vendors, opening)
+}
+
+/// Serves by the records of a store, behind a cache.
+fn serve_cached<S: Store + Drop, V: VendorHandler>(
+    rt: &HostRuntime,
+    store: S,
     options: ServeOptions,
     vendors: Vec<V>,
     opening: Duration,

@@ -2,7 +2,7 @@
 
 use crate::connection::Connection;
 use crate::fault::ClientFault;
-use crate::reply::{Bound, Reply, bound_of, is_done, reply_of};
+use crate::reply::{Reply, begun, ended, ended_call, reply_of};
 use ocpp_types::Text;
 use std::io;
 use std::io::Input;
@@ -100,7 +100,7 @@ impl Asking<'_> {
     fn begin(&mut self) -> Result<(), ClientFault> {
         for _ in 0..u64::MAX {
             let text = self.connection.next_text(MAX_ANSWER)?;
-            if bound_of(self.sent, text.as_str()) == Some(Bound::Begin) {
+            if begun(text.as_str()) == Some(self.sent) {
                 return Ok(());
             }
         }
@@ -112,7 +112,7 @@ impl Asking<'_> {
         let mut reply = Reply::Other;
         for _ in 0..u64::MAX {
             let text = self.connection.next_text(MAX_ANSWER)?;
-            if bound_of(self.sent, text.as_str()) == Some(Bound::End) {
+            if ended(text.as_str()) == Some(self.sent) {
                 return Ok(reply);
             }
             self.print(text.as_str())?;
@@ -125,7 +125,7 @@ impl Asking<'_> {
     fn end_of(&mut self, station: &str, call: u64) -> Result<(), ClientFault> {
         for _ in 0..u64::MAX {
             let text = self.connection.next_text(MAX_CALL)?;
-            if is_done(self.options.operator.as_str(), station, call, text.as_str()) {
+            if ended_call(self.options.operator.as_str(), station, text.as_str()) == Some(call) {
                 return self.print(text.as_str());
             }
         }

@@ -1,4 +1,11 @@
 //! What a text says that an operator is sent.
+ghost use Rattle.std.specs.Prelude.{◌≡◌, option_map};
+ghost use Rattle.clients.specs.Replies.{at_space, after_word, after_sign, number_of, leading_number, call_reply, refused_reply, told_reply, reply_of, ended_call, marked, begun, ended};
+
+use ocpp_types::number_of_digits;
+
+/// The most digits of a number.
+const MAX_DIGITS: usize = 19;
 
 /// What a text says of the operator's line.
 #[derive(Clone, Copy, Debug, PartialEq, Eq, Drop)]
@@ -13,62 +20,112 @@ pub enum Reply {
     Other,
 }
 
-/// Where the answer to a line stands among what an operator is sent.
-#[derive(Clone, Copy, Debug, PartialEq, Eq, Drop)]
-pub enum Bound {
-    /// It follows.
-    Begin,
-    /// It has come.
-    End,
+/// The number of the line whose answer follows, by the text `#N begin`.
+pub fn begun(text: &str) -> Option<u64>
+    ensures { result ≡ begun text.now }
+{
+    marked(text, "begin")
 }
 
-/// What a text says of the answer to the line with that number as its word: `#WORD begin` or `#WORD end`.
-pub fn bound_of(word: u64, text: &str) -> Option<Bound> {
-    let (named, place) = text.strip_prefix('#')?.split_once(' ')?;
-    if number(named) != Some(word) {
-        return None;
-    }
-    match place {
-        "begin" => Some(Bound::Begin),
-        "end" => Some(Bound::End),
-        _ => None,
-    }
+/// The number of the line whose answer has come, by the text `#N end`.
+pub fn ended(text: &str) -> Option<u64>
+    ensures { result ≡ ended text.now }
+{
+    marked(text, "end")
+}
+
+fn marked(text: &str, mark: &str) -> Option<u64>
+    ensures { result ≡ marked text.now mark.now }
+{
+    let (word, rest) = at_space(after_sign(text)?)?;
+    if rest == mark { number_of(word) } else { None }
 }
 
 /// What a text says of the operator's line: `OP ok`, `OP ok N`, `OP refused NUMBER ..` and `bad line` answer it.
-pub fn reply_of(operator: &str, text: &str) -> Reply {
+pub fn reply_of(operator: &str, text: &str) -> Reply
+    ensures { result ≡ reply_of operator.now text.now }
+{
     if text == "bad line" {
         return Reply::Refused;
     }
-    let Some(told) = told_to(operator, text) else {
-        return Reply::Other;
-    };
-    let mut words = told.split(' ');
-    match (words.next(), words.next().map(number), words.next()) {
-        (Some("ok"), None, None) => Reply::Taken,
-        (Some("ok"), Some(Some(call)), None) => Reply::Call(call),
-        (Some("refused"), Some(Some(_)), Some(_)) => Reply::Refused,
+    match after_word(operator, text) {
+        Some(told) => told_reply(told),
+        None => Reply::Other,
+    }
+}
+
+/// What is told to the operator says so.
+fn told_reply(told: &str) -> Reply
+    ensures { result ≡ told_reply told.now }
+{
+    if told == "ok" {
+        return Reply::Taken;
+    }
+    match after_word("ok", told) {
+        Some(rest) => call_reply(number_of(rest)),
+        None => refused_reply(after_word("refused", told)),
+    }
+}
+
+fn call_reply(number: Option<u64>) -> Reply
+    ensures { result ≡ call_reply number }
+{
+    match number {
+        Some(call) => Reply::Call(call),
+        None => Reply::Other,
+    }
+}
+
+fn refused_reply(why: Option<&str>) -> Reply
+    ensures { result ≡ refused_reply (option_map (λ t. t.now) why.entry) }
+{
+    match why {
+        Some(why) if leading_number(why).is_some() => Reply::Refused,
         _ => Reply::Other,
     }
 }
 
-/// Whether a text says that the call of that number to that station has ended: `OP ST done N ..`.
-pub fn is_done(operator: &str, station: &str, call: u64, text: &str) -> bool {
-    let Some(told) = told_to(operator, text) else {
-        return false;
-    };
-    let mut words = told.split(' ');
-    match (words.next(), words.next(), words.next().map(number)) {
-        (Some(named), Some("done"), Some(Some(ended))) => named == station && ended == call,
-        _ => false,
-    }
+/// The number of the call to that station that has ended, by a text `OP ST done N ..`.
+pub fn ended_call(operator: &str, station: &str, text: &str) -> Option<u64>
+    ensures { result ≡ ended_call operator.now station.now text.now }
+{
+    let told = after_word(operator, text)?;
+    let said = after_word(station, told)?;
+    leading_number(after_word("done", said)?)
 }
 
-/// What is said to the operator, after its name.
-fn told_to<'a>(operator: &str, text: &'a str) -> Option<&'a str> {
-    text.strip_prefix(operator)?.strip_prefix(' ')
+/// What follows the first word of a text, if that is `word`.
+fn after_word<'a>(word: &str, text: &'a str) -> Option<&'a str>
+    ensures { option_map (λ t. t.now) result ≡ after_word word.now text.now }
+{
+    let (first, rest) = at_space(text)?;
+    if first == word { Some(rest) } else { None }
 }
 
-fn number(word: &str) -> Option<u64> {
-    word.parse::<u64>().ok()
+/// The number before the first space.
+fn leading_number(text: &str) -> Option<u64>
+    ensures { result ≡ leading_number text.now }
+{
+    let (word, _rest) = at_space(text)?;
+    number_of(word)
+}
+
+/// What is before and what is after the first space.
+fn at_space(text: &str) -> Option<(&str, &str)>
+    ensures { option_map (λ p. (p.0.now, p.1.now)) result ≡ at_space text.now }
+{
+    text.split_once(' ')
+}
+
+/// What follows the `#` with which a text begins.
+fn after_sign(text: &str) -> Option<&str>
+    ensures { option_map (λ r. r.now) result ≡ after_sign text.now }
+{
+    text.strip_prefix('#')
+}
+
+fn number_of(word: &str) -> Option<u64>
+    ensures { result ≡ number_of word.now }
+{
+    number_of_digits(word, MAX_DIGITS)
 }
