@@ -59,7 +59,7 @@ pub enum ClientFault {
 
 impl ClientFault {
     /// A call on a socket of that address failed so.
-    pub fn at(address: SocketAddr, error: io::Error) -> ClientFault {
+    pub(crate) fn at(address: SocketAddr, error: io::Error) -> ClientFault {
         match error.kind() {
             io::ErrorKind::OutOfMemory => ClientFault::NoMemory,
             _ => ClientFault::Stream(address, Lost::Failed(error)),
