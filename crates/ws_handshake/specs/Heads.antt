@@ -1,10 +1,10 @@
 -- What the head of a request asks for.
-use Rattle.std.specs.Prelude.{◌≡◌, ◌⊎◌, ◌≤◌, ◌<◌, ℕ, Bool, true, false, not, ◌&&◌, ◌||◌, ◌==◌, List, length, map, codes, bytes_eq, Option, Some, None, if◌then◌else◌}
+use Rattle.std.specs.Prelude.{◌≡◌, ◌⊎◌, ◌≤◌, ◌<◌, ℕ, Bool, true, false, not, ◌&&◌, ◌||◌, ◌==◌, List, length, map, All, codes, bytes_eq, Option, Some, None, if◌then◌else◌}
 use Rattle.std.specs.List.{filter, list_any, slice_split}
 use Rattle.httparse.specs.Grammar.{RequestHead, ReadsRequest, HasNoRequest, NeverHasRequest, MayBecomeRequest, print_request}
-use Rattle.httparse.specs.Spans.{name_and_value, RequestExceeds}
+use Rattle.httparse.specs.Spans.{IsHeaderWithin, name_and_value, RequestExceeds}
 use Rattle.http.specs.Uri.{Spells, SpellsNone, uri_path}
-use Rattle.websocket.specs.Headers.{Fields, eq_ignore_case, header_value}
+use Rattle.websocket.specs.Headers.{Fields, eq_ignore_case, fields_of, header_value}
 use Rattle.websocket.specs.Handshake.{IsValidKey, accept_key_of}
 use Rattle.ws_peers.specs.Paths.{route_of}
 use Rattle.ws_peers.specs.declared.routes.Route.{Route}
@@ -12,7 +12,16 @@ use Rattle.ws_handshake.specs.declared.head.TheConstants.{MAX_FIELDS, MAX_HEAD}
 use Rattle.ws_handshake.specs.declared.answer.Answer.{Answer}
 use Rattle.ws_handshake.specs.declared.answer.Answer.TheVariants as answer
 use Rattle.ws_handshake.specs.declared.head.Asked.{Asked}
+use Rattle.ws_handshake.specs.declared.head.Request.{Request}
 use Rattle.ws_handshake.specs.declared.head.Asked.TheVariants.{More, Plain, Upgraded}
+
+-- the fields of a request lie within its bytes
+abbrev pub HasFieldsWithin : Request → Type 0
+HasFieldsWithin request = All (IsHeaderWithin (length request.bytes.now)) request.fields.now
+
+-- the fields of a request
+abbrev pub fields_in : Request → Fields
+fields_in request = fields_of request.bytes.now request.fields.now
 
 -- a comma, a space or a tab
 abbrev pub is_between : ℕ → Bool

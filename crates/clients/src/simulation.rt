@@ -1,50 +1,56 @@
 //! The simulated station.
 
-use crate::client::{Socket, connect, server_at};
 use crate::clock::now;
-use crate::command::SimOptions;
-use crate::fault::{Lost, RunFault};
+use crate::connection::Connection;
+use crate::fault::{ClientFault, Lost};
 use ocpp_types::{Mem, Text};
 use station_sim::{Drove, Script, Sim, SimFault, drive};
 use std::alloc::Global;
-use std::net::SocketAddr;
 
 /// The most drives of one run.
 const MAX_DRIVES: u32 = 10_000;
 
+/// What a simulated station is to do.
+#[derive(Drop)]
+pub struct SimOptions {
+    pub port: u16,
+    pub path: Text,
+}
+
 /// Runs one charging session over a new connection, and prints each message: a call as `> CALL`, a text
 /// of the server as `< TEXT`, and what it is answered as `> REPLY`.
-pub fn simulate(rt: &HostRuntime, options: &SimOptions) -> Result<(), RunFault> {
-    let mut socket = connect(rt, options.port, options.path.as_str())?;
-    run(rt, server_at(options.port), &mut socket)?;
-    let _closed = socket.close(None);
+pub fn simulate(rt: &HostRuntime, options: &SimOptions) -> Result<(), ClientFault> {
+    let mut connection = Connection::to(rt, options.port, options.path.as_str())?;
+    run(rt, &mut connection)?;
+    let _closed = connection.socket.close(None);
     Ok(())
 }
 
-fn run(rt: &HostRuntime, address: SocketAddr, socket: &mut Socket<'_>) -> Result<(), RunFault> {
+fn run(rt: &HostRuntime, connection: &mut Connection<'_>) -> Result<(), ClientFault> {
     let alloc = rt.alloc();
     match Sim::new(alloc, script(alloc)?) {
-        Ok(mut station) => drive_all(rt, address, &mut station, socket),
-        Err(_) => Err(RunFault::Script),
+        Ok(mut station) => drive_all(rt, &mut station, connection),
+        Err(_) => Err(ClientFault::Script),
     }
 }
 
 /// Drives a station until its session has ended.
 fn drive_all(
     rt: &HostRuntime,
-    address: SocketAddr,
     station: &mut Sim,
-    socket: &mut Socket<'_>,
-) -> Result<(), RunFault> {
+    connection: &mut Connection<'_>,
+) -> Result<(), ClientFault> {
     for _ in 0..MAX_DRIVES {
         if station.done() {
             break;
         }
-        let moment = now(rt).ok_or(RunFault::Clock)?;
-        match drive(station, socket, moment) {
+        let moment = now(rt).ok_or(ClientFault::Clock)?;
+        match drive(station, &mut connection.socket, moment) {
             Ok(drove) => print(rt, &drove)?,
-            Err(SimFault::NoMemory) => return Err(RunFault::NoMemory),
-            Err(SimFault::Stream) => return Err(RunFault::Stream(address, Lost::Ended)),
+            Err(SimFault::NoMemory) => return Err(ClientFault::NoMemory),
+            Err(SimFault::Stream) => {
+                return Err(ClientFault::Stream(connection.address, Lost::Ended));
+            }
         }
     }
     Ok(())
@@ -65,7 +71,7 @@ fn script(alloc: Global) -> Mem<Script> {
     })
 }
 
-fn print(rt: &HostRuntime, drove: &Drove) -> Result<(), RunFault> {
+fn print(rt: &HostRuntime, drove: &Drove) -> Result<(), ClientFault> {
     if let Some(call) = &drove.call {
         println!(rt; "> {call}")?;
     }

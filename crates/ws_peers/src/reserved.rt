@@ -1,8 +1,8 @@
-//! Lists that have room.
+//! Lists with reserved room.
 ghost use Rattle.std.specs.Prelude.{◌+◌, ◌≤◌, ◌≡◌, ◌++◌, ◌∷◌, [], vec_len, vec_capacity};
 
 /// Adds an item, for which there is room.
-pub(crate) fn push_ready<X: Drop>(items: &mut Vec<X>, item: X)
+pub(crate) fn push_reserved<X: Drop>(items: &mut Vec<X>, item: X)
     requires { vec_len items.old + 1 ≤ vec_capacity items.old }
     ensures items { items.new.items ≡ items.old.items ++ item ∷ [] }
     ensures len { vec_len items.new ≡ vec_len items.old + 1 }
