@@ -2,7 +2,7 @@
 ghost use Rattle.std.specs.Prelude.{◌≡◌, OnOk, OnErr};
 ghost use Rattle.hub_rows.specs.Changes.{edit, EditFits};
 ghost use Rattle.hub_rows.specs.declared.change.Edit.TheVariants.{Stations, Tags, Transactions, Holdings};
-ghost use Rattle.hub_rows.specs.declared.change.StationEdit.TheVariants.{StationAdded, ConnectorSeen, ReportSeen};
+ghost use Rattle.hub_rows.specs.declared.change.StationEdit.TheVariants.{StationAdded, PolicySet, ConnectorSeen, ReportSeen};
 ghost use Rattle.hub_rows.specs.WellFormed.{WellFormedRows};
 ghost use Rattle.store_mem.specs.Lists.{rows_in};
 
@@ -50,24 +50,15 @@ impl Lists {
                 boot,
                 state,
             } => {
-                let boot = boot.clone()?;
-                let booted = StationChange::Booted {
-                    boot,
-                    state: *state,
-                };
+                let (boot, state) = (boot.clone()?, *state);
+                let booted = StationChange::Booted { boot, state };
                 change_station(&mut self.stations, op, station, booted);
             }
             StationEdit::PolicySet {
                 station,
                 policy,
                 interval,
-            } => {
-                let set = StationChange::PolicySet {
-                    policy: *policy,
-                    interval: *interval,
-                };
-                change_station(&mut self.stations, op, station, set);
-            }
+            } => self.set_policy(op, station, *policy, *interval),
             StationEdit::ConnectorSeen {
                 station,
                 connector,
@@ -98,6 +89,15 @@ impl Lists {
         };
         put_row(&mut self.stations, row)?;
         Ok(())
+    }
+
+    /// Sets what a station's next boot is answered, which can't fail.
+    fn set_policy(&mut self, op: &Text, station: &Text, policy: Policy, interval: u32)
+        requires { WellFormedRows (rows_in self.old) }
+        ensures { rows_in self.new ≡ edit op.now (Stations (PolicySet station.now policy interval)) (rows_in self.old) }
+    {
+        let set = StationChange::PolicySet { policy, interval };
+        change_station(&mut self.stations, op, station, set);
     }
 
     /// Keeps a report on a connector, in place of the one before.
