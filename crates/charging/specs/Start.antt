@@ -4,7 +4,8 @@ use Rattle.ocpp_types.specs.TagKey.{key_of}
 use Rattle.ocpp_types.specs.declared.authorization_status.AuthorizationStatus.{AuthorizationStatus}
 use Rattle.ocpp_payload.specs.declared.conf.Conf.TheVariants as conf
 use Rattle.ocpp_payload.specs.declared.request.StartTransaction.{StartTransaction}
-use Rattle.hub_rows.specs.declared.change.Edit.TheVariants.{TxStarted}
+use Rattle.hub_rows.specs.declared.change.Edit.TheVariants.{Transactions}
+use Rattle.hub_rows.specs.declared.change.TransactionEdit.TheVariants.{TxStarted}
 use Rattle.hub_rows.specs.declared.tx_row.Start.{Start}
 use Rattle.hub_rows.specs.declared.tx_row.StartKey.{StartKey}
 use Rattle.hub_rows.specs.Lookups.{Lookups}
@@ -35,7 +36,7 @@ repeat_decision station id m l n = record {
 abbrev pub begin_decision : List ℕ → Start → Judged → ℕ → Decision
 begin_decision station start judged n = record {
   reply = Conf (conf.StartTransaction judged.info n);
-  edit = Some (TxStarted station n start judged.owner);
+  edit = Some (Transactions (TxStarted station n start judged.owner));
 }
 
 -- whatever the judgement of its tag is
@@ -48,7 +49,7 @@ begin_after station r id m l last =
     if nat_le last_of_all last then internal_error else begin_judged station r id m (last + 1) (judge_with_owner m id.key (purpose.Start None) l)
 
 abbrev pub new_start : List ℕ → StartTransaction → StartKey → ℕ → Lookups → Decision
-new_start station r id m l = begin_after station r id m l (l.last_numbers station).transaction
+new_start station r id m l = begin_after station r id m l (l.last_tx station)
 
 -- by the number that it has
 abbrev pub start_by_number : List ℕ → StartTransaction → StartKey → ℕ → Lookups → Option ℕ → Decision

@@ -5,7 +5,8 @@ use Rattle.ocpp_types.specs.declared.id_tag_info.IdTagInfo.{IdTagInfo}
 use Rattle.ocpp_payload.specs.declared.conf.Conf.TheVariants as conf
 use Rattle.ocpp_payload.specs.declared.request.StopTransaction.{StopTransaction}
 use Rattle.hub_rows.specs.declared.change.Edit.{Edit}
-use Rattle.hub_rows.specs.declared.change.Edit.TheVariants.{TxStopped}
+use Rattle.hub_rows.specs.declared.change.Edit.TheVariants.{Transactions}
+use Rattle.hub_rows.specs.declared.change.TransactionEdit.TheVariants.{TxStopped}
 use Rattle.hub_rows.specs.declared.reading_row.Reading.{Reading}
 use Rattle.hub_rows.specs.declared.tx_row.Stop.{Stop}
 use Rattle.hub_rows.specs.declared.tx_row.TxState.{TxState}
@@ -34,7 +35,7 @@ stop_of r m = record { meter_stop = r.meter_stop; at = r.timestamp; reason = r.r
 -- a stop of transaction n with readings after the last number that was given; readings for which
 -- no numbers are left are left out
 abbrev pub stop_edit : List ℕ → ℕ → Stop → ℕ → List Reading → Edit
-stop_edit station n stop last readings = if has_room last (length readings) then TxStopped station n stop (last + 1) readings else TxStopped station n stop 0 []
+stop_edit station n stop last readings = if has_room last (length readings) then Transactions (TxStopped station n stop (last + 1) readings) else Transactions (TxStopped station n stop 0 [])
 
 -- readings that are sent with a stop are of the transaction's connector
 abbrev pub end_edit : List ℕ → StopTransaction → ℕ → ℕ → ℕ → ℕ → Edit
@@ -43,7 +44,7 @@ end_edit station r m n connector last = stop_edit station n (stop_of r m) last (
 -- by the state of transaction n
 abbrev pub edit_by_state : List ℕ → StopTransaction → ℕ → Lookups → ℕ → Option TxState → Option Edit
 edit_by_state station r m l n None = None
-edit_by_state station r m l n (Some t) = if t.is_open then Some (end_edit station r m n t.connector (l.last_numbers station).reading) else None
+edit_by_state station r m l n (Some t) = if t.is_open then Some (end_edit station r m n t.connector (l.last_reading station)) else None
 
 -- by the number that its id names
 abbrev pub edit_by_number : List ℕ → StopTransaction → ℕ → Lookups → Option ℕ → Option Edit

@@ -6,7 +6,7 @@ ghost use Rattle.charging.specs.MeterValues.{meter_values_rule, decision_of_read
 
 use crate::numbers::has_room;
 use crate::readings::readings_of;
-use hub_rows::{Edit, Reading, Store, StoreFault};
+use hub_rows::{Edit, Reading, Store, StoreFault, TransactionEdit};
 use ocpp_payload::{Conf, MeterValues};
 use ocpp_types::{Boxed, Listed, Mem, Text};
 use registry::{Decision, Reply, StationAt, internal_error};
@@ -24,9 +24,7 @@ pub fn on_meter_values<S: Store>(
     ensures decision { (S.view store.new).clean → IfOk result (λ d. d
         ≡ meter_values_rule at.now.station.now request (lookups_at at.now.op.now (S.view store.old).rows)) }
 {
-    let last = store
-        .last_numbers(at.op.as_str(), at.station.as_str())?
-        .reading;
+    let last = store.last_reading(at.op.as_str(), at.station.as_str())?;
     let station = at.station.clone()?;
     let readings = readings_of(
         alloc,
@@ -48,11 +46,11 @@ fn decision_of_readings(
     if !has_room(last, readings.as_slice().len()) {
         return Ok(internal_error());
     }
-    let edit = Edit::ReadingsAdded {
+    let edit = Edit::Transactions(TransactionEdit::ReadingsAdded {
         station,
         first: last + 1,
         readings,
-    };
+    });
     Ok(Decision {
         reply: Reply::Conf(Conf::Empty),
         edit: Some(Boxed::new(alloc, edit)?),

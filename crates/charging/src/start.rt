@@ -6,7 +6,7 @@ ghost use Rattle.id_tags.specs.Judge.{judge_with_owner};
 ghost use Rattle.id_tags.specs.declared.judgement.Purpose.TheVariants as purpose;
 ghost use Rattle.charging.specs.Start.{start_rule, start_key, start_of, repeat_decision, new_start, start_by_key, begin_decision};
 
-use hub_rows::{Edit, LAST_NUMBER, Start, StartKey, Store, StoreFault, TxKey};
+use hub_rows::{Edit, LAST_NUMBER, Start, StartKey, Store, StoreFault, TransactionEdit, TxKey};
 use id_tags::{Judged, Purpose, judge, judge_with_owner};
 use ocpp_payload::{Conf, StartTransaction};
 use ocpp_types::{AuthorizationStatus, Boxed, Mem, Moment, TagKey};
@@ -98,9 +98,7 @@ fn new_start<S: Store>(
     ensures decision { (S.view store.new).clean → IfOk result (λ d. d
         ≡ new_start at.now.station.now request id at.now.moment (lookups_at at.now.op.now (S.view store.old).rows)) }
 {
-    let last = store
-        .last_numbers(at.op.as_str(), at.station.as_str())?
-        .transaction;
+    let last = store.last_tx(at.op.as_str(), at.station.as_str())?;
     if last >= LAST_NUMBER {
         return Ok(internal_error());
     }
@@ -131,12 +129,12 @@ fn judge_new<S: Store>(
 fn begin_decision(alloc: Global, transaction: TxKey, start: Start, judged: Judged) -> Mem<Decision>
     ensures { IfOk result (λ d. d ≡ begin_decision transaction.station start judged transaction.number) }
 {
-    let edit = Edit::TxStarted {
+    let edit = Edit::Transactions(TransactionEdit::TxStarted {
         station: transaction.station,
         number: transaction.number,
         start,
         owner: judged.owner,
-    };
+    });
     let reply = Conf::StartTransaction {
         id_tag_info: judged.info,
         transaction_id: transaction.number,

@@ -6,7 +6,7 @@ ghost use Rattle.charging.specs.Stop.{stop_rule, info_of, edit_of_stop, stop_edi
 
 use crate::numbers::has_room;
 use crate::readings::readings_of;
-use hub_rows::{Edit, Reading, Stop, Store, StoreFault, TxKey, TxState};
+use hub_rows::{Edit, Reading, Stop, Store, StoreFault, TransactionEdit, TxKey, TxState};
 use id_tags::{Purpose, judge};
 use ocpp_payload::{Conf, MeterValue, StopTransaction};
 use ocpp_types::{Boxed, IdTagInfo, Listed, Mem, Moment, TagKey, Text};
@@ -81,9 +81,7 @@ fn edit_of_stop<S: Store>(
     else {
         return Ok(None);
     };
-    let last = store
-        .last_numbers(at.op.as_str(), at.station.as_str())?
-        .reading;
+    let last = store.last_reading(at.op.as_str(), at.station.as_str())?;
     let station = at.station.clone()?;
     let tx = TxKey { station, number };
     let id = Some(request.transaction_id);
@@ -124,11 +122,11 @@ fn stop_edit(alloc: Global, tx: TxKey, stop: Stop, last: u32, readings: Listed<R
     } else {
         (0, Listed::new(alloc))
     };
-    Edit::TxStopped {
+    Edit::Transactions(TransactionEdit::TxStopped {
         station: tx.station,
         number: tx.number,
         stop,
         first,
         readings,
-    }
+    })
 }

@@ -21,8 +21,12 @@ use Rattle.ocpp_payload.specs.declared.request.Request.TheVariants.{Authorize, B
 use Rattle.ocpp_payload.specs.ActionClass.{action_class}
 use Rattle.ocpp_payload.specs.Request.{request}
 use Rattle.hub_rows.specs.declared.change.Edit.{Edit}
-use Rattle.hub_rows.specs.declared.change.Edit.TheVariants.{StationAdded, BootSeen, PolicySet, ConnectorSeen, TagPut, TagDropped, GrantPut, GrantDropped, TxStarted, TxStopped, ReadingsAdded, ReservationPut, ReservationDropped, ListSet, ReportSeen}
-use Rattle.hub_rows.specs.declared.change.Edit.TheVariants as edit_to
+use Rattle.hub_rows.specs.declared.change.Edit.TheVariants.{Stations, Tags, Transactions, Holdings}
+use Rattle.hub_rows.specs.declared.change.StationEdit.TheVariants.{StationAdded, BootSeen, PolicySet, ConnectorSeen, ReportSeen}
+use Rattle.hub_rows.specs.declared.change.TagEdit.TheVariants.{TagPut, TagDropped, GrantPut, GrantDropped}
+use Rattle.hub_rows.specs.declared.change.TransactionEdit.TheVariants.{TxStarted, TxStopped, ReadingsAdded}
+use Rattle.hub_rows.specs.declared.change.HoldingEdit.TheVariants.{ReservationPut, ReservationDropped, ListSet}
+use Rattle.hub_rows.specs.declared.change.StationEdit.TheVariants as edit_to
 use Rattle.hub_rows.specs.declared.station_row.Registration.{Registration}
 use Rattle.hub_rows.specs.Lookups.{Lookups, lookups_at}
 use Rattle.ocpp_types.specs.declared.authorization_status.AuthorizationStatus.{AuthorizationStatus}
@@ -44,6 +48,7 @@ use Rattle.registry.specs.declared.decision.Reply.TheVariants.{Conf}
 use Rattle.id_tags.specs.Judge.{found_tag, judge_rule, judge_with_owner, kept_owner, own_or_granted, owner_of}
 use Rattle.id_tags.specs.declared.judgement.Purpose.TheVariants as purpose
 use Rattle.registry.specs.InternalError.{internal_error}
+use Rattle.registry.specs.declared.station_added.TheConstants.{MAX_INTERVAL}
 use Rattle.charging.specs.Numbers.{has_room}
 use Rattle.charging.specs.Readings.{readings_of}
 use Rattle.charging.specs.MeterValues.{meter_values_rule}
@@ -94,21 +99,21 @@ IsOwner l key a = (owner_of (l.own_tag key) ≡ Some a) ⊎ (owner_of (l.granted
 
 -- an edit that an operator's look-ups allow
 abbrev pub FitsLookups : Lookups → Edit → Type 0
-FitsLookups l (StationAdded station policy interval) = l.registration station ≡ None
-FitsLookups l (BootSeen station boot state) = IsSome (l.registration station)
-FitsLookups l (PolicySet station policy interval) = IsSome (l.registration station)
-FitsLookups l (ConnectorSeen station connector report) = IsSome (l.registration station)
-FitsLookups l (TagPut key tag) = key ≡ key_of tag.text
-FitsLookups l (TagDropped key) = Unit {0}
-FitsLookups l (GrantPut key to until) = IsSome (l.own_tag key) × (to ≢ l.op)
-FitsLookups l (GrantDropped key to) = Unit {0}
-FitsLookups l (TxStarted station number start owner) = IsSome (l.registration station) × AreNext (l.last_numbers station).transaction number 1 × (start.id.key ≡ key_of start.tag) × IfSome owner (IsOwner l start.id.key)
-FitsLookups l (TxStopped station number stop first readings) = IsOpen (l.tx station number) × AreNext (l.last_numbers station).reading first (length readings)
-FitsLookups l (ReadingsAdded station first readings) = IsSome (l.registration station) × AreNext (l.last_numbers station).reading first (length readings)
-FitsLookups l (ReservationPut station id reservation) = IsSome (l.registration station)
-FitsLookups l (ReservationDropped station id) = Unit {0}
-FitsLookups l (ListSet station list) = IsSome (l.registration station) × AreEntries list.entries
-FitsLookups l (ReportSeen station status moment) = IsSome (l.registration station)
+FitsLookups l (Stations (StationAdded station policy interval)) = l.registration station ≡ None
+FitsLookups l (Stations (BootSeen station boot state)) = IsSome (l.registration station)
+FitsLookups l (Stations (PolicySet station policy interval)) = IsSome (l.registration station)
+FitsLookups l (Stations (ConnectorSeen station connector report)) = IsSome (l.registration station)
+FitsLookups l (Tags (TagPut key tag)) = key ≡ key_of tag.text
+FitsLookups l (Tags (TagDropped key)) = Unit {0}
+FitsLookups l (Tags (GrantPut key to until)) = IsSome (l.own_tag key) × (to ≢ l.op)
+FitsLookups l (Tags (GrantDropped key to)) = Unit {0}
+FitsLookups l (Transactions (TxStarted station number start owner)) = IsSome (l.registration station) × AreNext (l.last_tx station) number 1 × (start.id.key ≡ key_of start.tag) × IfSome owner (IsOwner l start.id.key)
+FitsLookups l (Transactions (TxStopped station number stop first readings)) = IsOpen (l.tx station number) × AreNext (l.last_reading station) first (length readings)
+FitsLookups l (Transactions (ReadingsAdded station first readings)) = IsSome (l.registration station) × AreNext (l.last_reading station) first (length readings)
+FitsLookups l (Holdings (ReservationPut station id reservation)) = IsSome (l.registration station)
+FitsLookups l (Holdings (ReservationDropped station id)) = Unit {0}
+FitsLookups l (Holdings (ListSet station list)) = IsSome (l.registration station) × AreEntries list.entries
+FitsLookups l (Stations (ReportSeen station status moment)) = IsSome (l.registration station)
 
 -- an effect that an operator's facts allow
 abbrev pub EffectFits : Facts → Effect → Type 0
@@ -150,7 +155,7 @@ start_fits : (station : List ℕ) (r : StartRequest) (m : ℕ) (l : Lookups) →
 start_fits station r m l here =
     let id : StartKey = start_key r in
     elim (l.same_start station id) as (λ o. IfSome (start_by_number station r id m l o).edit (FitsLookups l)) [
-      | None ↦ let last = (l.last_numbers station).transaction in
+      | None ↦ let last = (l.last_tx station) in
           elim (nat_le last_of_all last) as (λ b. nat_le last_of_all last ≡ b → IfSome (cond b internal_error (begin_judged station r id m (last + 1) (judge_with_owner m id.key (purpose.Start None) l))).edit (FitsLookups l)) [
             | true ↦ λ full. tt
             | false ↦ λ room. (here, inr (record { next = inr refl; from_one = omega arith; to_the_end = omega (arith, leb-false last_of_all last room) }), refl, owner_fits l id.key (judge_rule m id.key (purpose.Start None) l).status)
@@ -161,15 +166,15 @@ start_fits station r m l here =
 meter_values_fit : (station : List ℕ) (r : ReadingsRequest) (l : Lookups) → IsSome (l.registration station) → IfSome (meter_values_rule station r l).edit (FitsLookups l)
 meter_values_fit station r l here =
     let readings : List Reading = readings_of r.connector_id r.transaction_id r.meter_value in
-    let last = (l.last_numbers station).reading in
-    elim (has_room last (length readings)) as (λ b. has_room last (length readings) ≡ b → IfSome (cond b (record { reply = Conf conf.Empty; edit = Some (ReadingsAdded station (last + 1) readings) }) internal_error).edit (FitsLookups l)) [
+    let last = (l.last_reading station) in
+    elim (has_room last (length readings)) as (λ b. has_room last (length readings) ≡ b → IfSome (cond b (record { reply = Conf conf.Empty; edit = Some (Transactions (ReadingsAdded station (last + 1) readings)) }) internal_error).edit (FitsLookups l)) [
       | true ↦ λ room. (here, room_fits last (length readings) room)
       | false ↦ λ full. tt
     ] refl
 
 stop_fits : (station : List ℕ) (r : StopRequest) (m : ℕ) (l : Lookups) → IfSome (stop_rule station r m l).edit (FitsLookups l)
 stop_fits station r m l =
-    let last = (l.last_numbers station).reading in
+    let last = (l.last_reading station) in
     elim (number_of_id r.transaction_id) as (λ o. IfSome (edit_by_number station r m l o) (FitsLookups l)) [
       | None ↦ tt
       | Some n ↦ elim (l.tx station n) as (λ o. l.tx station n ≡ o → IfSome (edit_by_state station r m l n o) (FitsLookups l)) [
@@ -179,7 +184,7 @@ stop_fits station r m l =
             elim t.is_open as (λ b. t.is_open ≡ b → IfSome (cond b (Some (end_edit station r m n t.connector last)) None) (FitsLookups l)) [
               | true ↦ λ open_now.
                   let fits : IsOpen (l.tx station n) = subst IsOpen (sym e) open_now in
-                  elim (has_room last (length readings)) as (λ b. has_room last (length readings) ≡ b → FitsLookups l (cond b (TxStopped station n (stop_of r m) (last + 1) readings) (TxStopped station n (stop_of r m) 0 []))) [
+                  elim (has_room last (length readings)) as (λ b. has_room last (length readings) ≡ b → FitsLookups l (cond b (Transactions (TxStopped station n (stop_of r m) (last + 1) readings)) (Transactions (TxStopped station n (stop_of r m) 0 [])))) [
                     | true ↦ λ room. (fits, room_fits last (length readings) room)
                     | false ↦ λ full. (fits, inl refl)
                   ] refl
@@ -273,8 +278,8 @@ command_fits station c (Err refusal) f = tt
 
 add_fits : (station : List ℕ) (policy : Policy) (interval : ℕ) (f : Facts) → PlanFits f (edit_plan (add_rule station policy interval f.lookups))
 add_fits station policy interval f =
-    elim (is_station_name station) as (λ b. PlanFits f (edit_plan (cond b (cond (nat_le interval 86_400) (new_station_edit station policy interval (f.lookups.registration station)) (Err (BadField (codes "interval")))) (Err (BadField (codes "station")))))) [
-      | true ↦ elim (nat_le interval 86_400) as (λ b. PlanFits f (edit_plan (cond b (new_station_edit station policy interval (f.lookups.registration station)) (Err (BadField (codes "interval")))))) [
+    elim (is_station_name station) as (λ b. PlanFits f (edit_plan (cond b (cond (nat_le interval MAX_INTERVAL) (new_station_edit station policy interval (f.lookups.registration station)) (Err (BadField (codes "interval")))) (Err (BadField (codes "station")))))) [
+      | true ↦ elim (nat_le interval MAX_INTERVAL) as (λ b. PlanFits f (edit_plan (cond b (new_station_edit station policy interval (f.lookups.registration station)) (Err (BadField (codes "interval")))))) [
         | true ↦ elim (f.lookups.registration station) as (λ o. f.lookups.registration station ≡ o → PlanFits f (edit_plan (new_station_edit station policy interval o))) [
           | None ↦ λ e. e
           | Some r ↦ λ e. tt
@@ -289,16 +294,16 @@ policy_fits station policy interval f =
     let kept : Bool = is_kept_from station policy f.lookups in
     elim (f.lookups.registration station) as (λ o. f.lookups.registration station ≡ o → PlanFits f (edit_plan (policy_edit station policy interval kept o))) [
       | None ↦ λ e. tt
-      | Some r ↦ λ e. elim (nat_le interval 86_400) as (λ b. PlanFits f (edit_plan (cond b (cond kept (Err HasOpenTransactions) (Ok (edit_to.PolicySet station policy interval))) (Err (BadField (codes "interval")))))) [
-        | true ↦ elim kept as (λ b. PlanFits f (edit_plan (cond b (Err HasOpenTransactions) (Ok (edit_to.PolicySet station policy interval))))) [ true ↦ tt | false ↦ ap is_some e ]
+      | Some r ↦ λ e. elim (nat_le interval MAX_INTERVAL) as (λ b. PlanFits f (edit_plan (cond b (cond kept (Err HasOpenTransactions) (Ok (Stations (edit_to.PolicySet station policy interval)))) (Err (BadField (codes "interval")))))) [
+        | true ↦ elim kept as (λ b. PlanFits f (edit_plan (cond b (Err HasOpenTransactions) (Ok (Stations (edit_to.PolicySet station policy interval)))))) [ true ↦ tt | false ↦ ap is_some e ]
         | false ↦ tt
       ]
     ] refl
 
 put_fits : (t : Tag) (f : Facts) → PlanFits f (edit_plan (put_rule t))
 put_fits t f =
-    elim (is_tag t.text) as (λ b. PlanFits f (edit_plan (cond b (cond (is_parent t.parent) (Ok (edit_to.TagPut (key_of t.text) t)) (Err (BadField (codes "parent")))) (Err (BadField (codes "tag")))))) [
-      | true ↦ elim (is_parent t.parent) as (λ b. PlanFits f (edit_plan (cond b (Ok (edit_to.TagPut (key_of t.text) t)) (Err (BadField (codes "parent")))))) [ true ↦ refl | false ↦ tt ]
+    elim (is_tag t.text) as (λ b. PlanFits f (edit_plan (cond b (cond (is_parent t.parent) (Ok (Tags (edit_to.TagPut (key_of t.text) t))) (Err (BadField (codes "parent")))) (Err (BadField (codes "tag")))))) [
+      | true ↦ elim (is_parent t.parent) as (λ b. PlanFits f (edit_plan (cond b (Ok (Tags (edit_to.TagPut (key_of t.text) t))) (Err (BadField (codes "parent")))))) [ true ↦ refl | false ↦ tt ]
       | false ↦ tt
     ]
 
@@ -309,8 +314,8 @@ grant_fits : (is_hosted : List ℕ → Bool) (g : Grant) (f : Facts) → PlanFit
 grant_fits is_hosted g f =
     elim (f.lookups.own_tag (key_of g.tag)) as (λ o. f.lookups.own_tag (key_of g.tag) ≡ o → PlanFits f (edit_plan (grant_edit is_hosted f.lookups.op g o))) [
       | None ↦ λ e. tt
-      | Some info ↦ λ e. elim (is_hosted g.to) as (λ h. PlanFits f (edit_plan (cond h (cond (bytes_eq g.to f.lookups.op) (Err SelfGrant) (Ok (GrantPut (key_of g.tag) g.to g.until))) (Err NoSuchOperator)))) [
-        | true ↦ elim (bytes_eq g.to f.lookups.op) as (λ s. bytes_eq g.to f.lookups.op ≡ s → PlanFits f (edit_plan (cond s (Err SelfGrant) (Ok (GrantPut (key_of g.tag) g.to g.until))))) [
+      | Some info ↦ λ e. elim (is_hosted g.to) as (λ h. PlanFits f (edit_plan (cond h (cond (bytes_eq g.to f.lookups.op) (Err SelfGrant) (Ok (Tags (GrantPut (key_of g.tag) g.to g.until)))) (Err NoSuchOperator)))) [
+        | true ↦ elim (bytes_eq g.to f.lookups.op) as (λ s. bytes_eq g.to f.lookups.op ≡ s → PlanFits f (edit_plan (cond s (Err SelfGrant) (Ok (Tags (GrantPut (key_of g.tag) g.to g.until)))))) [
           | true ↦ λ same. tt
           | false ↦ λ other. (ap is_some e, λ is. true≢false (sym (text_itself g.to f.lookups.op is) ∙ other))
         ] refl
@@ -319,7 +324,7 @@ grant_fits is_hosted g f =
     ] refl
 
 revoke_fits : (tag to : List ℕ) (f : Facts) → PlanFits f (edit_plan (revoke_rule tag to f.lookups))
-revoke_fits tag to f = elim (f.lookups.has_grant (key_of tag) to) as (λ h. PlanFits f (edit_plan (cond h (Ok (GrantDropped (key_of tag) to)) (Err NoSuchGrant)))) [ true ↦ tt | false ↦ tt ]
+revoke_fits tag to f = elim (f.lookups.has_grant (key_of tag) to) as (λ h. PlanFits f (edit_plan (cond h (Ok (Tags (GrantDropped (key_of tag) to))) (Err NoSuchGrant)))) [ true ↦ tt | false ↦ tt ]
 
 admin_fits : (is_hosted : List ℕ → Bool) (a : Admin) (f : Facts) → PlanFits f (edit_plan (admin_rule is_hosted a f.lookups))
 admin_fits is_hosted (admin.StationAdd station policy interval) f = add_fits station policy interval f
@@ -356,21 +361,21 @@ owner_apart b key rows good (Some a) fits = elim fits [
 
 -- what the look-ups over the rows allow, the rows allow
 pub edit_fits : (b : List ℕ) (rows : Rows) → WellFormedRows rows → (e : Edit) → FitsLookups (lookups_at b rows) e → EditFits b e rows
-edit_fits b rows good (StationAdded station policy interval) fits = fits
-edit_fits b rows good (BootSeen station boot state) fits = fits
-edit_fits b rows good (PolicySet station policy interval) fits = fits
-edit_fits b rows good (ConnectorSeen station connector report) fits = fits
-edit_fits b rows good (TagPut key tag) fits = fits
-edit_fits b rows good (TagDropped key) fits = tt
-edit_fits b rows good (GrantPut key to until) fits = fits
-edit_fits b rows good (GrantDropped key to) fits = tt
-edit_fits b rows good (TxStarted station number start owner) fits = (fits.0, fits.1, fits.2, owner_apart b start.id.key rows good owner fits.3)
-edit_fits b rows good (TxStopped station number stop first readings) fits = fits
-edit_fits b rows good (ReadingsAdded station first readings) fits = fits
-edit_fits b rows good (ReservationPut station id reservation) fits = fits
-edit_fits b rows good (ReservationDropped station id) fits = tt
-edit_fits b rows good (ListSet station list) fits = fits
-edit_fits b rows good (ReportSeen station status moment) fits = fits
+edit_fits b rows good (Stations (StationAdded station policy interval)) fits = fits
+edit_fits b rows good (Stations (BootSeen station boot state)) fits = fits
+edit_fits b rows good (Stations (PolicySet station policy interval)) fits = fits
+edit_fits b rows good (Stations (ConnectorSeen station connector report)) fits = fits
+edit_fits b rows good (Tags (TagPut key tag)) fits = fits
+edit_fits b rows good (Tags (TagDropped key)) fits = tt
+edit_fits b rows good (Tags (GrantPut key to until)) fits = fits
+edit_fits b rows good (Tags (GrantDropped key to)) fits = tt
+edit_fits b rows good (Transactions (TxStarted station number start owner)) fits = (fits.0, fits.1, fits.2, owner_apart b start.id.key rows good owner fits.3)
+edit_fits b rows good (Transactions (TxStopped station number stop first readings)) fits = fits
+edit_fits b rows good (Transactions (ReadingsAdded station first readings)) fits = fits
+edit_fits b rows good (Holdings (ReservationPut station id reservation)) fits = fits
+edit_fits b rows good (Holdings (ReservationDropped station id)) fits = tt
+edit_fits b rows good (Holdings (ListSet station list)) fits = fits
+edit_fits b rows good (Stations (ReportSeen station status moment)) fits = fits
 
 -- the same of an edit that may be none
 pub option_fits : (b : List ℕ) (rows : Rows) → WellFormedRows rows → (o : Option Edit) → IfSome o (FitsLookups (lookups_at b rows)) → ForSome o (λ d. EditFits b d rows)

@@ -2,7 +2,7 @@
 //! call clears its locals as it begins, so what is wide and rare is in a box.
 
 use crate::plan::{Effect, Plan};
-use hub_rows::{Change, Edit};
+use hub_rows::Edit;
 use ocpp_frame::Frame;
 use ocpp_payload::{Conf, Request};
 use operator_cmds::Command;
@@ -19,8 +19,6 @@ const _: () = prove!(size_of::<Conf>() <= 128);
 const _: () = prove!(size_of::<Decision>() <= 128);
 
 const _: () = prove!(size_of::<Edit>() <= 168);
-
-const _: () = prove!(size_of::<Change>() <= 128);
 
 const _: () = prove!(size_of::<Effect>() <= 128);
 

@@ -4,7 +4,8 @@ use Rattle.std.specs.List.{filter_map, list_any}
 use Rattle.std.specs.Str.{bytes_eq}
 use Rattle.ocpp_types.specs.TagKey.{key_of}
 use Rattle.hub_rows.specs.declared.change.Edit.{Edit}
-use Rattle.hub_rows.specs.declared.change.Edit.TheVariants.{ListSet}
+use Rattle.hub_rows.specs.declared.change.Edit.TheVariants.{Holdings}
+use Rattle.hub_rows.specs.declared.change.HoldingEdit.TheVariants.{ListSet}
 use Rattle.hub_rows.specs.declared.list_row.LocalList.{LocalList}
 use Rattle.hub_rows.specs.declared.list_row.LocalTag.{LocalTag}
 use Rattle.hub_rows.specs.Keyed.{by_key, put_all}

@@ -3,7 +3,8 @@ use Rattle.std.specs.Prelude.{ℕ, nat_le, nat_lt, ℤ, pos, negsuc, int_le, Lis
 use Rattle.ocpp_types.specs.declared.refusal.Refusal.{Refusal}
 use Rattle.ocpp_types.specs.declared.refusal.Refusal.TheVariants.{BadField, NoSuchReservation}
 use Rattle.hub_rows.specs.declared.change.Edit.{Edit}
-use Rattle.hub_rows.specs.declared.change.Edit.TheVariants.{ReservationPut, ReservationDropped}
+use Rattle.hub_rows.specs.declared.change.Edit.TheVariants.{Holdings}
+use Rattle.hub_rows.specs.declared.change.HoldingEdit.TheVariants.{ReservationPut, ReservationDropped}
 use Rattle.hub_rows.specs.declared.reservation_row.Reservation.{Reservation}
 use Rattle.hub_rows.specs.Lookups.{Lookups}
 use Rattle.hub_rows.specs.Reservations.{shifted}

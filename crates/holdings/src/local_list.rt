@@ -6,7 +6,7 @@ ghost use Rattle.holdings.specs.Entries.{AreNamed};
 ghost use Rattle.holdings.specs.LocalList.{entries_after, kept_for, list_set, local_tag, not_named, version_of, with_info};
 
 use crate::entries::Entries;
-use hub_rows::{Edit, LocalList, LocalTag};
+use hub_rows::{Edit, HoldingEdit, LocalList, LocalTag};
 use ocpp_types::{IdTagInfo, Listed, Mem, TagKey, Text, copied};
 use operator_cmds::{AuthorizationData, SendLocalList, UpdateType};
 use std::alloc::Global;
@@ -30,10 +30,10 @@ pub fn list_answer(
     let kept = kept_for(alloc, command.update_type(), kept);
     let sent = command.entries().unwrap_or(&[]);
     let entries = entries_after(alloc, kept, sent)?;
-    Ok(Some(Edit::ListSet {
+    Ok(Some(Edit::Holdings(HoldingEdit::ListSet {
         station: station.clone()?,
         list: LocalList { version, entries },
-    }))
+    })))
 }
 
 fn version_of(version: i64) -> Option<u32>

@@ -4,7 +4,7 @@ ghost use Rattle.hub_rows.specs.Reads.{OnlyReads};
 ghost use Rattle.hub_rows.specs.Lookups.{lookups_at};
 ghost use Rattle.holdings.specs.Reservation.{cancel_rule, cancelled, connector_of, has_current, is_current, reservation_id, reserve_rule, reserved};
 
-use hub_rows::{Edit, Reservation, ReservationId, Store, StoreFault};
+use hub_rows::{Edit, HoldingEdit, Reservation, ReservationId, Store, StoreFault};
 use id_tags::refuse_tag;
 use ocpp_types::{FieldName, Mem, Moment, Refusal, Text, copied};
 use operator_cmds::{CancelReservation, ReserveNow};
@@ -64,11 +64,11 @@ pub fn reserved(station: &Text, fields: &ReserveNow) -> Mem<Option<Edit>>
     let Some(id) = reservation_id(fields.reservation_id) else {
         return Ok(None);
     };
-    Ok(Some(Edit::ReservationPut {
+    Ok(Some(Edit::Holdings(HoldingEdit::ReservationPut {
         station: station.clone()?,
         id,
         reservation: reservation(connector, fields)?,
-    }))
+    })))
 }
 
 fn reservation(connector: u8, fields: &ReserveNow) -> Mem<Reservation>
@@ -89,10 +89,10 @@ pub fn cancelled(station: &Text, fields: &CancelReservation) -> Mem<Option<Edit>
     let Some(id) = reservation_id(fields.reservation_id) else {
         return Ok(None);
     };
-    Ok(Some(Edit::ReservationDropped {
+    Ok(Some(Edit::Holdings(HoldingEdit::ReservationDropped {
         station: station.clone()?,
         id,
-    }))
+    })))
 }
 
 /// The connector of that number, 0 to 255.

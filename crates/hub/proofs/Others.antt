@@ -4,7 +4,11 @@ use Rattle.std.proofs.Common.{refl, sym, ◌∙◌, ap, subst, inl, inr}
 use Rattle.std.proofs.Math.Seq.{drop-length}
 use Rattle.std.proofs.lemmas.Bool.{true≢false}
 use Rattle.hub_rows.specs.declared.change.Edit.{Edit}
-use Rattle.hub_rows.specs.declared.change.Edit.TheVariants.{TagPut, TagDropped, GrantPut, GrantDropped, TxStopped}
+use Rattle.hub_rows.specs.declared.change.Edit.TheVariants.{Stations, Tags, Transactions, Holdings}
+use Rattle.hub_rows.specs.declared.change.StationEdit.TheVariants.{StationAdded}
+use Rattle.hub_rows.specs.declared.change.TagEdit.TheVariants.{TagDropped}
+use Rattle.hub_rows.specs.declared.change.TransactionEdit.TheVariants.{ReadingsAdded, TxStopped}
+use Rattle.hub_rows.specs.declared.change.HoldingEdit.TheVariants.{ReservationDropped}
 use Rattle.hub_rows.specs.declared.info.GrantedTag.{GrantedTag}
 use Rattle.hub_rows.specs.declared.use_row.UseRow.{UseRow}
 use Rattle.hub_rows.specs.Changes.{edit}
@@ -27,10 +31,10 @@ use Rattle.hub.proofs.SlotLaws.{outputs_of-other, slots_after-other}
 
 -- an edit that is none of tags leaves what is granted
 granted-edit : (a b : List ℕ) (e : Edit) (rows : Rows) → is_of_tags e ≡ false → granted_in a (edit b e rows).tags (edit b e rows).grants ≡ granted_in a rows.tags rows.grants
-granted-edit a b (TagPut key tag) rows none = absurd (true≢false none)
-granted-edit a b (TagDropped key) rows none = absurd (true≢false none)
-granted-edit a b (GrantPut key to until) rows none = absurd (true≢false none)
-granted-edit a b (GrantDropped key to) rows none = absurd (true≢false none)
+granted-edit a b (Tags e) rows none = absurd (true≢false none)
+granted-edit a b (Stations (StationAdded station policy interval)) rows none = refl
+granted-edit a b (Transactions (ReadingsAdded station first readings)) rows none = refl
+granted-edit a b (Holdings (ReservationDropped station id)) rows none = refl
 granted-edit a b e rows none = refl
 
 granted-after : (a b : List ℕ) (o : Option Edit) (rows : Rows) → edits_tags o ≡ false → granted_in a (rows_after b o rows).tags (rows_after b o rows).grants ≡ granted_in a rows.tags rows.grants
@@ -54,7 +58,10 @@ seen-other setting a w (Tick m) other granted uses = absurd other
 
 -- an edit changes the tags and grants, or adds a use, or neither
 either-edit : (a b : List ℕ) (e : Edit) (rows : Rows) → (granted_in a (edit b e rows).tags (edit b e rows).grants ≡ granted_in a rows.tags rows.grants) ⊎ (own (λ r. r.op) a (edit b e rows).uses ≡ own (λ r. r.op) a rows.uses)
-either-edit a b (TxStopped station number stop first readings) rows = inl refl
+either-edit a b (Transactions (TxStopped station number stop first readings)) rows = inl refl
+either-edit a b (Stations (StationAdded station policy interval)) rows = inr refl
+either-edit a b (Tags (TagDropped key)) rows = inr refl
+either-edit a b (Holdings (ReservationDropped station id)) rows = inr refl
 either-edit a b e rows = inr refl
 
 either-after : (a b : List ℕ) (o : Option Edit) (rows : Rows) → (granted_in a (rows_after b o rows).tags (rows_after b o rows).grants ≡ granted_in a rows.tags rows.grants) ⊎ (own (λ r. r.op) a (rows_after b o rows).uses ≡ own (λ r. r.op) a rows.uses)

@@ -1,7 +1,7 @@
 -- What an event of another operator is to an operator.
 use Rattle.std.specs.Prelude.{◌≡◌, ◌≢◌, ◌⊎◌, ℕ, List, [], ◌∷◌, ◌++◌, Bool, true, false, Option, Some, None}
 use Rattle.hub_rows.specs.declared.change.Edit.{Edit}
-use Rattle.hub_rows.specs.declared.change.Edit.TheVariants.{TagPut, TagDropped, GrantPut, GrantDropped}
+use Rattle.hub_rows.specs.declared.change.Edit.TheVariants.{Tags}
 use Rattle.hub_rows.specs.declared.use_row.UseRow.{UseRow}
 use Rattle.hub_rows.specs.Rows.{Rows}
 use Rattle.hub_rows.specs.Uses.{uses_settled}
@@ -24,10 +24,7 @@ edit_by setting w (Tick m) = None
 
 -- an edit that puts or drops a tag or a grant
 abbrev pub is_of_tags : Edit → Bool
-is_of_tags (TagPut key tag) = true
-is_of_tags (TagDropped key) = true
-is_of_tags (GrantPut key to until) = true
-is_of_tags (GrantDropped key to) = true
+is_of_tags (Tags e) = true
 is_of_tags e = false
 
 abbrev pub edits_tags : Option Edit → Bool

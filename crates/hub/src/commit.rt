@@ -100,7 +100,7 @@ fn apply<S: Store>(
     let OperatorEvent { op, moment, .. } = *event;
     match effect {
         Effect::Nothing => {}
-        Effect::Edit(edit) => edit_records(store, op, edit)?,
+        Effect::Edit(edit) => edit_records(store, op, edit.as_ref())?,
         Effect::Connect { station } => {
             let ended = slots.connect(op.as_str(), station.as_str())?;
             push_ended(outs, ended);
@@ -124,7 +124,7 @@ fn apply<S: Store>(
             outcome,
             edit,
         } => {
-            edit_if_some(store, op, edit)?;
+            edit_if_some(store, op, &edit)?;
             if let Some(moved) = slots.answer(op.as_str(), station.as_str(), id.as_str(), moment) {
                 push_moved(outs, moved, outcome.into_inner());
             }
@@ -134,33 +134,23 @@ fn apply<S: Store>(
 }
 
 /// Makes an edit of an operator's records, if there is one.
-fn edit_if_some<S: Store>(store: &mut S, op: &Text, edit: Option<Boxed<Edit>>) -> Result<(), Fault>
-    requires { (S.view store.old).clean → ForSome edit (λ e. EditFits op.now e (S.view store.old).rows) }
-    ensures { Edits S.view op.now edit store.old store.new result }
+fn edit_if_some<S: Store>(store: &mut S, op: &Text, edit: &Option<Boxed<Edit>>) -> Result<(), Fault>
+    requires { (S.view store.old).clean → ForSome edit.now (λ e. EditFits op.now e (S.view store.old).rows) }
+    ensures { Edits S.view op.now edit.now store.old store.new result }
 {
     match edit {
-        Some(edit) => edit_records(store, op, edit),
+        Some(edit) => edit_records(store, op, edit.as_ref()),
         None => Ok(()),
     }
 }
 
 /// Makes an edit of an operator's records.
-fn edit_records<S: Store>(store: &mut S, op: &Text, edit: Boxed<Edit>) -> Result<(), Fault>
-    requires { (S.view store.old).clean → EditFits op.now edit (S.view store.old).rows }
-    ensures { Edits S.view op.now (Some edit) store.old store.new result }
+fn edit_records<S: Store>(store: &mut S, op: &Text, edit: &Edit) -> Result<(), Fault>
+    requires { (S.view store.old).clean → EditFits op.now edit.now (S.view store.old).rows }
+    ensures { Edits S.view op.now (Some edit.now) store.old store.new result }
 {
-    let change = change_of(op, edit)?;
-    store.apply(&change)?;
+    store.apply(&Change { op, edit })?;
     Ok(())
-}
-
-fn change_of(op: &Text, edit: Boxed<Edit>) -> Mem<Change>
-    ensures { IfOk result (λ c. c ≡ record { op = op.now; edit = edit }) }
-{
-    Ok(Change {
-        op: op.clone()?,
-        edit,
-    })
 }
 
 /// Adds what is said, as outputs for an operator, and makes room for more. Without memory some of it may

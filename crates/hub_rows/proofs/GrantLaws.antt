@@ -11,7 +11,11 @@ use Rattle.std.specs.Str.{bytes_eq}
 use Rattle.std.proofs.lemmas.Bool.{and_parts}
 use Rattle.std.proofs.lemmas.Cmp.{tied_itself, nat_list_cmp_total}
 use Rattle.hub_rows.specs.declared.change.Edit.{Edit}
-use Rattle.hub_rows.specs.declared.change.Edit.TheVariants.{TagPut, TagDropped, GrantPut, GrantDropped}
+use Rattle.hub_rows.specs.declared.change.Edit.TheVariants.{Stations, Tags, Transactions, Holdings}
+use Rattle.hub_rows.specs.declared.change.StationEdit.TheVariants.{StationAdded}
+use Rattle.hub_rows.specs.declared.change.TransactionEdit.TheVariants.{ReadingsAdded}
+use Rattle.hub_rows.specs.declared.change.HoldingEdit.TheVariants.{ReservationDropped}
+use Rattle.hub_rows.specs.declared.change.TagEdit.TheVariants.{TagPut, TagDropped, GrantPut, GrantDropped}
 use Rattle.hub_rows.specs.declared.grant_row.GrantRow.{GrantRow}
 use Rattle.hub_rows.specs.declared.info.GrantedTag.{GrantedTag}
 use Rattle.hub_rows.specs.declared.info.Info.{Info}
@@ -77,16 +81,19 @@ grants_to-without a test (g ∷ gs) all =
 
 -- one's own edit leaves what is granted to one
 pub granted-edit : (a : List ℕ) (e : Edit) (rows : Rows) → WellFormedRows rows → EditFits a e rows → granted_in a (edit a e rows).tags (edit a e rows).grants ≡ granted_in a rows.tags rows.grants
-granted-edit a (TagPut key tag) rows good fits =
-    granted-same a rows good (edit a (TagPut key tag) rows).tags rows.grants refl (λ b differ. own-put_other (λ r. r.op) tag_rest b (tag_row a key tag) rows.tags (λ e. differ (sym e)))
-granted-edit a (TagDropped key) rows good fits =
-    granted-same a rows good (edit a (TagDropped key) rows).tags (edit a (TagDropped key) rows).grants (grants_to-without a (λ r. bytes_eq r.key key) rows.grants (receivers rows good))
+granted-edit a (Tags (TagPut key tag)) rows good fits =
+    granted-same a rows good (edit a (Tags (TagPut key tag)) rows).tags rows.grants refl (λ b differ. own-put_other (λ r. r.op) tag_rest b (tag_row a key tag) rows.tags (λ e. differ (sym e)))
+granted-edit a (Tags (TagDropped key)) rows good fits =
+    granted-same a rows good (edit a (Tags (TagDropped key)) rows).tags (edit a (Tags (TagDropped key)) rows).grants (grants_to-without a (λ r. bytes_eq r.key key) rows.grants (receivers rows good))
     (λ b differ. own-without_other (λ r. r.op) b a (λ r. bytes_eq r.key key) rows.tags (λ e. differ (sym e)))
-granted-edit a (GrantPut key to until) rows good fits =
-    granted-same a rows good rows.tags (edit a (GrantPut key to until) rows).grants
+granted-edit a (Tags (GrantPut key to until)) rows good fits =
+    granted-same a rows good rows.tags (edit a (Tags (GrantPut key to until)) rows).grants
     (filter-put_not (by_key grant_key) (λ g. bytes_eq g.to a) (ties_key grant_key (λ k. bytes_eq (third k) a)) (grant_row a key to until) rows.grants (other_text to a fits.1)) (λ b differ. refl)
-granted-edit a (GrantDropped key to) rows good fits =
-    granted-same a rows good rows.tags (edit a (GrantDropped key to) rows).grants (grants_to-without a (is_grant key to) rows.grants (receivers rows good)) (λ b differ. refl)
+granted-edit a (Tags (GrantDropped key to)) rows good fits =
+    granted-same a rows good rows.tags (edit a (Tags (GrantDropped key to)) rows).grants (grants_to-without a (is_grant key to) rows.grants (receivers rows good)) (λ b differ. refl)
+granted-edit a (Stations (StationAdded station policy interval)) rows good fits = refl
+granted-edit a (Transactions (ReadingsAdded station first readings)) rows good fits = refl
+granted-edit a (Holdings (ReservationDropped station id)) rows good fits = refl
 granted-edit a e rows good fits = refl
 
 -- ---- the tag of a key

@@ -7,7 +7,11 @@ use Rattle.std.specs.List.{AllByRecursion, list_any}
 use Rattle.std.specs.Option.{option_map}
 use Rattle.std.specs.Str.{bytes_eq}
 use Rattle.hub_rows.specs.declared.change.Edit.{Edit}
-use Rattle.hub_rows.specs.declared.change.Edit.TheVariants.{StationAdded, BootSeen, PolicySet, ConnectorSeen, TagPut, TagDropped, GrantPut, GrantDropped, TxStarted, TxStopped, ReadingsAdded, ReservationPut, ReservationDropped, ListSet, ReportSeen}
+use Rattle.hub_rows.specs.declared.change.Edit.TheVariants.{Stations, Tags, Transactions, Holdings}
+use Rattle.hub_rows.specs.declared.change.StationEdit.TheVariants.{StationAdded, BootSeen, PolicySet, ConnectorSeen, ReportSeen}
+use Rattle.hub_rows.specs.declared.change.TagEdit.TheVariants.{TagPut, TagDropped, GrantPut, GrantDropped}
+use Rattle.hub_rows.specs.declared.change.TransactionEdit.TheVariants.{TxStarted, TxStopped, ReadingsAdded}
+use Rattle.hub_rows.specs.declared.change.HoldingEdit.TheVariants.{ReservationPut, ReservationDropped, ListSet}
 use Rattle.hub_rows.specs.Rows.{Rows, station_rest, connector_rest, tag_rest, grant_rest, tx_rest, reading_rest, reservation_rest, list_rest, report_rest, tx_owner_rest, use_rest, use_key}
 use Rattle.hub_rows.specs.declared.tx_row.TxRow.{TxRow}
 use Rattle.hub_rows.specs.declared.tx_row.TxKey.{TxKey}
@@ -81,68 +85,68 @@ own-with_use a (Some r) uses settled = own-put_other (λ r. r.op) use_rest a r u
 
 -- one's own edit is the edit of one's own rows
 pub own_rows-edit : (a : List ℕ) (e : Edit) (rows : Rows) → WellFormedRows rows → own_rows a (edit a e rows) ≡ own_edit a e (own_rows a rows)
-own_rows-edit a (StationAdded station policy interval) rows good =
+own_rows-edit a (Stations (StationAdded station policy interval)) rows good =
     λ i. record (own_rows a rows) { stations = own-put (λ r. r.op) station_rest a (new_station a station policy interval) rows.stations good.stations refl i }
-own_rows-edit a (BootSeen station boot state) rows good =
+own_rows-edit a (Stations (BootSeen station boot state)) rows good =
     λ i. record (own_rows a rows) { stations = own-changed (λ r. r.op) a (λ r. bytes_eq r.station station) (with_boot boot state) rows.stations (λ r. refl) i }
-own_rows-edit a (PolicySet station policy interval) rows good =
+own_rows-edit a (Stations (PolicySet station policy interval)) rows good =
     λ i. record (own_rows a rows) { stations = own-changed (λ r. r.op) a (λ r. bytes_eq r.station station) (with_policy policy interval) rows.stations (λ r. refl) i }
-own_rows-edit a (ConnectorSeen station connector report) rows good =
+own_rows-edit a (Stations (ConnectorSeen station connector report)) rows good =
     λ i. record (own_rows a rows) { connectors = own-put (λ r. r.op) connector_rest a (connector_row a station connector report) rows.connectors good.connectors.sorted refl i }
-own_rows-edit a (TagPut key tag) rows good =
+own_rows-edit a (Tags (TagPut key tag)) rows good =
     λ i. record (own_rows a rows) { tags = own-put (λ r. r.op) tag_rest a (tag_row a key tag) rows.tags good.tags.sorted refl i }
-own_rows-edit a (TagDropped key) rows good =
+own_rows-edit a (Tags (TagDropped key)) rows good =
     λ i. record (own_rows a rows) { tags = own-without (λ r. r.op) a (λ r. bytes_eq r.key key) rows.tags i; grants = own-without (λ r. r.op) a (λ r. bytes_eq r.key key) rows.grants i }
-own_rows-edit a (GrantPut key to until) rows good =
+own_rows-edit a (Tags (GrantPut key to until)) rows good =
     λ i. record (own_rows a rows) { grants = own-put (λ r. r.op) grant_rest a (grant_row a key to until) rows.grants good.grants.sorted refl i }
-own_rows-edit a (GrantDropped key to) rows good =
+own_rows-edit a (Tags (GrantDropped key to)) rows good =
     λ i. record (own_rows a rows) { grants = own-without (λ r. r.op) a (is_grant key to) rows.grants i }
-own_rows-edit a (TxStarted station number start owner) rows good =
+own_rows-edit a (Transactions (TxStarted station number start owner)) rows good =
     λ i. record (own_rows a rows) { transactions = own-put (λ r. r.op) tx_rest a (tx_row a station number start) rows.transactions good.transactions.sorted refl i; reservations = own-named a station start.reservation rows.reservations i; tx_owners = own-with_owner a station number owner rows good i }
-own_rows-edit a (TxStopped station number stop first readings) rows good =
+own_rows-edit a (Transactions (TxStopped station number stop first readings)) rows good =
     λ i. record (own_rows a rows) { transactions = own-changed (λ r. r.op) a (is_tx station number) (with_stop stop) rows.transactions (λ r. refl) i; readings = own-readings a station first readings rows good i; uses = own-with_use a (settled_use a station number stop rows) rows.uses (is_settled a station number stop rows good) i }
-own_rows-edit a (ReadingsAdded station first readings) rows good =
+own_rows-edit a (Transactions (ReadingsAdded station first readings)) rows good =
     λ i. record (own_rows a rows) { readings = own-readings a station first readings rows good i }
-own_rows-edit a (ReservationPut station id reservation) rows good =
+own_rows-edit a (Holdings (ReservationPut station id reservation)) rows good =
     λ i. record (own_rows a rows) { reservations = own-put (λ r. r.op) reservation_rest a (reservation_row a station id reservation) rows.reservations good.reservations.sorted refl i }
-own_rows-edit a (ReservationDropped station id) rows good =
+own_rows-edit a (Holdings (ReservationDropped station id)) rows good =
     λ i. record (own_rows a rows) { reservations = own-without (λ r. r.op) a (is_reservation station id) rows.reservations i }
-own_rows-edit a (ListSet station list) rows good =
+own_rows-edit a (Holdings (ListSet station list)) rows good =
     λ i. record (own_rows a rows) { local_lists = own-put (λ r. r.op) list_rest a (list_row a station list) rows.local_lists good.local_lists.sorted refl i }
-own_rows-edit a (ReportSeen station status moment) rows good =
+own_rows-edit a (Stations (ReportSeen station status moment)) rows good =
     λ i. record (own_rows a rows) { reports = own-put (λ r. r.op) report_rest a (report_row a station status moment) rows.reports good.reports.sorted refl i }
 
 -- the edit of another is seen in one's uses alone
 pub own_rows-edit_other : (a b : List ℕ) (e : Edit) (rows : Rows) → b ≢ a → own_rows a (edit b e rows) ≡ record (own_rows a rows) { uses = own (λ r. r.op) a (edit b e rows).uses }
-own_rows-edit_other a b (StationAdded station policy interval) rows other =
+own_rows-edit_other a b (Stations (StationAdded station policy interval)) rows other =
     λ i. record (own_rows a rows) { stations = own-put_other (λ r. r.op) station_rest a (new_station b station policy interval) rows.stations other i }
-own_rows-edit_other a b (BootSeen station boot state) rows other =
+own_rows-edit_other a b (Stations (BootSeen station boot state)) rows other =
     λ i. record (own_rows a rows) { stations = own-changed_other (λ r. r.op) a b (λ r. bytes_eq r.station station) (with_boot boot state) rows.stations (λ r. refl) other i }
-own_rows-edit_other a b (PolicySet station policy interval) rows other =
+own_rows-edit_other a b (Stations (PolicySet station policy interval)) rows other =
     λ i. record (own_rows a rows) { stations = own-changed_other (λ r. r.op) a b (λ r. bytes_eq r.station station) (with_policy policy interval) rows.stations (λ r. refl) other i }
-own_rows-edit_other a b (ConnectorSeen station connector report) rows other =
+own_rows-edit_other a b (Stations (ConnectorSeen station connector report)) rows other =
     λ i. record (own_rows a rows) { connectors = own-put_other (λ r. r.op) connector_rest a (connector_row b station connector report) rows.connectors other i }
-own_rows-edit_other a b (TagPut key tag) rows other =
+own_rows-edit_other a b (Tags (TagPut key tag)) rows other =
     λ i. record (own_rows a rows) { tags = own-put_other (λ r. r.op) tag_rest a (tag_row b key tag) rows.tags other i }
-own_rows-edit_other a b (TagDropped key) rows other =
+own_rows-edit_other a b (Tags (TagDropped key)) rows other =
     λ i. record (own_rows a rows) { tags = own-without_other (λ r. r.op) a b (λ r. bytes_eq r.key key) rows.tags other i; grants = own-without_other (λ r. r.op) a b (λ r. bytes_eq r.key key) rows.grants other i }
-own_rows-edit_other a b (GrantPut key to until) rows other =
+own_rows-edit_other a b (Tags (GrantPut key to until)) rows other =
     λ i. record (own_rows a rows) { grants = own-put_other (λ r. r.op) grant_rest a (grant_row b key to until) rows.grants other i }
-own_rows-edit_other a b (GrantDropped key to) rows other =
+own_rows-edit_other a b (Tags (GrantDropped key to)) rows other =
     λ i. record (own_rows a rows) { grants = own-without_other (λ r. r.op) a b (is_grant key to) rows.grants other i }
-own_rows-edit_other a b (TxStarted station number start owner) rows other =
+own_rows-edit_other a b (Transactions (TxStarted station number start owner)) rows other =
     λ i. record (own_rows a rows) { transactions = own-put_other (λ r. r.op) tx_rest a (tx_row b station number start) rows.transactions other i; reservations = own-without_other (λ r. r.op) a b (is_named station start.reservation) rows.reservations other i; tx_owners = own-with_owner_other a b station number owner rows other i }
-own_rows-edit_other a b (TxStopped station number stop first readings) rows other =
-    λ i. record (own_rows a rows) { transactions = own-changed_other (λ r. r.op) a b (is_tx station number) (with_stop stop) rows.transactions (λ r. refl) other i; readings = own-readings_other a b station first readings rows other i; uses = own (λ r. r.op) a (edit b (TxStopped station number stop first readings) rows).uses }
-own_rows-edit_other a b (ReadingsAdded station first readings) rows other =
+own_rows-edit_other a b (Transactions (TxStopped station number stop first readings)) rows other =
+    λ i. record (own_rows a rows) { transactions = own-changed_other (λ r. r.op) a b (is_tx station number) (with_stop stop) rows.transactions (λ r. refl) other i; readings = own-readings_other a b station first readings rows other i; uses = own (λ r. r.op) a (edit b (Transactions (TxStopped station number stop first readings)) rows).uses }
+own_rows-edit_other a b (Transactions (ReadingsAdded station first readings)) rows other =
     λ i. record (own_rows a rows) { readings = own-readings_other a b station first readings rows other i }
-own_rows-edit_other a b (ReservationPut station id reservation) rows other =
+own_rows-edit_other a b (Holdings (ReservationPut station id reservation)) rows other =
     λ i. record (own_rows a rows) { reservations = own-put_other (λ r. r.op) reservation_rest a (reservation_row b station id reservation) rows.reservations other i }
-own_rows-edit_other a b (ReservationDropped station id) rows other =
+own_rows-edit_other a b (Holdings (ReservationDropped station id)) rows other =
     λ i. record (own_rows a rows) { reservations = own-without_other (λ r. r.op) a b (is_reservation station id) rows.reservations other i }
-own_rows-edit_other a b (ListSet station list) rows other =
+own_rows-edit_other a b (Holdings (ListSet station list)) rows other =
     λ i. record (own_rows a rows) { local_lists = own-put_other (λ r. r.op) list_rest a (list_row b station list) rows.local_lists other i }
-own_rows-edit_other a b (ReportSeen station status moment) rows other =
+own_rows-edit_other a b (Stations (ReportSeen station status moment)) rows other =
     λ i. record (own_rows a rows) { reports = own-put_other (λ r. r.op) report_rest a (report_row b station status moment) rows.reports other i }
 
 -- ---- uses
@@ -165,7 +169,7 @@ own-next_use r uses sorted next =
 
 -- an owner's uses gain what an edit of another settles
 pub uses-edit : (a b : List ℕ) (e : Edit) (rows : Rows) → WellFormedRows rows → own (λ r. r.op) a (edit b e rows).uses ≡ own (λ r. r.op) a rows.uses ++ uses_settled a b e rows
-uses-edit a b (TxStopped station number stop first readings) rows good = go (owner_in b station number rows.tx_owners) (found (λ r. r.op) b (is_tx station number) rows.transactions)
+uses-edit a b (Transactions (TxStopped station number stop first readings)) rows good = go (owner_in b station number rows.tx_owners) (found (λ r. r.op) b (is_tx station number) rows.transactions)
   where
     uses : List UseRow
     uses = rows.uses
@@ -186,6 +190,9 @@ uses-edit a b (TxStopped station number stop first readings) rows good = go (own
           | true ↦ added (use_row c (last + 1) b r stop) refl
           | false ↦ sym (append-nil _)
         ]
+uses-edit a b (Stations (StationAdded station policy interval)) rows good = sym (append-nil _)
+uses-edit a b (Tags (TagDropped key)) rows good = sym (append-nil _)
+uses-edit a b (Holdings (ReservationDropped station id)) rows good = sym (append-nil _)
 uses-edit a b e rows good = sym (append-nil _)
 
 -- ---- look-ups
@@ -239,10 +246,8 @@ same_lookups a rows good =
       same_start = λ station k. option_map (λ r. r.number) (found-own (λ r. r.op) a (own_start station k) rows.transactions i);
       tx = λ station number. option_map own_state (found-own (λ r. r.op) a (own_tx station number) rows.transactions i);
       has_open = λ station. any_of-own (λ r. r.op) a (λ r. bytes_eq r.station station && is_none r.stop) rows.transactions i;
-      last_numbers = λ station. record {
-        transaction = (ap (λ rs. greatest (map (λ r. r.number) rs)) (those-own (λ r. r.op) a (λ r. bytes_eq r.station station) rows.transactions) ∙ same_last (map (λ r. r.number) (filter (λ r. bytes_eq r.station station) txs))) i;
-        reading = (ap (λ rs. greatest (map (λ r. r.number) rs)) (all_readings station) ∙ same_last (map (λ r. r.number) (filter (λ r. bytes_eq r.station station) readings))) i;
-      };
+      last_tx = λ station. (ap (λ rs. greatest (map (λ r. r.number) rs)) (those-own (λ r. r.op) a (λ r. bytes_eq r.station station) rows.transactions) ∙ same_last (map (λ r. r.number) (filter (λ r. bytes_eq r.station station) txs))) i;
+      last_reading = λ station. (ap (λ rs. greatest (map (λ r. r.number) rs)) (all_readings station) ∙ same_last (map (λ r. r.number) (filter (λ r. bytes_eq r.station station) readings))) i;
       reserved_until = λ station id. option_map (λ r. r.reservation.expiry) (found-own (λ r. r.op) a (is_reservation station id) rows.reservations i);
       local_list = λ station. option_map (λ r. r.list) (found-own (λ r. r.op) a (λ r. bytes_eq r.station station) rows.local_lists i);
       stations = own-those (λ r. r.op) a rows.stations i;

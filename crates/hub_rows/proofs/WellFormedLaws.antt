@@ -11,7 +11,11 @@ use Rattle.std.proofs.lemmas.Bool.Decides.{nat_tests}
 use Rattle.std.proofs.lemmas.Cmp.{tied_itself}
 use Rattle.std.proofs.lemmas.List.Kept.{IsStrictlySortedBy-filter}
 use Rattle.hub_rows.specs.declared.change.Edit.{Edit}
-use Rattle.hub_rows.specs.declared.change.Edit.TheVariants.{StationAdded, BootSeen, PolicySet, ConnectorSeen, TagPut, TagDropped, GrantPut, GrantDropped, TxStarted, TxStopped, ReadingsAdded, ReservationPut, ReservationDropped, ListSet, ReportSeen}
+use Rattle.hub_rows.specs.declared.change.Edit.TheVariants.{Stations, Tags, Transactions, Holdings}
+use Rattle.hub_rows.specs.declared.change.StationEdit.TheVariants.{StationAdded, BootSeen, PolicySet, ConnectorSeen, ReportSeen}
+use Rattle.hub_rows.specs.declared.change.TagEdit.TheVariants.{TagPut, TagDropped, GrantPut, GrantDropped}
+use Rattle.hub_rows.specs.declared.change.TransactionEdit.TheVariants.{TxStarted, TxStopped, ReadingsAdded}
+use Rattle.hub_rows.specs.declared.change.HoldingEdit.TheVariants.{ReservationPut, ReservationDropped, ListSet}
 use Rattle.hub_rows.specs.declared.station_row.StationRow.{StationRow}
 use Rattle.hub_rows.specs.declared.connector_row.ConnectorRow.{ConnectorRow}
 use Rattle.hub_rows.specs.declared.tag_row.TagRow.{TagRow}
@@ -86,9 +90,12 @@ keeps-changed c test f same stations b station on =
 
 -- no edit takes a station off the record
 pub keeps-edit : (b : List ℕ) (e : Edit) (rows : Rows) → KeepsRecord rows.stations (edit b e rows).stations
-keeps-edit b (StationAdded station policy interval) rows = keeps-put (new_station b station policy interval) rows.stations
-keeps-edit b (BootSeen station boot state) rows = keeps-changed b (λ r. bytes_eq r.station station) (with_boot boot state) (λ r. (refl, refl)) rows.stations
-keeps-edit b (PolicySet station policy interval) rows = keeps-changed b (λ r. bytes_eq r.station station) (with_policy policy interval) (λ r. (refl, refl)) rows.stations
+keeps-edit b (Stations (StationAdded station policy interval)) rows = keeps-put (new_station b station policy interval) rows.stations
+keeps-edit b (Stations (BootSeen station boot state)) rows = keeps-changed b (λ r. bytes_eq r.station station) (with_boot boot state) (λ r. (refl, refl)) rows.stations
+keeps-edit b (Stations (PolicySet station policy interval)) rows = keeps-changed b (λ r. bytes_eq r.station station) (with_policy policy interval) (λ r. (refl, refl)) rows.stations
+keeps-edit b (Tags (TagDropped key)) rows = λ c s on. on
+keeps-edit b (Transactions (ReadingsAdded station first readings)) rows = λ c s on. on
+keeps-edit b (Holdings (ReservationDropped station id)) rows = λ c s on. on
 keeps-edit b e rows = λ c s on. on
 
 -- ---- tags on record
@@ -259,7 +266,7 @@ module _ (b : List ℕ) (rows : Rows) (good : WellFormedRows rows) where
   pub tag-put : (r : TagRow) → IsGoodTag r → WellFormedRows (record rows { tags = put (by_key tag_key) r rows.tags })
   tag-put r new = well_formed-tags rows good _ rows.grants (good-put tag_key IsGoodTag r rows.tags new good.tags) (still rows.tags (put (by_key tag_key) r rows.tags) (some_tag-put r rows.tags) rows.grants good.grants)
 
-  pub tag-dropped : (key : List ℕ) → WellFormedRows (edit b (TagDropped key) rows)
+  pub tag-dropped : (key : List ℕ) → WellFormedRows (edit b (Tags (TagDropped key)) rows)
   tag-dropped key = well_formed-tags rows good _ (without (λ r. r.op) b (λ r. bytes_eq r.key key) rows.grants)
       (good-filter tag_key IsGoodTag (λ r. not (bytes_eq r.op b && bytes_eq r.key key)) rows.tags good.tags)
       (record {
@@ -267,10 +274,10 @@ module _ (b : List ℕ) (rows : Rows) (good : WellFormedRows rows) where
         each = kept_grants b key rows.tags rows.grants good.grants.each;
       })
 
-  pub grant-put : (key to : List ℕ) (until : Option ℕ) → EditFits b (GrantPut key to until) rows → WellFormedRows (edit b (GrantPut key to until) rows)
+  pub grant-put : (key to : List ℕ) (until : Option ℕ) → EditFits b (Tags (GrantPut key to until)) rows → WellFormedRows (edit b (Tags (GrantPut key to until)) rows)
   grant-put key to until fits = well_formed-grants rows good _ (good-put grant_key (IsGoodGrant rows.tags) (grant_row b key to until) rows.grants (record { tag = some_row _ (tag_in b key rows.tags) fits.0; receiver = fits.1 }) good.grants)
 
-  pub grant-dropped : (key to : List ℕ) → WellFormedRows (edit b (GrantDropped key to) rows)
+  pub grant-dropped : (key to : List ℕ) → WellFormedRows (edit b (Tags (GrantDropped key to)) rows)
   grant-dropped key to = well_formed-grants rows good _ (good-filter grant_key (IsGoodGrant rows.tags) (λ r. not (bytes_eq r.op b && is_grant key to r)) rows.grants good.grants)
 
   pub tx-put : (r : TxRow) → IsGoodTx rows.stations r → WellFormedRows (record rows { transactions = put (by_key tx_key) r rows.transactions })
@@ -363,29 +370,29 @@ use-settled b rows good (Some r) settled = use-put b rows good r settled.0
 
 -- rows that are well formed are so after an edit that fits
 pub well_formed-edit : (b : List ℕ) (e : Edit) (rows : Rows) → WellFormedRows rows → EditFits b e rows → WellFormedRows (edit b e rows)
-well_formed-edit b (StationAdded station policy interval) rows good fits = station-put b rows good (new_station b station policy interval)
-well_formed-edit b (BootSeen station boot state) rows good fits = station-changed b rows good station (with_boot boot state) (λ r. (refl, refl))
-well_formed-edit b (PolicySet station policy interval) rows good fits = station-changed b rows good station (with_policy policy interval) (λ r. (refl, refl))
-well_formed-edit b (ConnectorSeen station connector report) rows good fits = connector-put b rows good (connector_row b station connector report) (on_record b station rows.stations fits)
-well_formed-edit b (TagPut key tag) rows good fits = tag-put b rows good (tag_row b key tag) (record { key = fits })
-well_formed-edit b (TagDropped key) rows good fits = tag-dropped b rows good key
-well_formed-edit b (GrantPut key to until) rows good fits = grant-put b rows good key to until fits
-well_formed-edit b (GrantDropped key to) rows good fits = grant-dropped b rows good key to
-well_formed-edit b (TxStarted station number start owner) rows good fits =
+well_formed-edit b (Stations (StationAdded station policy interval)) rows good fits = station-put b rows good (new_station b station policy interval)
+well_formed-edit b (Stations (BootSeen station boot state)) rows good fits = station-changed b rows good station (with_boot boot state) (λ r. (refl, refl))
+well_formed-edit b (Stations (PolicySet station policy interval)) rows good fits = station-changed b rows good station (with_policy policy interval) (λ r. (refl, refl))
+well_formed-edit b (Stations (ConnectorSeen station connector report)) rows good fits = connector-put b rows good (connector_row b station connector report) (on_record b station rows.stations fits)
+well_formed-edit b (Tags (TagPut key tag)) rows good fits = tag-put b rows good (tag_row b key tag) (record { key = fits })
+well_formed-edit b (Tags (TagDropped key)) rows good fits = tag-dropped b rows good key
+well_formed-edit b (Tags (GrantPut key to until)) rows good fits = grant-put b rows good key to until fits
+well_formed-edit b (Tags (GrantDropped key to)) rows good fits = grant-dropped b rows good key to
+well_formed-edit b (Transactions (TxStarted station number start owner)) rows good fits =
     let r : TxRow = tx_row b station number start in
     let begun : WellFormedRows (record rows { transactions = put (by_key tx_key) r rows.transactions })
     = tx-put b rows good r (record { station = on_record b station rows.stations fits.0; number = number_of _ number fits.1; key = fits.2 }) in
     let freed = reservations-without b (record rows { transactions = put (by_key tx_key) r rows.transactions }) begun (is_named station start.reservation) in
     owner-put b (record rows { transactions = put (by_key tx_key) r rows.transactions; reservations = without_named b station start.reservation rows.reservations }) freed station number owner fits.3 (found-put r rows.transactions)
-well_formed-edit b (TxStopped station number stop first readings) rows good fits =
+well_formed-edit b (Transactions (TxStopped station number stop first readings)) rows good fits =
     let ended : WellFormedRows (record rows { transactions = changed (λ r. r.op) b (is_tx station number) (with_stop stop) rows.transactions }) = tx-stopped b rows good station number stop in
     let read = readings-put b (record rows { transactions = changed (λ r. r.op) b (is_tx station number) (with_stop stop) rows.transactions }) ended station _ first readings (on_record-tx b station number rows good fits.0) fits.1 in
     use-settled b (record rows { transactions = changed (λ r. r.op) b (is_tx station number) (with_stop stop) rows.transactions; readings = with_readings b station first readings rows.readings }) read (settled_use b station number stop rows) (is_settled b station number stop rows good)
-well_formed-edit b (ReadingsAdded station first readings) rows good fits = readings-put b rows good station _ first readings (on_record b station rows.stations fits.0) fits.1
-well_formed-edit b (ReservationPut station id reservation) rows good fits = reservation-put b rows good (reservation_row b station id reservation) (on_record b station rows.stations fits)
-well_formed-edit b (ReservationDropped station id) rows good fits = reservations-without b rows good (is_reservation station id)
-well_formed-edit b (ListSet station list) rows good fits = list-put b rows good (list_row b station list) (record { station = on_record b station rows.stations fits.0; entries = fits.1 })
-well_formed-edit b (ReportSeen station status moment) rows good fits = report-put b rows good (report_row b station status moment) (on_record b station rows.stations fits)
+well_formed-edit b (Transactions (ReadingsAdded station first readings)) rows good fits = readings-put b rows good station _ first readings (on_record b station rows.stations fits.0) fits.1
+well_formed-edit b (Holdings (ReservationPut station id reservation)) rows good fits = reservation-put b rows good (reservation_row b station id reservation) (on_record b station rows.stations fits)
+well_formed-edit b (Holdings (ReservationDropped station id)) rows good fits = reservations-without b rows good (is_reservation station id)
+well_formed-edit b (Holdings (ListSet station list)) rows good fits = list-put b rows good (list_row b station list) (record { station = on_record b station rows.stations fits.0; entries = fits.1 })
+well_formed-edit b (Stations (ReportSeen station status moment)) rows good fits = report-put b rows good (report_row b station status moment) (on_record b station rows.stations fits)
 
 pub well_formed-no_rows : WellFormedRows no_rows
 unfolding IsStrictlySortedBy

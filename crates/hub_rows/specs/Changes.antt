@@ -24,16 +24,19 @@ use Rattle.hub_rows.specs.declared.list_row.ListRow.{ListRow}
 use Rattle.hub_rows.specs.declared.list_row.LocalList.{LocalList}
 use Rattle.hub_rows.specs.declared.report_row.ReportRow.{ReportRow}
 use Rattle.hub_rows.specs.declared.report_row.ReportedStatus.{ReportedStatus}
-use Rattle.hub_rows.specs.declared.change.Change.{Change}
 use Rattle.hub_rows.specs.declared.change.Edit.{Edit}
-use Rattle.hub_rows.specs.declared.change.Edit.TheVariants.{StationAdded, BootSeen, PolicySet, ConnectorSeen, TagPut, TagDropped, GrantPut, GrantDropped, TxStarted, TxStopped, ReadingsAdded, ReservationPut, ReservationDropped, ListSet, ReportSeen}
+use Rattle.hub_rows.specs.declared.change.Edit.TheVariants.{Stations, Tags, Transactions, Holdings}
+use Rattle.hub_rows.specs.declared.change.StationEdit.TheVariants.{StationAdded, BootSeen, PolicySet, ConnectorSeen, ReportSeen}
+use Rattle.hub_rows.specs.declared.change.TagEdit.TheVariants.{TagPut, TagDropped, GrantPut, GrantDropped}
+use Rattle.hub_rows.specs.declared.change.TransactionEdit.TheVariants.{TxStarted, TxStopped, ReadingsAdded}
+use Rattle.hub_rows.specs.declared.change.HoldingEdit.TheVariants.{ReservationPut, ReservationDropped, ListSet}
 use Rattle.hub_rows.specs.Keyed.{put, put_all, by_key, changed, without}
 use Rattle.hub_rows.specs.Grants.{is_grant}
 use Rattle.hub_rows.specs.LocalLists.{AreEntries}
 use Rattle.hub_rows.specs.Reservations.{is_reservation, without_named}
 use Rattle.hub_rows.specs.Rows.{Rows, station_key, connector_key, tag_key, grant_key, tx_key, reading_key, reservation_key, list_key, report_key, registration_at}
 use Rattle.hub_rows.specs.Tags.{own_tag_in}
-use Rattle.hub_rows.specs.Transactions.{is_tx, tx_in, reading_rows, last_numbers_in, AreNext}
+use Rattle.hub_rows.specs.Transactions.{is_tx, tx_in, reading_rows, last_tx_in, last_reading_in, AreNext}
 use Rattle.hub_rows.specs.Uses.{with_owner, settled_use, with_use}
 
 -- a station that is new
@@ -87,24 +90,21 @@ report_row b station status moment = record { op = b; station = station; status 
 -- an edit of the rows of operator b; a tag is dropped with its grants, a start ends the reservation that it
 -- names, and a stop settles a use of the owner that granted the tag
 abbrev pub edit : List ℕ → Edit → Rows → Rows
-edit b (StationAdded station policy interval) rows = record rows { stations = put (by_key station_key) (new_station b station policy interval) rows.stations }
-edit b (BootSeen station boot state) rows = record rows { stations = changed (λ r. r.op) b (λ r. bytes_eq r.station station) (with_boot boot state) rows.stations }
-edit b (PolicySet station policy interval) rows = record rows { stations = changed (λ r. r.op) b (λ r. bytes_eq r.station station) (with_policy policy interval) rows.stations }
-edit b (ConnectorSeen station connector report) rows = record rows { connectors = put (by_key connector_key) (connector_row b station connector report) rows.connectors }
-edit b (TagPut key tag) rows = record rows { tags = put (by_key tag_key) (tag_row b key tag) rows.tags }
-edit b (TagDropped key) rows = record rows { tags = without (λ r. r.op) b (λ r. bytes_eq r.key key) rows.tags; grants = without (λ r. r.op) b (λ r. bytes_eq r.key key) rows.grants }
-edit b (GrantPut key to until) rows = record rows { grants = put (by_key grant_key) (grant_row b key to until) rows.grants }
-edit b (GrantDropped key to) rows = record rows { grants = without (λ r. r.op) b (is_grant key to) rows.grants }
-edit b (TxStarted station number start owner) rows = record rows { transactions = put (by_key tx_key) (tx_row b station number start) rows.transactions; reservations = without_named b station start.reservation rows.reservations; tx_owners = with_owner b station number owner rows.tx_owners }
-edit b (TxStopped station number stop first readings) rows = record rows { transactions = changed (λ r. r.op) b (is_tx station number) (with_stop stop) rows.transactions; readings = with_readings b station first readings rows.readings; uses = with_use (settled_use b station number stop rows) rows.uses }
-edit b (ReadingsAdded station first readings) rows = record rows { readings = with_readings b station first readings rows.readings }
-edit b (ReservationPut station id reservation) rows = record rows { reservations = put (by_key reservation_key) (reservation_row b station id reservation) rows.reservations }
-edit b (ReservationDropped station id) rows = record rows { reservations = without (λ r. r.op) b (is_reservation station id) rows.reservations }
-edit b (ListSet station list) rows = record rows { local_lists = put (by_key list_key) (list_row b station list) rows.local_lists }
-edit b (ReportSeen station status moment) rows = record rows { reports = put (by_key report_key) (report_row b station status moment) rows.reports }
-
-abbrev pub after_change : Change → Rows → Rows
-after_change change = edit change.op change.edit
+edit b (Stations (StationAdded station policy interval)) rows = record rows { stations = put (by_key station_key) (new_station b station policy interval) rows.stations }
+edit b (Stations (BootSeen station boot state)) rows = record rows { stations = changed (λ r. r.op) b (λ r. bytes_eq r.station station) (with_boot boot state) rows.stations }
+edit b (Stations (PolicySet station policy interval)) rows = record rows { stations = changed (λ r. r.op) b (λ r. bytes_eq r.station station) (with_policy policy interval) rows.stations }
+edit b (Stations (ConnectorSeen station connector report)) rows = record rows { connectors = put (by_key connector_key) (connector_row b station connector report) rows.connectors }
+edit b (Tags (TagPut key tag)) rows = record rows { tags = put (by_key tag_key) (tag_row b key tag) rows.tags }
+edit b (Tags (TagDropped key)) rows = record rows { tags = without (λ r. r.op) b (λ r. bytes_eq r.key key) rows.tags; grants = without (λ r. r.op) b (λ r. bytes_eq r.key key) rows.grants }
+edit b (Tags (GrantPut key to until)) rows = record rows { grants = put (by_key grant_key) (grant_row b key to until) rows.grants }
+edit b (Tags (GrantDropped key to)) rows = record rows { grants = without (λ r. r.op) b (is_grant key to) rows.grants }
+edit b (Transactions (TxStarted station number start owner)) rows = record rows { transactions = put (by_key tx_key) (tx_row b station number start) rows.transactions; reservations = without_named b station start.reservation rows.reservations; tx_owners = with_owner b station number owner rows.tx_owners }
+edit b (Transactions (TxStopped station number stop first readings)) rows = record rows { transactions = changed (λ r. r.op) b (is_tx station number) (with_stop stop) rows.transactions; readings = with_readings b station first readings rows.readings; uses = with_use (settled_use b station number stop rows) rows.uses }
+edit b (Transactions (ReadingsAdded station first readings)) rows = record rows { readings = with_readings b station first readings rows.readings }
+edit b (Holdings (ReservationPut station id reservation)) rows = record rows { reservations = put (by_key reservation_key) (reservation_row b station id reservation) rows.reservations }
+edit b (Holdings (ReservationDropped station id)) rows = record rows { reservations = without (λ r. r.op) b (is_reservation station id) rows.reservations }
+edit b (Holdings (ListSet station list)) rows = record rows { local_lists = put (by_key list_key) (list_row b station list) rows.local_lists }
+edit b (Stations (ReportSeen station status moment)) rows = record rows { reports = put (by_key report_key) (report_row b station status moment) rows.reports }
 
 abbrev pub IsOpen : Option TxState → Type 0
 IsOpen None = ⊥
@@ -120,21 +120,18 @@ IsAnother b (Some a) = a ≢ b
 -- key of a tag is the key of its text, a tag that is granted is the operator's own and is granted to
 -- another, the owner of a granted tag is another, and a local list has its entries in the order of their keys
 abbrev pub EditFits : List ℕ → Edit → Rows → Type 0
-EditFits b (StationAdded station policy interval) rows = registration_at b station rows ≡ None
-EditFits b (BootSeen station boot state) rows = IsSome (registration_at b station rows)
-EditFits b (PolicySet station policy interval) rows = IsSome (registration_at b station rows)
-EditFits b (ConnectorSeen station connector report) rows = IsSome (registration_at b station rows)
-EditFits b (TagPut key tag) rows = key ≡ key_of tag.text
-EditFits b (TagDropped key) rows = Unit {0}
-EditFits b (GrantPut key to until) rows = IsSome (own_tag_in b key rows.tags) × (to ≢ b)
-EditFits b (GrantDropped key to) rows = Unit {0}
-EditFits b (TxStarted station number start owner) rows = IsSome (registration_at b station rows) × AreNext (last_numbers_in b station rows.transactions rows.readings).transaction number 1 × (start.id.key ≡ key_of start.tag) × IsAnother b owner
-EditFits b (TxStopped station number stop first readings) rows = IsOpen (tx_in b station number rows.transactions) × AreNext (last_numbers_in b station rows.transactions rows.readings).reading first (length readings)
-EditFits b (ReadingsAdded station first readings) rows = IsSome (registration_at b station rows) × AreNext (last_numbers_in b station rows.transactions rows.readings).reading first (length readings)
-EditFits b (ReservationPut station id reservation) rows = IsSome (registration_at b station rows)
-EditFits b (ReservationDropped station id) rows = Unit {0}
-EditFits b (ListSet station list) rows = IsSome (registration_at b station rows) × AreEntries list.entries
-EditFits b (ReportSeen station status moment) rows = IsSome (registration_at b station rows)
-
-abbrev pub Fits : Change → Rows → Type 0
-Fits change = EditFits change.op change.edit
+EditFits b (Stations (StationAdded station policy interval)) rows = registration_at b station rows ≡ None
+EditFits b (Stations (BootSeen station boot state)) rows = IsSome (registration_at b station rows)
+EditFits b (Stations (PolicySet station policy interval)) rows = IsSome (registration_at b station rows)
+EditFits b (Stations (ConnectorSeen station connector report)) rows = IsSome (registration_at b station rows)
+EditFits b (Tags (TagPut key tag)) rows = key ≡ key_of tag.text
+EditFits b (Tags (TagDropped key)) rows = Unit {0}
+EditFits b (Tags (GrantPut key to until)) rows = IsSome (own_tag_in b key rows.tags) × (to ≢ b)
+EditFits b (Tags (GrantDropped key to)) rows = Unit {0}
+EditFits b (Transactions (TxStarted station number start owner)) rows = IsSome (registration_at b station rows) × AreNext (last_tx_in b station rows.transactions) number 1 × (start.id.key ≡ key_of start.tag) × IsAnother b owner
+EditFits b (Transactions (TxStopped station number stop first readings)) rows = IsOpen (tx_in b station number rows.transactions) × AreNext (last_reading_in b station rows.readings) first (length readings)
+EditFits b (Transactions (ReadingsAdded station first readings)) rows = IsSome (registration_at b station rows) × AreNext (last_reading_in b station rows.readings) first (length readings)
+EditFits b (Holdings (ReservationPut station id reservation)) rows = IsSome (registration_at b station rows)
+EditFits b (Holdings (ReservationDropped station id)) rows = Unit {0}
+EditFits b (Holdings (ListSet station list)) rows = IsSome (registration_at b station rows) × AreEntries list.entries
+EditFits b (Stations (ReportSeen station status moment)) rows = IsSome (registration_at b station rows)

@@ -19,7 +19,6 @@ use Rattle.hub_rows.specs.declared.tx_row.TxRow.{TxRow}
 use Rattle.hub_rows.specs.declared.tx_row.TxKey.{TxKey}
 use Rattle.hub_rows.specs.declared.tx_row.TxState.{TxState}
 use Rattle.hub_rows.specs.declared.tx_row.StartKey.{StartKey}
-use Rattle.hub_rows.specs.declared.tx_row.LastNumbers.{LastNumbers}
 use Rattle.hub_rows.specs.declared.reading_row.ReadingRow.{ReadingRow}
 use Rattle.hub_rows.specs.declared.reservation_row.ReservationRow.{ReservationRow}
 use Rattle.hub_rows.specs.declared.list_row.ListRow.{ListRow}
@@ -31,7 +30,7 @@ use Rattle.hub_rows.specs.Grants.{granted_in, granted_tag_in, grants_in, has_gra
 use Rattle.hub_rows.specs.Reservations.{reservations_in, reserved_until_in}
 use Rattle.hub_rows.specs.Rows.{Rows, registration_at}
 use Rattle.hub_rows.specs.Tags.{own_tag_in}
-use Rattle.hub_rows.specs.Transactions.{is_used_in, same_start_in, tx_in, has_open_in, open_txs_in, txs_from_in, readings_in, last_numbers_in}
+use Rattle.hub_rows.specs.Transactions.{is_used_in, same_start_in, tx_in, has_open_in, open_txs_in, txs_from_in, readings_in, last_tx_in, last_reading_in}
 use Rattle.hub_rows.specs.Uses.{uses_in}
 
 pub record Lookups : Type 0 where
@@ -53,8 +52,9 @@ pub record Lookups : Type 0 where
   pub tx : List ℕ → ℕ → Option TxState
   -- whether a transaction of a station is open
   pub has_open : List ℕ → Bool
-  -- the last numbers of a station
-  pub last_numbers : List ℕ → LastNumbers
+  -- the last numbers of a station's transactions and of its readings, 0 where it has none
+  pub last_tx : List ℕ → ℕ
+  pub last_reading : List ℕ → ℕ
   -- when the reservation of an id at a station expires
   pub reserved_until : List ℕ → ℕ → Option ℕ
   -- the local list of a station
@@ -110,7 +110,8 @@ lookups_at b rows = record {
   same_start = λ station k. same_start_in b station k rows.transactions;
   tx = λ station number. tx_in b station number rows.transactions;
   has_open = λ station. has_open_in b station rows.transactions;
-  last_numbers = λ station. last_numbers_in b station rows.transactions rows.readings;
+  last_tx = λ station. last_tx_in b station rows.transactions;
+  last_reading = λ station. last_reading_in b station rows.readings;
   reserved_until = λ station id. reserved_until_in b station id rows.reservations;
   local_list = λ station. local_list_in b station rows.local_lists;
   stations = stations_in b rows.stations;
@@ -204,10 +205,8 @@ own_lookups a rows granted = record {
   same_start = λ station k. option_map (λ r. r.number) (find (own_start station k) rows.transactions);
   tx = λ station number. option_map own_state (find (own_tx station number) rows.transactions);
   has_open = λ station. list_any (λ r. bytes_eq r.station station && is_none r.stop) rows.transactions;
-  last_numbers = λ station. record {
-    transaction = own_last (map (λ r. r.number) (filter (λ r. bytes_eq r.station station) rows.transactions));
-    reading = own_last (map (λ r. r.number) (filter (λ r. bytes_eq r.station station) rows.readings));
-  };
+  last_tx = λ station. own_last (map (λ r. r.number) (filter (λ r. bytes_eq r.station station) rows.transactions));
+  last_reading = λ station. own_last (map (λ r. r.number) (filter (λ r. bytes_eq r.station station) rows.readings));
   reserved_until = λ station id. option_map (λ r. r.reservation.expiry) (find (λ r. bytes_eq r.station station && r.id == id) rows.reservations);
   local_list = λ station. option_map (λ r. r.list) (find (λ r. bytes_eq r.station station) rows.local_lists);
   stations = rows.stations;

@@ -2,6 +2,7 @@
 use Rattle.std.specs.Prelude.{ℕ, nat_le, List, [], ◌∷◌, length, Bool, true, false, not, ◌&&◌, ◌||◌, ◌==◌}
 use Rattle.std.specs.List.{list_any, list_all}
 use Rattle.std.specs.Str.{bytes_eq}
+use Rattle.hub_rows.specs.declared.operators.TheConstants.{MAX_OPERATOR}
 
 -- whether operator b is among those
 abbrev pub is_hosted : List (List ℕ) → List ℕ → Bool
@@ -12,7 +13,7 @@ abbrev pub is_name_byte : ℕ → Bool
 is_name_byte c = (nat_le 97 c && nat_le c 122) || ((nat_le 65 c && nat_le c 90) || ((nat_le 48 c && nat_le c 57) || (c == 45 || c == 95)))
 
 abbrev pub is_operator_name : List ℕ → Bool
-is_operator_name name = nat_le 1 (length name) && nat_le (length name) 32 && list_all is_name_byte name
+is_operator_name name = nat_le 1 (length name) && nat_le (length name) MAX_OPERATOR && list_all is_name_byte name
 
 -- names of operators, each once
 abbrev pub are_distinct_names : List (List ℕ) → Bool

@@ -4,7 +4,11 @@ use Rattle.std.specs.Prelude.{ℕ, ◌+◌, ◌-◌, ℤ, pos, negsuc, List, [],
 use Rattle.std.specs.Str.{bytes_eq}
 use Rattle.ocpp_types.specs.declared.state.State.TheVariants.{Fresh}
 use Rattle.hub_rows.specs.declared.change.Edit.{Edit}
-use Rattle.hub_rows.specs.declared.change.Edit.TheVariants.{StationAdded, BootSeen, PolicySet, ConnectorSeen, TagPut, TagDropped, GrantPut, GrantDropped, TxStarted, TxStopped, ReadingsAdded, ReservationPut, ReservationDropped, ListSet, ReportSeen}
+use Rattle.hub_rows.specs.declared.change.Edit.TheVariants.{Stations, Tags, Transactions, Holdings}
+use Rattle.hub_rows.specs.declared.change.StationEdit.TheVariants.{StationAdded, BootSeen, PolicySet, ConnectorSeen, ReportSeen}
+use Rattle.hub_rows.specs.declared.change.TagEdit.TheVariants.{TagPut, TagDropped, GrantPut, GrantDropped}
+use Rattle.hub_rows.specs.declared.change.TransactionEdit.TheVariants.{TxStarted, TxStopped, ReadingsAdded}
+use Rattle.hub_rows.specs.declared.change.HoldingEdit.TheVariants.{ReservationPut, ReservationDropped, ListSet}
 use Rattle.hub_rows.specs.declared.reading_row.Reading.{Reading}
 use Rattle.hub_rows.specs.declared.reading_row.ReadingRow.{ReadingRow}
 use Rattle.hub_rows.specs.declared.reservation_row.ReservationRow.{ReservationRow}
@@ -40,18 +44,18 @@ own_rows a rows = record { stations = own (λ r. r.op) a rows.stations; connecto
 -- an edit of the rows of one operator, by what tells them apart; its uses are left, since the owner of a granted tag
 -- is another
 abbrev pub own_edit : List ℕ → Edit → Rows → Rows
-own_edit a (StationAdded station policy interval) rows = record rows { stations = put (by_key station_rest) (record { op = a; station = station; policy = policy; interval = interval; state = Fresh; boot = None }) rows.stations }
-own_edit a (BootSeen station boot state) rows = record rows { stations = map (λ (r : StationRow). if bytes_eq r.station station then record r { boot = Some boot; state = state } else r) rows.stations }
-own_edit a (PolicySet station policy interval) rows = record rows { stations = map (λ (r : StationRow). if bytes_eq r.station station then record r { policy = policy; interval = interval } else r) rows.stations }
-own_edit a (ConnectorSeen station connector report) rows = record rows { connectors = put (by_key connector_rest) (record { op = a; station = station; connector = connector; report = report }) rows.connectors }
-own_edit a (TagPut key tag) rows = record rows { tags = put (by_key tag_rest) (record { op = a; key = key; tag = tag }) rows.tags }
-own_edit a (TagDropped key) rows = record rows { tags = filter (λ r. not (bytes_eq r.key key)) rows.tags; grants = filter (λ r. not (bytes_eq r.key key)) rows.grants }
-own_edit a (GrantPut key to until) rows = record rows { grants = put (by_key grant_rest) (record { op = a; key = key; to = to; until = until }) rows.grants }
-own_edit a (GrantDropped key to) rows = record rows { grants = filter (λ r. not (bytes_eq r.key key && bytes_eq r.to to)) rows.grants }
-own_edit a (TxStarted station number start owner) rows = record rows { transactions = put (by_key tx_rest) (record { op = a; station = station; number = number; start = start; stop = None }) rows.transactions; reservations = filter (λ r. not (own_named station start.reservation r)) rows.reservations; tx_owners = own_with_owner a station number owner rows.tx_owners }
-own_edit a (TxStopped station number stop first readings) rows = record rows { transactions = map (λ (r : TxRow). if bytes_eq r.station station && r.number == number then record r { stop = Some stop } else r) rows.transactions; readings = put_all (by_key reading_rest) (own_readings a station first readings) rows.readings }
-own_edit a (ReadingsAdded station first readings) rows = record rows { readings = put_all (by_key reading_rest) (own_readings a station first readings) rows.readings }
-own_edit a (ReservationPut station id reservation) rows = record rows { reservations = put (by_key reservation_rest) (record { op = a; station = station; id = id; reservation = reservation }) rows.reservations }
-own_edit a (ReservationDropped station id) rows = record rows { reservations = filter (λ r. not (bytes_eq r.station station && r.id == id)) rows.reservations }
-own_edit a (ListSet station list) rows = record rows { local_lists = put (by_key list_rest) (record { op = a; station = station; list = list }) rows.local_lists }
-own_edit a (ReportSeen station status moment) rows = record rows { reports = put (by_key report_rest) (record { op = a; station = station; status = status; moment = moment }) rows.reports }
+own_edit a (Stations (StationAdded station policy interval)) rows = record rows { stations = put (by_key station_rest) (record { op = a; station = station; policy = policy; interval = interval; state = Fresh; boot = None }) rows.stations }
+own_edit a (Stations (BootSeen station boot state)) rows = record rows { stations = map (λ (r : StationRow). if bytes_eq r.station station then record r { boot = Some boot; state = state } else r) rows.stations }
+own_edit a (Stations (PolicySet station policy interval)) rows = record rows { stations = map (λ (r : StationRow). if bytes_eq r.station station then record r { policy = policy; interval = interval } else r) rows.stations }
+own_edit a (Stations (ConnectorSeen station connector report)) rows = record rows { connectors = put (by_key connector_rest) (record { op = a; station = station; connector = connector; report = report }) rows.connectors }
+own_edit a (Tags (TagPut key tag)) rows = record rows { tags = put (by_key tag_rest) (record { op = a; key = key; tag = tag }) rows.tags }
+own_edit a (Tags (TagDropped key)) rows = record rows { tags = filter (λ r. not (bytes_eq r.key key)) rows.tags; grants = filter (λ r. not (bytes_eq r.key key)) rows.grants }
+own_edit a (Tags (GrantPut key to until)) rows = record rows { grants = put (by_key grant_rest) (record { op = a; key = key; to = to; until = until }) rows.grants }
+own_edit a (Tags (GrantDropped key to)) rows = record rows { grants = filter (λ r. not (bytes_eq r.key key && bytes_eq r.to to)) rows.grants }
+own_edit a (Transactions (TxStarted station number start owner)) rows = record rows { transactions = put (by_key tx_rest) (record { op = a; station = station; number = number; start = start; stop = None }) rows.transactions; reservations = filter (λ r. not (own_named station start.reservation r)) rows.reservations; tx_owners = own_with_owner a station number owner rows.tx_owners }
+own_edit a (Transactions (TxStopped station number stop first readings)) rows = record rows { transactions = map (λ (r : TxRow). if bytes_eq r.station station && r.number == number then record r { stop = Some stop } else r) rows.transactions; readings = put_all (by_key reading_rest) (own_readings a station first readings) rows.readings }
+own_edit a (Transactions (ReadingsAdded station first readings)) rows = record rows { readings = put_all (by_key reading_rest) (own_readings a station first readings) rows.readings }
+own_edit a (Holdings (ReservationPut station id reservation)) rows = record rows { reservations = put (by_key reservation_rest) (record { op = a; station = station; id = id; reservation = reservation }) rows.reservations }
+own_edit a (Holdings (ReservationDropped station id)) rows = record rows { reservations = filter (λ r. not (bytes_eq r.station station && r.id == id)) rows.reservations }
+own_edit a (Holdings (ListSet station list)) rows = record rows { local_lists = put (by_key list_rest) (record { op = a; station = station; list = list }) rows.local_lists }
+own_edit a (Stations (ReportSeen station status moment)) rows = record rows { reports = put (by_key report_rest) (record { op = a; station = station; status = status; moment = moment }) rows.reports }

@@ -9,7 +9,7 @@ use Rattle.hub_rows.specs.declared.tx_row.TxRow.{TxRow}
 use Rattle.hub_rows.specs.declared.tx_row.TxKey.{TxKey}
 use Rattle.hub_rows.specs.declared.tx_row.TxState.{TxState}
 use Rattle.hub_rows.specs.declared.tx_row.StartKey.{StartKey}
-use Rattle.hub_rows.specs.declared.tx_row.LastNumbers.{LastNumbers}
+use Rattle.hub_rows.specs.declared.tx_row.TheConstants.{LAST_NUMBER}
 use Rattle.hub_rows.specs.declared.reading_row.Reading.{Reading}
 use Rattle.hub_rows.specs.declared.reading_row.ReadingRow.{ReadingRow}
 use Rattle.hub_rows.specs.Keyed.{found, those, any_of, greatest}
@@ -105,15 +105,17 @@ reading_rows b station first (r ∷ rs) = record { op = b; station = station; nu
 abbrev pub numbers_of : {R : Type 0} → (R → ℕ) → List R → List ℕ
 numbers_of number rows = map number rows
 
-abbrev pub last_numbers_in : List ℕ → List ℕ → List TxRow → List ReadingRow → LastNumbers
-last_numbers_in b station txs readings = record {
-  transaction = greatest (numbers_of (λ r. r.number) (txs_in b station txs));
-  reading = greatest (numbers_of (λ r. r.number) (readings_in b station None readings));
-}
+-- the last number of a station's transactions, 0 where it has none
+abbrev pub last_tx_in : List ℕ → List ℕ → List TxRow → ℕ
+last_tx_in b station txs = greatest (numbers_of (λ r. r.number) (txs_in b station txs))
 
--- the last number of a transaction or reading
+-- the last number of a station's readings, 0 where it has none
+abbrev pub last_reading_in : List ℕ → List ℕ → List ReadingRow → ℕ
+last_reading_in b station readings = greatest (numbers_of (λ r. r.number) (readings_in b station None readings))
+
+-- the last number of a transaction, a reading, a use or a call
 abbrev pub last_of_all : ℕ
-last_of_all = 2_147_483_647
+last_of_all = LAST_NUMBER
 
 -- so many new rows follow the last number, which is 0 where there is none
 pub record Follow (last first count : ℕ) : Type 0 where

@@ -4,7 +4,8 @@ use Rattle.std.specs.Int.{saturate_signed, w64}
 use Rattle.std.specs.Option.{option_map}
 use Rattle.std.specs.Str.{bytes_eq}
 use Rattle.hub_rows.specs.declared.change.Edit.{Edit}
-use Rattle.hub_rows.specs.declared.change.Edit.TheVariants.{TxStopped}
+use Rattle.hub_rows.specs.declared.change.Edit.TheVariants.{Transactions}
+use Rattle.hub_rows.specs.declared.change.TransactionEdit.TheVariants.{TxStopped}
 use Rattle.hub_rows.specs.declared.tx_row.Stop.{Stop}
 use Rattle.hub_rows.specs.declared.tx_row.TxOwnerRow.{TxOwnerRow}
 use Rattle.hub_rows.specs.declared.tx_row.TxRow.{TxRow}
@@ -75,5 +76,5 @@ if_of a (Some r) = if bytes_eq r.op a then r ∷ [] else []
 -- the uses of owner a that an edit of operator b settles: one where it stops a transaction that began with a
 -- tag that a granted
 abbrev pub uses_settled : List ℕ → List ℕ → Edit → Rows → List UseRow
-uses_settled a b (TxStopped station number stop first readings) rows = if_of a (settled_use b station number stop rows)
+uses_settled a b (Transactions (TxStopped station number stop first readings)) rows = if_of a (settled_use b station number stop rows)
 uses_settled a b e rows = []

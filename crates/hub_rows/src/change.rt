@@ -8,18 +8,27 @@ use crate::reservation_row::{Reservation, ReservationId};
 use crate::station_row::Boot;
 use crate::tag_row::Tag;
 use crate::tx_row::{Start, Stop};
-use ocpp_types::{Boxed, Listed, Moment, Policy, State, TagKey, Text};
+use ocpp_types::{Listed, Moment, Policy, State, TagKey, Text};
 
-/// A change of one operator's records, which a store makes whole or not at all.
-#[derive(Drop)]
-pub struct Change {
-    pub op: Text,
-    pub edit: Boxed<Edit>,
+/// A change of one operator's records, lent to a store, which makes it whole or not at all.
+#[derive(Clone, Copy, Drop)]
+pub struct Change<'a> {
+    pub op: &'a Text,
+    pub edit: &'a Edit,
 }
 
 /// What changes.
 #[derive(Drop)]
 pub enum Edit {
+    Stations(StationEdit),
+    Tags(TagEdit),
+    Transactions(TransactionEdit),
+    Holdings(HoldingEdit),
+}
+
+/// What changes of a station, or of what it reports.
+#[derive(Drop)]
+pub enum StationEdit {
     /// A new station, which is Fresh.
     StationAdded {
         station: Text,
@@ -44,6 +53,17 @@ pub enum Edit {
         connector: u8,
         report: ConnectorReport,
     },
+    /// A report of an upload or an update, in place of the one of its kind.
+    ReportSeen {
+        station: Text,
+        status: ReportedStatus,
+        moment: Moment,
+    },
+}
+
+/// What changes of an id tag, or of its grants.
+#[derive(Drop)]
+pub enum TagEdit {
     /// An id tag, in place of the one with its key, whose grants it keeps.
     TagPut {
         key: TagKey,
@@ -64,6 +84,11 @@ pub enum Edit {
         key: TagKey,
         to: Text,
     },
+}
+
+/// What changes of transactions, or of readings.
+#[derive(Drop)]
+pub enum TransactionEdit {
     /// A new transaction, and the operator that granted the tag with which it began. The reservation that it names
     /// is gone.
     TxStarted {
@@ -87,6 +112,11 @@ pub enum Edit {
         first: u32,
         readings: Listed<Reading>,
     },
+}
+
+/// What changes of a reservation, or of a local list.
+#[derive(Drop)]
+pub enum HoldingEdit {
     /// A reservation, in place of the one with its id.
     ReservationPut {
         station: Text,
@@ -102,11 +132,5 @@ pub enum Edit {
     ListSet {
         station: Text,
         list: LocalList,
-    },
-    /// A report of an upload or an update, in place of the one of its kind.
-    ReportSeen {
-        station: Text,
-        status: ReportedStatus,
-        moment: Moment,
     },
 }

@@ -3,13 +3,12 @@ ghost use Rattle.std.specs.Prelude.{◌≡◌};
 
 use crate::named_row::NamedRow;
 use crate::ordered::Keyed;
-use ocpp_types::{ChargePointErrorCode, ChargePointStatus, Text, copied};
-use std::alloc::AllocError;
+use ocpp_types::{ChargePointErrorCode, ChargePointStatus, Text};
 use std::cmp::Ordering;
 
 /// A connector of a station, as the station reported it last. Its key is `op`, `station` and
 /// `connector`.
-#[derive(Drop)]
+#[derive(Clone, Drop)]
 pub struct ConnectorRow {
     /// The operator that hosts the station.
     pub op: Text,
@@ -20,7 +19,7 @@ pub struct ConnectorRow {
 }
 
 /// What a station reports of a connector (OCPP 1.6, StatusNotification.req).
-#[derive(Drop)]
+#[derive(Clone, Drop)]
 pub struct ConnectorReport {
     pub status: ChargePointStatus,
     pub error_code: ChargePointErrorCode,
@@ -29,34 +28,6 @@ pub struct ConnectorReport {
     pub info: Option<Text>,
     pub vendor_id: Option<Text>,
     pub vendor_error_code: Option<Text>,
-}
-
-impl Clone for ConnectorReport {
-    ghost is_clone = { λ report copy. copy ≡ report };
-
-    fn clone(&self) -> Result<ConnectorReport, AllocError> {
-        Ok(ConnectorReport {
-            status: self.status,
-            error_code: self.error_code,
-            at: self.at,
-            info: copied(&self.info)?,
-            vendor_id: copied(&self.vendor_id)?,
-            vendor_error_code: copied(&self.vendor_error_code)?,
-        })
-    }
-}
-
-impl Clone for ConnectorRow {
-    ghost is_clone = { λ row copy. copy ≡ row };
-
-    fn clone(&self) -> Result<ConnectorRow, AllocError> {
-        Ok(ConnectorRow {
-            op: self.op.clone()?,
-            station: self.station.clone()?,
-            connector: self.connector,
-            report: self.report.clone()?,
-        })
-    }
 }
 
 impl Keyed for ConnectorRow {

@@ -3,11 +3,10 @@ ghost use Rattle.std.specs.Prelude.{◌≡◌};
 
 use crate::ordered::Keyed;
 use ocpp_types::{Moment, TagKey, Text};
-use std::alloc::AllocError;
 use std::cmp::Ordering;
 
 /// An id tag that its owner granted to another operator. Its key is `op`, `key` and `to`.
-#[derive(Drop)]
+#[derive(Clone, Drop)]
 pub struct GrantRow {
     /// The operator that owns the tag.
     pub op: Text,
@@ -17,19 +16,6 @@ pub struct GrantRow {
     pub to: Text,
     /// The grant counts before this moment, or for good.
     pub until: Option<Moment>,
-}
-
-impl Clone for GrantRow {
-    ghost is_clone = { λ row copy. copy ≡ row };
-
-    fn clone(&self) -> Result<GrantRow, AllocError> {
-        Ok(GrantRow {
-            op: self.op.clone()?,
-            key: self.key.clone()?,
-            to: self.to.clone()?,
-            until: self.until,
-        })
-    }
 }
 
 impl Keyed for GrantRow {

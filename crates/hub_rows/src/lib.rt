@@ -18,13 +18,13 @@ mod tag_row;
 mod tx_row;
 mod use_row;
 
-pub use change::{Change, Edit};
+pub use change::{Change, Edit, HoldingEdit, StationEdit, TagEdit, TransactionEdit};
 pub use connector_row::{ConnectorReport, ConnectorRow};
 pub use grant_row::GrantRow;
 pub use info::{GrantedTag, Info};
 pub use list_row::{ListRow, LocalList, LocalTag};
 pub use named_row::{NamedRow, place_of_name, remove_row, row_of};
-pub use operators::{MAX_OPERATOR, are_operators, is_hosted};
+pub use operators::{MAX_OPERATOR, are_operators, is_hosted, is_operator_name};
 pub use ordered::{Keyed, put_ready, put_row};
 pub use reading_row::{Reading, ReadingRow};
 pub use report_row::{ReportRow, ReportedStatus};
@@ -32,7 +32,5 @@ pub use reservation_row::{Reservation, ReservationId, ReservationRow};
 pub use station_row::{Boot, Registration, StationRow};
 pub use store::{Store, StoreFault};
 pub use tag_row::{Tag, TagRow};
-pub use tx_row::{
-    LAST_NUMBER, LastNumbers, Start, StartKey, Stop, TxKey, TxOwnerRow, TxRow, TxState,
-};
+pub use tx_row::{LAST_NUMBER, Start, StartKey, Stop, TxKey, TxOwnerRow, TxRow, TxState};
 pub use use_row::UseRow;

@@ -35,7 +35,8 @@ pub fn is_hosted(hosted: &[Text], op: &str) -> bool
     hosted.iter().any(|name| name.as_str() == op)
 }
 
-fn is_operator_name(name: &str) -> bool
+/// Whether it is a name of 1 to 32 ASCII letters, digits, `-` and `_`.
+pub fn is_operator_name(name: &str) -> bool
     ensures { result ≡ is_operator_name name.now }
 {
     let bytes = name.as_bytes();

@@ -3,11 +3,10 @@ ghost use Rattle.std.specs.Prelude.{◌≡◌};
 
 use crate::ordered::Keyed;
 use ocpp_types::{Location, Measurand, Phase, ReadingContext, Text, UnitOfMeasure, ValueFormat};
-use std::alloc::AllocError;
 use std::cmp::Ordering;
 
 /// A meter reading of a station. Its key is `op`, `station` and `number`.
-#[derive(Drop)]
+#[derive(Clone, Drop)]
 pub struct ReadingRow {
     /// The operator that hosts the station.
     pub op: Text,
@@ -18,7 +17,7 @@ pub struct ReadingRow {
 }
 
 /// What a meter showed (OCPP 1.6, section 7.43, SampledValue).
-#[derive(Drop)]
+#[derive(Clone, Drop)]
 pub struct Reading {
     /// 0 is the station's main meter.
     pub connector: u8,
@@ -34,38 +33,6 @@ pub struct Reading {
     pub unit: Option<UnitOfMeasure>,
     /// The value as it was sent.
     pub text: Text,
-}
-
-impl Clone for Reading {
-    ghost is_clone = { λ reading copy. copy ≡ reading };
-
-    fn clone(&self) -> Result<Reading, AllocError> {
-        Ok(Reading {
-            connector: self.connector,
-            transaction: self.transaction,
-            at: self.at,
-            context: self.context,
-            format: self.format,
-            measurand: self.measurand,
-            phase: self.phase,
-            location: self.location,
-            unit: self.unit,
-            text: self.text.clone()?,
-        })
-    }
-}
-
-impl Clone for ReadingRow {
-    ghost is_clone = { λ row copy. copy ≡ row };
-
-    fn clone(&self) -> Result<ReadingRow, AllocError> {
-        Ok(ReadingRow {
-            op: self.op.clone()?,
-            station: self.station.clone()?,
-            number: self.number,
-            reading: self.reading.clone()?,
-        })
-    }
 }
 
 impl Keyed for ReadingRow {

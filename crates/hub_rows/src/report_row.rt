@@ -5,11 +5,10 @@ ghost use Rattle.hub_rows.specs.Reports.{kind_of, reported_name};
 use crate::named_row::NamedRow;
 use crate::ordered::Keyed;
 use ocpp_types::{DiagnosticsStatus, FirmwareStatus, Moment, Named, Text};
-use std::alloc::AllocError;
 use std::cmp::Ordering;
 
 /// The last report of a kind. Its key is `op`, `station` and the kind of `status`.
-#[derive(Drop)]
+#[derive(Clone, Drop)]
 pub struct ReportRow {
     /// The operator that hosts the station.
     pub op: Text,
@@ -46,19 +45,6 @@ impl ReportedStatus {
             ReportedStatus::Diagnostics(status) => status.name(),
             ReportedStatus::Firmware(status) => status.name(),
         }
-    }
-}
-
-impl Clone for ReportRow {
-    ghost is_clone = { λ row copy. copy ≡ row };
-
-    fn clone(&self) -> Result<ReportRow, AllocError> {
-        Ok(ReportRow {
-            op: self.op.clone()?,
-            station: self.station.clone()?,
-            status: self.status,
-            moment: self.moment,
-        })
     }
 }
 

@@ -4,13 +4,12 @@ ghost use Rattle.hub_rows.specs.Reservations.{shifted, unshifted};
 
 use crate::named_row::NamedRow;
 use crate::ordered::Keyed;
-use ocpp_types::{Moment, Text, copied};
-use std::alloc::AllocError;
+use ocpp_types::{Moment, Text};
 use std::cmp::Ordering;
 use std::marker::Model;
 
 /// A connector that a station keeps for a driver. Its key is `op`, `station` and `id`.
-#[derive(Drop)]
+#[derive(Clone, Drop)]
 pub struct ReservationRow {
     /// The operator that hosts the station.
     pub op: Text,
@@ -20,7 +19,7 @@ pub struct ReservationRow {
 }
 
 /// What is reserved (OCPP 1.6, ReserveNow.req).
-#[derive(Drop)]
+#[derive(Clone, Drop)]
 pub struct Reservation {
     /// 0 is any connector of the station.
     pub connector: u8,
@@ -67,32 +66,6 @@ impl ReservationId {
         ensures { result ≡ unshifted self }
     {
         (self.shifted as i64 - 2147483648) as i32
-    }
-}
-
-impl Clone for Reservation {
-    ghost is_clone = { λ reservation copy. copy ≡ reservation };
-
-    fn clone(&self) -> Result<Reservation, AllocError> {
-        Ok(Reservation {
-            connector: self.connector,
-            tag: self.tag.clone()?,
-            parent: copied(&self.parent)?,
-            expiry: self.expiry,
-        })
-    }
-}
-
-impl Clone for ReservationRow {
-    ghost is_clone = { λ row copy. copy ≡ row };
-
-    fn clone(&self) -> Result<ReservationRow, AllocError> {
-        Ok(ReservationRow {
-            op: self.op.clone()?,
-            station: self.station.clone()?,
-            id: self.id,
-            reservation: self.reservation.clone()?,
-        })
     }
 }
 

@@ -4,11 +4,10 @@ ghost use Rattle.std.specs.Prelude.{◌≡◌};
 use crate::named_row::NamedRow;
 use crate::ordered::Keyed;
 use ocpp_types::{BootNotification, Boxed, Moment, Policy, State, Text};
-use std::alloc::AllocError;
 use std::cmp::Ordering;
 
 /// A station of an operator. Its key is `op` and `station`.
-#[derive(Drop)]
+#[derive(Clone, Drop)]
 pub struct StationRow {
     /// The operator that hosts it.
     pub op: Text,
@@ -25,21 +24,10 @@ pub struct StationRow {
 }
 
 /// What a station told of itself when it booted.
-#[derive(Drop)]
+#[derive(Clone, Drop)]
 pub struct Boot {
     pub texts: Boxed<BootNotification>,
     pub moment: Moment,
-}
-
-impl Clone for Boot {
-    ghost is_clone = { λ boot copy. copy ≡ boot };
-
-    fn clone(&self) -> Result<Boot, AllocError> {
-        Ok(Boot {
-            texts: self.texts.clone()?,
-            moment: self.moment,
-        })
-    }
 }
 
 /// How a station is registered: the part of its record that rules ask for.
@@ -62,30 +50,6 @@ impl StationRow {
             interval: self.interval,
             state: self.state,
         }
-    }
-}
-
-impl Clone for StationRow {
-    ghost is_clone = { λ row copy. copy ≡ row };
-
-    fn clone(&self) -> Result<StationRow, AllocError> {
-        let boot = match &self.boot {
-            Some(boot) => Some(boot.clone()?),
-            None => None,
-        };
-        let Registration {
-            policy,
-            interval,
-            state,
-        } = self.registration();
-        Ok(StationRow {
-            op: self.op.clone()?,
-            station: self.station.clone()?,
-            policy,
-            interval,
-            state,
-            boot,
-        })
     }
 }
 

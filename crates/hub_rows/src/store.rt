@@ -4,8 +4,8 @@ ghost use Rattle.hub_rows.specs.Rows.{registration_at};
 ghost use Rattle.hub_rows.specs.WellFormed.{WellFormedRows};
 ghost use Rattle.hub_rows.specs.Tags.{own_tag_in};
 ghost use Rattle.hub_rows.specs.Lookups.{stations_in, tags_in, connectors_in, local_list_in, reports_in};
-ghost use Rattle.hub_rows.specs.Transactions.{is_used_in, same_start_in, tx_in, has_open_in, open_txs_in, txs_from_in, readings_in, last_numbers_in};
-ghost use Rattle.hub_rows.specs.Changes.{after_change, Fits};
+ghost use Rattle.hub_rows.specs.Transactions.{is_used_in, same_start_in, tx_in, has_open_in, open_txs_in, txs_from_in, readings_in, last_tx_in, last_reading_in};
+ghost use Rattle.hub_rows.specs.Changes.{edit, EditFits};
 ghost use Rattle.hub_rows.specs.Grants.{granted_in, granted_tag_in, grants_in, has_grant_in};
 ghost use Rattle.hub_rows.specs.Reservations.{reservations_in, reserved_until_in};
 ghost use Rattle.hub_rows.specs.Reads.{OnlyReads, IsCounted};
@@ -23,7 +23,7 @@ use crate::report_row::ReportRow;
 use crate::reservation_row::{ReservationId, ReservationRow};
 use crate::station_row::{Registration, StationRow};
 use crate::tag_row::TagRow;
-use crate::tx_row::{LastNumbers, StartKey, TxKey, TxRow, TxState};
+use crate::tx_row::{StartKey, TxKey, TxRow, TxState};
 use crate::use_row::UseRow;
 use ocpp_types::{Listed, Moment, NoMemory, TagKey};
 use std::alloc::{AllocError, AllocFailed};
@@ -140,11 +140,17 @@ pub trait Store {
         ensures found { (view self.new).clean
             → IfOk result (λ r. r ≡ has_open_in op.now station.now (view self.old).rows.transactions) };
 
-    /// The last numbers of a station's transactions and readings, 0 where it has none.
-    fn last_numbers(&mut self, op: &str, station: &str) -> Result<LastNumbers, StoreFault>
+    /// The number of a station's last transaction, 0 where it has none.
+    fn last_tx(&mut self, op: &str, station: &str) -> Result<u32, StoreFault>
         ensures reads { OnlyReads view self.old self.new result }
         ensures found { (view self.new).clean
-            → IfOk result (λ r. r ≡ last_numbers_in op.now station.now (view self.old).rows.transactions (view self.old).rows.readings) };
+            → IfOk result (λ r. r ≡ last_tx_in op.now station.now (view self.old).rows.transactions) };
+
+    /// The number of a station's last reading, 0 where it has none.
+    fn last_reading(&mut self, op: &str, station: &str) -> Result<u32, StoreFault>
+        ensures reads { OnlyReads view self.old self.new result }
+        ensures found { (view self.new).clean
+            → IfOk result (λ r. r ≡ last_reading_in op.now station.now (view self.old).rows.readings) };
 
     /// When the reservation of an id at a station expires.
     fn reserved_until(
@@ -240,12 +246,12 @@ pub trait Store {
             → IfOk result (λ r. r ≡ uses_in op.now (view self.old).rows.uses) };
 
     /// Makes a change that fits.
-    fn apply(&mut self, change: &Change) -> Result<(), StoreFault>
-        requires { (view self.old).clean → Fits change.now (view self.old).rows }
+    fn apply(&mut self, change: &Change<'_>) -> Result<(), StoreFault>
+        requires { (view self.old).clean → EditFits change.now.op.now change.now.edit.now (view self.old).rows }
         ensures counted { IsCounted view self.old self.new (result ≡ Err store_fault.Failed) }
-        ensures ok { (view self.new).clean → OnOk result ((view self.new).rows ≡ after_change change.now (view self.old).rows) }
+        ensures ok { (view self.new).clean → OnOk result ((view self.new).rows ≡ edit change.now.op.now change.now.edit.now (view self.old).rows) }
         ensures err { (view self.new).clean → OnErr result ((view self.new).rows ≡ (view self.old).rows) }
-        ensures stopped { FindsOldOr (after_change change.now (view self.old).rows) (view self.old) (view self.new) }
+        ensures stopped { FindsOldOr (edit change.now.op.now change.now.edit.now (view self.old).rows) (view self.old) (view self.new) }
         ensures kept { IsKept (view self.old) → OnOk result (IsKept (view self.new)) };
 
     /// The rows of a clean store are well formed.

@@ -3,12 +3,11 @@ ghost use Rattle.std.specs.Prelude.{◌≡◌};
 
 use crate::named_row::NamedRow;
 use crate::ordered::Keyed;
-use ocpp_types::{Moment, TagKey, Text, copied};
-use std::alloc::AllocError;
+use ocpp_types::{Moment, TagKey, Text};
 use std::cmp::Ordering;
 
 /// An id tag of an operator. Its key is `op` and `key`.
-#[derive(Drop)]
+#[derive(Clone, Drop)]
 pub struct TagRow {
     /// The operator that owns it.
     pub op: Text,
@@ -17,7 +16,7 @@ pub struct TagRow {
 }
 
 /// What is known of an id tag.
-#[derive(Drop)]
+#[derive(Clone, Drop)]
 pub struct Tag {
     /// Its text as it was put.
     pub text: Text,
@@ -25,31 +24,6 @@ pub struct Tag {
     pub parent: Option<Text>,
     pub blocked: bool,
     pub expiry: Option<Moment>,
-}
-
-impl Clone for Tag {
-    ghost is_clone = { λ tag copy. copy ≡ tag };
-
-    fn clone(&self) -> Result<Tag, AllocError> {
-        Ok(Tag {
-            text: self.text.clone()?,
-            parent: copied(&self.parent)?,
-            blocked: self.blocked,
-            expiry: self.expiry,
-        })
-    }
-}
-
-impl Clone for TagRow {
-    ghost is_clone = { λ row copy. copy ≡ row };
-
-    fn clone(&self) -> Result<TagRow, AllocError> {
-        Ok(TagRow {
-            op: self.op.clone()?,
-            key: self.key.clone()?,
-            tag: self.tag.clone()?,
-        })
-    }
 }
 
 impl Keyed for TagRow {

@@ -2,15 +2,14 @@
 ghost use Rattle.std.specs.Prelude.{◌≡◌};
 
 use crate::ordered::Keyed;
-use ocpp_types::{AuthorizationStatus, Moment, Reason, TagKey, Text, copied};
-use std::alloc::AllocError;
+use ocpp_types::{AuthorizationStatus, Moment, Reason, TagKey, Text};
 use std::cmp::Ordering;
 
-/// The last number that a transaction, a reading or a use can have.
+/// The last number that a transaction, a reading, a use or a call can have.
 pub const LAST_NUMBER: u32 = i32::MAX as u32;
 
 /// A transaction of a station. Its key is `op`, `station` and `number`.
-#[derive(Drop)]
+#[derive(Clone, Drop)]
 pub struct TxRow {
     /// The operator that hosts the station.
     pub op: Text,
@@ -24,7 +23,7 @@ pub struct TxRow {
 
 /// What tells the starts of a station apart. A station that has missed the answer to a start sends
 /// the same again (OCPP 1.6, section 3.7.1).
-#[derive(Drop)]
+#[derive(Clone, Drop)]
 pub struct StartKey {
     pub connector: u8,
     pub key: TagKey,
@@ -35,7 +34,7 @@ pub struct StartKey {
 }
 
 /// How a transaction began (OCPP 1.6, StartTransaction.req).
-#[derive(Drop)]
+#[derive(Clone, Drop)]
 pub struct Start {
     pub id: StartKey,
     /// The tag as it was sent.
@@ -48,7 +47,7 @@ pub struct Start {
 }
 
 /// How a transaction ended (OCPP 1.6, StopTransaction.req).
-#[derive(Drop)]
+#[derive(Clone, Drop)]
 pub struct Stop {
     /// In Wh.
     pub meter_stop: i64,
@@ -63,7 +62,7 @@ pub struct Stop {
 
 /// The owner of the id tag with which a transaction began, where another operator granted it and the start was
 /// Accepted. Its key is `op`, `station` and `number`.
-#[derive(Drop)]
+#[derive(Clone, Drop)]
 pub struct TxOwnerRow {
     /// The operator that hosts the station.
     pub op: Text,
@@ -85,13 +84,6 @@ pub struct TxKey {
 pub struct TxState {
     pub connector: u8,
     pub is_open: bool,
-}
-
-/// The last numbers of a station's records, 0 where it has none.
-#[derive(Clone, Copy, Debug, PartialEq, Eq)]
-pub struct LastNumbers {
-    pub transaction: u32,
-    pub reading: u32,
 }
 
 impl TxRow {
@@ -122,65 +114,6 @@ impl TxRow {
     }
 }
 
-impl Clone for StartKey {
-    ghost is_clone = { λ id copy. copy ≡ id };
-
-    fn clone(&self) -> Result<StartKey, AllocError> {
-        Ok(StartKey {
-            connector: self.connector,
-            key: self.key.clone()?,
-            meter_start: self.meter_start,
-            at: self.at,
-        })
-    }
-}
-
-impl Clone for Start {
-    ghost is_clone = { λ start copy. copy ≡ start };
-
-    fn clone(&self) -> Result<Start, AllocError> {
-        Ok(Start {
-            id: self.id.clone()?,
-            tag: self.tag.clone()?,
-            reservation: self.reservation,
-            status: self.status,
-            begun: self.begun,
-        })
-    }
-}
-
-impl Clone for Stop {
-    ghost is_clone = { λ stop copy. copy ≡ stop };
-
-    fn clone(&self) -> Result<Stop, AllocError> {
-        Ok(Stop {
-            meter_stop: self.meter_stop,
-            at: self.at,
-            reason: self.reason,
-            tag: copied(&self.tag)?,
-            moment: self.moment,
-        })
-    }
-}
-
-impl Clone for TxRow {
-    ghost is_clone = { λ row copy. copy ≡ row };
-
-    fn clone(&self) -> Result<TxRow, AllocError> {
-        let stop = match &self.stop {
-            Some(stop) => Some(stop.clone()?),
-            None => None,
-        };
-        Ok(TxRow {
-            op: self.op.clone()?,
-            station: self.station.clone()?,
-            number: self.number,
-            start: self.start.clone()?,
-            stop,
-        })
-    }
-}
-
 impl Keyed for TxRow {
     ghost use Rattle.hub_rows.specs.Rows.{tx_key};
 
@@ -191,19 +124,6 @@ impl Keyed for TxRow {
             .cmp(&other.op)
             .then(self.station.cmp(&other.station))
             .then(self.number.cmp(&other.number))
-    }
-}
-
-impl Clone for TxOwnerRow {
-    ghost is_clone = { λ row copy. copy ≡ row };
-
-    fn clone(&self) -> Result<TxOwnerRow, AllocError> {
-        Ok(TxOwnerRow {
-            op: self.op.clone()?,
-            station: self.station.clone()?,
-            number: self.number,
-            owner: self.owner.clone()?,
-        })
     }
 }
 

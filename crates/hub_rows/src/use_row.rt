@@ -3,12 +3,11 @@ ghost use Rattle.std.specs.Prelude.{◌≡◌};
 
 use crate::ordered::Keyed;
 use ocpp_types::{Moment, TagKey, Text};
-use std::alloc::AllocError;
 use std::cmp::Ordering;
 
 /// A settled use of an id tag, which its owner sees. Its key is `op` and `number`. It names no station and no
 /// transaction.
-#[derive(Drop)]
+#[derive(Clone, Drop)]
 pub struct UseRow {
     /// The operator that owns the tag.
     pub op: Text,
@@ -22,21 +21,6 @@ pub struct UseRow {
     pub moment: Moment,
     /// The meter at the stop less the meter at the start, in Wh.
     pub wh: i64,
-}
-
-impl Clone for UseRow {
-    ghost is_clone = { λ row copy. copy ≡ row };
-
-    fn clone(&self) -> Result<UseRow, AllocError> {
-        Ok(UseRow {
-            op: self.op.clone()?,
-            number: self.number,
-            host: self.host.clone()?,
-            key: self.key.clone()?,
-            moment: self.moment,
-            wh: self.wh,
-        })
-    }
 }
 
 impl Keyed for UseRow {

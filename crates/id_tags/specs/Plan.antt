@@ -6,7 +6,8 @@ use Rattle.ocpp_types.specs.Text.{characters}
 use Rattle.ocpp_types.specs.declared.refusal.Refusal.{Refusal}
 use Rattle.ocpp_types.specs.declared.refusal.Refusal.TheVariants.{NoSuchTag, NoSuchOperator, SelfGrant, NoSuchGrant, BadField}
 use Rattle.hub_rows.specs.declared.change.Edit.{Edit}
-use Rattle.hub_rows.specs.declared.change.Edit.TheVariants.{TagPut, TagDropped, GrantPut, GrantDropped}
+use Rattle.hub_rows.specs.declared.change.Edit.TheVariants.{Tags}
+use Rattle.hub_rows.specs.declared.change.TagEdit.TheVariants.{TagPut, TagDropped, GrantPut, GrantDropped}
 use Rattle.hub_rows.specs.declared.info.Info.{Info}
 use Rattle.hub_rows.specs.declared.tag_row.Tag.{Tag}
 use Rattle.hub_rows.specs.Lookups.{Lookups}
@@ -22,11 +23,11 @@ is_parent (Some text) = is_tag text
 
 abbrev pub put_rule : Tag → Result Edit Refusal
 put_rule t =
-    if is_tag t.text then (if is_parent t.parent then Ok (TagPut (key_of t.text) t) else Err (BadField (codes "parent"))) else Err (BadField (codes "tag"))
+    if is_tag t.text then (if is_parent t.parent then Ok (Tags (TagPut (key_of t.text) t)) else Err (BadField (codes "parent"))) else Err (BadField (codes "tag"))
 
 abbrev pub drop_edit : List ℕ → Option Info → Result Edit Refusal
 drop_edit key None = Err NoSuchTag
-drop_edit key (Some t) = Ok (TagDropped key)
+drop_edit key (Some t) = Ok (Tags (TagDropped key))
 
 abbrev pub drop_rule : List ℕ → Lookups → Result Edit Refusal
 drop_rule text l = drop_edit (key_of text) (l.own_tag (key_of text))
@@ -37,11 +38,11 @@ drop_rule text l = drop_edit (key_of text) (l.own_tag (key_of text))
 abbrev pub grant_edit : (List ℕ → Bool) → List ℕ → Grant → Option Info → Result Edit Refusal
 grant_edit is_hosted op g None = Err NoSuchTag
 grant_edit is_hosted op g (Some info) =
-    if is_hosted g.to then (if bytes_eq g.to op then Err SelfGrant else Ok (GrantPut (key_of g.tag) g.to g.until)) else Err NoSuchOperator
+    if is_hosted g.to then (if bytes_eq g.to op then Err SelfGrant else Ok (Tags (GrantPut (key_of g.tag) g.to g.until))) else Err NoSuchOperator
 
 abbrev pub grant_rule : (List ℕ → Bool) → Grant → Lookups → Result Edit Refusal
 grant_rule is_hosted g l = grant_edit is_hosted l.op g (l.own_tag (key_of g.tag))
 
 -- only what was granted is taken back
 abbrev pub revoke_rule : List ℕ → List ℕ → Lookups → Result Edit Refusal
-revoke_rule tag to l = if l.has_grant (key_of tag) to then Ok (GrantDropped (key_of tag) to) else Err NoSuchGrant
+revoke_rule tag to l = if l.has_grant (key_of tag) to then Ok (Tags (GrantDropped (key_of tag) to)) else Err NoSuchGrant

@@ -5,7 +5,7 @@ ghost use Rattle.hub_rows.specs.Lookups.{lookups_at};
 ghost use Rattle.hub_rows.specs.Operators.{is_hosted};
 ghost use Rattle.id_tags.specs.Plan.{put_rule, drop_rule, grant_rule, revoke_rule, is_tag, is_parent};
 
-use hub_rows::{Edit, Store, StoreFault, Tag, is_hosted};
+use hub_rows::{Edit, Store, StoreFault, Tag, TagEdit, is_hosted};
 use ocpp_types::{FieldName, Mem, Moment, Refusal, TagKey, Text, count_characters};
 use std::alloc::Global;
 
@@ -23,10 +23,10 @@ pub fn plan_put(alloc: Global, tag: &Tag) -> Mem<Result<Edit, Refusal>>
     if !is_parent(&tag.parent) {
         return Ok(Err(Refusal::BadField(FieldName::new("parent"))));
     }
-    Ok(Ok(Edit::TagPut {
+    Ok(Ok(Edit::Tags(TagEdit::TagPut {
         key: TagKey::of(alloc, tag.text.as_str())?,
         tag: tag.clone()?,
-    }))
+    })))
 }
 
 /// The edit that drops a tag, or NoSuchTag.
@@ -42,7 +42,7 @@ pub fn plan_drop<S: Store>(
 {
     let key = TagKey::of(alloc, tag)?;
     match store.own_tag(op, &key)? {
-        Some(_) => Ok(Ok(Edit::TagDropped { key })),
+        Some(_) => Ok(Ok(Edit::Tags(TagEdit::TagDropped { key }))),
         None => Ok(Err(Refusal::NoSuchTag)),
     }
 }
@@ -84,7 +84,7 @@ pub fn plan_grant<S: Store>(
     }
     let to = grant.to.clone()?;
     let until = grant.until;
-    Ok(Ok(Edit::GrantPut { key, to, until }))
+    Ok(Ok(Edit::Tags(TagEdit::GrantPut { key, to, until })))
 }
 
 /// The edit that removes a grant, or NoSuchGrant.
@@ -104,7 +104,7 @@ pub fn plan_revoke<S: Store>(
         return Ok(Err(Refusal::NoSuchGrant));
     }
     let to = to.clone()?;
-    Ok(Ok(Edit::GrantDropped { key, to }))
+    Ok(Ok(Edit::Tags(TagEdit::GrantDropped { key, to })))
 }
 
 fn is_tag(text: &str) -> bool

@@ -5,6 +5,7 @@ use Rattle.std.specs.Str.{bytes_eq}
 use Rattle.std.specs.Str.Lossy.{utf8_valid_len}
 use Rattle.hub_events.specs.declared.event.Event.{Event}
 use Rattle.hub_events.specs.declared.event.Event.TheVariants as event
+use Rattle.lines.specs.declared.input_line.TheConstants.{MAX_LINE}
 use Rattle.lines.specs.Forms.{what_of}
 use Rattle.lines.specs.Words.{first_word, moment_at, ◌>>=◌}
 use Rattle.lines.specs.declared.input_line.Line.{Line}
@@ -37,4 +38,4 @@ spelled_text is_hosted text = if length text == 0 then line.Nothing else if is_u
 
 -- what a line says where those operators are hosted, by its bytes without the line feed
 unfoldable pub spelled : (List ℕ → Bool) → List ℕ → Line
-spelled is_hosted bytes = if nat_lt 1_048_576 (length bytes) then line.Bad else spelled_text is_hosted (strip_last 13 bytes)
+spelled is_hosted bytes = if nat_lt MAX_LINE (length bytes) then line.Bad else spelled_text is_hosted (strip_last 13 bytes)

@@ -1,7 +1,6 @@
 -- The word of an order, by which its sender tells the answer to it from all else.
-use Rattle.std.specs.Prelude.{ℕ, nat_le, ◌==◌, ◌++◌, Bool, ◌&&◌, List, [], ◌∷◌, length, codes, Option, Some, None, if◌then◌else◌}
-use Rattle.std.specs.List.{list_all}
-use Rattle.hub_rows.specs.Operators.{is_name_byte}
+use Rattle.std.specs.Prelude.{ℕ, ◌==◌, ◌++◌, List, [], ◌∷◌, codes, Option, Some, None, if◌then◌else◌}
+use Rattle.hub_rows.specs.Operators.{is_operator_name}
 use Rattle.lines.specs.Words.{first_word, ◌>>=◌}
 
 -- what follows the `#` with which a text begins
@@ -9,16 +8,12 @@ abbrev pub after_sign : List ℕ → Option (List ℕ)
 after_sign [] = None
 after_sign (byte ∷ rest) = if byte == 35 then Some rest else None
 
--- 1 to 32 ASCII letters, digits, `-` and `_`
-abbrev pub is_mark : List ℕ → Bool
-is_mark word = nat_le 1 (length word) && nat_le (length word) 32 && list_all is_name_byte word
-
--- the word and the order of `#WORD ORDER`
+-- the word and the order of `#WORD ORDER`, a word of the form of an operator's name
 abbrev pub mark_of : List ℕ → Option (List ℕ × List ℕ)
 mark_of text = do
   marked ← after_sign text
   mark ← first_word marked
-  if is_mark mark.0 then Some mark else None
+  if is_operator_name mark.0 then Some mark else None
 
 -- the line before the answer to an order with a word
 abbrev pub begin_line : List ℕ → List ℕ

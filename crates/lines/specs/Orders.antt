@@ -6,6 +6,7 @@ use Rattle.hub_events.specs.declared.event.Event.{Event}
 use Rattle.hub_events.specs.declared.event.Event.TheVariants as event
 use Rattle.hub_events.specs.declared.event.What.{What}
 use Rattle.hub_events.specs.declared.event.What.TheVariants.{Connect, Disconnect, Frame, Do, Admin, List as Listing, Connections}
+use Rattle.lines.specs.declared.input_line.TheConstants.{MAX_LINE}
 use Rattle.lines.specs.Forms.{what_of}
 use Rattle.lines.specs.Words.{◌>>=◌}
 
@@ -30,4 +31,4 @@ order_in op m text = do
 
 -- the same of a text, which is one line with or without a carriage return
 unfoldable pub order_of : List ℕ → ℕ → List ℕ → Option Event
-order_of op m text = if nat_lt 1_048_576 (length text) || has_line_feed text then None else order_in op m (strip_last 13 text)
+order_of op m text = if nat_lt MAX_LINE (length text) || has_line_feed text then None else order_in op m (strip_last 13 text)

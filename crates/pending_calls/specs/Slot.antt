@@ -3,9 +3,11 @@ use Rattle.std.specs.Prelude.{◌≡◌, ℕ, ◌+◌, ◌≤◌, nat_le, List, 
 use Rattle.std.specs.Str.{bytes_eq}
 use Rattle.ocpp_types.specs.declared.refusal.Refusal.{Refusal}
 use Rattle.ocpp_types.specs.declared.refusal.Refusal.TheVariants.{NotConnected, QueueFull, NumberSpent}
+use Rattle.hub_rows.specs.Transactions.{last_of_all}
 use Rattle.pending_calls.specs.declared.call.Call.{Call}
 use Rattle.pending_calls.specs.declared.call.Message.{Message}
 use Rattle.pending_calls.specs.declared.call.Moved.{Moved}
+use Rattle.pending_calls.specs.declared.slot.TheConstants.{ANSWER_SECONDS, MOST_CALLS}
 
 -- a call that was sent, and the moment when it was
 pub record Flight (C : Type 0) : Type 0 where
@@ -28,17 +30,13 @@ pub record SlotState (C : Type 0) : Type 0 where
   pub in_flight : Option (Flight C)
   pub waiting : List (Queued C)
 
--- the last number that a call may have
-abbrev pub last_number : ℕ
-last_number = 2147483647
-
 -- how many calls of a station may be in flight and waiting together
 abbrev pub most_calls : ℕ
-most_calls = 16
+most_calls = MOST_CALLS
 
 -- how many seconds a call waits for its answer
 abbrev pub answer_time : ℕ
-answer_time = 30
+answer_time = ANSWER_SECONDS
 
 module _ {C : Type 0} where
   -- the slot of a station that was never connected; its first call has that number
@@ -66,7 +64,7 @@ module _ {C : Type 0} where
   ready s =
       if not s.is_connected then Err NotConnected
       else if nat_le most_calls (count_calls s) then Err QueueFull
-      else if nat_le s.next_number last_number then Ok s.next_number
+      else if nat_le s.next_number last_of_all then Ok s.next_number
       else Err NumberSpent
 
   -- a call of the slot's station, as its end is told

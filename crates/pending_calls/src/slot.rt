@@ -4,7 +4,7 @@ ghost use Rattle.pending_calls.specs.Slot.{IsSlot, most_calls, count_calls, fres
 
 use crate::call::{Call, InFlight, Message, Moved, NewCall, Waiting};
 use crate::ended::Ended;
-use hub_rows::NamedRow;
+use hub_rows::{LAST_NUMBER, NamedRow};
 use itoa::Buffer;
 use ocpp_types::{Mem, Moment, Refusal, Text};
 use std::alloc::Global;
@@ -13,9 +13,6 @@ use std::mem;
 
 /// How many calls of a station may be in flight and waiting together.
 const MOST_CALLS: usize = 16;
-
-/// The last number that a call may have.
-const LAST_NUMBER: u32 = i32::MAX as u32;
 
 /// The answer time: how many seconds a call waits for its answer.
 pub const ANSWER_SECONDS: u64 = 30;

@@ -6,7 +6,8 @@ use Rattle.ocpp_types.specs.declared.policy.Policy.TheVariants as policy
 use Rattle.ocpp_types.specs.declared.state.State.{State}
 use Rattle.ocpp_types.specs.declared.state.State.TheVariants as state
 use Rattle.ocpp_payload.specs.declared.conf.Conf.TheVariants as conf
-use Rattle.hub_rows.specs.declared.change.Edit.TheVariants.{BootSeen}
+use Rattle.hub_rows.specs.declared.change.Edit.TheVariants.{Stations}
+use Rattle.hub_rows.specs.declared.change.StationEdit.TheVariants.{BootSeen}
 use Rattle.hub_rows.specs.declared.station_row.Registration.{Registration}
 use Rattle.registry.specs.declared.decision.Decision.{Decision}
 use Rattle.registry.specs.declared.decision.Reply.TheVariants.{Conf}
@@ -21,7 +22,7 @@ state_after policy.Rejected = state.Rejected
 abbrev pub boot_rule : List ℕ → Registration → BootNotification → ℕ → Decision
 boot_rule station r texts m = record {
   reply = Conf (conf.BootNotification m r.interval r.policy);
-  edit = Some (BootSeen station (record { texts = texts; moment = m }) (state_after r.policy));
+  edit = Some (Stations (BootSeen station (record { texts = texts; moment = m }) (state_after r.policy)));
 }
 
 abbrev pub heartbeat_rule : ℕ → Decision

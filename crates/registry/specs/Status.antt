@@ -2,7 +2,8 @@
 use Rattle.std.specs.Prelude.{ℕ, ◌*◌, pos, List, Some, unwrap_or}
 use Rattle.ocpp_payload.specs.declared.conf.Conf.TheVariants as conf
 use Rattle.ocpp_payload.specs.declared.request.StatusNotification.{StatusNotification}
-use Rattle.hub_rows.specs.declared.change.Edit.TheVariants.{ConnectorSeen}
+use Rattle.hub_rows.specs.declared.change.Edit.TheVariants.{Stations}
+use Rattle.hub_rows.specs.declared.change.StationEdit.TheVariants.{ConnectorSeen}
 use Rattle.hub_rows.specs.declared.connector_row.ConnectorReport.{ConnectorReport}
 use Rattle.registry.specs.declared.decision.Decision.{Decision}
 use Rattle.registry.specs.declared.decision.Reply.TheVariants.{Conf}
@@ -21,5 +22,5 @@ report_of r m = record {
 abbrev pub status_rule : List ℕ → StatusNotification → ℕ → Decision
 status_rule station r m = record {
   reply = Conf conf.Empty;
-  edit = Some (ConnectorSeen station r.connector_id (report_of r m));
+  edit = Some (Stations (ConnectorSeen station r.connector_id (report_of r m)));
 }

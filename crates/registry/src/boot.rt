@@ -4,7 +4,7 @@ ghost use Rattle.registry.specs.Boot.{boot_rule, heartbeat_rule, state_after};
 
 use crate::decision::{Decision, Reply};
 use crate::station_at::StationAt;
-use hub_rows::{Boot, Edit, Registration};
+use hub_rows::{Boot, Edit, Registration, StationEdit};
 use ocpp_payload::Conf;
 use ocpp_types::{BootNotification, Boxed, Mem, Moment, Policy, State};
 use std::alloc::Global;
@@ -25,11 +25,11 @@ pub fn on_boot(
         interval: registration.interval,
         status: registration.policy,
     };
-    let edit = Edit::BootSeen {
+    let edit = Edit::Stations(StationEdit::BootSeen {
         station: at.station.clone()?,
         boot: Boot { texts, moment },
         state: state_after(registration.policy),
-    };
+    });
     Ok(Decision {
         reply: Reply::Conf(reply),
         edit: Some(Boxed::new(alloc, edit)?),

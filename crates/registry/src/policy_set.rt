@@ -5,7 +5,7 @@ ghost use Rattle.hub_rows.specs.Lookups.{lookups_at};
 ghost use Rattle.registry.specs.PolicySet.{is_kept_from, is_rejected, policy_rule};
 
 use crate::station_added::{MAX_INTERVAL, Terms};
-use hub_rows::{Edit, Store, StoreFault};
+use hub_rows::{Edit, StationEdit, Store, StoreFault};
 use ocpp_types::{FieldName, Policy, Refusal, Text};
 use std::alloc::Global;
 
@@ -32,11 +32,11 @@ pub fn plan_policy<S: Store>(
     if is_kept_from(store, op, station, terms.policy)? {
         return Ok(Err(Refusal::HasOpenTransactions));
     }
-    Ok(Ok(Edit::PolicySet {
+    Ok(Ok(Edit::Stations(StationEdit::PolicySet {
         station: Text::copy_of(alloc, station)?,
         policy: terms.policy,
         interval: terms.interval as u32,
-    }))
+    })))
 }
 
 /// Whether an open transaction of a station keeps it from that policy.

@@ -5,7 +5,7 @@ ghost use Rattle.registry.specs.Report.{report_rule};
 
 use crate::decision::{Decision, Reply};
 use crate::station_at::StationAt;
-use hub_rows::{Edit, ReportedStatus};
+use hub_rows::{Edit, ReportedStatus, StationEdit};
 use ocpp_payload::Conf;
 use ocpp_types::{Boxed, Mem};
 use std::alloc::Global;
@@ -14,11 +14,11 @@ use std::alloc::Global;
 pub fn on_report(alloc: Global, at: &StationAt<'_>, status: ReportedStatus) -> Mem<Decision>
     ensures { IfOk result (λ d. d ≡ report_rule at.now.station.now status at.now.moment) }
 {
-    let edit = Edit::ReportSeen {
+    let edit = Edit::Stations(StationEdit::ReportSeen {
         station: at.station.clone()?,
         status,
         moment: at.moment,
-    };
+    });
     Ok(Decision {
         reply: Reply::Conf(Conf::Empty),
         edit: Some(Boxed::new(alloc, edit)?),

@@ -5,7 +5,7 @@ ghost use Rattle.std.specs.List.{list_all};
 ghost use Rattle.hub_rows.specs.Lookups.{lookups_at};
 ghost use Rattle.registry.specs.StationAdded.{add_rule, is_station_name};
 
-use hub_rows::{Edit, Store, StoreFault};
+use hub_rows::{Edit, StationEdit, Store, StoreFault};
 use ocpp_types::{FieldName, Policy, Refusal, Text};
 use std::alloc::Global;
 
@@ -47,11 +47,11 @@ pub fn plan_add<S: Store>(
     if store.station(op, station)?.is_some() {
         return Ok(Err(Refusal::StationExists));
     }
-    Ok(Ok(Edit::StationAdded {
+    Ok(Ok(Edit::Stations(StationEdit::StationAdded {
         station: Text::copy_of(alloc, station)?,
         policy: terms.policy,
         interval: terms.interval as u32,
-    }))
+    })))
 }
 
 /// Whether a text can be the name of a station.

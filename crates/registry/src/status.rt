@@ -4,7 +4,7 @@ ghost use Rattle.registry.specs.Status.{status_rule, report_of};
 
 use crate::decision::{Decision, Reply};
 use crate::station_at::StationAt;
-use hub_rows::{ConnectorReport, Edit};
+use hub_rows::{ConnectorReport, Edit, StationEdit};
 use ocpp_payload::{Conf, StatusNotification};
 use ocpp_types::{Boxed, Mem, Moment};
 use std::alloc::Global;
@@ -20,11 +20,11 @@ pub fn on_status(
 {
     let request = request.into_inner();
     let connector = request.connector_id;
-    let edit = Edit::ConnectorSeen {
+    let edit = Edit::Stations(StationEdit::ConnectorSeen {
         station: at.station.clone()?,
         connector,
         report: report_of(request, at.moment),
-    };
+    });
     Ok(Decision {
         reply: Reply::Conf(Conf::Empty),
         edit: Some(Boxed::new(alloc, edit)?),

@@ -4,6 +4,7 @@ use Rattle.std.specs.Prelude.{Option, Some, None}
 use Rattle.hub_events.specs.declared.event.Event.{Event as HubEvent}
 use Rattle.hub_events.specs.declared.event.Event.TheVariants as event
 use Rattle.hub.specs.Hub.{is_of_hosted}
+use Rattle.lines.specs.declared.input_line.TheConstants.{MAX_LINE}
 use Rattle.lines.specs.declared.input_line.Line.{Line}
 use Rattle.lines.specs.declared.input_line.Line.TheVariants as line
 use Rattle.lines.specs.InputLines.{spelled, spelled_text, event_or_bad, event_of, operator_event, is_utf8}
@@ -46,7 +47,7 @@ line_event (Some x) e is = cc
 spelled_hosted : (hosted : List ℕ → Bool) (bytes : List ℕ) (e : HubEvent) → line.Event e ≡ spelled hosted bytes → is_of_hosted hosted e ≡ true
 unfolding spelled
 spelled_hosted hosted bytes e =
-    elim (nat_lt 1_048_576 (length bytes)) as (λ t. line.Event e ≡ cond t line.Bad (spelled_text hosted (strip_last 13 bytes)) → is_of_hosted hosted e ≡ true) [
+    elim (nat_lt MAX_LINE (length bytes)) as (λ t. line.Event e ≡ cond t line.Bad (spelled_text hosted (strip_last 13 bytes)) → is_of_hosted hosted e ≡ true) [
       | true ↦ λ is. absurd (cc)
       | false ↦ text_hosted (strip_last 13 bytes)
     ]
@@ -69,6 +70,6 @@ of_hosted hosted line.Bad f = tt
 pub spelled_of_hosted : (hosted : List ℕ → Bool) (bytes : List ℕ) → IsOfHosted hosted (spelled hosted bytes)
 spelled_of_hosted hosted bytes = of_hosted hosted (spelled hosted bytes) (spelled_hosted hosted bytes)
 
-pub long_bad : (hosted : List ℕ → Bool) (bytes : List ℕ) → 1_048_576 < length bytes → line.Bad ≡ spelled hosted bytes
+pub long_bad : (hosted : List ℕ → Bool) (bytes : List ℕ) → MAX_LINE < length bytes → line.Bad ≡ spelled hosted bytes
 unfolding spelled
 long_bad hosted bytes h = grind arith

@@ -1,4 +1,5 @@
 -- A line of an input, and how much of it is held.
+use Rattle.lines.specs.declared.input_line.TheConstants.{MAX_LINE}
 use Rattle.std.specs.Prelude.{◌≡◌, ℕ, ◌+◌, ◌<◌, Bool, true, false, List, Option, Some, None, ◌==◌, All, length}
 use Rattle.std.specs.Borrow.{Bor}
 use Rattle.std.specs.Io.KnownBytes.{Consumes}
@@ -16,12 +17,12 @@ HasNoFeed bytes = All (λ b. is_feed b ≡ false) bytes
 
 -- the line is held, or it is longer than 1,048,576 bytes
 abbrev pub IsHeld : Bool → List ℕ → List ℕ → Type 0
-IsHeld true held line = 1_048_576 < length line
+IsHeld true held line = MAX_LINE < length line
 IsHeld false held line = held ≡ line
 
 -- the same, of what is handed out
 abbrev pub IsLine : Option (Bor (List ℕ)) → List ℕ → Type 0
-IsLine None line = 1_048_576 < length line
+IsLine None line = MAX_LINE < length line
 IsLine (Some held) line = held.now ≡ line
 
 -- bytes of an input have been read, of those that may be read

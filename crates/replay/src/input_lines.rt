@@ -1,6 +1,7 @@
 //! The lines of an input that comes in parts.
 ghost use Rattle.std.specs.Prelude.{◌≡◌, ◌≢◌, ◌+◌, ◌++◌, ◌<◌, ◌≤◌, ◌∷◌, ℕ, List, [], true, false, length, take, OnOk, OnErr, IfOk, IfErr, MatchOption, vec_len};
 ghost use Rattle.std.specs.Io.KnownBytes.{Consumes, IsAtEnd, Keeps};
+ghost use Rattle.lines.specs.declared.input_line.TheConstants.{MAX_LINE};
 ghost use Rattle.replay.specs.Held.{IsHeld, IsLine, HasNoFeed, Reads};
 ghost use Rattle.replay.specs.declared.fault.ReplayFault.TheVariants as replay_fault;
 
@@ -89,9 +90,9 @@ impl Lines {
     /// Adds to the line what was read of it: whether its line feed is there.
     fn take_front(&mut self) -> Result<bool, AllocError>
         requires within { self.old.start ≤ vec_len self.old.buffer }
-        requires bound { self.old.is_long ≡ false → vec_len self.old.line ≤ 1_048_576 }
+        requires bound { self.old.is_long ≡ false → vec_len self.old.line ≤ MAX_LINE }
         ensures within { self.new.start ≤ vec_len self.new.buffer }
-        ensures bound { self.new.is_long ≡ false → vec_len self.new.line ≤ 1_048_576 }
+        ensures bound { self.new.is_long ≡ false → vec_len self.new.line ≤ MAX_LINE }
         ensures left { self.new.left ≡ self.old.left }
         ensures ended { self.new.ended ≡ self.old.ended }
         ensures fewer { vec_len self.new.buffer + self.old.start ≤ vec_len self.old.buffer + self.new.start }
@@ -170,8 +171,8 @@ fn cut(bytes: &[u8]) -> Option<(&[u8], &[u8])>
 
 /// Adds a piece to a line, unless the line is or becomes too long.
 fn hold(line: &mut Vec<u8>, is_long: &mut bool, piece: &[u8]) -> Result<(), AllocError>
-    requires { is_long.old ≡ false → vec_len line.old ≤ 1_048_576 }
-    ensures bound { is_long.new ≡ false → vec_len line.new ≤ 1_048_576 }
+    requires { is_long.old ≡ false → vec_len line.old ≤ MAX_LINE }
+    ensures bound { is_long.new ≡ false → vec_len line.new ≤ MAX_LINE }
     ensures held { OnOk result ((seen : List ℕ) → IsHeld is_long.old line.old.items seen
         → IsHeld is_long.new line.new.items (seen ++ piece.now)) }
 {

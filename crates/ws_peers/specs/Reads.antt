@@ -9,6 +9,7 @@ use Rattle.tungstenite.specs.declared.error.Error.{Error}
 use Rattle.tungstenite.specs.declared.message.Message.{Message}
 use Rattle.ws_peers.specs.declared.cause.Cause.TheVariants.{Closed as HasClosed, Lost, Breach}
 use Rattle.ws_peers.specs.declared.heard.Heard.{Heard}
+use Rattle.ws_peers.specs.declared.heard.TheConstants.{MAX_TEXT}
 use Rattle.ws_peers.specs.declared.peer.Peer.{Peer}
 use Rattle.ws_peers.specs.declared.stage.Stage.TheVariants.{Ended}
 use Rattle.ws_peers.specs.Sends.{Closed}
@@ -16,7 +17,7 @@ use Rattle.ws_peers.specs.Stages.{is_open}
 
 -- a text may have 1,048,576 bytes
 abbrev pub within_limit : List ℕ → Heard
-within_limit t = if nat_le (length t) 1_048_576 then Heard.Text t else Heard.Breach Size
+within_limit t = if nat_le (length t) MAX_TEXT then Heard.Text t else Heard.Breach Size
 
 -- a read that would block gave nothing, and every other fault of the stream ends the connection
 abbrev pub of_kind : ErrorKind → Heard

@@ -20,6 +20,7 @@ use Rattle.hub.specs.World.{Setting, World, world_outputs, world_step}
 use Rattle.hub_rows.specs.Reads.{IsCounted}
 use Rattle.hub_rows.specs.StoreView.{StoreView}
 use Rattle.station_calls.specs.Vendors.{HandlerView}
+use Rattle.lines.specs.declared.input_line.TheConstants.{MAX_LINE}
 use Rattle.lines.specs.Forms.{what_of}
 use Rattle.lines.specs.Marks.{begin_line, end_line}
 use Rattle.lines.specs.Orders.{order_of, order_in, is_order, has_line_feed}
@@ -62,7 +63,7 @@ order-unless P false order is = is
 
 order-hosted : (hosts : List ℕ → Bool) (op : List ℕ) (m : ℕ) (text : List ℕ) → IfSome (order_of op m text) (λ event. is_of_hosted hosts event ≡ hosts op)
 unfolding order_of
-order-hosted hosts op m text = order-unless (λ event. is_of_hosted hosts event ≡ hosts op) (nat_lt 1_048_576 (length text) || has_line_feed text) (order_in op m (strip_last 13 text)) (order-in hosts op m (what_of (strip_last 13 text)))
+order-hosted hosts op m text = order-unless (λ event. is_of_hosted hosts event ≡ hosts op) (nat_lt MAX_LINE (length text) || has_line_feed text) (order_in op m (strip_last 13 text)) (order-in hosts op m (what_of (strip_last 13 text)))
 
 -- the event of a text is of the operator of its route
 text-hosted : (hosts : List ℕ → Bool) (route : Route) (m : ℕ) (text : List ℕ) → IfSome (event_of route m text) (λ event. is_of_hosted hosts event ≡ is_route_of_hosted hosts route)
