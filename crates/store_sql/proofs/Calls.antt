@@ -8,11 +8,11 @@ use Rattle.hub_rows.specs.Keyed.{first, greatest, put_all}
 use Rattle.hub_rows.specs.Transactions.{is_sent_with, readings_in}
 use Rattle.hub_rows.specs.declared.reading_row.ReadingRow.{ReadingRow}
 use Rattle.hub_rows.proofs.OrderLaws.{find-first}
-use Rattle.sql_shelf.specs.Shelf.{Shelf, cmp, rows_in}
-use Rattle.sql_shelf.specs.Values.{count_in}
+use Rattle.sql_rows.specs.TypedTable.{TypedTable, cmp, rows_in}
+use Rattle.sql_rows.specs.Values.{count_in}
 
 -- the first of the rows that are shown is the first that passes
-pub first_finds : {V T E F : Type 0} (items : V → List Row) (s : Shelf T) (p : T → Bool) (db : Trees) (r : Result V E) (q : Result (Option T) F) → OnOk q (IsOk r)
+pub first_finds : {V T E F : Type 0} (items : V → List Row) (s : TypedTable T) (p : T → Bool) (db : Trees) (r : Result V E) (q : Result (Option T) F) → OnOk q (IsOk r)
     → IfOk r (λ v. IfOk q (λ o. o ≡ first (put_all (cmp s) (map s.read (items v)) []))) → IfOk r (λ v. put_all (cmp s) (map s.read (items v)) [] ≡ filter p (rows_in s db)) → IfOk q (λ o. o ≡ find p (rows_in s db))
 first_finds items s p db (Ok v) (Ok o) ok is shown = is ∙ ap first shown ∙ sym (find-first p (rows_in s db))
 first_finds items s p db (Ok v) (Err e) ok is shown = tt
@@ -65,12 +65,12 @@ chosen_finds op station o n rows all (Ok l) is whole chosen =
     ∙ ap (λ k. readings_in op station k rows) (sym is)
 chosen_finds op station o n rows all (Err e) is whole chosen = tt
 
-numbers_read : {T : Type 0} (s : Shelf T) (number : T → ℕ) (at : ℕ) → ((r : Row) → count_in (column r at) ≡ number (s.read r)) → (rows : List Row) → map (λ r. count_in (column r at)) rows ≡ map number (map s.read rows)
+numbers_read : {T : Type 0} (s : TypedTable T) (number : T → ℕ) (at : ℕ) → ((r : Row) → count_in (column r at) ≡ number (s.read r)) → (rows : List Row) → map (λ r. count_in (column r at)) rows ≡ map number (map s.read rows)
 numbers_read s number at same [] = refl
 numbers_read s number at same (r ∷ rows) = λ i. same r i ∷ numbers_read s number at same rows i
 
 -- the number of the row that is shown is the greatest
-pub last_finds : {V T E F : Type 0} (items : V → List Row) (s : Shelf T) (number : T → ℕ) (at : ℕ) (p : T → Bool) (db : Trees) (r : Result V E) (q : Result ℕ F) → ((x : Row) → count_in (column x at) ≡ number (s.read x)) → OnOk q (IsOk r)
+pub last_finds : {V T E F : Type 0} (items : V → List Row) (s : TypedTable T) (number : T → ℕ) (at : ℕ) (p : T → Bool) (db : Trees) (r : Result V E) (q : Result ℕ F) → ((x : Row) → count_in (column x at) ≡ number (s.read x)) → OnOk q (IsOk r)
     → IfOk r (λ v. IfOk q (λ n. n ≡ greatest (map (λ x. count_in (column x at)) (items v)))) → IfOk r (λ v. greatest (map number (map s.read (items v))) ≡ greatest (map number (filter p (rows_in s db)))) → IfOk q (λ n. n ≡ greatest (map number (filter p (rows_in s db))))
 last_finds items s number at p db (Ok v) (Ok n) same ok is shown = is ∙ ap greatest (numbers_read s number at same (items v)) ∙ shown
 last_finds items s number at p db (Ok v) (Err e) same ok is shown = tt

@@ -13,11 +13,11 @@ use Rattle.hub_rows.specs.Keyed.{by_key, first, in_order, put_all}
 use Rattle.hub_rows.specs.Rows.{Rows, grant_key}
 use Rattle.hub_rows.specs.declared.tag_row.TagRow.{TagRow}
 use Rattle.hub_rows.specs.declared.grant_row.GrantRow.{GrantRow}
-use Rattle.sql_shelf.specs.Shelf.{rows_in}
-use Rattle.sql_shelf.specs.Kept.{Finds, IsServing, Rests}
-use Rattle.sql_shelf.specs.Shelves.{grants, rows_of}
-use Rattle.sql_shelf.proofs.StoreLemmas.{rests_before}
-use Rattle.sql_shelf.proofs.OrderedLaws.{in_received}
+use Rattle.sql_rows.specs.TypedTable.{rows_in}
+use Rattle.sql_rows.specs.Kept.{Finds, IsServing, Rests}
+use Rattle.sql_rows.specs.TypedTables.{grants, rows_of}
+use Rattle.sql_rows.proofs.StoreLemmas.{rests_before}
+use Rattle.sql_rows.proofs.OrderedLaws.{in_received}
 
 -- the grants to an operator that are shown, in the order of their receivers
 pub list_received_finds : {V E F : Type 0} (items : V → List Row) (to : List ℕ) (db : Trees) (r : Result V E) (q : Result (List GrantRow) F) → OnOk q (IsOk r) → IfOk r (λ v. IfOk q (λ l. l ≡ put_all (by_key received_key) (map grants.read (items v)) []))

@@ -8,17 +8,16 @@ use Rattle.sqlite.specs.declared.error.Error.TheVariants.{SqliteFailure}
 use Rattle.sqlite.specs.declared.error.ErrorCode.TheVariants.{OutOfMemory}
 use Rattle.sqlite.specs.Held.{Held, held_code, state}
 use Rattle.sqlite.specs.State.{State, HasCleanDisk}
-use Rattle.hub_rows.specs.Changes.{Fits, EditFits}
+use Rattle.hub_rows.specs.Changes.{EditFits}
 use Rattle.hub_rows.specs.Rows.{Rows}
 use Rattle.hub_rows.specs.StoreView.{StoreView}
 use Rattle.hub_rows.specs.WellFormed.{WellFormedRows}
-use Rattle.hub_rows.specs.declared.change.Change.{Change}
 use Rattle.hub_rows.specs.declared.change.Edit.{Edit}
 use Rattle.hub_rows.specs.declared.store.StoreFault.{StoreFault}
 use Rattle.hub_rows.specs.declared.store.StoreFault.TheVariants.{NoMemory, Failed}
-use Rattle.sql_shelf.specs.Kept.{Serves}
-use Rattle.sql_shelf.specs.Opening.{IsOurs}
-use Rattle.sql_shelf.specs.Shelves.{rows_of}
+use Rattle.sql_rows.specs.Kept.{Serves}
+use Rattle.sql_rows.specs.Opening.{IsOurs}
+use Rattle.sql_rows.specs.TypedTables.{rows_of}
 
 pub record SqlView (S : Type 0) : Type 0 where
   pub conn : Held S
@@ -38,9 +37,9 @@ abbrev pub told : Error → StoreFault
 told (SqliteFailure OutOfMemory) = NoMemory
 told _ = Failed
 
--- the change fits, and the connection is one that serves
-abbrev pub IsReady : Change → State → Type 0
-IsReady change s = IsTrue s.is_open → Serves s × WellFormedRows (rows_of s.now.trees) × Fits change (rows_of s.now.trees)
+-- the edit of an operator fits, and the connection is one that serves
+abbrev pub IsReady : List ℕ → Edit → State → Type 0
+IsReady op change s = IsTrue s.is_open → Serves s × WellFormedRows (rows_of s.now.trees) × EditFits op change (rows_of s.now.trees)
 
 -- an edit fits, inside a transaction
 abbrev pub MayMake : List ℕ → Edit → State → Type 0

@@ -11,19 +11,13 @@ use std::alloc::Global;
 pub(crate) fn lent(text: &Option<Text>) -> Option<&str>
     ensures { option_map (λ t. t.now) result ≡ text.now }
 {
-    match text {
-        Some(text) => Some(text.as_str()),
-        None => None,
-    }
+    text.as_ref().map(|text| text.as_str())
 }
 
 pub(crate) fn lent_key(key: &Option<TagKey>) -> Option<&str>
     ensures { option_map (λ t. t.now) result ≡ key.now }
 {
-    match key {
-        Some(key) => Some(key.as_str()),
-        None => None,
-    }
+    key.as_ref().map(|key| key.as_str())
 }
 
 /// The key of a tag that may be missing.
@@ -45,19 +39,13 @@ pub(crate) fn seconds(moment: Moment) -> i64
 pub(crate) fn seconds_if_any(moment: &Option<Moment>) -> Option<i64>
     ensures { result ≡ option_map pos moment.now }
 {
-    match moment {
-        Some(moment) => Some(seconds(*moment)),
-        None => None,
-    }
+    moment.map(seconds)
 }
 
 pub(crate) fn name_if_any<T: Named>(value: &Option<T>) -> Option<&'static str>
     ensures { option_map (λ t. t.now) result ≡ option_map T.name_of value.now }
 {
-    match value {
-        Some(value) => Some(value.name()),
-        None => None,
-    }
+    value.as_ref().map(|value| value.name())
 }
 
 /// What a statement did, as a store tells it.
@@ -65,8 +53,5 @@ pub(crate) fn done(ran: Result<usize, Error>) -> Result<(), StoreFault>
     ensures ok { OnOk result (IsOk ran) }
     ensures err { OnErr result (IsErr ran) }
 {
-    match ran {
-        Ok(_) => Ok(()),
-        Err(error) => Err(told(error)),
-    }
+    ran.map(|_| ()).map_err(told)
 }

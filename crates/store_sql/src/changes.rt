@@ -1,9 +1,9 @@
 //! Changes of the records.
 ghost use Rattle.std.specs.Prelude.{◌≡◌, IsErr, IsOk, OnErr, OnOk};
 ghost use Rattle.sqlite.specs.Held.{state};
-ghost use Rattle.hub_rows.specs.Changes.{after_change, edit};
-ghost use Rattle.sql_shelf.specs.Kept.{Changes, Goes, IsInside, IsMade};
-ghost use Rattle.store_sql.specs.Edits.{IsOfStations, IsOfTags, IsOfTransactions, IsOfHoldings};
+ghost use Rattle.hub_rows.specs.Changes.{edit};
+ghost use Rattle.sql_rows.specs.Kept.{Changes, Goes, IsInside, IsMade};
+ghost use Rattle.hub_rows.specs.declared.change.Edit.TheVariants.{Stations, Tags, Transactions, Holdings};
 ghost use Rattle.store_sql.specs.Store.{IsReady, MayMake};
 
 use crate::columns::told;
@@ -17,7 +17,9 @@ use crate::stations::{add_station, see_boot, set_policy};
 use crate::tags::{drop_tag, put_tag};
 use crate::tx_edits::{start_tx, stop_tx};
 use crate::uses::put_owner;
-use hub_rows::{Change, Edit, StoreFault};
+use hub_rows::{
+    Change, Edit, HoldingEdit, StationEdit, StoreFault, TagEdit, TransactionEdit,
+};
 use sqlite::{Alter, Connection, Error, Transaction};
 use std::alloc::Global;
 
@@ -25,39 +27,37 @@ use std::alloc::Global;
 fn edit_stations<S: Alter>(
     tx: &mut Transaction<'_, S>,
     op: &str,
-    change: &Edit,
+    change: &StationEdit,
 ) -> Result<(), StoreFault>
-    requires kind { IsOfStations change.now }
     ensures same_reference { tx.new.conn.ghost_name ≡ tx.old.conn.ghost_name }
-    ensures goes { IsInside (state S.Store tx.old.conn.now) → Goes (IsMade (edit op.now change.now)) (state S.Store tx.old.conn.now) (state S.Store tx.new.conn.now) result }
+    ensures goes { IsInside (state S.Store tx.old.conn.now) → Goes (IsMade (edit op.now (Stations change.now))) (state S.Store tx.old.conn.now) (state S.Store tx.new.conn.now) result }
 {
     match change {
-        Edit::StationAdded {
+        StationEdit::StationAdded {
             station,
             policy,
             interval,
         } => add_station(tx, op, station.as_str(), *policy, *interval),
-        Edit::BootSeen {
+        StationEdit::BootSeen {
             station,
             boot,
             state,
         } => see_boot(tx, op, station.as_str(), boot, *state),
-        Edit::PolicySet {
+        StationEdit::PolicySet {
             station,
             policy,
             interval,
         } => set_policy(tx, op, station.as_str(), *policy, *interval),
-        Edit::ConnectorSeen {
+        StationEdit::ConnectorSeen {
             station,
             connector,
             report,
         } => put_connector(tx, op, station.as_str(), *connector, report),
-        Edit::ReportSeen {
+        StationEdit::ReportSeen {
             station,
             status,
             moment,
         } => put_report(tx, op, station.as_str(), *status, *moment),
-        _ => unreachable!(),
     }
 }
 
@@ -66,18 +66,16 @@ fn edit_tags<S: Alter>(
     tx: &mut Transaction<'_, S>,
     alloc: Global,
     op: &str,
-    change: &Edit,
+    change: &TagEdit,
 ) -> Result<(), StoreFault>
-    requires kind { IsOfTags change.now }
     ensures same_reference { tx.new.conn.ghost_name ≡ tx.old.conn.ghost_name }
-    ensures goes { IsInside (state S.Store tx.old.conn.now) → Goes (IsMade (edit op.now change.now)) (state S.Store tx.old.conn.now) (state S.Store tx.new.conn.now) result }
+    ensures goes { IsInside (state S.Store tx.old.conn.now) → Goes (IsMade (edit op.now (Tags change.now))) (state S.Store tx.old.conn.now) (state S.Store tx.new.conn.now) result }
 {
     match change {
-        Edit::TagPut { key, tag } => put_tag(tx, alloc, op, key.as_str(), tag),
-        Edit::TagDropped { key } => drop_tag(tx, op, key.as_str()),
-        Edit::GrantPut { key, to, until } => put_grant(tx, op, key.as_str(), to.as_str(), until),
-        Edit::GrantDropped { key, to } => drop_grant(tx, op, key.as_str(), to.as_str()),
-        _ => unreachable!(),
+        TagEdit::TagPut { key, tag } => put_tag(tx, alloc, op, key.as_str(), tag),
+        TagEdit::TagDropped { key } => drop_tag(tx, op, key.as_str()),
+        TagEdit::GrantPut { key, to, until } => put_grant(tx, op, key.as_str(), to.as_str(), until),
+        TagEdit::GrantDropped { key, to } => drop_grant(tx, op, key.as_str(), to.as_str()),
     }
 }
 
@@ -85,14 +83,13 @@ fn edit_tags<S: Alter>(
 fn edit_transactions<S: Alter>(
     tx: &mut Transaction<'_, S>,
     op: &str,
-    change: &Edit,
+    change: &TransactionEdit,
 ) -> Result<(), StoreFault>
-    requires kind { IsOfTransactions change.now }
     ensures same_reference { tx.new.conn.ghost_name ≡ tx.old.conn.ghost_name }
-    ensures goes { IsInside (state S.Store tx.old.conn.now) → Goes (IsMade (edit op.now change.now)) (state S.Store tx.old.conn.now) (state S.Store tx.new.conn.now) result }
+    ensures goes { IsInside (state S.Store tx.old.conn.now) → Goes (IsMade (edit op.now (Transactions change.now))) (state S.Store tx.old.conn.now) (state S.Store tx.new.conn.now) result }
 {
     match change {
-        Edit::TxStarted {
+        TransactionEdit::TxStarted {
             station,
             number,
             start,
@@ -102,7 +99,7 @@ fn edit_transactions<S: Alter>(
             start_tx(tx, op, station, *number, start)?;
             put_owner(tx, op, station, *number, owner)
         }
-        Edit::TxStopped {
+        TransactionEdit::TxStopped {
             station,
             number,
             stop,
@@ -113,12 +110,11 @@ fn edit_transactions<S: Alter>(
             stop_tx(tx, op, station, *number, stop)?;
             add_readings(tx, op, station, *first, readings.as_slice())
         }
-        Edit::ReadingsAdded {
+        TransactionEdit::ReadingsAdded {
             station,
             first,
             readings,
         } => add_readings(tx, op, station.as_str(), *first, readings.as_slice()),
-        _ => unreachable!(),
     }
 }
 
@@ -127,23 +123,21 @@ fn edit_holdings<S: Alter>(
     tx: &mut Transaction<'_, S>,
     alloc: Global,
     op: &str,
-    change: &Edit,
+    change: &HoldingEdit,
 ) -> Result<(), StoreFault>
-    requires kind { IsOfHoldings change.now }
     ensures same_reference { tx.new.conn.ghost_name ≡ tx.old.conn.ghost_name }
-    ensures goes { MayMake op.now change.now (state S.Store tx.old.conn.now) → IsInside (state S.Store tx.old.conn.now) → Goes (IsMade (edit op.now change.now)) (state S.Store tx.old.conn.now) (state S.Store tx.new.conn.now) result }
+    ensures goes { MayMake op.now (Holdings change.now) (state S.Store tx.old.conn.now) → IsInside (state S.Store tx.old.conn.now) → Goes (IsMade (edit op.now (Holdings change.now))) (state S.Store tx.old.conn.now) (state S.Store tx.new.conn.now) result }
 {
     match change {
-        Edit::ReservationPut {
+        HoldingEdit::ReservationPut {
             station,
             id,
             reservation,
         } => put_reservation(tx, op, station.as_str(), *id, reservation),
-        Edit::ReservationDropped { station, id } => {
+        HoldingEdit::ReservationDropped { station, id } => {
             drop_reservation(tx, op, station.as_str(), *id)
         }
-        Edit::ListSet { station, list } => set_list(tx, alloc, op, station.as_str(), list),
-        _ => unreachable!(),
+        HoldingEdit::ListSet { station, list } => set_list(tx, alloc, op, station.as_str(), list),
     }
 }
 
@@ -158,16 +152,10 @@ fn make<S: Alter>(
     ensures goes { MayMake op.now change.now (state S.Store tx.old.conn.now) → IsInside (state S.Store tx.old.conn.now) → Goes (IsMade (edit op.now change.now)) (state S.Store tx.old.conn.now) (state S.Store tx.new.conn.now) result }
 {
     match change {
-        Edit::TagPut { .. }
-        | Edit::TagDropped { .. }
-        | Edit::GrantPut { .. }
-        | Edit::GrantDropped { .. } => edit_tags(tx, alloc, op, change),
-        Edit::TxStarted { .. } | Edit::TxStopped { .. } | Edit::ReadingsAdded { .. } => {
-            edit_transactions(tx, op, change)
-        }
-        Edit::ReservationPut { .. } | Edit::ReservationDropped { .. } | Edit::ListSet { .. } =>
-            edit_holdings(tx, alloc, op, change),
-        _ => edit_stations(tx, op, change),
+        Edit::Stations(change) => edit_stations(tx, op, change),
+        Edit::Tags(change) => edit_tags(tx, alloc, op, change),
+        Edit::Transactions(change) => edit_transactions(tx, op, change),
+        Edit::Holdings(change) => edit_holdings(tx, alloc, op, change),
     }
 }
 
@@ -176,24 +164,21 @@ fn committed(ran: Result<(), Error>) -> Result<(), StoreFault>
     ensures ok { OnOk result (IsOk ran) }
     ensures err { OnErr result (IsErr ran) }
 {
-    match ran {
-        Ok(()) => Ok(()),
-        Err(error) => Err(told(error)),
-    }
+    ran.map_err(told)
 }
 
 /// Makes a change, in one transaction.
 pub(crate) fn apply<S: Alter>(
     conn: &mut Connection<S>,
     alloc: Global,
-    change: &Change,
+    change: &Change<'_>,
 ) -> Result<(), StoreFault>
-    ensures changes { IsReady change.now (state S.Store conn.old) → Changes (IsMade (after_change change.now)) (state S.Store conn.old) (state S.Store conn.new) result }
+    ensures changes { IsReady change.now.op.now change.now.edit.now (state S.Store conn.old) → Changes (IsMade (edit change.now.op.now change.now.edit.now)) (state S.Store conn.old) (state S.Store conn.new) result }
 {
     if !conn.is_autocommit() {
         return Err(StoreFault::Failed);
     }
     let mut tx = conn.transaction();
-    make(&mut tx, alloc, change.op.as_str(), change.edit.as_ref())?;
+    make(&mut tx, alloc, change.op.as_str(), change.edit)?;
     committed(tx.commit())
 }

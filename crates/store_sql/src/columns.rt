@@ -3,7 +3,7 @@ ghost use Rattle.std.specs.Prelude.{◌≡◌, Some, IfOk, ◌≤◌};
 ghost use Rattle.sqlite_value.specs.Order.{column};
 ghost use Rattle.hub_rows.specs.Reservations.{shifted};
 ghost use Rattle.ocpp_types.specs.Named.{named as by_name};
-ghost use Rattle.sql_shelf.specs.Values.{text_in, text_if_any, flag_in, count_in, count_if_any, number_in, number_if_any, name_if_any};
+ghost use Rattle.sql_rows.specs.Values.{text_in, text_if_any, flag_in, count_in, count_if_any, number_in, number_if_any, name_if_any};
 ghost use Rattle.store_sql.specs.Store.{told};
 
 use hub_rows::{ReservationId, StoreFault};
@@ -24,10 +24,7 @@ pub(crate) fn told(error: Error) -> StoreFault
 pub(crate) fn text(row: &Row, at: usize) -> Result<Text, StoreFault>
     ensures { IfOk result (λ t. t ≡ text_in (column row.now at)) }
 {
-    match row.get::<String>(at) {
-        Ok(text) => Ok(Text::from(text)),
-        Err(error) => Err(told(error)),
-    }
+    row.get::<String>(at).map(Text::from).map_err(told)
 }
 
 pub(crate) fn text_if_any(row: &Row, at: usize) -> Result<Option<Text>, StoreFault>
@@ -56,19 +53,13 @@ pub(crate) fn key(alloc: Global, row: &Row, at: usize) -> Result<TagKey, StoreFa
 pub(crate) fn flag(row: &Row, at: usize) -> Result<bool, StoreFault>
     ensures { IfOk result (λ b. b ≡ flag_in (column row.now at)) }
 {
-    match row.get::<bool>(at) {
-        Ok(flag) => Ok(flag),
-        Err(error) => Err(told(error)),
-    }
+    row.get::<bool>(at).map_err(told)
 }
 
 pub(crate) fn count(row: &Row, at: usize) -> Result<u32, StoreFault>
     ensures { IfOk result (λ n. n ≡ count_in (column row.now at)) }
 {
-    match row.get::<u32>(at) {
-        Ok(count) => Ok(count),
-        Err(error) => Err(told(error)),
-    }
+    row.get::<u32>(at).map_err(told)
 }
 
 pub(crate) fn connector(row: &Row, at: usize) -> Result<u8, StoreFault>
@@ -85,20 +76,14 @@ pub(crate) fn connector(row: &Row, at: usize) -> Result<u8, StoreFault>
 pub(crate) fn number(row: &Row, at: usize) -> Result<i64, StoreFault>
     ensures { IfOk result (λ n. n ≡ number_in (column row.now at)) }
 {
-    match row.get::<i64>(at) {
-        Ok(number) => Ok(number),
-        Err(error) => Err(told(error)),
-    }
+    row.get::<i64>(at).map_err(told)
 }
 
 /// A number of 32 bits.
 pub(crate) fn number_if_any(row: &Row, at: usize) -> Result<Option<i32>, StoreFault>
     ensures { IfOk result (λ n. n ≡ number_if_any (column row.now at)) }
 {
-    match row.get::<Option<i32>>(at) {
-        Ok(number) => Ok(number),
-        Err(error) => Err(told(error)),
-    }
+    row.get::<Option<i32>>(at).map_err(told)
 }
 
 pub(crate) fn reservation_id(row: &Row, at: usize) -> Result<ReservationId, StoreFault>

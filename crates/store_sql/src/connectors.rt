@@ -3,10 +3,11 @@ ghost use Rattle.std.specs.Prelude.{◌≡◌, ◌&&◌};
 ghost use Rattle.std.specs.Str.{bytes_eq};
 ghost use Rattle.sqlite.specs.Held.{state};
 ghost use Rattle.hub_rows.specs.Lookups.{connectors_in};
-ghost use Rattle.sql_shelf.specs.Kept.{IsServing, Finds, Rests, CommitsNothing, Shows, IsInside, IsMade, Goes};
-ghost use Rattle.sql_shelf.specs.Shelves.{connectors};
+ghost use Rattle.sql_rows.specs.Kept.{IsServing, Finds, Rests, CommitsNothing, Shows, IsInside, IsMade, Goes};
+ghost use Rattle.sql_rows.specs.TypedTables.{connectors};
 ghost use Rattle.hub_rows.specs.Changes.{edit};
-ghost use Rattle.hub_rows.specs.declared.change.Edit.TheVariants.{ConnectorSeen};
+ghost use Rattle.hub_rows.specs.declared.change.Edit.TheVariants.{Stations};
+ghost use Rattle.hub_rows.specs.declared.change.StationEdit.TheVariants.{ConnectorSeen};
 
 use crate::binds::{done, lent};
 use crate::columns::{connector, named, number, text, text_if_any};
@@ -16,14 +17,8 @@ use ocpp_types::{Listed, Named};
 use sqlite::{Alter, Connection, Error, Row, Transaction, params};
 use std::alloc::Global;
 
-const LIST: &str =
-    "SELECT op, station, connector, status, error_code, at, info, vendor_id, vendor_error_code FROM hub_connector WHERE op = ?1 AND station = ?2 ORDER BY connector";
-
-const PUT: &str =
-    "INSERT INTO hub_connector (op, station, connector, status, error_code, at, info, vendor_id, vendor_error_code) VALUES (?1, ?2, ?3, ?4, ?5, ?6, ?7, ?8, ?9) ON CONFLICT (op, station, connector) DO UPDATE SET status = excluded.status, error_code = excluded.error_code, at = excluded.at, info = excluded.info, vendor_id = excluded.vendor_id, vendor_error_code = excluded.vendor_error_code";
-
 impl Stored for ConnectorRow {
-    ghost use Rattle.sql_shelf.specs.Shelves.{connectors};
+    ghost use Rattle.sql_rows.specs.TypedTables.{connectors};
 
     ghost read = { connectors.read };
 
@@ -47,7 +42,7 @@ impl Stored for ConnectorRow {
 fn list<S: Alter>(conn: &mut Connection<S>, op: &str, station: &str) -> Result<Vec<Row>, Error>
     ensures shows { IsServing (state S.Store conn.old) → Shows (λ v. v.items) connectors (λ r. bytes_eq r.op op.now && bytes_eq r.station station.now) (state S.Store conn.old) (state S.Store conn.new) result }
 {
-    conn.query_all(LIST, params![op, station])
+    conn.query_all(sql_tables::connectors::LIST, params![op, station])
 }
 
 /// The connectors of a station.
@@ -72,10 +67,10 @@ fn put_row<S: Alter>(
     report: &ConnectorReport,
 ) -> Result<usize, Error>
     ensures same_reference { tx.new.conn.ghost_name ≡ tx.old.conn.ghost_name }
-    ensures goes { IsInside (state S.Store tx.old.conn.now) → Goes (IsMade (edit op.now (ConnectorSeen station.now connector report.now))) (state S.Store tx.old.conn.now) (state S.Store tx.new.conn.now) result }
+    ensures goes { IsInside (state S.Store tx.old.conn.now) → Goes (IsMade (edit op.now (Stations (ConnectorSeen station.now connector report.now)))) (state S.Store tx.old.conn.now) (state S.Store tx.new.conn.now) result }
 {
     tx.execute(
-        PUT,
+        sql_tables::connectors::PUT,
         params![
             op,
             station,
@@ -99,7 +94,7 @@ pub(crate) fn put_connector<S: Alter>(
     report: &ConnectorReport,
 ) -> Result<(), StoreFault>
     ensures same_reference { tx.new.conn.ghost_name ≡ tx.old.conn.ghost_name }
-    ensures goes { IsInside (state S.Store tx.old.conn.now) → Goes (IsMade (edit op.now (ConnectorSeen station.now connector report.now))) (state S.Store tx.old.conn.now) (state S.Store tx.new.conn.now) result }
+    ensures goes { IsInside (state S.Store tx.old.conn.now) → Goes (IsMade (edit op.now (Stations (ConnectorSeen station.now connector report.now)))) (state S.Store tx.old.conn.now) (state S.Store tx.new.conn.now) result }
 {
     done(put_row(tx, op, station, connector, report))
 }

@@ -4,10 +4,11 @@ ghost use Rattle.std.specs.Str.{bytes_eq};
 ghost use Rattle.sqlite.specs.Held.{state};
 ghost use Rattle.hub_rows.specs.Grants.{grants_in, grants_of_key, has_grant_in, is_grant};
 ghost use Rattle.hub_rows.specs.Keyed.{found};
-ghost use Rattle.sql_shelf.specs.Kept.{IsServing, Finds, Rests, CommitsNothing, Shows, IsInside, IsMade, Goes};
-ghost use Rattle.sql_shelf.specs.Shelves.{grants};
+ghost use Rattle.sql_rows.specs.Kept.{IsServing, Finds, Rests, CommitsNothing, Shows, IsInside, IsMade, Goes};
+ghost use Rattle.sql_rows.specs.TypedTables.{grants};
 ghost use Rattle.hub_rows.specs.Changes.{edit};
-ghost use Rattle.hub_rows.specs.declared.change.Edit.TheVariants.{GrantPut, GrantDropped};
+ghost use Rattle.hub_rows.specs.declared.change.Edit.TheVariants.{Tags};
+ghost use Rattle.hub_rows.specs.declared.change.TagEdit.TheVariants.{GrantPut, GrantDropped};
 
 use crate::binds::{done, seconds_if_any};
 use crate::columns::{key, moment_if_any, text};
@@ -17,22 +18,8 @@ use ocpp_types::{Listed, Moment};
 use sqlite::{Alter, Connection, Error, Row, Transaction, params};
 use std::alloc::Global;
 
-const FIND: &str =
-    "SELECT op, tag_key, to_op, until FROM hub_grant WHERE op = ?1 AND tag_key = ?2 AND to_op = ?3";
-
-const LIST: &str =
-    "SELECT op, tag_key, to_op, until FROM hub_grant WHERE op = ?1 ORDER BY tag_key, to_op";
-
-const RECEIVED: &str =
-    "SELECT op, tag_key, to_op, until FROM hub_grant WHERE to_op = ?1 AND tag_key BETWEEN ?2 AND ?3 ORDER BY tag_key, op";
-
-const PUT: &str =
-    "INSERT INTO hub_grant (op, tag_key, to_op, until) VALUES (?1, ?2, ?3, ?4) ON CONFLICT (op, tag_key, to_op) DO UPDATE SET until = excluded.until";
-
-const DROP: &str = "DELETE FROM hub_grant WHERE op = ?1 AND tag_key = ?2 AND to_op = ?3";
-
 impl Stored for GrantRow {
-    ghost use Rattle.sql_shelf.specs.Shelves.{grants};
+    ghost use Rattle.sql_rows.specs.TypedTables.{grants};
 
     ghost read = { grants.read };
 
@@ -54,26 +41,26 @@ fn find<S: Alter>(
 ) -> Result<Vec<Row>, Error>
     ensures shows { IsServing (state S.Store conn.old) → Shows (λ v. v.items) grants (λ r. bytes_eq r.op op.now && is_grant key.now to.now r) (state S.Store conn.old) (state S.Store conn.new) result }
 {
-    conn.query_all(FIND, params![op, key, to])
+    conn.query_all(sql_tables::grants::FIND, params![op, key, to])
 }
 
 fn list<S: Alter>(conn: &mut Connection<S>, op: &str) -> Result<Vec<Row>, Error>
     ensures shows { IsServing (state S.Store conn.old) → Shows (λ v. v.items) grants (λ r. bytes_eq r.op op.now && true) (state S.Store conn.old) (state S.Store conn.new) result }
 {
-    conn.query_all(LIST, params![op])
+    conn.query_all(sql_tables::grants::LIST, params![op])
 }
 
 fn find_received<S: Alter>(conn: &mut Connection<S>, to: &str, key: &str) -> Result<Vec<Row>, Error>
     ensures shows { IsServing (state S.Store conn.old) → Shows (λ v. v.items) grants (λ r. bytes_eq r.to to.now && bytes_eq r.key key.now) (state S.Store conn.old) (state S.Store conn.new) result }
 {
-    conn.query_all(RECEIVED, params![to, key, key])
+    conn.query_all(sql_tables::grants::FIND_RECEIVED, params![to, key, key])
 }
 
 pub(crate) fn list_received<S: Alter>(conn: &mut Connection<S>, to: &str) -> Result<Vec<Row>, Error>
     ensures shows { IsServing (state S.Store conn.old) → Shows (λ v. v.items) grants (λ r. bytes_eq r.to to.now) (state S.Store conn.old) (state S.Store conn.new) result }
 {
     let above: &[u8] = &[];
-    conn.query_all(RECEIVED, params![to, "", above])
+    conn.query_all(sql_tables::grants::FIND_RECEIVED, params![to, "", above])
 }
 
 /// The grant of a tag to an operator.
@@ -138,9 +125,9 @@ fn put_row<S: Alter>(
     until: &Option<Moment>,
 ) -> Result<usize, Error>
     ensures same_reference { tx.new.conn.ghost_name ≡ tx.old.conn.ghost_name }
-    ensures goes { IsInside (state S.Store tx.old.conn.now) → Goes (IsMade (edit op.now (GrantPut key.now to.now until.now))) (state S.Store tx.old.conn.now) (state S.Store tx.new.conn.now) result }
+    ensures goes { IsInside (state S.Store tx.old.conn.now) → Goes (IsMade (edit op.now (Tags (GrantPut key.now to.now until.now)))) (state S.Store tx.old.conn.now) (state S.Store tx.new.conn.now) result }
 {
-    tx.execute(PUT, params![op, key, to, seconds_if_any(until)])
+    tx.execute(sql_tables::grants::PUT, params![op, key, to, seconds_if_any(until)])
 }
 
 /// Drops the row of a grant.
@@ -151,9 +138,9 @@ fn drop_row<S: Alter>(
     to: &str,
 ) -> Result<usize, Error>
     ensures same_reference { tx.new.conn.ghost_name ≡ tx.old.conn.ghost_name }
-    ensures goes { IsInside (state S.Store tx.old.conn.now) → Goes (IsMade (edit op.now (GrantDropped key.now to.now))) (state S.Store tx.old.conn.now) (state S.Store tx.new.conn.now) result }
+    ensures goes { IsInside (state S.Store tx.old.conn.now) → Goes (IsMade (edit op.now (Tags (GrantDropped key.now to.now)))) (state S.Store tx.old.conn.now) (state S.Store tx.new.conn.now) result }
 {
-    tx.execute(DROP, params![op, key, to])
+    tx.execute(sql_tables::grants::DROP, params![op, key, to])
 }
 
 /// Puts a grant of a tag, in place of the one to that operator.
@@ -165,7 +152,7 @@ pub(crate) fn put_grant<S: Alter>(
     until: &Option<Moment>,
 ) -> Result<(), StoreFault>
     ensures same_reference { tx.new.conn.ghost_name ≡ tx.old.conn.ghost_name }
-    ensures goes { IsInside (state S.Store tx.old.conn.now) → Goes (IsMade (edit op.now (GrantPut key.now to.now until.now))) (state S.Store tx.old.conn.now) (state S.Store tx.new.conn.now) result }
+    ensures goes { IsInside (state S.Store tx.old.conn.now) → Goes (IsMade (edit op.now (Tags (GrantPut key.now to.now until.now)))) (state S.Store tx.old.conn.now) (state S.Store tx.new.conn.now) result }
 {
     done(put_row(tx, op, key, to, until))
 }
@@ -178,7 +165,7 @@ pub(crate) fn drop_grant<S: Alter>(
     to: &str,
 ) -> Result<(), StoreFault>
     ensures same_reference { tx.new.conn.ghost_name ≡ tx.old.conn.ghost_name }
-    ensures goes { IsInside (state S.Store tx.old.conn.now) → Goes (IsMade (edit op.now (GrantDropped key.now to.now))) (state S.Store tx.old.conn.now) (state S.Store tx.new.conn.now) result }
+    ensures goes { IsInside (state S.Store tx.old.conn.now) → Goes (IsMade (edit op.now (Tags (GrantDropped key.now to.now)))) (state S.Store tx.old.conn.now) (state S.Store tx.new.conn.now) result }
 {
     done(drop_row(tx, op, key, to))
 }

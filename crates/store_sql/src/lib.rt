@@ -7,7 +7,6 @@ mod columns;
 mod connectors;
 mod granted;
 mod grants;
-mod last_numbers;
 mod local_lists;
 mod opening;
 mod readings;

@@ -4,37 +4,25 @@ ghost use Rattle.std.specs.Str.{bytes_eq};
 ghost use Rattle.sqlite.specs.Held.{state};
 ghost use Rattle.ocpp_types.specs.TagKey.{key_of};
 ghost use Rattle.hub_rows.specs.Changes.{edit};
-ghost use Rattle.hub_rows.specs.declared.change.Edit.TheVariants.{ListSet};
+ghost use Rattle.hub_rows.specs.declared.change.Edit.TheVariants.{Holdings};
+ghost use Rattle.hub_rows.specs.declared.change.HoldingEdit.TheVariants.{ListSet};
 ghost use Rattle.hub_rows.specs.LocalLists.{AreEntries};
 ghost use Rattle.hub_rows.specs.Lookups.{local_list_in};
-ghost use Rattle.sql_shelf.specs.Kept.{ArePutIn, Finds, FindsIn, Goes, IsDropped, IsInside, IsMade, IsPutIn, IsServing, Rests, CommitsNothing, Shows};
-ghost use Rattle.sql_shelf.specs.Shelf.{rows_in};
-ghost use Rattle.sql_shelf.specs.Shelves.{entries, entry_row, lists};
+ghost use Rattle.sql_rows.specs.Kept.{ArePutIn, Finds, FindsIn, Goes, IsDropped, IsInside, IsMade, IsPutIn, IsServing, Rests, CommitsNothing, Shows};
+ghost use Rattle.sql_rows.specs.TypedTable.{rows_in};
+ghost use Rattle.sql_rows.specs.TypedTables.{entries, entry_row, lists};
 
 use crate::binds::{done, lent, seconds_if_any};
 use crate::columns::{count, moment_if_any, named, text, text_if_any};
 use crate::stored::{Stored, first_row, listed};
 use hub_rows::{LocalList, LocalTag, StoreFault};
 use ocpp_types::{IdTagInfo, Listed, Named, TagKey};
-use sql_shelf::{EntryRow, ListHead};
+use sql_rows::{EntryRow, ListHead};
 use sqlite::{Alter, Connection, Error, Row, Transaction, params};
 use std::alloc::Global;
 
-const FIND: &str = "SELECT op, station, version FROM hub_list WHERE op = ?1 AND station = ?2";
-
-const LIST_ENTRIES: &str =
-    "SELECT op, station, tag_key, id_tag, expiry_date, parent_id_tag, status FROM hub_list_entry WHERE op = ?1 AND station = ?2 ORDER BY tag_key";
-
-const PUT: &str =
-    "INSERT INTO hub_list (op, station, version) VALUES (?1, ?2, ?3) ON CONFLICT (op, station) DO UPDATE SET version = excluded.version";
-
-const ADD_ENTRY: &str =
-    "INSERT INTO hub_list_entry (op, station, tag_key, id_tag, expiry_date, parent_id_tag, status) VALUES (?1, ?2, ?3, ?4, ?5, ?6, ?7)";
-
-const DROP_ENTRIES: &str = "DELETE FROM hub_list_entry WHERE op = ?1 AND station = ?2";
-
 impl Stored for ListHead {
-    ghost use Rattle.sql_shelf.specs.Shelves.{lists};
+    ghost use Rattle.sql_rows.specs.TypedTables.{lists};
 
     ghost read = { lists.read };
 
@@ -48,7 +36,7 @@ impl Stored for ListHead {
 }
 
 impl Stored for EntryRow {
-    ghost use Rattle.sql_shelf.specs.Shelves.{entries};
+    ghost use Rattle.sql_rows.specs.TypedTables.{entries};
 
     ghost read = { entries.read };
 
@@ -72,7 +60,7 @@ impl Stored for EntryRow {
 fn find_one<S: Alter>(conn: &mut Connection<S>, op: &str, station: &str) -> Result<Vec<Row>, Error>
     ensures shows { IsServing (state S.Store conn.old) → Shows (λ v. v.items) lists (λ l. bytes_eq l.op op.now && bytes_eq l.station station.now) (state S.Store conn.old) (state S.Store conn.new) result }
 {
-    conn.query_all(FIND, params![op, station])
+    conn.query_all(sql_tables::lists::FIND, params![op, station])
 }
 
 fn find_entries<S: Alter>(
@@ -82,7 +70,7 @@ fn find_entries<S: Alter>(
 ) -> Result<Vec<Row>, Error>
     ensures shows { IsServing (state S.Store conn.old) → Shows (λ v. v.items) entries (λ e. bytes_eq e.op op.now && bytes_eq e.station station.now) (state S.Store conn.old) (state S.Store conn.new) result }
 {
-    conn.query_all(LIST_ENTRIES, params![op, station])
+    conn.query_all(sql_tables::list_entries::LIST, params![op, station])
 }
 
 /// The list of a station, without its entries.
@@ -151,7 +139,7 @@ fn drop_rows<S: Alter>(tx: &mut Transaction<'_, S>, op: &str, station: &str) -> 
     ensures same_reference { tx.new.conn.ghost_name ≡ tx.old.conn.ghost_name }
     ensures goes { IsInside (state S.Store tx.old.conn.now) → Goes (IsDropped entries (λ e. bytes_eq e.op op.now && bytes_eq e.station station.now)) (state S.Store tx.old.conn.now) (state S.Store tx.new.conn.now) result }
 {
-    tx.execute(DROP_ENTRIES, params![op, station])
+    tx.execute(sql_tables::list_entries::DROP, params![op, station])
 }
 
 /// Drops the entries of a list.
@@ -176,7 +164,7 @@ fn put_row<S: Alter>(
     ensures same_reference { tx.new.conn.ghost_name ≡ tx.old.conn.ghost_name }
     ensures goes { IsInside (state S.Store tx.old.conn.now) → Goes (IsPutIn lists (record { op = op.now; station = station.now; version = version })) (state S.Store tx.old.conn.now) (state S.Store tx.new.conn.now) result }
 {
-    tx.execute(PUT, params![op, station, version])
+    tx.execute(sql_tables::lists::PUT, params![op, station, version])
 }
 
 /// Puts a list, without its entries.
@@ -205,7 +193,7 @@ fn put_entry_row<S: Alter>(
     ensures goes { IsInside (state S.Store tx.old.conn.now) → Goes (IsPutIn entries (entry_row op.now station.now entry.now)) (state S.Store tx.old.conn.now) (state S.Store tx.new.conn.now) result }
 {
     tx.execute(
-        ADD_ENTRY,
+        sql_tables::list_entries::ADD,
         params![
             op,
             station,
@@ -259,7 +247,7 @@ pub(crate) fn set_list<S: Alter>(
     list: &LocalList,
 ) -> Result<(), StoreFault>
     ensures same_reference { tx.new.conn.ghost_name ≡ tx.old.conn.ghost_name }
-    ensures goes { (IsTrue (state S.Store tx.old.conn.now).is_open → AreEntries list.now.entries) → IsInside (state S.Store tx.old.conn.now) → Goes (IsMade (edit op.now (ListSet station.now list.now))) (state S.Store tx.old.conn.now) (state S.Store tx.new.conn.now) result }
+    ensures goes { (IsTrue (state S.Store tx.old.conn.now).is_open → AreEntries list.now.entries) → IsInside (state S.Store tx.old.conn.now) → Goes (IsMade (edit op.now (Holdings (ListSet station.now list.now)))) (state S.Store tx.old.conn.now) (state S.Store tx.new.conn.now) result }
 {
     drop_entries(tx, op, station)?;
     put_head(tx, op, station, list.version)?;

@@ -3,9 +3,9 @@ ghost use Rattle.std.specs.Prelude.{◌≡◌, ◌&&◌, ◌<◌, ◌^◌, None,
 ghost use Rattle.std.specs.Str.{bytes_eq};
 ghost use Rattle.sqlite.specs.Held.{state};
 ghost use Rattle.hub_rows.specs.Keyed.{greatest, by_key, put};
-ghost use Rattle.hub_rows.specs.Transactions.{is_reading, is_sent_with, numbers_of, readings_in};
-ghost use Rattle.sql_shelf.specs.Kept.{IsServing, Finds, Rests, CommitsNothing, Shows, ShowsLast, IsInside, IsMade, Goes};
-ghost use Rattle.sql_shelf.specs.Shelves.{readings};
+ghost use Rattle.hub_rows.specs.Transactions.{is_reading, is_sent_with, readings_in, last_reading_in};
+ghost use Rattle.sql_rows.specs.Kept.{IsServing, Finds, Rests, CommitsNothing, Shows, ShowsLast, IsInside, IsMade, Goes};
+ghost use Rattle.sql_rows.specs.TypedTables.{readings};
 ghost use Rattle.hub_rows.specs.Rows.{reading_key};
 ghost use Rattle.hub_rows.specs.Changes.{with_readings};
 
@@ -18,20 +18,8 @@ use ocpp_types::{Listed, Named};
 use sqlite::{Alter, Connection, Error, Row, Transaction, params};
 use std::alloc::Global;
 
-const LIST: &str =
-    "SELECT op, station, number, connector, transaction_id, at, context, format, measurand, phase, location, unit, value FROM hub_reading WHERE op = ?1 AND station = ?2 ORDER BY number";
-
-const LIST_OF_TX: &str =
-    "SELECT op, station, number, connector, transaction_id, at, context, format, measurand, phase, location, unit, value FROM hub_reading WHERE op = ?1 AND station = ?2 AND transaction_id = ?3 ORDER BY number";
-
-const FIND_LAST: &str =
-    "SELECT op, station, number, connector, transaction_id, at, context, format, measurand, phase, location, unit, value FROM hub_reading WHERE op = ?1 AND station = ?2 ORDER BY number DESC LIMIT 1";
-
-const ADD: &str =
-    "INSERT INTO hub_reading (op, station, number, connector, transaction_id, at, context, format, measurand, phase, location, unit, value) VALUES (?1, ?2, ?3, ?4, ?5, ?6, ?7, ?8, ?9, ?10, ?11, ?12, ?13)";
-
 impl Stored for ReadingRow {
-    ghost use Rattle.sql_shelf.specs.Shelves.{readings};
+    ghost use Rattle.sql_rows.specs.TypedTables.{readings};
 
     ghost read = { readings.read };
 
@@ -65,7 +53,7 @@ fn reading(row: &Row) -> Result<Reading, StoreFault>
 fn list<S: Alter>(conn: &mut Connection<S>, op: &str, station: &str) -> Result<Vec<Row>, Error>
     ensures shows { IsServing (state S.Store conn.old) → Shows (λ v. v.items) readings (λ r. bytes_eq r.op op.now && is_reading station.now None r) (state S.Store conn.old) (state S.Store conn.new) result }
 {
-    conn.query_all(LIST, params![op, station])
+    conn.query_all(sql_tables::readings::LIST, params![op, station])
 }
 
 fn list_of_tx<S: Alter>(
@@ -77,13 +65,13 @@ fn list_of_tx<S: Alter>(
     requires { transaction < 2 ^ 63 }
     ensures shows { IsServing (state S.Store conn.old) → Shows (λ v. v.items) readings (λ r. bytes_eq r.op op.now && is_reading station.now (Some transaction) r) (state S.Store conn.old) (state S.Store conn.new) result }
 {
-    conn.query_all(LIST_OF_TX, params![op, station, transaction as i64])
+    conn.query_all(sql_tables::readings::LIST_OF_TX, params![op, station, transaction as i64])
 }
 
 fn find_last<S: Alter>(conn: &mut Connection<S>, op: &str, station: &str) -> Result<Vec<Row>, Error>
     ensures shows { IsServing (state S.Store conn.old) → ShowsLast (λ v. v.items) readings (λ r. r.number) (λ r. bytes_eq r.op op.now && is_reading station.now None r) (state S.Store conn.old) (state S.Store conn.new) result }
 {
-    conn.query_all(FIND_LAST, params![op, station])
+    conn.query_all(sql_tables::readings::FIND_LAST, params![op, station])
 }
 
 /// All readings of a station.
@@ -163,13 +151,13 @@ pub(crate) fn readings<S: Alter>(
     sent_with(alloc, all, wanted)
 }
 
-/// The last number of a station's readings, 0 where there is none.
-pub(crate) fn last_number<S: Alter>(
+/// The number of a station's last reading, 0 where it has none.
+pub(crate) fn last_reading<S: Alter>(
     conn: &mut Connection<S>,
     op: &str,
     station: &str,
 ) -> Result<u32, StoreFault>
-    ensures found { Finds (state S.Store conn.old) (state S.Store conn.new) result (λ rows n. n ≡ greatest (numbers_of (λ r. r.number) (readings_in op.now station.now None rows.readings))) }
+    ensures found { Finds (state S.Store conn.old) (state S.Store conn.new) result (λ rows n. n ≡ last_reading_in op.now station.now rows.readings) }
     ensures same { Rests (state S.Store conn.old) (state S.Store conn.new) }
     ensures stops { CommitsNothing (state S.Store conn.old) (state S.Store conn.new) result }
 {
@@ -188,7 +176,7 @@ fn put_row<S: Alter>(
     ensures goes { IsInside (state S.Store tx.old.conn.now) → Goes (IsMade (λ rows. record rows { readings = put (by_key reading_key) (record { op = op.now; station = station.now; number = number; reading = reading.now }) rows.readings })) (state S.Store tx.old.conn.now) (state S.Store tx.new.conn.now) result }
 {
     tx.execute(
-        ADD,
+        sql_tables::readings::ADD,
         params![
             op,
             station,

@@ -4,10 +4,11 @@ ghost use Rattle.std.specs.Str.{bytes_eq};
 ghost use Rattle.sqlite_value.specs.Order.{column};
 ghost use Rattle.sqlite.specs.Held.{state};
 ghost use Rattle.hub_rows.specs.Lookups.{reports_in};
-ghost use Rattle.sql_shelf.specs.Kept.{IsServing, Finds, Rests, CommitsNothing, Shows, IsInside, IsMade, Goes};
-ghost use Rattle.sql_shelf.specs.Shelves.{reports, status_in};
+ghost use Rattle.sql_rows.specs.Kept.{IsServing, Finds, Rests, CommitsNothing, Shows, IsInside, IsMade, Goes};
+ghost use Rattle.sql_rows.specs.TypedTables.{reports, status_in};
 ghost use Rattle.hub_rows.specs.Changes.{edit};
-ghost use Rattle.hub_rows.specs.declared.change.Edit.TheVariants.{ReportSeen};
+ghost use Rattle.hub_rows.specs.declared.change.Edit.TheVariants.{Stations};
+ghost use Rattle.hub_rows.specs.declared.change.StationEdit.TheVariants.{ReportSeen};
 
 use crate::binds::{done, seconds};
 use crate::columns::{moment, named, text};
@@ -16,12 +17,6 @@ use hub_rows::{ReportRow, ReportedStatus, StoreFault};
 use ocpp_types::{Listed, Moment};
 use sqlite::{Alter, Connection, Error, Row, Transaction, params};
 use std::alloc::Global;
-
-const LIST: &str =
-    "SELECT op, station, kind, status, moment FROM hub_report WHERE op = ?1 AND station = ?2 ORDER BY kind";
-
-const PUT: &str =
-    "INSERT INTO hub_report (op, station, kind, status, moment) VALUES (?1, ?2, ?3, ?4, ?5) ON CONFLICT (op, station, kind) DO UPDATE SET status = excluded.status, moment = excluded.moment";
 
 /// A status by the names of its kind and of itself.
 fn status(row: &Row) -> Result<ReportedStatus, StoreFault>
@@ -36,7 +31,7 @@ fn status(row: &Row) -> Result<ReportedStatus, StoreFault>
 }
 
 impl Stored for ReportRow {
-    ghost use Rattle.sql_shelf.specs.Shelves.{reports};
+    ghost use Rattle.sql_rows.specs.TypedTables.{reports};
 
     ghost read = { reports.read };
 
@@ -53,7 +48,7 @@ impl Stored for ReportRow {
 fn list<S: Alter>(conn: &mut Connection<S>, op: &str, station: &str) -> Result<Vec<Row>, Error>
     ensures shows { IsServing (state S.Store conn.old) → Shows (λ v. v.items) reports (λ r. bytes_eq r.op op.now && bytes_eq r.station station.now) (state S.Store conn.old) (state S.Store conn.new) result }
 {
-    conn.query_all(LIST, params![op, station])
+    conn.query_all(sql_tables::reports::LIST, params![op, station])
 }
 
 /// The reports of a station.
@@ -78,10 +73,10 @@ fn put_row<S: Alter>(
     moment: Moment,
 ) -> Result<usize, Error>
     ensures same_reference { tx.new.conn.ghost_name ≡ tx.old.conn.ghost_name }
-    ensures goes { IsInside (state S.Store tx.old.conn.now) → Goes (IsMade (edit op.now (ReportSeen station.now status moment))) (state S.Store tx.old.conn.now) (state S.Store tx.new.conn.now) result }
+    ensures goes { IsInside (state S.Store tx.old.conn.now) → Goes (IsMade (edit op.now (Stations (ReportSeen station.now status moment)))) (state S.Store tx.old.conn.now) (state S.Store tx.new.conn.now) result }
 {
     tx.execute(
-        PUT,
+        sql_tables::reports::PUT,
         params![op, station, status.kind(), status.name(), seconds(moment)],
     )
 }
@@ -95,7 +90,7 @@ pub(crate) fn put_report<S: Alter>(
     moment: Moment,
 ) -> Result<(), StoreFault>
     ensures same_reference { tx.new.conn.ghost_name ≡ tx.old.conn.ghost_name }
-    ensures goes { IsInside (state S.Store tx.old.conn.now) → Goes (IsMade (edit op.now (ReportSeen station.now status moment))) (state S.Store tx.old.conn.now) (state S.Store tx.new.conn.now) result }
+    ensures goes { IsInside (state S.Store tx.old.conn.now) → Goes (IsMade (edit op.now (Stations (ReportSeen station.now status moment)))) (state S.Store tx.old.conn.now) (state S.Store tx.new.conn.now) result }
 {
     done(put_row(tx, op, station, status, moment))
 }

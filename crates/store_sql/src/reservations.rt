@@ -4,10 +4,11 @@ ghost use Rattle.std.specs.Str.{bytes_eq};
 ghost use Rattle.sqlite.specs.Held.{state};
 ghost use Rattle.hub_rows.specs.Keyed.{found};
 ghost use Rattle.hub_rows.specs.Reservations.{is_reservation, reservations_in, reserved_until_in, without_named};
-ghost use Rattle.sql_shelf.specs.Kept.{IsServing, Finds, Rests, CommitsNothing, Shows, IsInside, IsMade, Goes};
-ghost use Rattle.sql_shelf.specs.Shelves.{reservations};
+ghost use Rattle.sql_rows.specs.Kept.{IsServing, Finds, Rests, CommitsNothing, Shows, IsInside, IsMade, Goes};
+ghost use Rattle.sql_rows.specs.TypedTables.{reservations};
 ghost use Rattle.hub_rows.specs.Changes.{edit};
-ghost use Rattle.hub_rows.specs.declared.change.Edit.TheVariants.{ReservationPut, ReservationDropped};
+ghost use Rattle.hub_rows.specs.declared.change.Edit.TheVariants.{Holdings};
+ghost use Rattle.hub_rows.specs.declared.change.HoldingEdit.TheVariants.{ReservationPut, ReservationDropped};
 
 use crate::binds::{done, lent, seconds};
 use crate::columns::{connector, moment, reservation_id, text, text_if_any};
@@ -17,20 +18,11 @@ use ocpp_types::{Listed, Moment};
 use sqlite::{Alter, Connection, Error, Row, Transaction, params};
 use std::alloc::Global;
 
-const FIND: &str =
-    "SELECT op, station, reservation_id, connector, id_tag, parent_id_tag, expiry_date FROM hub_reservation WHERE op = ?1 AND station = ?2 AND reservation_id BETWEEN ?3 AND ?4 ORDER BY reservation_id";
-
 /// The least id.
 const LEAST: i64 = -2147483648;
 
-const PUT: &str =
-    "INSERT INTO hub_reservation (op, station, reservation_id, connector, id_tag, parent_id_tag, expiry_date) VALUES (?1, ?2, ?3, ?4, ?5, ?6, ?7) ON CONFLICT (op, station, reservation_id) DO UPDATE SET connector = excluded.connector, id_tag = excluded.id_tag, parent_id_tag = excluded.parent_id_tag, expiry_date = excluded.expiry_date";
-
-const DROP: &str =
-    "DELETE FROM hub_reservation WHERE op = ?1 AND station = ?2 AND reservation_id = ?3";
-
 impl Stored for ReservationRow {
-    ghost use Rattle.sql_shelf.specs.Shelves.{reservations};
+    ghost use Rattle.sql_rows.specs.TypedTables.{reservations};
 
     ghost read = { reservations.read };
 
@@ -58,14 +50,14 @@ fn find_one<S: Alter>(
     ensures shows { IsServing (state S.Store conn.old) → Shows (λ v. v.items) reservations (λ r. bytes_eq r.op op.now && is_reservation station.now id r) (state S.Store conn.old) (state S.Store conn.new) result }
 {
     let number = id.get();
-    conn.query_all(FIND, params![op, station, number, number])
+    conn.query_all(sql_tables::reservations::FIND, params![op, station, number, number])
 }
 
 fn find_all<S: Alter>(conn: &mut Connection<S>, op: &str, station: &str) -> Result<Vec<Row>, Error>
     ensures shows { IsServing (state S.Store conn.old) → Shows (λ v. v.items) reservations (λ r. bytes_eq r.op op.now && bytes_eq r.station station.now) (state S.Store conn.old) (state S.Store conn.new) result }
 {
     let above: &[u8] = &[];
-    conn.query_all(FIND, params![op, station, LEAST, above])
+    conn.query_all(sql_tables::reservations::FIND, params![op, station, LEAST, above])
 }
 
 /// The reservation of an id at a station.
@@ -93,11 +85,7 @@ pub(crate) fn reserved_until<S: Alter>(
     ensures same { Rests (state S.Store conn.old) (state S.Store conn.new) }
     ensures stops { CommitsNothing (state S.Store conn.old) (state S.Store conn.new) result }
 {
-    let found = find_reservation(conn, op, station, id)?;
-    match &found {
-        Some(row) => Ok(Some(row.reservation.expiry)),
-        None => Ok(None),
-    }
+    Ok(find_reservation(conn, op, station, id)?.map(|row| row.reservation.expiry))
 }
 
 /// The reservations at a station.
@@ -122,10 +110,10 @@ fn put_row<S: Alter>(
     reservation: &Reservation,
 ) -> Result<usize, Error>
     ensures same_reference { tx.new.conn.ghost_name ≡ tx.old.conn.ghost_name }
-    ensures goes { IsInside (state S.Store tx.old.conn.now) → Goes (IsMade (edit op.now (ReservationPut station.now id reservation.now))) (state S.Store tx.old.conn.now) (state S.Store tx.new.conn.now) result }
+    ensures goes { IsInside (state S.Store tx.old.conn.now) → Goes (IsMade (edit op.now (Holdings (ReservationPut station.now id reservation.now)))) (state S.Store tx.old.conn.now) (state S.Store tx.new.conn.now) result }
 {
     tx.execute(
-        PUT,
+        sql_tables::reservations::PUT,
         params![
             op,
             station,
@@ -146,9 +134,9 @@ fn drop_row<S: Alter>(
     id: ReservationId,
 ) -> Result<usize, Error>
     ensures same_reference { tx.new.conn.ghost_name ≡ tx.old.conn.ghost_name }
-    ensures goes { IsInside (state S.Store tx.old.conn.now) → Goes (IsMade (edit op.now (ReservationDropped station.now id))) (state S.Store tx.old.conn.now) (state S.Store tx.new.conn.now) result }
+    ensures goes { IsInside (state S.Store tx.old.conn.now) → Goes (IsMade (edit op.now (Holdings (ReservationDropped station.now id)))) (state S.Store tx.old.conn.now) (state S.Store tx.new.conn.now) result }
 {
-    tx.execute(DROP, params![op, station, id.get()])
+    tx.execute(sql_tables::reservations::DROP, params![op, station, id.get()])
 }
 
 /// Puts a reservation, in place of the one with its id.
@@ -160,7 +148,7 @@ pub(crate) fn put_reservation<S: Alter>(
     reservation: &Reservation,
 ) -> Result<(), StoreFault>
     ensures same_reference { tx.new.conn.ghost_name ≡ tx.old.conn.ghost_name }
-    ensures goes { IsInside (state S.Store tx.old.conn.now) → Goes (IsMade (edit op.now (ReservationPut station.now id reservation.now))) (state S.Store tx.old.conn.now) (state S.Store tx.new.conn.now) result }
+    ensures goes { IsInside (state S.Store tx.old.conn.now) → Goes (IsMade (edit op.now (Holdings (ReservationPut station.now id reservation.now)))) (state S.Store tx.old.conn.now) (state S.Store tx.new.conn.now) result }
 {
     done(put_row(tx, op, station, id, reservation))
 }
@@ -173,7 +161,7 @@ pub(crate) fn drop_reservation<S: Alter>(
     id: ReservationId,
 ) -> Result<(), StoreFault>
     ensures same_reference { tx.new.conn.ghost_name ≡ tx.old.conn.ghost_name }
-    ensures goes { IsInside (state S.Store tx.old.conn.now) → Goes (IsMade (edit op.now (ReservationDropped station.now id))) (state S.Store tx.old.conn.now) (state S.Store tx.new.conn.now) result }
+    ensures goes { IsInside (state S.Store tx.old.conn.now) → Goes (IsMade (edit op.now (Holdings (ReservationDropped station.now id)))) (state S.Store tx.old.conn.now) (state S.Store tx.new.conn.now) result }
 {
     done(drop_row(tx, op, station, id))
 }

@@ -4,10 +4,11 @@ ghost use Rattle.std.specs.Str.{bytes_eq};
 ghost use Rattle.sqlite.specs.Held.{state};
 ghost use Rattle.hub_rows.specs.Lookups.{stations_in};
 ghost use Rattle.hub_rows.specs.Rows.{registration_in, station_in, station_key};
-ghost use Rattle.sql_shelf.specs.Kept.{IsServing, Finds, Rests, CommitsNothing, Shows, IsInside, IsMade, IsSame, Goes, ShowsInside};
-ghost use Rattle.sql_shelf.specs.Shelves.{boot_in, stations, rows_of};
+ghost use Rattle.sql_rows.specs.Kept.{IsServing, Finds, Rests, CommitsNothing, Shows, IsInside, IsMade, IsSame, Goes, ShowsInside};
+ghost use Rattle.sql_rows.specs.TypedTables.{boot_in, stations, rows_of};
 ghost use Rattle.hub_rows.specs.Changes.{edit};
-ghost use Rattle.hub_rows.specs.declared.change.Edit.TheVariants.{StationAdded, BootSeen, PolicySet};
+ghost use Rattle.hub_rows.specs.declared.change.Edit.TheVariants.{Stations};
+ghost use Rattle.hub_rows.specs.declared.change.StationEdit.TheVariants.{StationAdded, BootSeen, PolicySet};
 ghost use Rattle.hub_rows.specs.Keyed.{by_key, put};
 
 use crate::binds::{done, lent, seconds};
@@ -18,14 +19,8 @@ use ocpp_types::{BootNotification, Boxed, Listed, Named, Policy, State};
 use sqlite::{Alter, Connection, Error, Row, Transaction, params};
 use std::alloc::Global;
 
-const FIND: &str =
-    "SELECT op, station, policy, interval, state, booted, charge_point_model, charge_point_vendor, charge_box_serial_number, charge_point_serial_number, firmware_version, iccid, imsi, meter_serial_number, meter_type FROM hub_station WHERE op = ?1 AND station BETWEEN ?2 AND ?3 ORDER BY station";
-
-const PUT: &str =
-    "INSERT INTO hub_station (op, station, policy, interval, state, booted, charge_point_model, charge_point_vendor, charge_box_serial_number, charge_point_serial_number, firmware_version, iccid, imsi, meter_serial_number, meter_type) VALUES (?1, ?2, ?3, ?4, ?5, ?6, ?7, ?8, ?9, ?10, ?11, ?12, ?13, ?14, ?15) ON CONFLICT (op, station) DO UPDATE SET policy = excluded.policy, interval = excluded.interval, state = excluded.state, booted = excluded.booted, charge_point_model = excluded.charge_point_model, charge_point_vendor = excluded.charge_point_vendor, charge_box_serial_number = excluded.charge_box_serial_number, charge_point_serial_number = excluded.charge_point_serial_number, firmware_version = excluded.firmware_version, iccid = excluded.iccid, imsi = excluded.imsi, meter_serial_number = excluded.meter_serial_number, meter_type = excluded.meter_type";
-
 impl Stored for StationRow {
-    ghost use Rattle.sql_shelf.specs.Shelves.{stations};
+    ghost use Rattle.sql_rows.specs.TypedTables.{stations};
 
     ghost read = { stations.read };
 
@@ -69,14 +64,14 @@ fn boot(alloc: Global, row: &Row) -> Result<Option<Boot>, StoreFault>
 fn find_one<S: Alter>(conn: &mut Connection<S>, op: &str, station: &str) -> Result<Vec<Row>, Error>
     ensures shows { IsServing (state S.Store conn.old) → Shows (λ v. v.items) stations (λ r. bytes_eq r.op op.now && bytes_eq r.station station.now) (state S.Store conn.old) (state S.Store conn.new) result }
 {
-    conn.query_all(FIND, params![op, station, station])
+    conn.query_all(sql_tables::stations::FIND, params![op, station, station])
 }
 
 fn find_all<S: Alter>(conn: &mut Connection<S>, op: &str) -> Result<Vec<Row>, Error>
     ensures shows { IsServing (state S.Store conn.old) → Shows (λ v. v.items) stations (λ r. bytes_eq r.op op.now && true) (state S.Store conn.old) (state S.Store conn.new) result }
 {
     let above: &[u8] = &[];
-    conn.query_all(FIND, params![op, "", above])
+    conn.query_all(sql_tables::stations::FIND, params![op, "", above])
 }
 
 /// A station of an operator.
@@ -102,10 +97,7 @@ pub(crate) fn registration<S: Alter>(
     ensures same { Rests (state S.Store conn.old) (state S.Store conn.new) }
     ensures stops { CommitsNothing (state S.Store conn.old) (state S.Store conn.new) result }
 {
-    match find_station(conn, op, station)? {
-        Some(row) => Ok(Some(row.registration())),
-        None => Ok(None),
-    }
+    Ok(find_station(conn, op, station)?.map(|row| row.registration()))
 }
 
 /// All stations of an operator.
@@ -132,7 +124,7 @@ fn put_unbooted<S: Alter>(
 {
     let null: Option<i64> = None;
     tx.execute(
-        PUT,
+        sql_tables::stations::PUT,
         params![
             op,
             station,
@@ -166,7 +158,7 @@ fn put_booted<S: Alter>(
 {
     let texts = boot.texts.as_ref();
     tx.execute(
-        PUT,
+        sql_tables::stations::PUT,
         params![
             op,
             station,
@@ -195,7 +187,7 @@ fn find_inside<S: Alter>(
     ensures same_reference { tx.new.conn.ghost_name ≡ tx.old.conn.ghost_name }
     ensures shows { IsInside (state S.Store tx.old.conn.now) → ShowsInside (λ v. v.items) stations (λ r. bytes_eq r.op op.now && bytes_eq r.station station.now) (state S.Store tx.old.conn.now) (state S.Store tx.new.conn.now) result }
 {
-    tx.query_all(FIND, params![op, station, station])
+    tx.query_all(sql_tables::stations::FIND, params![op, station, station])
 }
 
 /// A station of an operator, inside a transaction.
@@ -220,7 +212,7 @@ pub(crate) fn add_station<S: Alter>(
     interval: u32,
 ) -> Result<(), StoreFault>
     ensures same_reference { tx.new.conn.ghost_name ≡ tx.old.conn.ghost_name }
-    ensures goes { IsInside (state S.Store tx.old.conn.now) → Goes (IsMade (edit op.now (StationAdded station.now policy interval))) (state S.Store tx.old.conn.now) (state S.Store tx.new.conn.now) result }
+    ensures goes { IsInside (state S.Store tx.old.conn.now) → Goes (IsMade (edit op.now (Stations (StationAdded station.now policy interval)))) (state S.Store tx.old.conn.now) (state S.Store tx.new.conn.now) result }
 {
     let registered = Registration {
         policy,
@@ -254,7 +246,7 @@ pub(crate) fn see_boot<S: Alter>(
     answered: State,
 ) -> Result<(), StoreFault>
     ensures same_reference { tx.new.conn.ghost_name ≡ tx.old.conn.ghost_name }
-    ensures goes { IsInside (state S.Store tx.old.conn.now) → Goes (IsMade (edit op.now (BootSeen station.now boot.now answered))) (state S.Store tx.old.conn.now) (state S.Store tx.new.conn.now) result }
+    ensures goes { IsInside (state S.Store tx.old.conn.now) → Goes (IsMade (edit op.now (Stations (BootSeen station.now boot.now answered)))) (state S.Store tx.old.conn.now) (state S.Store tx.new.conn.now) result }
 {
     match station_inside(tx, op, station)? {
         Some(row) => {
@@ -281,7 +273,7 @@ pub(crate) fn set_policy<S: Alter>(
     interval: u32,
 ) -> Result<(), StoreFault>
     ensures same_reference { tx.new.conn.ghost_name ≡ tx.old.conn.ghost_name }
-    ensures goes { IsInside (state S.Store tx.old.conn.now) → Goes (IsMade (edit op.now (PolicySet station.now policy interval))) (state S.Store tx.old.conn.now) (state S.Store tx.new.conn.now) result }
+    ensures goes { IsInside (state S.Store tx.old.conn.now) → Goes (IsMade (edit op.now (Stations (PolicySet station.now policy interval)))) (state S.Store tx.old.conn.now) (state S.Store tx.new.conn.now) result }
 {
     match station_inside(tx, op, station)? {
         Some(row) => put_station(

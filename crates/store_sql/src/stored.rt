@@ -36,10 +36,8 @@ pub(crate) fn listed<R: Stored>(answer: Result<Vec<Row>, Error>) -> Result<Liste
     ensures ok { OnOk result (IsOk answer) }
     ensures rows { IfOk answer (λ rows. IfOk result (λ list. list ≡ put_all (by_key R.Keyed.key) (map R.read rows.items) [])) }
 {
-    match answer {
-        Ok(rows) => Ok(Listed::from(rows_of(*rows.allocator(), &rows)?)),
-        Err(error) => Err(told(error)),
-    }
+    let rows = answer.map_err(told)?;
+    Ok(Listed::from(rows_of(*rows.allocator(), &rows)?))
 }
 
 /// The first row of an answer, or its fault.
@@ -47,10 +45,8 @@ pub(crate) fn first_row<R: Stored>(answer: Result<Vec<Row>, Error>) -> Result<Op
     ensures ok { OnOk result (IsOk answer) }
     ensures row { IfOk answer (λ rows. IfOk result (λ row. row ≡ first (put_all (by_key R.Keyed.key) (map R.read rows.items) []))) }
 {
-    match answer {
-        Ok(rows) => Ok(rows_of(*rows.allocator(), &rows)?.into_iter().next()),
-        Err(error) => Err(told(error)),
-    }
+    let rows = answer.map_err(told)?;
+    Ok(rows_of(*rows.allocator(), &rows)?.into_iter().next())
 }
 
 /// Whether a row was found.
@@ -58,8 +54,5 @@ pub(crate) fn is_found<R: Drop>(found: Result<Option<R>, StoreFault>) -> Result<
     ensures ok { OnOk result (IsOk found) }
     ensures found { IfOk found (λ row. IfOk result (λ is. is ≡ is_some row)) }
 {
-    match found {
-        Ok(row) => Ok(row.is_some()),
-        Err(fault) => Err(fault),
-    }
+    found.map(|row| row.is_some())
 }

@@ -4,10 +4,11 @@ ghost use Rattle.std.specs.Str.{bytes_eq};
 ghost use Rattle.sqlite.specs.Held.{state};
 ghost use Rattle.hub_rows.specs.Lookups.{tags_in};
 ghost use Rattle.hub_rows.specs.Tags.{tag_in, own_tag_in, is_blocked, is_parent_blocked};
-ghost use Rattle.sql_shelf.specs.Kept.{IsServing, Finds, Rests, CommitsNothing, Shows, IsInside, IsMade, Goes};
-ghost use Rattle.sql_shelf.specs.Shelves.{tags};
+ghost use Rattle.sql_rows.specs.Kept.{IsServing, Finds, Rests, CommitsNothing, Shows, IsInside, IsMade, Goes};
+ghost use Rattle.sql_rows.specs.TypedTables.{tags};
 ghost use Rattle.hub_rows.specs.Changes.{edit};
-ghost use Rattle.hub_rows.specs.declared.change.Edit.TheVariants.{TagPut, TagDropped};
+ghost use Rattle.hub_rows.specs.declared.change.Edit.TheVariants.{Tags};
+ghost use Rattle.hub_rows.specs.declared.change.TagEdit.TheVariants.{TagPut, TagDropped};
 ghost use Rattle.ocpp_types.specs.TagKey.{key_of};
 
 use crate::binds::{done, key_if_any, lent, lent_key, seconds_if_any};
@@ -18,16 +19,8 @@ use ocpp_types::{Listed, TagKey, Text};
 use sqlite::{Alter, Connection, Error, Row, Transaction, params};
 use std::alloc::Global;
 
-const FIND: &str =
-    "SELECT op, tag_key, id_tag, parent_id_tag, parent_key, blocked, expiry_date FROM hub_tag WHERE op = ?1 AND tag_key BETWEEN ?2 AND ?3 ORDER BY tag_key";
-
-const PUT: &str =
-    "INSERT INTO hub_tag (op, tag_key, id_tag, parent_id_tag, parent_key, blocked, expiry_date) VALUES (?1, ?2, ?3, ?4, ?5, ?6, ?7) ON CONFLICT (op, tag_key) DO UPDATE SET id_tag = excluded.id_tag, parent_id_tag = excluded.parent_id_tag, parent_key = excluded.parent_key, blocked = excluded.blocked, expiry_date = excluded.expiry_date";
-
-const DROP: &str = "DELETE FROM hub_tag WHERE op = ?1 AND tag_key = ?2";
-
 impl Stored for TagRow {
-    ghost use Rattle.sql_shelf.specs.Shelves.{tags};
+    ghost use Rattle.sql_rows.specs.TypedTables.{tags};
 
     ghost read = { tags.read };
 
@@ -48,14 +41,14 @@ impl Stored for TagRow {
 fn find_one<S: Alter>(conn: &mut Connection<S>, op: &str, key: &str) -> Result<Vec<Row>, Error>
     ensures shows { IsServing (state S.Store conn.old) → Shows (λ v. v.items) tags (λ r. bytes_eq r.op op.now && bytes_eq r.key key.now) (state S.Store conn.old) (state S.Store conn.new) result }
 {
-    conn.query_all(FIND, params![op, key, key])
+    conn.query_all(sql_tables::tags::FIND, params![op, key, key])
 }
 
 fn find_all<S: Alter>(conn: &mut Connection<S>, op: &str) -> Result<Vec<Row>, Error>
     ensures shows { IsServing (state S.Store conn.old) → Shows (λ v. v.items) tags (λ r. bytes_eq r.op op.now && true) (state S.Store conn.old) (state S.Store conn.new) result }
 {
     let above: &[u8] = &[];
-    conn.query_all(FIND, params![op, "", above])
+    conn.query_all(sql_tables::tags::FIND, params![op, "", above])
 }
 
 /// The tag of a key.
@@ -143,10 +136,10 @@ fn put_row<S: Alter>(
 ) -> Result<usize, Error>
     requires { option_map (λ k. k.now) parent_key ≡ option_map key_of tag.now.parent }
     ensures same_reference { tx.new.conn.ghost_name ≡ tx.old.conn.ghost_name }
-    ensures goes { IsInside (state S.Store tx.old.conn.now) → Goes (IsMade (edit op.now (TagPut key.now tag.now))) (state S.Store tx.old.conn.now) (state S.Store tx.new.conn.now) result }
+    ensures goes { IsInside (state S.Store tx.old.conn.now) → Goes (IsMade (edit op.now (Tags (TagPut key.now tag.now)))) (state S.Store tx.old.conn.now) (state S.Store tx.new.conn.now) result }
 {
     tx.execute(
-        PUT,
+        sql_tables::tags::PUT,
         params![
             op,
             key,
@@ -162,9 +155,9 @@ fn put_row<S: Alter>(
 /// Drops the row of a tag. Its grants go with it.
 fn drop_row<S: Alter>(tx: &mut Transaction<'_, S>, op: &str, key: &str) -> Result<usize, Error>
     ensures same_reference { tx.new.conn.ghost_name ≡ tx.old.conn.ghost_name }
-    ensures goes { IsInside (state S.Store tx.old.conn.now) → Goes (IsMade (edit op.now (TagDropped key.now))) (state S.Store tx.old.conn.now) (state S.Store tx.new.conn.now) result }
+    ensures goes { IsInside (state S.Store tx.old.conn.now) → Goes (IsMade (edit op.now (Tags (TagDropped key.now)))) (state S.Store tx.old.conn.now) (state S.Store tx.new.conn.now) result }
 {
-    tx.execute(DROP, params![op, key])
+    tx.execute(sql_tables::tags::DROP, params![op, key])
 }
 
 /// Puts a tag, in place of the one with its key, whose grants it keeps.
@@ -176,7 +169,7 @@ pub(crate) fn put_tag<S: Alter>(
     tag: &Tag,
 ) -> Result<(), StoreFault>
     ensures same_reference { tx.new.conn.ghost_name ≡ tx.old.conn.ghost_name }
-    ensures goes { IsInside (state S.Store tx.old.conn.now) → Goes (IsMade (edit op.now (TagPut key.now tag.now))) (state S.Store tx.old.conn.now) (state S.Store tx.new.conn.now) result }
+    ensures goes { IsInside (state S.Store tx.old.conn.now) → Goes (IsMade (edit op.now (Tags (TagPut key.now tag.now)))) (state S.Store tx.old.conn.now) (state S.Store tx.new.conn.now) result }
 {
     let parent_key = key_if_any(alloc, &tag.parent)?;
     done(put_row(tx, op, key, tag, lent_key(&parent_key)))
@@ -189,7 +182,7 @@ pub(crate) fn drop_tag<S: Alter>(
     key: &str,
 ) -> Result<(), StoreFault>
     ensures same_reference { tx.new.conn.ghost_name ≡ tx.old.conn.ghost_name }
-    ensures goes { IsInside (state S.Store tx.old.conn.now) → Goes (IsMade (edit op.now (TagDropped key.now))) (state S.Store tx.old.conn.now) (state S.Store tx.new.conn.now) result }
+    ensures goes { IsInside (state S.Store tx.old.conn.now) → Goes (IsMade (edit op.now (Tags (TagDropped key.now)))) (state S.Store tx.old.conn.now) (state S.Store tx.new.conn.now) result }
 {
     done(drop_row(tx, op, key))
 }

@@ -4,27 +4,21 @@ ghost use Rattle.std.specs.Str.{bytes_eq};
 ghost use Rattle.sqlite.specs.Held.{state};
 ghost use Rattle.hub_rows.specs.Keyed.{found, by_key, changed, put};
 ghost use Rattle.hub_rows.specs.Transactions.{is_open, is_tx, is_accepted};
-ghost use Rattle.sql_shelf.specs.Kept.{IsInside, IsMade, IsSame, Goes, ShowsInside};
-ghost use Rattle.sql_shelf.specs.Shelves.{txs, rows_of};
+ghost use Rattle.sql_rows.specs.Kept.{IsInside, IsMade, IsSame, Goes, ShowsInside};
+ghost use Rattle.sql_rows.specs.TypedTables.{txs, rows_of};
 ghost use Rattle.hub_rows.specs.Changes.{edit, tx_row, with_stop};
-ghost use Rattle.hub_rows.specs.declared.change.Edit.TheVariants.{TxStarted};
+ghost use Rattle.hub_rows.specs.declared.change.Edit.TheVariants.{Transactions};
+ghost use Rattle.hub_rows.specs.declared.change.TransactionEdit.TheVariants.{TxStarted};
 ghost use Rattle.hub_rows.specs.Rows.{tx_key};
 ghost use Rattle.hub_rows.specs.Uses.{settled_use, with_use};
 
 use crate::binds::{done, lent, seconds};
 use crate::reservations::drop_named;
 use crate::stored::first_row;
-use crate::txs::FIND;
 use crate::uses::settle;
 use hub_rows::{Start, Stop, StoreFault, TxRow};
 use ocpp_types::{AuthorizationStatus, Named};
 use sqlite::{Alter, Error, Row, Transaction, params};
-
-const ADD: &str =
-    "INSERT INTO hub_tx (op, station, number, connector, tag_key, meter_start, start_at, id_tag, reservation_id, status, begun, is_open, in_use, meter_stop, stop_at, stop_reason, stop_id_tag, ended) VALUES (?1, ?2, ?3, ?4, ?5, ?6, ?7, ?8, ?9, ?10, ?11, ?12, ?13, ?14, ?15, ?16, ?17, ?18)";
-
-const PUT: &str =
-    "INSERT INTO hub_tx (op, station, number, connector, tag_key, meter_start, start_at, id_tag, reservation_id, status, begun, is_open, in_use, meter_stop, stop_at, stop_reason, stop_id_tag, ended) VALUES (?1, ?2, ?3, ?4, ?5, ?6, ?7, ?8, ?9, ?10, ?11, ?12, ?13, ?14, ?15, ?16, ?17, ?18) ON CONFLICT (op, station, number) DO UPDATE SET connector = excluded.connector, tag_key = excluded.tag_key, meter_start = excluded.meter_start, start_at = excluded.start_at, id_tag = excluded.id_tag, reservation_id = excluded.reservation_id, status = excluded.status, begun = excluded.begun, is_open = excluded.is_open, in_use = excluded.in_use, meter_stop = excluded.meter_stop, stop_at = excluded.stop_at, stop_reason = excluded.stop_reason, stop_id_tag = excluded.stop_id_tag, ended = excluded.ended";
 
 fn is_accepted(status: AuthorizationStatus) -> bool
     ensures { result ≡ is_accepted status }
@@ -45,7 +39,7 @@ fn put_open<S: Alter>(
 {
     let null: Option<i64> = None;
     tx.execute(
-        ADD,
+        sql_tables::txs::ADD,
         params![
             op,
             station,
@@ -80,7 +74,7 @@ fn put_stopped<S: Alter>(
 {
     let start = &row.start;
     tx.execute(
-        PUT,
+        sql_tables::txs::PUT,
         params![
             row.op.as_str(),
             row.station.as_str(),
@@ -113,7 +107,7 @@ fn find_inside<S: Alter>(
     ensures same_reference { tx.new.conn.ghost_name ≡ tx.old.conn.ghost_name }
     ensures shows { IsInside (state S.Store tx.old.conn.now) → ShowsInside (λ v. v.items) txs (λ r. bytes_eq r.op op.now && is_tx station.now number r) (state S.Store tx.old.conn.now) (state S.Store tx.new.conn.now) result }
 {
-    tx.query_all(FIND, params![op, station, number, number])
+    tx.query_all(sql_tables::txs::FIND, params![op, station, number, number])
 }
 
 /// A transaction of a station, inside a transaction of the database.
@@ -165,7 +159,7 @@ pub(crate) fn start_tx<S: Alter>(
     start: &Start,
 ) -> Result<(), StoreFault>
     ensures same_reference { tx.new.conn.ghost_name ≡ tx.old.conn.ghost_name }
-    ensures goes { IsInside (state S.Store tx.old.conn.now) → Goes (IsMade (edit op.now (TxStarted station.now number start.now None))) (state S.Store tx.old.conn.now) (state S.Store tx.new.conn.now) result }
+    ensures goes { IsInside (state S.Store tx.old.conn.now) → Goes (IsMade (edit op.now (Transactions (TxStarted station.now number start.now None)))) (state S.Store tx.old.conn.now) (state S.Store tx.new.conn.now) result }
 {
     put_started(tx, op, station, number, start)?;
     drop_named(tx, op, station, start.reservation)

@@ -5,10 +5,10 @@ ghost use Rattle.std.specs.Str.{bytes_eq};
 ghost use Rattle.sqlite.specs.Held.{state};
 ghost use Rattle.sqlite_value.specs.Order.{column};
 ghost use Rattle.hub_rows.specs.Keyed.{found, greatest};
-ghost use Rattle.hub_rows.specs.Transactions.{counts, has_open_in, is_left_out, is_open, is_started, is_tx, is_used_in, numbers_of, open_txs_in, same_start_in, tx_in, txs_from_in, txs_in};
-ghost use Rattle.sql_shelf.specs.Kept.{IsServing, Finds, Rests, CommitsNothing, Shows, ShowsLast};
-ghost use Rattle.sql_shelf.specs.Shelves.{stop_in, txs};
-ghost use Rattle.sql_shelf.specs.Values.{count_in};
+ghost use Rattle.hub_rows.specs.Transactions.{counts, has_open_in, is_left_out, is_open, is_started, is_tx, is_used_in, last_tx_in, open_txs_in, same_start_in, tx_in, txs_from_in};
+ghost use Rattle.sql_rows.specs.Kept.{IsServing, Finds, Rests, CommitsNothing, Shows, ShowsLast};
+ghost use Rattle.sql_rows.specs.TypedTables.{stop_in, txs};
+ghost use Rattle.sql_rows.specs.Values.{count_in};
 
 use crate::columns::{
     connector, count, key, moment, moment_if_any, named, number, number_if_any, text, text_if_any,
@@ -20,27 +20,8 @@ use ocpp_types::Listed;
 use sqlite::{Alter, Connection, Error, Row, params};
 use std::alloc::Global;
 
-/// Asks for the transactions of a station whose numbers lie in a range.
-pub(crate) const FIND: &str =
-    "SELECT op, station, number, connector, tag_key, meter_start, start_at, id_tag, reservation_id, status, begun, is_open, in_use, meter_stop, stop_at, stop_reason, stop_id_tag, ended FROM hub_tx WHERE op = ?1 AND station = ?2 AND number BETWEEN ?3 AND ?4 ORDER BY number";
-
-const FIND_LAST: &str =
-    "SELECT op, station, number, connector, tag_key, meter_start, start_at, id_tag, reservation_id, status, begun, is_open, in_use, meter_stop, stop_at, stop_reason, stop_id_tag, ended FROM hub_tx WHERE op = ?1 AND station = ?2 ORDER BY number DESC LIMIT 1";
-
-const IN_USE: &str =
-    "SELECT op, station, number, connector, tag_key, meter_start, start_at, id_tag, reservation_id, status, begun, is_open, in_use, meter_stop, stop_at, stop_reason, stop_id_tag, ended FROM hub_tx WHERE op = ?1 AND tag_key = ?2 AND in_use = ?3";
-
-const OPEN: &str =
-    "SELECT op, station, number, connector, tag_key, meter_start, start_at, id_tag, reservation_id, status, begun, is_open, in_use, meter_stop, stop_at, stop_reason, stop_id_tag, ended FROM hub_tx WHERE op = ?1 AND station = ?2 AND is_open = ?3";
-
-const ALL_OPEN: &str =
-    "SELECT op, station, number, connector, tag_key, meter_start, start_at, id_tag, reservation_id, status, begun, is_open, in_use, meter_stop, stop_at, stop_reason, stop_id_tag, ended FROM hub_tx WHERE op = ?1 AND is_open = ?2 ORDER BY station, number";
-
-const SAME_STARTS: &str =
-    "SELECT op, station, number, connector, tag_key, meter_start, start_at, id_tag, reservation_id, status, begun, is_open, in_use, meter_stop, stop_at, stop_reason, stop_id_tag, ended FROM hub_tx WHERE op = ?1 AND station = ?2 AND connector = ?3 AND tag_key = ?4 AND meter_start = ?5 AND start_at = ?6 ORDER BY number";
-
 impl Stored for TxRow {
-    ghost use Rattle.sql_shelf.specs.Shelves.{txs};
+    ghost use Rattle.sql_rows.specs.TypedTables.{txs};
 
     ghost read = { txs.read };
 
@@ -97,7 +78,7 @@ fn find_one<S: Alter>(
 ) -> Result<Vec<Row>, Error>
     ensures shows { IsServing (state S.Store conn.old) → Shows (λ v. v.items) txs (λ r. bytes_eq r.op op.now && is_tx station.now number r) (state S.Store conn.old) (state S.Store conn.new) result }
 {
-    conn.query_all(FIND, params![op, station, number, number])
+    conn.query_all(sql_tables::txs::FIND, params![op, station, number, number])
 }
 
 fn find_from<S: Alter>(
@@ -109,31 +90,31 @@ fn find_from<S: Alter>(
     ensures shows { IsServing (state S.Store conn.old) → Shows (λ v. v.items) txs (λ r. bytes_eq r.op op.now && (bytes_eq r.station station.now && nat_le first r.number)) (state S.Store conn.old) (state S.Store conn.new) result }
 {
     let above: &[u8] = &[];
-    conn.query_all(FIND, params![op, station, first, above])
+    conn.query_all(sql_tables::txs::FIND, params![op, station, first, above])
 }
 
 fn find_last<S: Alter>(conn: &mut Connection<S>, op: &str, station: &str) -> Result<Vec<Row>, Error>
     ensures shows { IsServing (state S.Store conn.old) → ShowsLast (λ v. v.items) txs (λ r. r.number) (λ r. bytes_eq r.op op.now && bytes_eq r.station station.now) (state S.Store conn.old) (state S.Store conn.new) result }
 {
-    conn.query_all(FIND_LAST, params![op, station])
+    conn.query_all(sql_tables::txs::FIND_LAST, params![op, station])
 }
 
 fn list_in_use<S: Alter>(conn: &mut Connection<S>, op: &str, key: &str) -> Result<Vec<Row>, Error>
     ensures shows { IsServing (state S.Store conn.old) → Shows (λ v. v.items) txs (λ r. bytes_eq r.op op.now && (bytes_eq r.start.id.key key.now && counts r)) (state S.Store conn.old) (state S.Store conn.new) result }
 {
-    conn.query_all(IN_USE, params![op, key, true])
+    conn.query_all(sql_tables::txs::LIST_IN_USE, params![op, key, true])
 }
 
 fn list_open<S: Alter>(conn: &mut Connection<S>, op: &str, station: &str) -> Result<Vec<Row>, Error>
     ensures shows { IsServing (state S.Store conn.old) → Shows (λ v. v.items) txs (λ r. bytes_eq r.op op.now && (bytes_eq r.station station.now && is_open r)) (state S.Store conn.old) (state S.Store conn.new) result }
 {
-    conn.query_all(OPEN, params![op, station, true])
+    conn.query_all(sql_tables::txs::LIST_OPEN, params![op, station, true])
 }
 
 fn list_all_open<S: Alter>(conn: &mut Connection<S>, op: &str) -> Result<Vec<Row>, Error>
     ensures shows { IsServing (state S.Store conn.old) → Shows (λ v. v.items) txs (λ r. bytes_eq r.op op.now && is_open r) (state S.Store conn.old) (state S.Store conn.new) result }
 {
-    conn.query_all(ALL_OPEN, params![op, true])
+    conn.query_all(sql_tables::txs::LIST_ALL_OPEN, params![op, true])
 }
 
 fn list_same<S: Alter>(
@@ -145,7 +126,7 @@ fn list_same<S: Alter>(
     ensures shows { IsServing (state S.Store conn.old) → Shows (λ v. v.items) txs (λ r. bytes_eq r.op op.now && is_started station.now start.now r) (state S.Store conn.old) (state S.Store conn.new) result }
 {
     conn.query_all(
-        SAME_STARTS,
+        sql_tables::txs::LIST_SAME_STARTS,
         params![
             op,
             station,
@@ -182,10 +163,7 @@ pub(crate) fn tx<S: Alter>(
     ensures same { Rests (state S.Store conn.old) (state S.Store conn.new) }
     ensures stops { CommitsNothing (state S.Store conn.old) (state S.Store conn.new) result }
 {
-    match find_tx(conn, op, station, number)? {
-        Some(row) => Ok(Some(row.state())),
-        None => Ok(None),
-    }
+    Ok(find_tx(conn, op, station, number)?.map(|row| row.state()))
 }
 
 /// The transactions of a station from that number on.
@@ -309,10 +287,7 @@ pub(crate) fn same_start<S: Alter>(
     ensures same { Rests (state S.Store conn.old) (state S.Store conn.new) }
     ensures stops { CommitsNothing (state S.Store conn.old) (state S.Store conn.new) result }
 {
-    match tx_of_start(conn, op, station, start)? {
-        Some(row) => Ok(Some(row.number)),
-        None => Ok(None),
-    }
+    Ok(tx_of_start(conn, op, station, start)?.map(|row| row.number))
 }
 
 /// The number in a column of the row of an answer of one row at most, 0 where there is none.
@@ -336,13 +311,13 @@ fn number_of(rows: &[Row], at: usize) -> Result<u32, StoreFault>
     }
 }
 
-/// The last number of a station's transactions, 0 where there is none.
-pub(crate) fn last_number<S: Alter>(
+/// The number of a station's last transaction, 0 where it has none.
+pub(crate) fn last_tx<S: Alter>(
     conn: &mut Connection<S>,
     op: &str,
     station: &str,
 ) -> Result<u32, StoreFault>
-    ensures found { Finds (state S.Store conn.old) (state S.Store conn.new) result (λ rows n. n ≡ greatest (numbers_of (λ r. r.number) (txs_in op.now station.now rows.transactions))) }
+    ensures found { Finds (state S.Store conn.old) (state S.Store conn.new) result (λ rows n. n ≡ last_tx_in op.now station.now rows.transactions) }
     ensures same { Rests (state S.Store conn.old) (state S.Store conn.new) }
     ensures stops { CommitsNothing (state S.Store conn.old) (state S.Store conn.new) result }
 {

@@ -5,8 +5,8 @@ ghost use Rattle.sqlite.specs.Held.{state};
 ghost use Rattle.hub_rows.specs.Keyed.{by_key, found, put};
 ghost use Rattle.hub_rows.specs.Rows.{tx_owner_key, use_key};
 ghost use Rattle.hub_rows.specs.Uses.{energy_of, is_owner_of, last_use_in, next_use, owner_in, use_by, use_row, uses_in, with_owner, with_use};
-ghost use Rattle.sql_shelf.specs.Kept.{IsServing, Finds, Rests, CommitsNothing, Shows, ShowsInside, ShowsLastInside, IsInside, IsMade, IsSame, Goes};
-ghost use Rattle.sql_shelf.specs.Shelves.{tx_owners, uses, rows_of};
+ghost use Rattle.sql_rows.specs.Kept.{IsServing, Finds, Rests, CommitsNothing, Shows, ShowsInside, ShowsLastInside, IsInside, IsMade, IsSame, Goes};
+ghost use Rattle.sql_rows.specs.TypedTables.{tx_owners, uses, rows_of};
 
 use crate::binds::{done, seconds};
 use crate::columns::{count, key, moment, number, text};
@@ -17,23 +17,8 @@ use ocpp_types::{Listed, Text};
 use sqlite::{Alter, Connection, Error, Row, Transaction, params};
 use std::alloc::Global;
 
-const FIND_OWNER: &str =
-    "SELECT op, station, number, owner FROM hub_tx_owner WHERE op = ?1 AND station = ?2 AND number = ?3";
-
-const ADD_OWNER: &str =
-    "INSERT INTO hub_tx_owner (op, station, number, owner) VALUES (?1, ?2, ?3, ?4)";
-
-const LIST: &str =
-    "SELECT op, number, host, tag_key, moment, wh FROM hub_use WHERE op = ?1 ORDER BY number";
-
-const FIND_LAST: &str =
-    "SELECT op, number, host, tag_key, moment, wh FROM hub_use WHERE op = ?1 ORDER BY number DESC LIMIT 1";
-
-const ADD: &str =
-    "INSERT INTO hub_use (op, number, host, tag_key, moment, wh) VALUES (?1, ?2, ?3, ?4, ?5, ?6)";
-
 impl Stored for TxOwnerRow {
-    ghost use Rattle.sql_shelf.specs.Shelves.{tx_owners};
+    ghost use Rattle.sql_rows.specs.TypedTables.{tx_owners};
 
     ghost read = { tx_owners.read };
 
@@ -48,7 +33,7 @@ impl Stored for TxOwnerRow {
 }
 
 impl Stored for UseRow {
-    ghost use Rattle.sql_shelf.specs.Shelves.{uses};
+    ghost use Rattle.sql_rows.specs.TypedTables.{uses};
 
     ghost read = { uses.read };
 
@@ -67,7 +52,7 @@ impl Stored for UseRow {
 fn list<S: Alter>(conn: &mut Connection<S>, op: &str) -> Result<Vec<Row>, Error>
     ensures shows { IsServing (state S.Store conn.old) → Shows (λ v. v.items) uses (λ r. bytes_eq r.op op.now && true) (state S.Store conn.old) (state S.Store conn.new) result }
 {
-    conn.query_all(LIST, params![op])
+    conn.query_all(sql_tables::uses::LIST, params![op])
 }
 
 /// The uses of an owner.
@@ -93,7 +78,7 @@ fn add_owner<S: Alter>(
     ensures same_reference { tx.new.conn.ghost_name ≡ tx.old.conn.ghost_name }
     ensures goes { IsInside (state S.Store tx.old.conn.now) → Goes (IsMade (λ rows. record rows { tx_owners = put (by_key tx_owner_key) (record { op = op.now; station = station.now; number = number; owner = owner.now }) rows.tx_owners })) (state S.Store tx.old.conn.now) (state S.Store tx.new.conn.now) result }
 {
-    tx.execute(ADD_OWNER, params![op, station, number, owner])
+    tx.execute(sql_tables::tx_owners::ADD, params![op, station, number, owner])
 }
 
 /// Puts the owner of the tag with which a transaction begins, where another operator granted it.
@@ -122,7 +107,7 @@ fn find_owner<S: Alter>(
     ensures same_reference { tx.new.conn.ghost_name ≡ tx.old.conn.ghost_name }
     ensures shows { IsInside (state S.Store tx.old.conn.now) → ShowsInside (λ v. v.items) tx_owners (λ r. bytes_eq r.op op.now && is_owner_of station.now number r) (state S.Store tx.old.conn.now) (state S.Store tx.new.conn.now) result }
 {
-    tx.query_all(FIND_OWNER, params![op, station, number])
+    tx.query_all(sql_tables::tx_owners::FIND, params![op, station, number])
 }
 
 /// The row of the owner of the tag with which a transaction began.
@@ -143,7 +128,7 @@ fn find_last<S: Alter>(tx: &mut Transaction<'_, S>, owner: &str) -> Result<Vec<R
     ensures same_reference { tx.new.conn.ghost_name ≡ tx.old.conn.ghost_name }
     ensures shows { IsInside (state S.Store tx.old.conn.now) → ShowsLastInside (λ v. v.items) uses (λ r. r.number) (λ r. bytes_eq r.op owner.now && true) (state S.Store tx.old.conn.now) (state S.Store tx.new.conn.now) result }
 {
-    tx.query_all(FIND_LAST, params![owner])
+    tx.query_all(sql_tables::uses::FIND_LAST, params![owner])
 }
 
 /// The last number of an owner's uses, 0 where there is none.
@@ -174,7 +159,7 @@ fn add_row<S: Alter>(
     ensures goes { IsInside (state S.Store tx.old.conn.now) → Goes (IsMade (λ rows. record rows { uses = put (by_key use_key) (use_row owner.now number row.now.op row.now stop.now) rows.uses })) (state S.Store tx.old.conn.now) (state S.Store tx.new.conn.now) result }
 {
     tx.execute(
-        ADD,
+        sql_tables::uses::ADD,
         params![
             owner,
             number,

@@ -1,10 +1,10 @@
-use Rattle.std.proofs.Common.{◌≡◌, Err, Ok, rules, subst, subst₂, sym}
+use Rattle.std.proofs.Common.{◌≡◌, Err, Ok, rules, subst, sym}
 use Rattle.sqlite.specs.Held.{state}
-use Rattle.hub_rows.specs.Changes.{after_change, edit}
+use Rattle.hub_rows.specs.Changes.{edit}
 use Rattle.hub_rows.specs.declared.store.StoreFault.{StoreFault}
-use Rattle.sql_shelf.specs.Kept.{Changes, Goes, IsMade, IsServing}
-use Rattle.sql_shelf.proofs.StoreLemmas.{open_is_clean}
-use Rattle.sql_shelf.proofs.TxLemmas.{begun_inside, changes_as, commits_all, drops_all}
+use Rattle.sql_rows.specs.Kept.{Changes, Goes, IsMade, IsServing}
+use Rattle.sql_rows.proofs.StoreLemmas.{open_is_clean}
+use Rattle.sql_rows.proofs.TxLemmas.{begun_inside, changes_as, commits_all, drops_all}
 use Rattle.store_sql.specs.Store.{MayMake}
 use Rattle.store_sql.proofs.changes.apply.Goals as goal
 
@@ -15,16 +15,16 @@ returns g c = record {
       let end = c.commit.new.self.0 in
       let tx = c.transaction-tx.result.conn.now in
       let mid = c.make.new.tx.conn.now in
-      let whole = IsMade (after_change c.args.change.now) in
+      let whole = IsMade (edit c.args.change.now.op.now c.args.change.now.edit.now) in
       let serving : IsServing (state g.S.Store old) = (λ up. (ready up).0) in
-      let may : MayMake c.as_str.result.now c.as_ref.result.now (state g.S.Store tx) =
-      subst₂ (λ o e. MayMake o e (state g.S.Store tx)) (sym c.as_str.ensures) (sym c.as_ref.ensures)
-      (subst (λ h. MayMake c.args.change.now.op c.args.change.now.edit (state g.S.Store h)) (sym c.transaction-tx.ensures.begun) (λ up. (ready up).2)) in
+      let may : MayMake c.as_str.result.now c.args.change.now.edit.now (state g.S.Store tx) =
+      subst (λ o. MayMake o c.args.change.now.edit.now (state g.S.Store tx)) (sym c.as_str.ensures)
+      (subst (λ h. MayMake c.args.change.now.op.now c.args.change.now.edit.now (state g.S.Store h)) (sym c.transaction-tx.ensures.begun) (λ up. (ready up).2)) in
       let same : end ≡ c.conn-2-1.given.0 = search rules in
       subst (λ h. Changes whole (state g.S.Store old) (state g.S.Store h) c.committed.result) same
       (changes_as whole (state g.S.Store old) (state g.S.Store end) c.commit.result c.committed.result c.committed.ensures.ok c.committed.ensures.err
       (commits_all g.S.Store old tx mid end c.transaction-tx.ensures.begun serving (open_is_clean _ _ (g.met.S.Store.shut_if_dirty end.store)) (λ up db. g.met.S.Store.settled old.store db up) whole c.commit.result
-      (subst₂ (λ o e. Goes {E = StoreFault} (IsMade (edit o e)) (state g.S.Store tx) (state g.S.Store mid) (Ok c.in_ok-make.field-0)) c.as_str.ensures c.as_ref.ensures (c.in_ok-make.ensures.goes may (begun_inside g.S.Store old tx mid end c.transaction-tx.ensures.begun serving (open_is_clean _ _ (g.met.S.Store.shut_if_dirty end.store)) (λ up db. g.met.S.Store.settled old.store db up)))).ok
+      (subst (λ o. Goes {E = StoreFault} (IsMade (edit o c.args.change.now.edit.now)) (state g.S.Store tx) (state g.S.Store mid) (Ok c.in_ok-make.field-0)) c.as_str.ensures (c.in_ok-make.ensures.goes may (begun_inside g.S.Store old tx mid end c.transaction-tx.ensures.begun serving (open_is_clean _ _ (g.met.S.Store.shut_if_dirty end.store)) (λ up db. g.met.S.Store.settled old.store db up)))).ok
       c.commit.ensures.ok c.commit.ensures.err c.commit.ensures.survives (λ up db. g.met.S.Store.settled end.store db up)));
 }
 
@@ -35,11 +35,11 @@ returns-in_err-make g c = record {
       let end = c.drop-tx.new.self.0 in
       let tx = c.transaction-tx.result.conn.now in
       let mid = c.make.new.tx.conn.now in
-      let whole = IsMade (after_change c.args.change.now) in
+      let whole = IsMade (edit c.args.change.now.op.now c.args.change.now.edit.now) in
       let serving : IsServing (state g.S.Store old) = (λ up. (ready up).0) in
-      let may : MayMake c.as_str.result.now c.as_ref.result.now (state g.S.Store tx) =
-      subst₂ (λ o e. MayMake o e (state g.S.Store tx)) (sym c.as_str.ensures) (sym c.as_ref.ensures)
-      (subst (λ h. MayMake c.args.change.now.op c.args.change.now.edit (state g.S.Store h)) (sym c.transaction-tx.ensures.begun) (λ up. (ready up).2)) in
+      let may : MayMake c.as_str.result.now c.args.change.now.edit.now (state g.S.Store tx) =
+      subst (λ o. MayMake o c.args.change.now.edit.now (state g.S.Store tx)) (sym c.as_str.ensures)
+      (subst (λ h. MayMake c.args.change.now.op.now c.args.change.now.edit.now (state g.S.Store h)) (sym c.transaction-tx.ensures.begun) (λ up. (ready up).2)) in
       let same : end ≡ c.conn-1.given.0 = search rules in
       let failed : c.from_residual.result ≡ Err c.in_err-make.field-0.0 = search rules in
       subst (λ h. Changes whole (state g.S.Store old) (state g.S.Store h) c.from_residual.result) same (subst (Changes whole (state g.S.Store old) (state g.S.Store end)) (sym failed)

@@ -1,11 +1,11 @@
 use Rattle.std.proofs.Common.{refl, rules, SFits, w64}
 use Rattle.sqlite.specs.Held.{state}
-use Rattle.sql_shelf.proofs.StationShelves.{puts_connector}
-use Rattle.sql_shelf.proofs.StoreLemmas.{open_is_clean}
-use Rattle.sql_shelf.proofs.TxLemmas.{step}
+use Rattle.sql_rows.proofs.StationTables.{puts_connector}
+use Rattle.sql_rows.proofs.StoreLemmas.{open_is_clean}
+use Rattle.sql_rows.proofs.TxLemmas.{step}
 use Rattle.std.proofs.lemmas.Int.{to_z-of_z}
 use Rattle.hub_rows.specs.Changes.{connector_row}
-use Rattle.sql_shelf.proofs.ValueLaws.{optional}
+use Rattle.sql_rows.proofs.ValueLaws.{optional}
 use Rattle.store_sql.proofs.connectors.put_row.Goals as goal
 
 pub returns-clause-goes : goal.returns-clause-goes

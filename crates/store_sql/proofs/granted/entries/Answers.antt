@@ -2,9 +2,9 @@ use Rattle.std.proofs.Common.{rules, ◌≡◌, ◌+◌, ◌++◌, [], ◌∷◌
 use Rattle.std.proofs.lemmas.List.{take_more}
 use Rattle.std.specs.List.{cons_option, filter_map}
 use Rattle.sqlite.specs.Held.{state}
-use Rattle.sql_shelf.specs.Shelves.{rows_of}
+use Rattle.sql_rows.specs.TypedTables.{rows_of}
 use Rattle.hub_rows.specs.Grants.{entry_by}
-use Rattle.sql_shelf.proofs.StoreLemmas.{commits_after, commits_then, rests_before, rests_then, stays_then}
+use Rattle.sql_rows.proofs.StoreLemmas.{commits_after, commits_then, rests_before, rests_then, stays_then}
 use Rattle.store_sql.proofs.GrantedLaws.{mapped_more}
 use Rattle.store_sql.proofs.granted.entries.Goals as goal
 

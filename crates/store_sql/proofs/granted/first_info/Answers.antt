@@ -2,10 +2,10 @@ use Rattle.std.proofs.Common.{rules, ◌≡◌, ◌+◌, ◌++◌, [], ◌∷◌
 use Rattle.std.proofs.lemmas.List.{take-append-drop, take_more}
 use Rattle.std.specs.List.{filter_map}
 use Rattle.sqlite.specs.Held.{state}
-use Rattle.sql_shelf.specs.Shelves.{rows_of}
+use Rattle.sql_rows.specs.TypedTables.{rows_of}
 use Rattle.hub_rows.specs.Grants.{info_by}
 use Rattle.hub_rows.specs.Keyed.{first}
-use Rattle.sql_shelf.proofs.StoreLemmas.{commits_then, rests_before, rests_then, stays_then}
+use Rattle.sql_rows.proofs.StoreLemmas.{commits_then, rests_before, rests_then, stays_then}
 use Rattle.store_sql.proofs.GrantedLaws.{found_first, none_more}
 use Rattle.store_sql.proofs.granted.first_info.Goals as goal
 

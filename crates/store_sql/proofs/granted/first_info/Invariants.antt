@@ -2,8 +2,8 @@ use Rattle.std.proofs.Common.{◌≡◌, [], IsTrue, take}
 use Rattle.std.specs.List.{filter_map}
 use Rattle.sqlite.specs.Held.{state}
 use Rattle.hub_rows.specs.Grants.{info_by}
-use Rattle.sql_shelf.specs.Kept.{IsServing, Rests, StaysOpen}
-use Rattle.sql_shelf.specs.Shelves.{rows_of}
+use Rattle.sql_rows.specs.Kept.{IsServing, Rests, StaysOpen}
+use Rattle.sql_rows.specs.TypedTables.{rows_of}
 use Rattle.store_sql.proofs.granted.first_info.Given as goal
 
 abbrev pub invariant-grants : goal.invariant-grants

@@ -1,10 +1,10 @@
 use Rattle.std.proofs.Common.{◌≡◌, IfOk, subst}
 use Rattle.std.specs.List.{filter_map}
 use Rattle.sqlite.specs.Held.{state}
-use Rattle.sql_shelf.specs.Shelves.{rows_of}
+use Rattle.sql_rows.specs.TypedTables.{rows_of}
 use Rattle.hub_rows.specs.Grants.{entry_by, grants_to, received_key}
 use Rattle.hub_rows.specs.Keyed.{by_key, in_order}
-use Rattle.sql_shelf.proofs.StoreLemmas.{commits_then}
+use Rattle.sql_rows.proofs.StoreLemmas.{commits_then}
 use Rattle.store_sql.proofs.GrantedLaws.{finds_from, granted_is}
 use Rattle.store_sql.proofs.granted.granted.Goals as goal
 

@@ -1,8 +1,8 @@
 use Rattle.std.proofs.Common.{refl}
 use Rattle.sqlite.specs.Held.{state}
-use Rattle.sql_shelf.proofs.TagShelves.{puts_grant}
-use Rattle.sql_shelf.proofs.StoreLemmas.{open_is_clean}
-use Rattle.sql_shelf.proofs.TxLemmas.{step}
+use Rattle.sql_rows.proofs.TagTables.{puts_grant}
+use Rattle.sql_rows.proofs.StoreLemmas.{open_is_clean}
+use Rattle.sql_rows.proofs.TxLemmas.{step}
 use Rattle.hub_rows.specs.Changes.{grant_row}
 use Rattle.store_sql.proofs.grants.put_row.Goals as goal
 

@@ -2,10 +2,10 @@ use Rattle.std.proofs.Common.{rules, ◌&&◌, Some, filter, map, option_map, sy
 use Rattle.std.specs.Str.{bytes_eq}
 use Rattle.sqlite.specs.Effect.{Database}
 use Rattle.sqlite.specs.Held.{state}
-use Rattle.sql_shelf.specs.Shelf.{rows_in}
-use Rattle.sql_shelf.specs.Shelves.{entries, lists}
-use Rattle.sql_shelf.proofs.ListEdits.{local, list_found}
-use Rattle.sql_shelf.proofs.StoreLemmas.{commits_after, commits_then, rests_before, stays_then}
+use Rattle.sql_rows.specs.TypedTable.{rows_in}
+use Rattle.sql_rows.specs.TypedTables.{entries, lists}
+use Rattle.sql_rows.proofs.ListEdits.{local, list_found}
+use Rattle.sql_rows.proofs.StoreLemmas.{commits_after, commits_then, rests_before, stays_then}
 use Rattle.store_sql.proofs.local_lists.local_list.Goals as goal
 
 pub returns-in-None-clause-found : goal.returns-in-None-clause-found

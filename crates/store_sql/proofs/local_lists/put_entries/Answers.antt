@@ -1,10 +1,10 @@
 use Rattle.std.proofs.Common.{rules, ◌≡◌, ◌+◌, ◌++◌, [], ◌∷◌, map, take, ◌∙◌}
 use Rattle.std.proofs.lemmas.List.{take_more}
 use Rattle.sqlite.specs.Held.{state}
-use Rattle.sql_shelf.specs.Kept.{ArePutIn, IsPutIn}
-use Rattle.sql_shelf.specs.Shelves.{entries, entry_row}
-use Rattle.sql_shelf.proofs.ListEdits.{entries_more}
-use Rattle.sql_shelf.proofs.TxLemmas.{inside_then}
+use Rattle.sql_rows.specs.Kept.{ArePutIn, IsPutIn}
+use Rattle.sql_rows.specs.TypedTables.{entries, entry_row}
+use Rattle.sql_rows.proofs.ListEdits.{entries_more}
+use Rattle.sql_rows.proofs.TxLemmas.{inside_then}
 use Rattle.store_sql.proofs.local_lists.put_entries.Goals as goal
 
 pub entries-preserved : goal.entries-preserved

@@ -1,7 +1,7 @@
 use Rattle.std.proofs.Common.{◌≡◌, map, take}
 use Rattle.sqlite.specs.Held.{state}
-use Rattle.sql_shelf.specs.Kept.{ArePutIn, IsInside, Inside}
-use Rattle.sql_shelf.specs.Shelves.{entries, entry_row}
+use Rattle.sql_rows.specs.Kept.{ArePutIn, IsInside, Inside}
+use Rattle.sql_rows.specs.TypedTables.{entries, entry_row}
 use Rattle.store_sql.proofs.local_lists.put_entries.Given as goal
 
 abbrev pub invariant-entries : goal.invariant-entries

@@ -1,10 +1,10 @@
 use Rattle.std.proofs.Common.{refl}
 use Rattle.sqlite.specs.Held.{state}
-use Rattle.sql_shelf.specs.Shelves.{entry_row}
-use Rattle.sql_shelf.proofs.HoldingShelves.{adds_entry}
-use Rattle.sql_shelf.proofs.ValueLaws.{optional}
-use Rattle.sql_shelf.proofs.StoreLemmas.{open_is_clean}
-use Rattle.sql_shelf.proofs.TxLemmas.{step}
+use Rattle.sql_rows.specs.TypedTables.{entry_row}
+use Rattle.sql_rows.proofs.HoldingTables.{adds_entry}
+use Rattle.sql_rows.proofs.ValueLaws.{optional}
+use Rattle.sql_rows.proofs.StoreLemmas.{open_is_clean}
+use Rattle.sql_rows.proofs.TxLemmas.{step}
 use Rattle.store_sql.proofs.local_lists.put_entry_row.Goals as goal
 
 pub returns-clause-goes : goal.returns-clause-goes

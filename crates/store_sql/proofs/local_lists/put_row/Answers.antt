@@ -1,8 +1,8 @@
 use Rattle.std.proofs.Common.{refl}
 use Rattle.sqlite.specs.Held.{state}
-use Rattle.sql_shelf.proofs.HoldingShelves.{puts_list}
-use Rattle.sql_shelf.proofs.StoreLemmas.{open_is_clean}
-use Rattle.sql_shelf.proofs.TxLemmas.{step}
+use Rattle.sql_rows.proofs.HoldingTables.{puts_list}
+use Rattle.sql_rows.proofs.StoreLemmas.{open_is_clean}
+use Rattle.sql_rows.proofs.TxLemmas.{step}
 use Rattle.store_sql.proofs.local_lists.put_row.Goals as goal
 
 pub returns-clause-goes : goal.returns-clause-goes

@@ -4,10 +4,10 @@ use Rattle.sqlite.specs.Held.{state}
 use Rattle.hub_rows.specs.Keyed.{by_key, put}
 use Rattle.hub_rows.specs.Rows.{Rows, reading_key}
 use Rattle.hub_rows.specs.Changes.{with_readings}
-use Rattle.sql_shelf.specs.Kept.{IsMade}
-use Rattle.sql_shelf.specs.Shelves.{rows_of}
-use Rattle.sql_shelf.proofs.RowEdits.{readings_more}
-use Rattle.sql_shelf.proofs.TxLemmas.{inside_then}
+use Rattle.sql_rows.specs.Kept.{IsMade}
+use Rattle.sql_rows.specs.TypedTables.{rows_of}
+use Rattle.sql_rows.proofs.RowEdits.{readings_more}
+use Rattle.sql_rows.proofs.TxLemmas.{inside_then}
 use Rattle.store_sql.proofs.readings.add_readings.Goals as goal
 
 pub readings-preserved : goal.readings-preserved

@@ -1,7 +1,7 @@
 use Rattle.std.proofs.Common.{◌≡◌, ◌+◌, take}
 use Rattle.sqlite.specs.Held.{state}
 use Rattle.hub_rows.specs.Changes.{with_readings}
-use Rattle.sql_shelf.specs.Kept.{IsInside, Inside, IsMade}
+use Rattle.sql_rows.specs.Kept.{IsInside, Inside, IsMade}
 use Rattle.store_sql.proofs.readings.add_readings.Given as goal
 
 abbrev pub invariant-readings : goal.invariant-readings

@@ -1,8 +1,8 @@
 use Rattle.std.proofs.Common.{refl}
 use Rattle.sqlite.specs.Held.{state}
-use Rattle.sql_shelf.proofs.TxShelves.{reads_tx_readings}
-use Rattle.sql_shelf.proofs.Selects.{shows}
-use Rattle.sql_shelf.proofs.StoreLemmas.{open_is_clean}
+use Rattle.sql_rows.proofs.TxTables.{reads_tx_readings}
+use Rattle.sql_rows.proofs.Selects.{shows}
+use Rattle.sql_rows.proofs.StoreLemmas.{open_is_clean}
 use Rattle.std.proofs.Common.{w64}
 use Rattle.std.proofs.lemmas.Int.{to_z_pos}
 use Rattle.store_sql.proofs.readings.list_of_tx.Goals as goal

@@ -1,10 +1,10 @@
 use Rattle.std.proofs.Common.{refl, rules, SFits, w64}
 use Rattle.sqlite.specs.Held.{state}
-use Rattle.sql_shelf.proofs.TxShelves.{adds_reading}
-use Rattle.sql_shelf.proofs.StoreLemmas.{open_is_clean}
-use Rattle.sql_shelf.proofs.TxLemmas.{step}
+use Rattle.sql_rows.proofs.TxTables.{adds_reading}
+use Rattle.sql_rows.proofs.StoreLemmas.{open_is_clean}
+use Rattle.sql_rows.proofs.TxLemmas.{step}
 use Rattle.std.proofs.lemmas.Int.{to_z-of_z}
-use Rattle.sql_shelf.proofs.ValueLaws.{optional}
+use Rattle.sql_rows.proofs.ValueLaws.{optional}
 use Rattle.store_sql.proofs.readings.put_row.Goals as goal
 
 pub returns-clause-goes : goal.returns-clause-goes

@@ -1,7 +1,7 @@
 use Rattle.sqlite.specs.Held.{state}
-use Rattle.sql_shelf.specs.Shelf.{rows_in}
-use Rattle.sql_shelf.specs.Shelves.{readings}
-use Rattle.sql_shelf.proofs.StoreLemmas.{commits_after}
+use Rattle.sql_rows.specs.TypedTable.{rows_in}
+use Rattle.sql_rows.specs.TypedTables.{readings}
+use Rattle.sql_rows.proofs.StoreLemmas.{commits_after}
 use Rattle.store_sql.proofs.Calls.{chosen_finds}
 use Rattle.store_sql.proofs.readings.readings.Goals as goal
 

@@ -1,8 +1,8 @@
 use Rattle.std.proofs.Common.{refl, rules, SFits, w64}
 use Rattle.sqlite.specs.Held.{state}
-use Rattle.sql_shelf.proofs.StationShelves.{puts_report}
-use Rattle.sql_shelf.proofs.StoreLemmas.{open_is_clean}
-use Rattle.sql_shelf.proofs.TxLemmas.{step}
+use Rattle.sql_rows.proofs.StationTables.{puts_report}
+use Rattle.sql_rows.proofs.StoreLemmas.{open_is_clean}
+use Rattle.sql_rows.proofs.TxLemmas.{step}
 use Rattle.std.proofs.lemmas.Int.{to_z-of_z}
 use Rattle.hub_rows.specs.Changes.{report_row}
 use Rattle.store_sql.proofs.reports.put_row.Goals as goal

@@ -1,8 +1,8 @@
 use Rattle.std.proofs.Common.{refl, rules, SFits, w32}
 use Rattle.sqlite.specs.Held.{state}
-use Rattle.sql_shelf.proofs.HoldingShelves.{drops_reservation}
-use Rattle.sql_shelf.proofs.StoreLemmas.{open_is_clean}
-use Rattle.sql_shelf.proofs.TxLemmas.{step}
+use Rattle.sql_rows.proofs.HoldingTables.{drops_reservation}
+use Rattle.sql_rows.proofs.StoreLemmas.{open_is_clean}
+use Rattle.sql_rows.proofs.TxLemmas.{step}
 use Rattle.std.proofs.lemmas.Int.{to_z-of_z}
 use Rattle.store_sql.proofs.reservations.drop_row.Goals as goal
 

@@ -1,8 +1,8 @@
 use Rattle.std.proofs.Common.{refl, rules, SFits, w32}
 use Rattle.sqlite.specs.Held.{state}
-use Rattle.sql_shelf.proofs.HoldingShelves.{reads_reservation}
-use Rattle.sql_shelf.proofs.Selects.{shows}
-use Rattle.sql_shelf.proofs.StoreLemmas.{open_is_clean}
+use Rattle.sql_rows.proofs.HoldingTables.{reads_reservation}
+use Rattle.sql_rows.proofs.Selects.{shows}
+use Rattle.sql_rows.proofs.StoreLemmas.{open_is_clean}
 use Rattle.std.proofs.lemmas.Int.{to_z-of_z}
 use Rattle.store_sql.proofs.reservations.find_one.Goals as goal
 

@@ -1,9 +1,9 @@
 use Rattle.std.proofs.Common.{◌&&◌}
 use Rattle.std.specs.Str.{bytes_eq}
 use Rattle.sqlite.specs.Held.{state}
-use Rattle.sql_shelf.specs.Shelves.{reservations}
+use Rattle.sql_rows.specs.TypedTables.{reservations}
 use Rattle.hub_rows.specs.Reservations.{is_reservation}
-use Rattle.sql_shelf.proofs.StoreLemmas.{commits_as}
+use Rattle.sql_rows.proofs.StoreLemmas.{commits_as}
 use Rattle.store_sql.proofs.Calls.{first_finds}
 use Rattle.store_sql.proofs.reservations.find_reservation.Goals as goal
 

@@ -1,5 +1,5 @@
 use Rattle.sqlite.specs.Held.{state}
-use Rattle.sql_shelf.proofs.TxLemmas.{goes_as}
+use Rattle.sql_rows.proofs.TxLemmas.{goes_as}
 use Rattle.store_sql.proofs.stations.add_station.Goals as goal
 
 pub returns-clause-goes : goal.returns-clause-goes

@@ -1,8 +1,8 @@
 use Rattle.std.proofs.Common.{refl}
 use Rattle.sqlite.specs.Held.{state}
-use Rattle.sql_shelf.proofs.StationShelves.{reads_station}
-use Rattle.sql_shelf.proofs.StoreLemmas.{open_is_clean}
-use Rattle.sql_shelf.proofs.TxReads.{shows_inside}
+use Rattle.sql_rows.proofs.StationTables.{reads_station}
+use Rattle.sql_rows.proofs.StoreLemmas.{open_is_clean}
+use Rattle.sql_rows.proofs.TxReads.{shows_inside}
 use Rattle.store_sql.proofs.stations.find_inside.Goals as goal
 
 pub returns-clause-shows : goal.returns-clause-shows

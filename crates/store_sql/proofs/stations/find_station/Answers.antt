@@ -1,8 +1,8 @@
 use Rattle.std.proofs.Common.{◌&&◌}
 use Rattle.std.specs.Str.{bytes_eq}
 use Rattle.sqlite.specs.Held.{state}
-use Rattle.sql_shelf.specs.Shelves.{stations}
-use Rattle.sql_shelf.proofs.StoreLemmas.{commits_as}
+use Rattle.sql_rows.specs.TypedTables.{stations}
+use Rattle.sql_rows.proofs.StoreLemmas.{commits_as}
 use Rattle.store_sql.proofs.Calls.{first_finds}
 use Rattle.store_sql.proofs.stations.find_station.Goals as goal
 

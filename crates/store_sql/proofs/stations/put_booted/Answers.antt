@@ -3,11 +3,11 @@ use Rattle.std.proofs.lemmas.Int.{to_z-of_z}
 use Rattle.sqlite.specs.Held.{state}
 use Rattle.sqlite.specs.Values.{bound_value}
 use Rattle.sqlite_value.specs.declared.value.Value.TheVariants.{Int, Text}
-use Rattle.sql_shelf.specs.Values.{text_or_null}
-use Rattle.sql_shelf.proofs.StationShelves.{puts_station}
-use Rattle.sql_shelf.proofs.StoreLemmas.{open_is_clean}
-use Rattle.sql_shelf.proofs.TxLemmas.{step}
-use Rattle.sql_shelf.proofs.ValueLaws.{optional}
+use Rattle.sql_rows.specs.Values.{text_or_null}
+use Rattle.sql_rows.proofs.StationTables.{puts_station}
+use Rattle.sql_rows.proofs.StoreLemmas.{open_is_clean}
+use Rattle.sql_rows.proofs.TxLemmas.{step}
+use Rattle.sql_rows.proofs.ValueLaws.{optional}
 use Rattle.store_sql.proofs.stations.put_booted.Goals as goal
 
 pub returns-clause-goes : goal.returns-clause-goes

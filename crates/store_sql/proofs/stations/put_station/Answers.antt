@@ -3,8 +3,8 @@ use Rattle.sqlite.specs.Held.{state}
 use Rattle.hub_rows.specs.Keyed.{by_key, put}
 use Rattle.hub_rows.specs.Rows.{station_key}
 use Rattle.hub_rows.specs.declared.station_row.StationRow.{StationRow}
-use Rattle.sql_shelf.specs.Kept.{Goes, IsMade}
-use Rattle.sql_shelf.proofs.TxLemmas.{goes_as}
+use Rattle.sql_rows.specs.Kept.{Goes, IsMade}
+use Rattle.sql_rows.proofs.TxLemmas.{goes_as}
 use Rattle.store_sql.proofs.stations.put_station.Goals as goal
 
 pub returns-in-None-clause-goes : goal.returns-in-None-clause-goes

@@ -2,9 +2,9 @@ use Rattle.std.proofs.Common.{[], ◌∷◌, ◌∙◌, ap, None}
 use Rattle.sqlite.specs.Held.{state}
 use Rattle.sqlite.specs.Values.{bound_value}
 use Rattle.sqlite_value.specs.declared.value.Value.TheVariants.{Text}
-use Rattle.sql_shelf.proofs.StationShelves.{puts_station}
-use Rattle.sql_shelf.proofs.StoreLemmas.{open_is_clean}
-use Rattle.sql_shelf.proofs.TxLemmas.{step}
+use Rattle.sql_rows.proofs.StationTables.{puts_station}
+use Rattle.sql_rows.proofs.StoreLemmas.{open_is_clean}
+use Rattle.sql_rows.proofs.TxLemmas.{step}
 use Rattle.store_sql.proofs.stations.put_unbooted.Goals as goal
 
 pub returns-clause-goes : goal.returns-clause-goes

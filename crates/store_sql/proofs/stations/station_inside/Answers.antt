@@ -1,9 +1,9 @@
 use Rattle.std.proofs.Common.{◌&&◌}
 use Rattle.std.specs.Str.{bytes_eq}
 use Rattle.sqlite.specs.Held.{state}
-use Rattle.sql_shelf.specs.Kept.{IsSame}
-use Rattle.sql_shelf.specs.Shelves.{stations}
-use Rattle.sql_shelf.proofs.RowEdits.{goes_if}
+use Rattle.sql_rows.specs.Kept.{IsSame}
+use Rattle.sql_rows.specs.TypedTables.{stations}
+use Rattle.sql_rows.proofs.RowEdits.{goes_if}
 use Rattle.store_sql.proofs.Calls.{first_finds}
 use Rattle.store_sql.proofs.stations.station_inside.Goals as goal
 

@@ -1,5 +1,5 @@
 use Rattle.sqlite.specs.Held.{state}
-use Rattle.sql_shelf.proofs.StoreLemmas.{commits_as}
+use Rattle.sql_rows.proofs.StoreLemmas.{commits_as}
 use Rattle.store_sql.proofs.stations.stations.Goals as goal
 
 pub returns-clause-stops : goal.returns-clause-stops

@@ -3,7 +3,7 @@ use Rattle.std.proofs.lemmas.List.{take_more}
 use Rattle.std.specs.List.Sorted.{IsStrictlySortedBy}
 use Rattle.hub_rows.specs.Keyed.{by_key, put, put_all}
 use Rattle.hub_rows.proofs.ListLaws.{by_key_total}
-use Rattle.sql_shelf.proofs.MemberLaws.{is_arranged, mapped-last}
+use Rattle.sql_rows.proofs.MemberLaws.{is_arranged, mapped-last}
 use Rattle.store_sql.proofs.stored.rows_of.Goals as goal
 
 pub put_row-requires : goal.put_row-requires

@@ -1,8 +1,8 @@
 use Rattle.std.proofs.Common.{refl}
 use Rattle.sqlite.specs.Held.{state}
-use Rattle.sql_shelf.proofs.TagShelves.{reads_tag}
-use Rattle.sql_shelf.proofs.Selects.{shows}
-use Rattle.sql_shelf.proofs.StoreLemmas.{open_is_clean}
+use Rattle.sql_rows.proofs.TagTables.{reads_tag}
+use Rattle.sql_rows.proofs.Selects.{shows}
+use Rattle.sql_rows.proofs.StoreLemmas.{open_is_clean}
 use Rattle.store_sql.proofs.tags.find_one.Goals as goal
 
 pub returns : goal.returns

@@ -1,6 +1,6 @@
 use Rattle.std.proofs.Common.{rules}
 use Rattle.sqlite.specs.Held.{state}
-use Rattle.sql_shelf.proofs.StoreLemmas.{commits_then, rests_then, stays_then}
+use Rattle.sql_rows.proofs.StoreLemmas.{commits_then, rests_then, stays_then}
 use Rattle.store_sql.proofs.tags.own_tag.Goals as goal
 
 pub returns-in_err-by_parent-in-Some-clause-same : goal.returns-in_err-by_parent-in-Some-clause-same

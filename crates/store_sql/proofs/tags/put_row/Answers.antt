@@ -1,10 +1,10 @@
 use Rattle.std.proofs.Common.{refl}
 use Rattle.sqlite.specs.Held.{state}
-use Rattle.sql_shelf.proofs.TagShelves.{puts_tag}
-use Rattle.sql_shelf.proofs.StoreLemmas.{open_is_clean}
-use Rattle.sql_shelf.proofs.TxLemmas.{step}
+use Rattle.sql_rows.proofs.TagTables.{puts_tag}
+use Rattle.sql_rows.proofs.StoreLemmas.{open_is_clean}
+use Rattle.sql_rows.proofs.TxLemmas.{step}
 use Rattle.hub_rows.specs.Changes.{tag_row}
-use Rattle.sql_shelf.proofs.ValueLaws.{optional}
+use Rattle.sql_rows.proofs.ValueLaws.{optional}
 use Rattle.store_sql.proofs.tags.put_row.Goals as goal
 
 pub returns-clause-goes : goal.returns-clause-goes

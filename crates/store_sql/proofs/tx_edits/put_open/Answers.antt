@@ -4,10 +4,10 @@ use Rattle.sqlite.specs.Held.{state}
 use Rattle.hub_rows.specs.Changes.{tx_row}
 use Rattle.sqlite.specs.Values.{bound_value}
 use Rattle.sqlite_value.specs.declared.value.Value.TheVariants.{Int, Text}
-use Rattle.sql_shelf.specs.Values.{flag}
-use Rattle.sql_shelf.proofs.TxShelves.{adds_tx}
-use Rattle.sql_shelf.proofs.StoreLemmas.{open_is_clean}
-use Rattle.sql_shelf.proofs.TxLemmas.{step}
+use Rattle.sql_rows.specs.Values.{flag}
+use Rattle.sql_rows.proofs.TxTables.{adds_tx}
+use Rattle.sql_rows.proofs.StoreLemmas.{open_is_clean}
+use Rattle.sql_rows.proofs.TxLemmas.{step}
 use Rattle.store_sql.proofs.tx_edits.put_open.Goals as goal
 
 pub returns-clause-goes : goal.returns-clause-goes

@@ -4,11 +4,11 @@ use Rattle.sqlite.specs.Held.{state}
 use Rattle.sqlite.specs.Values.{bound_value}
 use Rattle.sqlite_value.specs.declared.value.Value.TheVariants.{Int, Text}
 use Rattle.hub_rows.specs.Changes.{with_stop}
-use Rattle.sql_shelf.specs.Values.{text_or_null}
-use Rattle.sql_shelf.proofs.TxShelves.{puts_tx}
-use Rattle.sql_shelf.proofs.StoreLemmas.{open_is_clean}
-use Rattle.sql_shelf.proofs.TxLemmas.{step}
-use Rattle.sql_shelf.proofs.ValueLaws.{optional}
+use Rattle.sql_rows.specs.Values.{text_or_null}
+use Rattle.sql_rows.proofs.TxTables.{puts_tx}
+use Rattle.sql_rows.proofs.StoreLemmas.{open_is_clean}
+use Rattle.sql_rows.proofs.TxLemmas.{step}
+use Rattle.sql_rows.proofs.ValueLaws.{optional}
 use Rattle.store_sql.proofs.tx_edits.put_stopped.Goals as goal
 
 pub returns-clause-goes : goal.returns-clause-goes

@@ -1,12 +1,13 @@
 use Rattle.std.proofs.Common.{None, ap, ◌∙◌}
 use Rattle.sqlite.specs.Held.{state}
 use Rattle.hub_rows.specs.Changes.{edit, tx_row}
-use Rattle.hub_rows.specs.declared.change.Edit.TheVariants.{TxStarted}
+use Rattle.hub_rows.specs.declared.change.Edit.TheVariants.{Transactions}
+use Rattle.hub_rows.specs.declared.change.TransactionEdit.TheVariants.{TxStarted}
 use Rattle.hub_rows.specs.Keyed.{by_key, put}
 use Rattle.hub_rows.specs.Reservations.{without_named}
 use Rattle.hub_rows.specs.Rows.{Rows, tx_key}
-use Rattle.sql_shelf.specs.Kept.{IsMade}
-use Rattle.sql_shelf.proofs.TxLemmas.{goes_then}
+use Rattle.sql_rows.specs.Kept.{IsMade}
+use Rattle.sql_rows.proofs.TxLemmas.{goes_then}
 use Rattle.store_sql.proofs.tx_edits.start_tx.Goals as goal
 
 pub returns-clause-goes : goal.returns-clause-goes
@@ -20,6 +21,6 @@ returns-clause-goes g c = λ inside.
     let new = state g.S.Store c.drop_named.new.tx.conn.now in
     let first = (c.in_ok-put_started.ensures.goes inside).ok in
     goes_then (IsMade (λ rows. record rows { transactions = put (by_key tx_key) row rows.transactions }))
-    (IsMade (λ rows. record rows { reservations = without_named op station start.reservation rows.reservations })) (IsMade (edit op (TxStarted station c.args.number start None))) old mid new c.drop_named.result
+    (IsMade (λ rows. record rows { reservations = without_named op station start.reservation rows.reservations })) (IsMade (edit op (Transactions (TxStarted station c.args.number start None)))) old mid new c.drop_named.result
     (λ up made dropped. dropped ∙ ap {A = Rows} (λ rows. record rows { reservations = without_named op station start.reservation rows.reservations }) made)
     first (c.drop_named.ensures.goes first.within)

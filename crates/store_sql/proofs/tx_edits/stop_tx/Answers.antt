@@ -9,11 +9,11 @@ use Rattle.hub_rows.specs.Rows.{tx_key}
 use Rattle.hub_rows.specs.Transactions.{is_tx}
 use Rattle.hub_rows.specs.Uses.{owner_in, settled_use, use_by, with_use}
 use Rattle.hub_rows.proofs.ListLaws.{same_text}
-use Rattle.sql_shelf.specs.Kept.{Goes, IsMade, IsSame}
-use Rattle.sql_shelf.specs.Shelves.{rows_of}
-use Rattle.sql_shelf.proofs.ChangedLaws.{find_has}
-use Rattle.sql_shelf.proofs.RowEdits.{tx_changed, tx_settled}
-use Rattle.sql_shelf.proofs.TxLemmas.{fails_then, goes_then, inside_then}
+use Rattle.sql_rows.specs.Kept.{Goes, IsMade, IsSame}
+use Rattle.sql_rows.specs.TypedTables.{rows_of}
+use Rattle.sql_rows.proofs.ChangedLaws.{find_has}
+use Rattle.sql_rows.proofs.RowEdits.{tx_changed, tx_settled}
+use Rattle.sql_rows.proofs.TxLemmas.{fails_then, goes_then, inside_then}
 use Rattle.store_sql.proofs.tx_edits.stop_tx.Goals as goal
 
 -- the transaction that is found has the operator, the station and the number that were sought

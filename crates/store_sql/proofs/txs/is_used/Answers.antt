@@ -4,8 +4,8 @@ use Rattle.std.specs.Str.{bytes_eq}
 use Rattle.sqlite.specs.Held.{state}
 use Rattle.hub_rows.specs.Transactions.{counts, is_left_out, is_use}
 use Rattle.hub_rows.specs.declared.tx_row.TxRow.{TxRow}
-use Rattle.sql_shelf.specs.Shelf.{rows_in}
-use Rattle.sql_shelf.specs.Shelves.{txs}
+use Rattle.sql_rows.specs.TypedTable.{rows_in}
+use Rattle.sql_rows.specs.TypedTables.{txs}
 use Rattle.store_sql.proofs.Calls.{any_filtered, regrouped}
 use Rattle.store_sql.proofs.txs.is_used.Goals as goal
 

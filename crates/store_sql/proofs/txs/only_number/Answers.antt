@@ -1,7 +1,7 @@
 use Rattle.std.proofs.Common.{◌≡◌, IfOk, map, subst, sym}
 use Rattle.sqlite_value.specs.Order.{column}
 use Rattle.hub_rows.specs.Keyed.{greatest}
-use Rattle.sql_shelf.specs.Values.{count_in}
+use Rattle.sql_rows.specs.Values.{count_in}
 use Rattle.store_sql.proofs.txs.only_number.Goals as goal
 
 pub returns-in-Ok-clause-number : goal.returns-in-Ok-clause-number

@@ -1,9 +1,9 @@
 use Rattle.std.proofs.Common.{◌&&◌}
 use Rattle.std.specs.Str.{bytes_eq}
 use Rattle.sqlite.specs.Held.{state}
-use Rattle.sql_shelf.specs.Shelves.{txs}
+use Rattle.sql_rows.specs.TypedTables.{txs}
 use Rattle.hub_rows.specs.Transactions.{is_started}
-use Rattle.sql_shelf.proofs.StoreLemmas.{commits_as}
+use Rattle.sql_rows.proofs.StoreLemmas.{commits_as}
 use Rattle.store_sql.proofs.Calls.{first_finds}
 use Rattle.store_sql.proofs.txs.tx_of_start.Goals as goal
 

@@ -4,9 +4,9 @@ use Rattle.hub_rows.specs.Keyed.{by_key, put}
 use Rattle.hub_rows.specs.Rows.{use_key}
 use Rattle.hub_rows.specs.Transactions.{last_of_all}
 use Rattle.hub_rows.specs.Uses.{last_use_in, next_use, use_row, with_use}
-use Rattle.sql_shelf.specs.Kept.{IsMade, IsSame}
-use Rattle.sql_shelf.proofs.RowEdits.{next_added, none_added}
-use Rattle.sql_shelf.proofs.TxLemmas.{goes_then}
+use Rattle.sql_rows.specs.Kept.{IsMade, IsSame}
+use Rattle.sql_rows.proofs.RowEdits.{next_added, none_added}
+use Rattle.sql_rows.proofs.TxLemmas.{goes_then}
 use Rattle.store_sql.proofs.uses.add_next.Goals as goal
 
 pub returns-then-last-ge-LAST_NUMBER-clause-goes : goal.returns-then-last-ge-LAST_NUMBER-clause-goes

@@ -1,8 +1,8 @@
 use Rattle.std.proofs.Common.{refl}
 use Rattle.sqlite.specs.Held.{state}
-use Rattle.sql_shelf.proofs.TxShelves.{reads_last_use}
-use Rattle.sql_shelf.proofs.StoreLemmas.{open_is_clean}
-use Rattle.sql_shelf.proofs.TxReads.{shows_last_inside}
+use Rattle.sql_rows.proofs.TxTables.{reads_last_use}
+use Rattle.sql_rows.proofs.StoreLemmas.{open_is_clean}
+use Rattle.sql_rows.proofs.TxReads.{shows_last_inside}
 use Rattle.store_sql.proofs.uses.find_last.Goals as goal
 
 pub returns-clause-shows : goal.returns-clause-shows

@@ -1,8 +1,8 @@
 use Rattle.std.proofs.Common.{refl}
 use Rattle.sqlite.specs.Held.{state}
-use Rattle.sql_shelf.proofs.TxShelves.{reads_tx_owner}
-use Rattle.sql_shelf.proofs.StoreLemmas.{open_is_clean}
-use Rattle.sql_shelf.proofs.TxReads.{shows_inside}
+use Rattle.sql_rows.proofs.TxTables.{reads_tx_owner}
+use Rattle.sql_rows.proofs.StoreLemmas.{open_is_clean}
+use Rattle.sql_rows.proofs.TxReads.{shows_inside}
 use Rattle.store_sql.proofs.uses.find_owner.Goals as goal
 
 pub returns-clause-shows : goal.returns-clause-shows

@@ -1,9 +1,9 @@
 use Rattle.std.proofs.Common.{◌&&◌}
 use Rattle.std.specs.Str.{bytes_eq}
 use Rattle.sqlite.specs.Held.{state}
-use Rattle.sql_shelf.specs.Kept.{IsSame}
-use Rattle.sql_shelf.specs.Shelves.{tx_owners}
-use Rattle.sql_shelf.proofs.RowEdits.{goes_if}
+use Rattle.sql_rows.specs.Kept.{IsSame}
+use Rattle.sql_rows.specs.TypedTables.{tx_owners}
+use Rattle.sql_rows.proofs.RowEdits.{goes_if}
 use Rattle.hub_rows.specs.Uses.{is_owner_of}
 use Rattle.store_sql.proofs.Calls.{first_finds}
 use Rattle.store_sql.proofs.uses.owner_row.Goals as goal

@@ -3,9 +3,9 @@ use Rattle.std.specs.Prelude.{List, ℕ}
 use Rattle.sqlite.specs.Held.{state}
 use Rattle.hub_rows.specs.Rows.{Rows}
 use Rattle.hub_rows.specs.Uses.{with_owner}
-use Rattle.sql_shelf.specs.Kept.{Goes, IsMade}
-use Rattle.sql_shelf.specs.Shelves.{rows_of}
-use Rattle.sql_shelf.proofs.TxLemmas.{goes_as, inside_self}
+use Rattle.sql_rows.specs.Kept.{Goes, IsMade}
+use Rattle.sql_rows.specs.TypedTables.{rows_of}
+use Rattle.sql_rows.proofs.TxLemmas.{goes_as, inside_self}
 use Rattle.store_sql.proofs.uses.put_owner.Goals as goal
 
 pub returns-in-Some-clause-goes : goal.returns-in-Some-clause-goes

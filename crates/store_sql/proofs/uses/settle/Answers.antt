@@ -5,9 +5,9 @@ use Rattle.sqlite.specs.Held.{state}
 use Rattle.hub_rows.specs.Keyed.{found as found_in}
 use Rattle.hub_rows.specs.Uses.{is_owner_of, last_use_in, next_use, owner_in, use_by, with_use}
 use Rattle.hub_rows.specs.declared.tx_row.TxOwnerRow.{TxOwnerRow}
-use Rattle.sql_shelf.specs.Kept.{Goes, IsMade, IsSame}
-use Rattle.sql_shelf.specs.Shelves.{rows_of}
-use Rattle.sql_shelf.proofs.TxLemmas.{goes_then}
+use Rattle.sql_rows.specs.Kept.{Goes, IsMade, IsSame}
+use Rattle.sql_rows.specs.TypedTables.{rows_of}
+use Rattle.sql_rows.proofs.TxLemmas.{goes_then}
 use Rattle.store_sql.proofs.uses.settle.Goals as goal
 
 pub returns-in-Some-clause-goes : goal.returns-in-Some-clause-goes
