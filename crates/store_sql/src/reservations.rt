@@ -85,7 +85,8 @@ pub(crate) fn reserved_until<S: Alter>(
     ensures same { Rests (state S.Store conn.old) (state S.Store conn.new) }
     ensures stops { CommitsNothing (state S.Store conn.old) (state S.Store conn.new) result }
 {
-    Ok(find_reservation(conn, op, station, id)?.map(|row| row.reservation.expiry))
+    let found = find_reservation(conn, op, station, id)?;
+    Ok(found.as_ref().map(|row| row.reservation.expiry))
 }
 
 /// The reservations at a station.
