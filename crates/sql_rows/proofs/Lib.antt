@@ -31,3 +31,4 @@ pub mod OrderedLaws
 pub mod CreateLemmas
 pub mod RaisingLemmas
 pub mod OpeningLemmas
+pub mod Calls

@@ -3,3 +3,4 @@ pub mod Values
 pub mod TypedTables
 pub mod Kept
 pub mod Opening
+pub mod Told

@@ -17,7 +17,8 @@ use Rattle.hub_rows.proofs.WellFormedLaws.{well_formed-edit}
 use Rattle.sql_rows.specs.Kept.{Serves, IsServing, IsAsBefore, Rests, CommitsNothing, Finds, Changes, IsMade, Made}
 use Rattle.sql_rows.specs.Opening.{IsOurs}
 use Rattle.sql_rows.specs.TypedTables.{rows_of}
-use Rattle.store_sql.specs.Store.{SqlView, ServesIfOurs, IsReady, sql_rows, sql_view, IsCleanSql}
+use Rattle.store_sql.specs.Store.{SqlView, ServesIfOurs, sql_rows, sql_view, IsCleanSql}
+use Rattle.sql_edits.specs.Ready.{IsReady}
 use Rattle.store_sql.proofs.StopLaws.{LeavesSome, LeavesLast, read_stopped, read_stays, change_stopped, change_stays}
 
 pub serving_if : (taken s : State) → ServesIfOurs taken s → IsOurs taken → IsServing s

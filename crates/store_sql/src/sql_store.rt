@@ -4,16 +4,16 @@ ghost use Rattle.hub_rows.specs.Failures.{Rose};
 ghost use Rattle.hub_rows.specs.declared.store.StoreFault.TheVariants as store_fault;
 
 use crate::opening::{PrepareFault, fault, prepare};
-use crate::{
-    changes, connectors, granted, grants, local_lists, readings, reports,
-    reservations, stations, tags, txs, uses,
-};
 use hub_rows::{
     Change, ConnectorRow, GrantRow, GrantedTag, Info, LocalList, ReadingRow,
     Registration, ReportRow, ReservationId, ReservationRow, StartKey, StationRow, Store,
     StoreFault, TagRow, TxKey, TxRow, TxState, UseRow,
 };
 use ocpp_types::{Listed, Moment, TagKey};
+use sql_lookups::{
+    connectors, granted, grants, local_lists, readings, reports, reservations, stations, tags, txs,
+    uses,
+};
 use sqlite::{Alter, Connection, FileFrom, FileStore, MemStore, Start};
 use std::alloc::Global;
 use std::marker::Model;
@@ -311,7 +311,7 @@ impl<A: Alter> Store for SqlStore<A> {
     }
 
     fn apply(&mut self, change: &Change<'_>) -> Result<(), StoreFault> {
-        let done = changes::apply(&mut self.conn, self.alloc, change);
+        let done = sql_edits::apply(&mut self.conn, self.alloc, change);
         self.counted(done)
     }
 }
