@@ -53,5 +53,5 @@ pub(crate) fn done(ran: Result<usize, Error>) -> Result<(), StoreFault>
     ensures ok { OnOk result (IsOk ran) }
     ensures err { OnErr result (IsErr ran) }
 {
-    ran.map(|_| ()).map_err(told)
+    ran.map(|_| ()).map_err(|error| told(error))
 }

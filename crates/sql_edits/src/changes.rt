@@ -162,7 +162,7 @@ fn committed(ran: Result<(), Error>) -> Result<(), StoreFault>
     ensures ok { OnOk result (IsOk ran) }
     ensures err { OnErr result (IsErr ran) }
 {
-    ran.map_err(told)
+    ran.map_err(|error| told(error))
 }
 
 /// Makes a change, in one transaction.

@@ -10,7 +10,7 @@ ghost use Rattle.sql_rows.specs.TypedTables.{txs};
 
 use hub_rows::{StartKey, StoreFault, TxKey, TxRow, TxState};
 use ocpp_types::Listed;
-use sql_rows::{first_row, is_found, listed};
+use sql_rows::{first_row, is_found, listed, only_number};
 use sqlite::{Alter, Connection, Error, Row, params};
 
 fn find_one<S: Alter>(
