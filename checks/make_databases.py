@@ -3,7 +3,7 @@
 shapes.
 
 Run it at the top of the repository, after a change of the tables. It reads their texts from
-crates/sql_tables/specs/Statements.antt. The files are written by SQLite itself, all but records_in_each_list.db and
+crates/sql_tables/src. The files are written by SQLite itself, all but records_in_each_list.db and
 records_of_schema_2.db. Those have schema 1 and 2: each is what `central replay --db` of that version made of the script
 of its name, with rows in each table. They are never made anew.
 """
@@ -12,13 +12,24 @@ import re
 import sqlite3
 
 FOLDER = "crates/check_scripts/data/databases"
-TEXTS = dict(re.findall(r'^(create_\w+) = codes "(.*)"$', open("crates/sql_tables/specs/Statements.antt").read(), re.M))
-META = TEXTS["create_meta"]
+SUBJECTS = (
+    "meta", "stations", "connectors", "tags", "grants", "txs", "readings", "reservations", "lists", "list_entries",
+    "reports", "tx_owners", "uses",
+)
+CONSTANT = re.compile(r'^pub const (CREATE\w*): &str =\s+"(.*)";$', re.M)
+MADE = {
+    f"{subject}.{name}": text
+    for subject in SUBJECTS
+    for name, text in CONSTANT.findall(open(f"crates/sql_tables/src/{subject}.rt").read())
+}
+# all tables, and after them the further indexes
+TEXTS = dict(sorted(MADE.items(), key=lambda made: not made[0].endswith(".CREATE")))
+META = TEXTS["meta.CREATE"]
 NUMBER = "INSERT INTO hub_meta VALUES ('schema', %d)"
 # the tables and indexes of each schema, in their order
-EARLIER = ("create_earlier_tx_is_open",)
-THIRD = ("create_tx_owner", "create_use", "create_tx_is_open")
-FIRST_TABLES = [text for name, text in TEXTS.items() if name not in ("create_report", *THIRD)]
+EARLIER = ("txs.CREATE_EARLIER_IS_OPEN",)
+THIRD = ("tx_owners.CREATE", "uses.CREATE", "txs.CREATE_IS_OPEN")
+FIRST_TABLES = [text for name, text in TEXTS.items() if name not in ("reports.CREATE", *THIRD)]
 SECOND_TABLES = [text for name, text in TEXTS.items() if name not in THIRD]
 TABLES = [text for name, text in TEXTS.items() if name not in EARLIER]
 FIRST = FIRST_TABLES + [NUMBER % 1]
@@ -70,9 +81,9 @@ raw("empty_file", b"")
 raw("no_database", b"T ACME add CP01\n" * 64)
 raw("half_a_header", b"SQLite format 3\0")
 database("no_table", ["CREATE TABLE t (a)", "DROP TABLE t"])
-database("tag_without_meta", [TEXTS["create_tag"]])
-database("report_without_meta", [TEXTS["create_report"]])
-database("use_without_meta", [TEXTS["create_use"]])
+database("tag_without_meta", [TEXTS["tags.CREATE"]])
+database("report_without_meta", [TEXTS["reports.CREATE"]])
+database("use_without_meta", [TEXTS["uses.CREATE"]])
 database("other_program", ["CREATE TABLE person (name TEXT)", "INSERT INTO person VALUES ('A')"])
 database("later_version", [META, NUMBER % 9])
 database("later_version_with_other_tables", [META, NUMBER % 4, "CREATE TABLE person (name TEXT)"])
@@ -89,27 +100,27 @@ database("meta_as_a_view", ["CREATE TABLE t (number INTEGER)", "INSERT INTO t VA
 database("ours", OURS)
 database("ours_with_rows", OURS + ROWS)
 database("ours_after_vacuum", OURS + ROWS, vacuum=True)
-database("ours_with_a_table_last", [text for text in OURS if text != TEXTS["create_use"]] + [TEXTS["create_use"]])
-database("ours_without_a_table", [text for text in OURS if text != TEXTS["create_reservation"]])
-database("ours_without_an_index", [text for text in OURS if text != TEXTS["create_tx_in_use"]])
+database("ours_with_a_table_last", [text for text in OURS if text != TEXTS["uses.CREATE"]] + [TEXTS["uses.CREATE"]])
+database("ours_without_a_table", [text for text in OURS if text != TEXTS["reservations.CREATE"]])
+database("ours_without_an_index", [text for text in OURS if text != TEXTS["txs.CREATE_IN_USE"]])
 database("ours_with_another_table", OURS + ["CREATE TABLE person (name TEXT)"])
 database("ours_with_another_column", [text.replace("until INTEGER", "until INTEGER, note TEXT") for text in OURS])
-database("ours_with_an_earlier_index", [TEXTS["create_earlier_tx_is_open"] if text == TEXTS["create_tx_is_open"] else text for text in OURS])
+database("ours_with_an_earlier_index", [TEXTS["txs.CREATE_EARLIER_IS_OPEN"] if text == TEXTS["txs.CREATE_IS_OPEN"] else text for text in OURS])
 database("ours_with_the_number_1", TABLES + [NUMBER % 1])
 database("ours_with_the_number_2", TABLES + [NUMBER % 2])
 database("second", SECOND)
 database("second_with_rows", SECOND + SECOND_ROWS)
 database("second_after_vacuum", SECOND + SECOND_ROWS, vacuum=True)
-database("second_with_tables_last", FIRST_TABLES + [TEXTS["create_report"], NUMBER % 2])
-database("second_without_a_table", [text for text in SECOND if text != TEXTS["create_report"]])
-database("second_with_a_table_of_ours", SECOND + [TEXTS["create_tx_owner"]])
-database("second_with_a_later_index", [TEXTS["create_tx_is_open"] if text == TEXTS["create_earlier_tx_is_open"] else text for text in SECOND])
+database("second_with_tables_last", FIRST_TABLES + [TEXTS["reports.CREATE"], NUMBER % 2])
+database("second_without_a_table", [text for text in SECOND if text != TEXTS["reports.CREATE"]])
+database("second_with_a_table_of_ours", SECOND + [TEXTS["tx_owners.CREATE"]])
+database("second_with_a_later_index", [TEXTS["txs.CREATE_IS_OPEN"] if text == TEXTS["txs.CREATE_EARLIER_IS_OPEN"] else text for text in SECOND])
 database("second_with_the_number_3", SECOND_TABLES + [NUMBER % 3])
 database("first", FIRST)
 database("first_with_rows", FIRST + [STATION, TAG])
 database("first_after_vacuum", FIRST + [STATION, TAG], vacuum=True)
-database("first_without_a_table", [text for text in FIRST if text != TEXTS["create_reservation"]])
-database("first_without_an_index", [text for text in FIRST if text != TEXTS["create_tx_in_use"]])
+database("first_without_a_table", [text for text in FIRST if text != TEXTS["reservations.CREATE"]])
+database("first_without_an_index", [text for text in FIRST if text != TEXTS["txs.CREATE_IN_USE"]])
 database("first_with_another_table", FIRST + ["CREATE TABLE person (name TEXT)"])
 database("first_with_another_column", [text.replace("until INTEGER", "until INTEGER, note TEXT") for text in FIRST])
 database("first_with_the_number_2", FIRST_TABLES + [NUMBER % 2])

@@ -6,7 +6,19 @@ use Rattle.sqlite_catalog.specs.Change.{created, indexed, next_tree, without_ind
 use Rattle.sqlite_tied.specs.Compute.{everything}
 use Rattle.sqlite.specs.Listing.{understood}
 use Rattle.sql_tables.specs.Tables.{first_tables, second_tables, third_tables, hub_meta, hub_station, hub_connector, hub_tag, hub_grant, hub_tx, hub_reading, hub_reservation, hub_list, hub_list_entry, hub_report, hub_tx_owner, hub_use, hub_grant_to, hub_tx_in_use, hub_tx_is_open, hub_tx_start_at, hub_reading_transaction}
-use Rattle.sql_tables.specs.Statements.{create_meta, create_station, create_connector, create_tag, create_grant, create_tx, create_reading, create_reservation, create_list, create_list_entry, create_grant_to, create_tx_in_use, create_tx_start_at, create_reading_transaction, create_report, create_tx_owner, create_use, drop_grant_to, drop_tx_in_use, drop_tx_is_open, drop_tx_start_at, drop_reading_transaction}
+use Rattle.sql_tables.specs.declared.connectors.TheConstants as connectors
+use Rattle.sql_tables.specs.declared.grants.TheConstants as grants
+use Rattle.sql_tables.specs.declared.list_entries.TheConstants as list_entries
+use Rattle.sql_tables.specs.declared.lists.TheConstants as lists
+use Rattle.sql_tables.specs.declared.meta.TheConstants as meta
+use Rattle.sql_tables.specs.declared.readings.TheConstants as readings
+use Rattle.sql_tables.specs.declared.reports.TheConstants as reports
+use Rattle.sql_tables.specs.declared.reservations.TheConstants as reservations
+use Rattle.sql_tables.specs.declared.stations.TheConstants as stations
+use Rattle.sql_tables.specs.declared.tags.TheConstants as tags
+use Rattle.sql_tables.specs.declared.tx_owners.TheConstants as tx_owners
+use Rattle.sql_tables.specs.declared.txs.TheConstants as txs
+use Rattle.sql_tables.specs.declared.uses.TheConstants as uses
 use Rattle.sql_tables.specs.Opening.{no_schema, tables_at, open_columns_at, create_tx_is_open_at, schema_at, IsCreate, IsIndexCreate, IsIndexDrop}
 
 -- ---- the tables of schema 1
@@ -14,70 +26,70 @@ use Rattle.sql_tables.specs.Opening.{no_schema, tables_at, open_columns_at, crea
 abbrev pub with_meta : Schema
 with_meta = created no_schema (record hub_meta { tree = 0 })
 
-pub meta_made : IsCreate create_meta no_schema (record hub_meta { tree = 0 })
+pub meta_made : IsCreate meta.CREATE.now no_schema (record hub_meta { tree = 0 })
 unfolding understood everything
 meta_made = record { command = refl; plain = (refl, refl); text = refl; defined = refl; uncounted = refl }
 
 abbrev pub with_station : Schema
 with_station = created with_meta (record hub_station { tree = 0 })
 
-pub station_made : IsCreate create_station with_meta (record hub_station { tree = 0 })
+pub station_made : IsCreate stations.CREATE.now with_meta (record hub_station { tree = 0 })
 unfolding understood everything
 station_made = record { command = refl; plain = (refl, refl); text = refl; defined = refl; uncounted = refl }
 
 abbrev pub with_connector : Schema
 with_connector = created with_station (record hub_connector { tree = 0 })
 
-pub connector_made : IsCreate create_connector with_station (record hub_connector { tree = 0 })
+pub connector_made : IsCreate connectors.CREATE.now with_station (record hub_connector { tree = 0 })
 unfolding understood everything
 connector_made = record { command = refl; plain = (refl, refl); text = refl; defined = refl; uncounted = refl }
 
 abbrev pub with_tag : Schema
 with_tag = created with_connector (record hub_tag { tree = 0 })
 
-pub tag_made : IsCreate create_tag with_connector (record hub_tag { tree = 0 })
+pub tag_made : IsCreate tags.CREATE.now with_connector (record hub_tag { tree = 0 })
 unfolding understood everything
 tag_made = record { command = refl; plain = (refl, refl); text = refl; defined = refl; uncounted = refl }
 
 abbrev pub with_grant : Schema
 with_grant = created with_tag (record hub_grant { tree = 0 })
 
-pub grant_made : IsCreate create_grant with_tag (record hub_grant { tree = 0 })
+pub grant_made : IsCreate grants.CREATE.now with_tag (record hub_grant { tree = 0 })
 unfolding understood everything
 grant_made = record { command = refl; plain = (refl, refl); text = refl; defined = refl; uncounted = refl }
 
 abbrev pub with_tx : Schema
 with_tx = created with_grant (record hub_tx { tree = 0 })
 
-pub tx_made : IsCreate create_tx with_grant (record hub_tx { tree = 0 })
+pub tx_made : IsCreate txs.CREATE.now with_grant (record hub_tx { tree = 0 })
 unfolding understood everything
 tx_made = record { command = refl; plain = (refl, refl); text = refl; defined = refl; uncounted = refl }
 
 abbrev pub with_reading : Schema
 with_reading = created with_tx (record hub_reading { tree = 0 })
 
-pub reading_made : IsCreate create_reading with_tx (record hub_reading { tree = 0 })
+pub reading_made : IsCreate readings.CREATE.now with_tx (record hub_reading { tree = 0 })
 unfolding understood everything
 reading_made = record { command = refl; plain = (refl, refl); text = refl; defined = refl; uncounted = refl }
 
 abbrev pub with_reservation : Schema
 with_reservation = created with_reading (record hub_reservation { tree = 0 })
 
-pub reservation_made : IsCreate create_reservation with_reading (record hub_reservation { tree = 0 })
+pub reservation_made : IsCreate reservations.CREATE.now with_reading (record hub_reservation { tree = 0 })
 unfolding understood everything
 reservation_made = record { command = refl; plain = (refl, refl); text = refl; defined = refl; uncounted = refl }
 
 abbrev pub with_list : Schema
 with_list = created with_reservation (record hub_list { tree = 0 })
 
-pub list_made : IsCreate create_list with_reservation (record hub_list { tree = 0 })
+pub list_made : IsCreate lists.CREATE.now with_reservation (record hub_list { tree = 0 })
 unfolding understood everything
 list_made = record { command = refl; plain = (refl, refl); text = refl; defined = refl; uncounted = refl }
 
 abbrev pub with_list_entry : Schema
 with_list_entry = created with_list (record hub_list_entry { tree = 0 })
 
-pub list_entry_made : IsCreate create_list_entry with_list (record hub_list_entry { tree = 0 })
+pub list_entry_made : IsCreate list_entries.CREATE.now with_list (record hub_list_entry { tree = 0 })
 unfolding understood everything
 list_entry_made = record { command = refl; plain = (refl, refl); text = refl; defined = refl; uncounted = refl }
 
@@ -88,7 +100,7 @@ first_made = refl
 
 -- ---- the table that schema 2 has beside them
 
-pub report_made : IsCreate create_report first_tables (record hub_report { tree = 0 })
+pub report_made : IsCreate reports.CREATE.now first_tables (record hub_report { tree = 0 })
 unfolding understood everything
 report_made = record { command = refl; plain = (refl, refl); text = refl; defined = refl; uncounted = refl }
 
@@ -101,11 +113,11 @@ second_made = refl
 abbrev pub with_tx_owner : Schema
 with_tx_owner = created second_tables (record hub_tx_owner { tree = 0 })
 
-pub tx_owner_made : IsCreate create_tx_owner second_tables (record hub_tx_owner { tree = 0 })
+pub tx_owner_made : IsCreate tx_owners.CREATE.now second_tables (record hub_tx_owner { tree = 0 })
 unfolding understood everything
 tx_owner_made = record { command = refl; plain = (refl, refl); text = refl; defined = refl; uncounted = refl }
 
-pub use_made : IsCreate create_use with_tx_owner (record hub_use { tree = 0 })
+pub use_made : IsCreate uses.CREATE.now with_tx_owner (record hub_use { tree = 0 })
 unfolding understood everything
 use_made = record { command = refl; plain = (refl, refl); text = refl; defined = refl; uncounted = refl }
 
@@ -118,7 +130,7 @@ third_made = refl
 abbrev pub with_grant_to : ℕ → Schema
 with_grant_to n = indexed (tables_at n) hub_grant (hub_grant_to 0)
 
-pub grant_to_made : (n : ℕ) → 0 < n → IsIndexCreate create_grant_to (tables_at n) 4 hub_grant (hub_grant_to 0)
+pub grant_to_made : (n : ℕ) → 0 < n → IsIndexCreate grants.CREATE_TO.now (tables_at n) 4 hub_grant (hub_grant_to 0)
 unfolding understood everything digits
 grant_to_made zero made = absurd (omega (arith, made))
 grant_to_made (suc zero) made = record { command = refl; plain = (refl, refl); text = refl; here = refl; defined = refl }
@@ -128,7 +140,7 @@ grant_to_made (suc (suc (suc n))) made = record { command = refl; plain = (refl,
 abbrev pub with_tx_in_use : ℕ → Schema
 with_tx_in_use n = indexed (with_grant_to n) hub_tx (hub_tx_in_use 0)
 
-pub tx_in_use_made : (n : ℕ) → 0 < n → IsIndexCreate create_tx_in_use (with_grant_to n) 5 hub_tx (hub_tx_in_use 0)
+pub tx_in_use_made : (n : ℕ) → 0 < n → IsIndexCreate txs.CREATE_IN_USE.now (with_grant_to n) 5 hub_tx (hub_tx_in_use 0)
 unfolding understood everything digits
 tx_in_use_made zero made = absurd (omega (arith, made))
 tx_in_use_made (suc zero) made = record { command = refl; plain = (refl, refl); text = refl; here = refl; defined = refl }
@@ -148,7 +160,7 @@ tx_is_open_made (suc (suc (suc n))) made = record { command = refl; plain = (ref
 abbrev pub with_tx_start_at : ℕ → Schema
 with_tx_start_at n = indexed (with_tx_is_open n) hub_tx (hub_tx_start_at 0)
 
-pub tx_start_at_made : (n : ℕ) → 0 < n → IsIndexCreate create_tx_start_at (with_tx_is_open n) 5 hub_tx (hub_tx_start_at 0)
+pub tx_start_at_made : (n : ℕ) → 0 < n → IsIndexCreate txs.CREATE_START_AT.now (with_tx_is_open n) 5 hub_tx (hub_tx_start_at 0)
 unfolding understood everything digits
 tx_start_at_made zero made = absurd (omega (arith, made))
 tx_start_at_made (suc zero) made = record { command = refl; plain = (refl, refl); text = refl; here = refl; defined = refl }
@@ -158,7 +170,7 @@ tx_start_at_made (suc (suc (suc n))) made = record { command = refl; plain = (re
 abbrev pub with_reading_transaction : ℕ → Schema
 with_reading_transaction n = indexed (with_tx_start_at n) hub_reading (hub_reading_transaction 0)
 
-pub reading_transaction_made : (n : ℕ) → 0 < n → IsIndexCreate create_reading_transaction (with_tx_start_at n) 6 hub_reading (hub_reading_transaction 0)
+pub reading_transaction_made : (n : ℕ) → 0 < n → IsIndexCreate readings.CREATE_TRANSACTION.now (with_tx_start_at n) 6 hub_reading (hub_reading_transaction 0)
 unfolding understood everything digits
 reading_transaction_made zero made = absurd (omega (arith, made))
 reading_transaction_made (suc zero) made = record { command = refl; plain = (refl, refl); text = refl; here = refl; defined = refl }
@@ -178,7 +190,7 @@ all_made (suc (suc (suc n))) made = refl
 abbrev pub without_grant_to : ℕ → Schema
 without_grant_to n = without_index (schema_at n) (next_tree (tables_at n))
 
-pub grant_to_dropped : (n : ℕ) → 0 < n → IsIndexDrop drop_grant_to (schema_at n) (hub_grant_to (next_tree (tables_at n)))
+pub grant_to_dropped : (n : ℕ) → 0 < n → IsIndexDrop grants.DROP_TO.now (schema_at n) (hub_grant_to (next_tree (tables_at n)))
 unfolding understood everything digits
 grant_to_dropped zero made = absurd (omega (arith, made))
 grant_to_dropped (suc zero) made = record { at = 10; command = refl; plain = (refl, refl); here = refl }
@@ -188,7 +200,7 @@ grant_to_dropped (suc (suc (suc n))) made = record { at = 13; command = refl; pl
 abbrev pub without_tx_in_use : ℕ → Schema
 without_tx_in_use n = without_index (without_grant_to n) (next_tree (tables_at n) + 1)
 
-pub tx_in_use_dropped : (n : ℕ) → 0 < n → IsIndexDrop drop_tx_in_use (without_grant_to n) (hub_tx_in_use (next_tree (tables_at n) + 1))
+pub tx_in_use_dropped : (n : ℕ) → 0 < n → IsIndexDrop txs.DROP_IN_USE.now (without_grant_to n) (hub_tx_in_use (next_tree (tables_at n) + 1))
 unfolding understood everything digits
 tx_in_use_dropped zero made = absurd (omega (arith, made))
 tx_in_use_dropped (suc zero) made = record { at = 10; command = refl; plain = (refl, refl); here = refl }
@@ -198,7 +210,7 @@ tx_in_use_dropped (suc (suc (suc n))) made = record { at = 13; command = refl; p
 abbrev pub without_tx_is_open : ℕ → Schema
 without_tx_is_open n = without_index (without_tx_in_use n) (next_tree (tables_at n) + 2)
 
-pub tx_is_open_dropped : (n : ℕ) → 0 < n → IsIndexDrop drop_tx_is_open (without_tx_in_use n) (hub_tx_is_open (open_columns_at n) (next_tree (tables_at n) + 2))
+pub tx_is_open_dropped : (n : ℕ) → 0 < n → IsIndexDrop txs.DROP_IS_OPEN.now (without_tx_in_use n) (hub_tx_is_open (open_columns_at n) (next_tree (tables_at n) + 2))
 unfolding understood everything digits
 tx_is_open_dropped zero made = absurd (omega (arith, made))
 tx_is_open_dropped (suc zero) made = record { at = 10; command = refl; plain = (refl, refl); here = refl }
@@ -208,7 +220,7 @@ tx_is_open_dropped (suc (suc (suc n))) made = record { at = 13; command = refl; 
 abbrev pub without_tx_start_at : ℕ → Schema
 without_tx_start_at n = without_index (without_tx_is_open n) (next_tree (tables_at n) + 3)
 
-pub tx_start_at_dropped : (n : ℕ) → 0 < n → IsIndexDrop drop_tx_start_at (without_tx_is_open n) (hub_tx_start_at (next_tree (tables_at n) + 3))
+pub tx_start_at_dropped : (n : ℕ) → 0 < n → IsIndexDrop txs.DROP_START_AT.now (without_tx_is_open n) (hub_tx_start_at (next_tree (tables_at n) + 3))
 unfolding understood everything digits
 tx_start_at_dropped zero made = absurd (omega (arith, made))
 tx_start_at_dropped (suc zero) made = record { at = 10; command = refl; plain = (refl, refl); here = refl }
@@ -218,7 +230,7 @@ tx_start_at_dropped (suc (suc (suc n))) made = record { at = 13; command = refl;
 abbrev pub without_reading_transaction : ℕ → Schema
 without_reading_transaction n = without_index (without_tx_start_at n) (next_tree (tables_at n) + 4)
 
-pub reading_transaction_dropped : (n : ℕ) → 0 < n → IsIndexDrop drop_reading_transaction (without_tx_start_at n) (hub_reading_transaction (next_tree (tables_at n) + 4))
+pub reading_transaction_dropped : (n : ℕ) → 0 < n → IsIndexDrop readings.DROP_TRANSACTION.now (without_tx_start_at n) (hub_reading_transaction (next_tree (tables_at n) + 4))
 unfolding understood everything digits
 reading_transaction_dropped zero made = absurd (omega (arith, made))
 reading_transaction_dropped (suc zero) made = record { at = 10; command = refl; plain = (refl, refl); here = refl }

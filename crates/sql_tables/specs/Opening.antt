@@ -14,7 +14,7 @@ use Rattle.sqlite.specs.Given.{IsPlain}
 use Rattle.sqlite.specs.Listing.{understood}
 use Rattle.sqlite.specs.State.{text_of}
 use Rattle.sql_tables.specs.Tables.{first_tables, second_tables, third_tables, with_indexes}
-use Rattle.sql_tables.specs.Statements.{create_tx_is_open, create_earlier_tx_is_open}
+use Rattle.sql_tables.specs.declared.txs.TheConstants as txs
 
 -- an empty database
 abbrev pub no_schema : Schema
@@ -40,10 +40,10 @@ open_columns_at (suc (suc (suc n))) = 1 ∷ 12 ∷ 2 ∷ []
 
 -- the text that makes it there
 abbrev pub create_tx_is_open_at : ℕ → List ℕ
-create_tx_is_open_at zero = create_earlier_tx_is_open
-create_tx_is_open_at (suc zero) = create_earlier_tx_is_open
-create_tx_is_open_at (suc (suc zero)) = create_earlier_tx_is_open
-create_tx_is_open_at (suc (suc (suc n))) = create_tx_is_open
+create_tx_is_open_at zero = txs.CREATE_EARLIER_IS_OPEN.now
+create_tx_is_open_at (suc zero) = txs.CREATE_EARLIER_IS_OPEN.now
+create_tx_is_open_at (suc (suc zero)) = txs.CREATE_EARLIER_IS_OPEN.now
+create_tx_is_open_at (suc (suc (suc n))) = txs.CREATE_IS_OPEN.now
 
 -- the schemas by their numbers: all tables, and then the further indexes
 abbrev pub schema_at : ℕ → Schema

@@ -1,5 +1,5 @@
 -- The tables. The columns of a key come first, in its order. A column is a whole number or a text.
-use Rattle.std.specs.Prelude.{Bool, true, false, [], ◌∷◌, ◌++◌, None, codes, List, ℕ, zero, suc, ◌+◌}
+use Rattle.std.specs.Prelude.{Bool, true, false, [], ◌∷◌, ◌++◌, None, codes, List, map, ℕ, zero, suc, ◌+◌}
 use Rattle.sqlite_value.specs.declared.value.Value.TheVariants.{Null}
 use Rattle.sqlite_value.specs.declared.keys.Collation.TheVariants.{Binary}
 use Rattle.sqlite_value.specs.Keys.{plain}
@@ -49,6 +49,10 @@ keyed_table name tree columns n references = record {
   stamps = record { places = []; terms = []; formats = [] };
   is_counted = false;
 }
+
+-- the names of its columns, in their order
+abbrev pub names_of : Table → List (List ℕ)
+names_of t = map (λ c. c.name) t.columns
 
 -- the index of a table's key, which comes with the table
 abbrev pub key_index : List ℕ → ℕ → ℕ → Index

@@ -1,4 +1,2 @@
-pub mod GrantedLaws
 pub mod StopLaws
 pub mod StoreLaws
-pub mod Calls

@@ -12,10 +12,10 @@ use Rattle.hub_rows.specs.Rows.{Rows}
 use Rattle.hub_rows.specs.Stops.{IsKept, FindsOld, FindsOldOr}
 use Rattle.hub_rows.specs.WellFormed.{WellFormedRows}
 use Rattle.sql_tables.specs.Opening.{our_number, schema_at}
-use Rattle.sql_shelf.specs.Kept.{Serves, IsServing, Rests, IsUncommitted, CommitsNothing, Changes, IsMade}
-use Rattle.sql_shelf.specs.Opening.{IsOurs, Prepares}
-use Rattle.sql_shelf.specs.Shelves.{rows_of}
-use Rattle.sql_shelf.proofs.StoreLemmas.{open_is_clean}
+use Rattle.sql_rows.specs.Kept.{Serves, IsServing, Rests, IsUncommitted, CommitsNothing, Changes, IsMade}
+use Rattle.sql_rows.specs.Opening.{IsOurs, Prepares}
+use Rattle.sql_rows.specs.TypedTables.{rows_of}
+use Rattle.sql_rows.proofs.StoreLemmas.{open_is_clean}
 use Rattle.store_sql.specs.Store.{SqlView, ServesIfOurs, sql_rows, sql_may_find, sql_view, IsCleanSql}
 
 -- ---- what a read says, whatever it answers

@@ -1,23 +1,24 @@
 -- What the store says of a call, by what the connection says of it.
-use Rattle.std.proofs.Common.{◌≡◌, ◌≤◌, IsTrue, Result, Ok, Err, OnOk, OnErr, IfOk, sym, ap, ◌∙◌, subst, subst₂}
+use Rattle.std.proofs.Common.{◌≡◌, ◌≤◌, ℕ, List, IsTrue, Result, Ok, Err, OnOk, OnErr, IfOk, sym, ap, ◌∙◌, subst, subst₂}
 use Rattle.sqlite_trees.specs.declared.store.Store.{Ghosts}
 use Rattle.sqlite.specs.Effect.{Database}
 use Rattle.sqlite.specs.Held.{Held, state}
 use Rattle.sqlite.specs.State.{State}
-use Rattle.hub_rows.specs.Changes.{Fits, after_change}
+use Rattle.hub_rows.specs.Changes.{EditFits, edit}
 use Rattle.hub_rows.specs.Failures.{Rose}
 use Rattle.hub_rows.specs.Reads.{OnlyReads, IsCounted}
 use Rattle.hub_rows.specs.Stops.{IsKept, FindsOldOr}
 use Rattle.hub_rows.specs.Rows.{Rows}
 use Rattle.hub_rows.specs.WellFormed.{WellFormedRows}
-use Rattle.hub_rows.specs.declared.change.Change.{Change}
+use Rattle.hub_rows.specs.declared.change.Edit.{Edit}
 use Rattle.hub_rows.specs.declared.store.StoreFault.{StoreFault}
 use Rattle.hub_rows.specs.declared.store.StoreFault.TheVariants.{Failed}
 use Rattle.hub_rows.proofs.WellFormedLaws.{well_formed-edit}
-use Rattle.sql_shelf.specs.Kept.{Serves, IsServing, IsAsBefore, Rests, CommitsNothing, Finds, Changes, IsMade, Made}
-use Rattle.sql_shelf.specs.Opening.{IsOurs}
-use Rattle.sql_shelf.specs.Shelves.{rows_of}
-use Rattle.store_sql.specs.Store.{SqlView, ServesIfOurs, IsReady, sql_rows, sql_view, IsCleanSql}
+use Rattle.sql_rows.specs.Kept.{Serves, IsServing, IsAsBefore, Rests, CommitsNothing, Finds, Changes, IsMade, Made}
+use Rattle.sql_rows.specs.Opening.{IsOurs}
+use Rattle.sql_rows.specs.TypedTables.{rows_of}
+use Rattle.store_sql.specs.Store.{SqlView, ServesIfOurs, sql_rows, sql_view, IsCleanSql}
+use Rattle.sql_edits.specs.Ready.{IsReady}
 use Rattle.store_sql.proofs.StopLaws.{LeavesSome, LeavesLast, read_stopped, read_stays, change_stopped, change_stays}
 
 pub serving_if : (taken s : State) → ServesIfOurs taken s → IsOurs taken → IsServing s
@@ -71,16 +72,16 @@ module _ {S : Type 0} (g : Ghosts S) (inside old new : SqlView S) (view_is : ins
 
 -- ---- a change
 
-module _ {S : Type 0} (g : Ghosts S) (inside : SqlView S) (conn : Held S) (kept : ServesIfOurs (state g inside.taken) (state g inside.conn)) (change : Change) (fits : IsCleanSql g inside → Fits change (sql_rows g inside)) (r : Result (Unit {0}) StoreFault)
-    (made : IsReady change (state g inside.conn) → Changes (IsMade (after_change change)) (state g inside.conn) (state g conn) r) where
-  ready : (IsTrue (state g inside.conn).is_open → IsOurs (state g inside.taken)) → IsReady change (state g inside.conn)
+module _ {S : Type 0} (g : Ghosts S) (inside : SqlView S) (conn : Held S) (kept : ServesIfOurs (state g inside.taken) (state g inside.conn)) (op : List ℕ) (change : Edit) (fits : IsCleanSql g inside → EditFits op change (sql_rows g inside)) (r : Result (Unit {0}) StoreFault)
+    (made : IsReady op change (state g inside.conn) → Changes (IsMade (edit op change)) (state g inside.conn) (state g conn) r) where
+  ready : (IsTrue (state g inside.conn).is_open → IsOurs (state g inside.taken)) → IsReady op change (state g inside.conn)
   ready ours up = let k = kept (ours up) up in (k.0, k.1, fits (record { ours = ours up; up = up; good = k.1 }))
 
   abbrev pub Outcome : Result (Unit {0}) StoreFault → Type 0
-  Outcome (Ok x) = Made (IsMade (after_change change)) (state g inside.conn) (state g conn)
+  Outcome (Ok x) = Made (IsMade (edit op change)) (state g inside.conn) (state g conn)
   Outcome (Err e) = IsAsBefore (state g inside.conn) (state g conn)
 
-  outcome_of : (r : Result (Unit {0}) StoreFault) → OnOk r (Made (IsMade (after_change change)) (state g inside.conn) (state g conn)) → OnErr r (IsAsBefore (state g inside.conn) (state g conn)) → Outcome r
+  outcome_of : (r : Result (Unit {0}) StoreFault) → OnOk r (Made (IsMade (edit op change)) (state g inside.conn) (state g conn)) → OnErr r (IsAsBefore (state g inside.conn) (state g conn)) → Outcome r
   outcome_of (Ok x) ok err = ok
   outcome_of (Err e) ok err = err
 
@@ -95,7 +96,7 @@ module _ {S : Type 0} (g : Ghosts S) (inside : SqlView S) (conn : Held S) (kept 
   change_kept ours up = go r (outcome ours up)
     where
       go : (r : Result (Unit {0}) StoreFault) → Outcome r → Serves (state g conn) × WellFormedRows (rows_of (state g conn).now.trees)
-      go (Ok x) m = let k = ready (λ _. ours) m.was_open in (m.serves, subst WellFormedRows (sym m.edit) (well_formed-edit change.op change.edit (sql_rows g inside) k.1 k.2))
+      go (Ok x) m = let k = ready (λ _. ours) m.was_open in (m.serves, subst WellFormedRows (sym m.edit) (well_formed-edit op change (sql_rows g inside) k.1 k.2))
       go (Err e) m = (m.serves, subst (λ (d : Database). WellFormedRows (rows_of d.trees)) (sym m.now) (kept ours m.was_open).1)
 
   module _ (old new : SqlView S) (view_is : inside ≡ old) (same_taken : new.taken ≡ inside.taken) (same_conn : new.conn ≡ conn) (result : Result (Unit {0}) StoreFault) (same : result ≡ r) where
@@ -114,10 +115,10 @@ module _ {S : Type 0} (g : Ghosts S) (inside : SqlView S) (conn : Held S) (kept 
     pub change_counted : (r ≡ Err Failed → Rose inside.failures new.failures) → inside.failures ≤ new.failures → IsCounted (sql_view g) old new (result ≡ Err Failed)
     change_counted failed count = subst (λ o. IsCounted (sql_view g) o new (result ≡ Err Failed)) view_is (record { was_clean = clean_then; failed = λ e. failed (sym same ∙ e); count = count })
 
-    pub change_ok : IsCleanSql g new → OnOk result (sql_rows g new ≡ after_change change (sql_rows g old))
-    change_ok clean = subst (λ o. OnOk result (sql_rows g new ≡ after_change change (sql_rows g o))) view_is (subst (λ q. OnOk q (sql_rows g new ≡ after_change change (sql_rows g inside))) (sym same) (go r (outcome_at clean)))
+    pub change_ok : IsCleanSql g new → OnOk result (sql_rows g new ≡ edit op change (sql_rows g old))
+    change_ok clean = subst (λ o. OnOk result (sql_rows g new ≡ edit op change (sql_rows g o))) view_is (subst (λ q. OnOk q (sql_rows g new ≡ edit op change (sql_rows g inside))) (sym same) (go r (outcome_at clean)))
       where
-        go : (r : Result (Unit {0}) StoreFault) → Outcome r → OnOk r (sql_rows g new ≡ after_change change (sql_rows g inside))
+        go : (r : Result (Unit {0}) StoreFault) → Outcome r → OnOk r (sql_rows g new ≡ edit op change (sql_rows g inside))
         go (Ok x) m = rows_at ∙ m.edit
         go (Err e) m = tt
 
@@ -129,8 +130,8 @@ module _ {S : Type 0} (g : Ghosts S) (inside : SqlView S) (conn : Held S) (kept 
         go (Err e) m = rows_at ∙ ap (λ (d : Database). rows_of d.trees) m.now
 
     module _ (some : LeavesSome g inside.conn) (last_inside : LeavesLast g inside.conn) (last : LeavesLast g conn) where
-      made_new : (IsTrue (state g inside.conn).is_open → IsOurs (state g inside.taken)) → Changes (IsMade (after_change change)) (state g inside.conn) (state g new.conn) result
-      made_new ours = subst₂ (λ h q. Changes (IsMade (after_change change)) (state g inside.conn) (state g h) q) (sym same_conn) (sym same) (made (ready ours))
+      made_new : (IsTrue (state g inside.conn).is_open → IsOurs (state g inside.taken)) → Changes (IsMade (edit op change)) (state g inside.conn) (state g new.conn) result
+      made_new ours = subst₂ (λ h q. Changes (IsMade (edit op change)) (state g inside.conn) (state g h) q) (sym same_conn) (sym same) (made (ready ours))
 
       kept_new : ServesIfOurs (state g new.taken) (state g new.conn)
       kept_new = subst₂ (λ t h. ServesIfOurs (state g t) (state g h)) (sym same_taken) (sym same_conn) change_kept
@@ -138,8 +139,8 @@ module _ {S : Type 0} (g : Ghosts S) (inside : SqlView S) (conn : Held S) (kept 
       last_new : LeavesLast g new.conn
       last_new = subst (LeavesLast g) (sym same_conn) last
 
-      pub change_finds : FindsOldOr (after_change change (sql_rows g old)) (sql_view g old) (sql_view g new)
-      change_finds = subst (λ o. FindsOldOr (after_change change (sql_rows g o)) (sql_view g o) (sql_view g new)) view_is (change_stopped g inside new kept same_taken some last_inside last_new result (after_change change) made_new kept_new)
+      pub change_finds : FindsOldOr (edit op change (sql_rows g old)) (sql_view g old) (sql_view g new)
+      change_finds = subst (λ o. FindsOldOr (edit op change (sql_rows g o)) (sql_view g o) (sql_view g new)) view_is (change_stopped g inside new kept same_taken some last_inside last_new result (edit op change) made_new kept_new)
 
       pub change_keeps : IsKept (sql_view g old) → OnOk result (IsKept (sql_view g new))
-      change_keeps was = change_stays g inside new kept same_taken some last_inside last_new result (after_change change) made_new kept_new (subst (λ o. IsKept (sql_view g o)) (sym view_is) was)
+      change_keeps was = change_stays g inside new kept same_taken some last_inside last_new result (edit op change) made_new kept_new (subst (λ o. IsKept (sql_view g o)) (sym view_is) was)

@@ -1,2 +1,1 @@
-pub mod Edits
 pub mod Store

@@ -1,24 +1,16 @@
 -- The store: a connection, the count of its failures, and the connection that it took over.
-use Rattle.std.specs.Prelude.{◌≡◌, ℕ, List, IsTrue, refl}
+use Rattle.std.specs.Prelude.{◌≡◌, ℕ, IsTrue, refl}
 use Rattle.std.specs.Coded.{Coded, code_by, coded×, coded_ℕ}
 use Rattle.sqlite_trees.specs.Tree.{Trees}
 use Rattle.sqlite_trees.specs.declared.store.Store.{Ghosts}
-use Rattle.sqlite.specs.declared.error.Error.{Error}
-use Rattle.sqlite.specs.declared.error.Error.TheVariants.{SqliteFailure}
-use Rattle.sqlite.specs.declared.error.ErrorCode.TheVariants.{OutOfMemory}
 use Rattle.sqlite.specs.Held.{Held, held_code, state}
 use Rattle.sqlite.specs.State.{State, HasCleanDisk}
-use Rattle.hub_rows.specs.Changes.{Fits, EditFits}
 use Rattle.hub_rows.specs.Rows.{Rows}
 use Rattle.hub_rows.specs.StoreView.{StoreView}
 use Rattle.hub_rows.specs.WellFormed.{WellFormedRows}
-use Rattle.hub_rows.specs.declared.change.Change.{Change}
-use Rattle.hub_rows.specs.declared.change.Edit.{Edit}
-use Rattle.hub_rows.specs.declared.store.StoreFault.{StoreFault}
-use Rattle.hub_rows.specs.declared.store.StoreFault.TheVariants.{NoMemory, Failed}
-use Rattle.sql_shelf.specs.Kept.{Serves}
-use Rattle.sql_shelf.specs.Opening.{IsOurs}
-use Rattle.sql_shelf.specs.Shelves.{rows_of}
+use Rattle.sql_rows.specs.Kept.{Serves}
+use Rattle.sql_rows.specs.Opening.{IsOurs}
+use Rattle.sql_rows.specs.TypedTables.{rows_of}
 
 pub record SqlView (S : Type 0) : Type 0 where
   pub conn : Held S
@@ -32,19 +24,6 @@ sql_code {S} store =
 -- a connection that was taken over serves, if the rows that it had then were ours
 abbrev pub ServesIfOurs : State → State → Type 0
 ServesIfOurs taken s = IsOurs taken → IsTrue s.is_open → Serves s × WellFormedRows (rows_of s.now.trees)
-
--- want of memory is told as such, and every other error of the database as a failure of the store
-abbrev pub told : Error → StoreFault
-told (SqliteFailure OutOfMemory) = NoMemory
-told _ = Failed
-
--- the change fits, and the connection is one that serves
-abbrev pub IsReady : Change → State → Type 0
-IsReady change s = IsTrue s.is_open → Serves s × WellFormedRows (rows_of s.now.trees) × Fits change (rows_of s.now.trees)
-
--- an edit fits, inside a transaction
-abbrev pub MayMake : List ℕ → Edit → State → Type 0
-MayMake op change s = IsTrue s.is_open → EditFits op change (rows_of s.now.trees)
 
 module _ {S : Type 0} (g : Ghosts S) where
   abbrev pub sql_rows : SqlView S → Rows

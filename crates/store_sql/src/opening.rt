@@ -6,7 +6,7 @@ ghost use Rattle.sqlite.specs.Steps.{over_memory};
 ghost use Rattle.sqlite.specs.State.{HasCleanDisk};
 ghost use Rattle.sqlite.specs.Effect.{IsDatabase};
 ghost use Rattle.sql_tables.specs.Opening.{no_schema, our_number, schema_at};
-ghost use Rattle.sql_shelf.specs.Opening.{Rested, IsSpared, Prepares};
+ghost use Rattle.sql_rows.specs.Opening.{Rested, IsSpared, Prepares};
 
 use crate::same::{is_blank, same_schema};
 use crate::tables::{SCHEMA, make_tables, raise};
@@ -14,9 +14,6 @@ use sqlite::{Alter, Connection, Error, ErrorCode, MemStore, Row};
 use sqlite_value::value::ValueRef;
 use std::alloc::{AllocError, Global};
 use thiserror::Error as ThisError;
-
-/// All rows of a table of that name, whatever its columns are.
-const LIST_META: &str = "SELECT * FROM hub_meta";
 
 /// How many tables this schema has.
 const TABLES: usize = 13;
@@ -28,7 +25,7 @@ fn meta_rows<S: Alter>(conn: &mut Connection<S>) -> Result<Vec<Row>, Error>
     ensures spared { IsSpared (state S.Store conn.old) (state S.Store conn.new) }
 {
     let mut tx = conn.transaction();
-    let rows = tx.query_all(LIST_META, &[]);
+    let rows = tx.query_all(sql_tables::meta::LIST, &[]);
     tx.rollback();
     rows
 }
@@ -178,7 +175,7 @@ fn still_open<S: Alter>(conn: &mut Connection<S>) -> Result<(), PrepareFault>
     ensures spared { IsSpared (state S.Store conn.old) (state S.Store conn.new) }
     ensures up { HasCleanDisk (state S.Store conn.new) → OnOk result (IsTrue (state S.Store conn.new).is_open) }
 {
-    match conn.prepare(LIST_META) {
+    match conn.prepare(sql_tables::meta::LIST) {
         Ok(_) => Ok(()),
         Err(error) => Err(fault(error)),
     }

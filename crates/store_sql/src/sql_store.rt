@@ -4,16 +4,16 @@ ghost use Rattle.hub_rows.specs.Failures.{Rose};
 ghost use Rattle.hub_rows.specs.declared.store.StoreFault.TheVariants as store_fault;
 
 use crate::opening::{PrepareFault, fault, prepare};
-use crate::{
-    changes, connectors, granted, grants, last_numbers, local_lists, readings, reports,
-    reservations, stations, tags, txs, uses,
-};
 use hub_rows::{
-    Change, ConnectorRow, GrantRow, GrantedTag, Info, LastNumbers, LocalList, ReadingRow,
+    Change, ConnectorRow, GrantRow, GrantedTag, Info, LocalList, ReadingRow,
     Registration, ReportRow, ReservationId, ReservationRow, StartKey, StationRow, Store,
     StoreFault, TagRow, TxKey, TxRow, TxState, UseRow,
 };
 use ocpp_types::{Listed, Moment, TagKey};
+use sql_lookups::{
+    connectors, granted, grants, local_lists, readings, reports, reservations, stations, tags, txs,
+    uses,
+};
 use sqlite::{Alter, Connection, FileFrom, FileStore, MemStore, Start};
 use std::alloc::Global;
 use std::marker::Model;
@@ -48,7 +48,7 @@ impl<A: Alter> Model for SqlStore<A> {
 
 impl<A: Alter> SqlStore<A> {
     ghost use Rattle.store_sql.specs.Store.{IsCleanSql, ServesIfOurs};
-    ghost use Rattle.sql_shelf.specs.Opening.{IsOurs};
+    ghost use Rattle.sql_rows.specs.Opening.{IsOurs};
     ghost use Rattle.sqlite.specs.Held.{state};
 
     /// The store over a connection that is prepared.
@@ -91,7 +91,7 @@ impl<A: Alter + Drop> SqlStore<A> {
     ghost use Rattle.store_sql.specs.declared.opening.PrepareFault.{PrepareFault as Unfit};
     ghost use Rattle.hub_rows.specs.Stops.{IsKept};
     ghost use Rattle.store_sql.specs.Store.{IsCleanSql, sql_view};
-    ghost use Rattle.sql_shelf.specs.Opening.{IsOurs, Prepares};
+    ghost use Rattle.sql_rows.specs.Opening.{IsOurs, Prepares};
     ghost use Rattle.sqlite.specs.Held.{state};
 
     /// The store over a connection, whose tables are made if its database is empty or has an earlier schema.
@@ -138,7 +138,7 @@ impl<S: Start> SqlStore<FileStore<FileFrom<S>>> {
     ghost use Rattle.store_sql.specs.declared.opening.PrepareFault.{PrepareFault as Unfit};
     ghost use Rattle.hub_rows.specs.Stops.{IsKept};
     ghost use Rattle.store_sql.specs.Store.{IsCleanSql, sql_view};
-    ghost use Rattle.sql_shelf.specs.Opening.{IsOurs, Prepares};
+    ghost use Rattle.sql_rows.specs.Opening.{IsOurs, Prepares};
     ghost use Rattle.sqlite.specs.Files.{file_state, over_files};
     ghost use Rattle.sqlite.specs.Start.{FindsIn};
     ghost use Rattle.sqlite.specs.State.{HasCleanDisk};
@@ -221,8 +221,13 @@ impl<A: Alter> Store for SqlStore<A> {
         self.counted(found)
     }
 
-    fn last_numbers(&mut self, op: &str, station: &str) -> Result<LastNumbers, StoreFault> {
-        let found = last_numbers::last_numbers(&mut self.conn, op, station);
+    fn last_tx(&mut self, op: &str, station: &str) -> Result<u32, StoreFault> {
+        let found = txs::last_tx(&mut self.conn, op, station);
+        self.counted(found)
+    }
+
+    fn last_reading(&mut self, op: &str, station: &str) -> Result<u32, StoreFault> {
+        let found = readings::last_reading(&mut self.conn, op, station);
         self.counted(found)
     }
 
@@ -305,8 +310,8 @@ impl<A: Alter> Store for SqlStore<A> {
         self.counted(found)
     }
 
-    fn apply(&mut self, change: &Change) -> Result<(), StoreFault> {
-        let done = changes::apply(&mut self.conn, self.alloc, change);
+    fn apply(&mut self, change: &Change<'_>) -> Result<(), StoreFault> {
+        let done = sql_edits::apply(&mut self.conn, self.alloc, change);
         self.counted(done)
     }
 }

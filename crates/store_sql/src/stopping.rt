@@ -1,7 +1,7 @@
 //! A stop of the work, and what is found when the database is opened again.
 ghost use Rattle.std.specs.Prelude.{IfOk, IsTrue};
 ghost use Rattle.sqlite.specs.Held.{state};
-ghost use Rattle.sql_shelf.specs.Opening.{IsOurs};
+ghost use Rattle.sql_rows.specs.Opening.{IsOurs};
 ghost use Rattle.hub_rows.specs.Stops.{IsKept};
 ghost use Rattle.store_sql.specs.Store.{IsCleanSql, sql_rows, sql_may_find, sql_view};
 

@@ -1,5 +1,5 @@
 use Rattle.sqlite.specs.Held.{state}
-use Rattle.sql_shelf.proofs.OpeningLemmas.{prepares_as}
+use Rattle.sql_rows.proofs.OpeningLemmas.{prepares_as}
 use Rattle.store_sql.proofs.opening.make.Goals as goal
 
 pub returns : goal.returns

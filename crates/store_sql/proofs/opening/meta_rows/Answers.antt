@@ -1,9 +1,9 @@
 use Rattle.std.proofs.Common.{◌≡◌, ap, rules, subst}
 use Rattle.sqlite.specs.Held.{state}
-use Rattle.sql_shelf.specs.Opening.{IsSpared}
-use Rattle.sql_shelf.proofs.StoreLemmas.{open_is_clean}
-use Rattle.sql_shelf.proofs.OpeningLemmas.{looked_spared}
-use Rattle.sql_shelf.proofs.TxReads.{asks_nothing}
+use Rattle.sql_rows.specs.Opening.{IsSpared}
+use Rattle.sql_rows.proofs.StoreLemmas.{open_is_clean}
+use Rattle.sql_rows.proofs.OpeningLemmas.{looked_spared}
+use Rattle.sql_rows.proofs.TxReads.{asks_nothing}
 use Rattle.store_sql.proofs.opening.meta_rows.Goals as goal
 
 pub returns : goal.returns

@@ -1,6 +1,6 @@
 use Rattle.sqlite.specs.Held.{state}
-use Rattle.sql_shelf.proofs.StoreLemmas.{open_is_clean}
-use Rattle.sql_shelf.proofs.OpeningLemmas.{prepared_then}
+use Rattle.sql_rows.proofs.StoreLemmas.{open_is_clean}
+use Rattle.sql_rows.proofs.OpeningLemmas.{prepared_then}
 use Rattle.store_sql.proofs.opening.prepare_rested.Goals as goal
 
 pub returns : goal.returns

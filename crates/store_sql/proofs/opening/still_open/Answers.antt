@@ -1,6 +1,6 @@
 use Rattle.sqlite.specs.Held.{state}
-use Rattle.sql_shelf.proofs.StoreLemmas.{open_is_clean}
-use Rattle.sql_shelf.proofs.OpeningLemmas.{compiled_spared}
+use Rattle.sql_rows.proofs.StoreLemmas.{open_is_clean}
+use Rattle.sql_rows.proofs.OpeningLemmas.{compiled_spared}
 use Rattle.store_sql.proofs.opening.still_open.Goals as goal
 
 pub returns-clause-spared : goal.returns-clause-spared

@@ -2,7 +2,7 @@ use Rattle.std.proofs.Common.{◌≡◌, IsTrue, subst}
 use Rattle.sqlite_trees.specs.View.{IsQuiet}
 use Rattle.sqlite.specs.Held.{state}
 use Rattle.hub_rows.specs.Stops.{IsKept}
-use Rattle.sql_shelf.specs.Opening.{IsOurs}
+use Rattle.sql_rows.specs.Opening.{IsOurs}
 use Rattle.store_sql.specs.Store.{IsCleanSql, sql_view}
 use Rattle.store_sql.proofs.StopLaws.{along, under, found_then}
 use Rattle.store_sql.proofs.stopping.stopped_and_opened.Goals as goal

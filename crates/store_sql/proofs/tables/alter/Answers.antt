@@ -1,7 +1,7 @@
 use Rattle.std.proofs.Common.{[]}
 use Rattle.sqlite.specs.Held.{state}
-use Rattle.sql_shelf.proofs.StoreLemmas.{open_is_clean}
-use Rattle.sql_shelf.proofs.CreateLemmas.{made_table, made_index, dropped_index, made_up, made_leaves}
+use Rattle.sql_rows.proofs.StoreLemmas.{open_is_clean}
+use Rattle.sql_rows.proofs.CreateLemmas.{made_table, made_index, dropped_index, made_up, made_leaves}
 use Rattle.store_sql.proofs.tables.alter.Goals as goal
 
 pub returns-clause-table : goal.returns-clause-table

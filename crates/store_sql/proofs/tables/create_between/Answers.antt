@@ -1,9 +1,9 @@
 use Rattle.std.proofs.Common.{◌≡◌, ◌<◌, ◌∙◌, arith, rules, subst}
 use Rattle.sqlite.specs.Held.{state}
 use Rattle.sql_tables.specs.Opening.{our_number, tables_at}
-use Rattle.sql_shelf.specs.Opening.{IsInsideAs}
-use Rattle.sql_shelf.proofs.RaisingLemmas.{cut_later}
-use Rattle.sql_shelf.proofs.TxLemmas.{leaves_then}
+use Rattle.sql_rows.specs.Opening.{IsInsideAs}
+use Rattle.sql_rows.proofs.RaisingLemmas.{cut_later}
+use Rattle.sql_rows.proofs.TxLemmas.{leaves_then}
 use Rattle.store_sql.proofs.tables.create_between.Goals as goal
 
 pub schemas-preserved : goal.schemas-preserved

@@ -2,8 +2,8 @@ use Rattle.std.proofs.Common.{◌≡◌}
 use Rattle.sqlite_trees.specs.Tree.{Trees}
 use Rattle.sqlite.specs.Held.{state}
 use Rattle.sql_tables.specs.Opening.{tables_at}
-use Rattle.sql_shelf.specs.Kept.{Leaves}
-use Rattle.sql_shelf.specs.Opening.{IsCut, IsInsideAs}
+use Rattle.sql_rows.specs.Kept.{Leaves}
+use Rattle.sql_rows.specs.Opening.{IsCut, IsInsideAs}
 use Rattle.store_sql.proofs.tables.create_between.Given as goal
 
 abbrev pub invariant-schemas : goal.invariant-schemas

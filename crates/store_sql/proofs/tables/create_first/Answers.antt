@@ -1,8 +1,8 @@
 use Rattle.std.proofs.Common.{ℕ, OnOk, subst, ◌≤◌, arith}
 use Rattle.sqlite.specs.Held.{state}
 use Rattle.sql_tables.proofs.Creates.{meta_made, station_made, connector_made, tag_made, grant_made, tx_made, reading_made, reservation_made, list_made, list_entry_made, first_made}
-use Rattle.sql_shelf.specs.Opening.{IsInsideAs}
-use Rattle.sql_shelf.proofs.TxLemmas.{leaves_then}
+use Rattle.sql_rows.specs.Opening.{IsInsideAs}
+use Rattle.sql_rows.proofs.TxLemmas.{leaves_then}
 use Rattle.store_sql.proofs.tables.create_first.Goals as goal
 
 least : (t : ℕ) → 0 ≤ t

@@ -3,8 +3,8 @@ use Rattle.sqlite.specs.Held.{state}
 use Rattle.sql_tables.specs.Tables.{hub_tx, hub_tx_is_open}
 use Rattle.sql_tables.specs.Opening.{IsIndexCreate, open_columns_at}
 use Rattle.sql_tables.proofs.Creates.{grant_to_made, tx_in_use_made, tx_is_open_made, tx_start_at_made, reading_transaction_made, with_tx_in_use, all_made}
-use Rattle.sql_shelf.specs.Opening.{IsInsideAs}
-use Rattle.sql_shelf.proofs.TxLemmas.{leaves_then}
+use Rattle.sql_rows.specs.Opening.{IsInsideAs}
+use Rattle.sql_rows.proofs.TxLemmas.{leaves_then}
 use Rattle.store_sql.proofs.tables.create_indexes.Goals as goal
 
 pub returns-clause-makes : goal.returns-clause-makes

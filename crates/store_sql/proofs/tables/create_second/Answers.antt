@@ -1,7 +1,7 @@
 use Rattle.std.proofs.Common.{ℕ, OnOk, subst, ◌≤◌, arith}
 use Rattle.sqlite.specs.Held.{state}
 use Rattle.sql_tables.proofs.Creates.{report_made, second_made}
-use Rattle.sql_shelf.specs.Opening.{IsInsideAs}
+use Rattle.sql_rows.specs.Opening.{IsInsideAs}
 use Rattle.store_sql.proofs.tables.create_second.Goals as goal
 
 itself : (t : ℕ) → t ≤ t

@@ -3,8 +3,8 @@ use Rattle.sqlite_catalog.specs.Change.{next_tree}
 use Rattle.sqlite.specs.Held.{state}
 use Rattle.sql_tables.specs.Tables.{second_tables}
 use Rattle.sql_tables.proofs.Creates.{tx_owner_made, use_made, third_made, with_tx_owner}
-use Rattle.sql_shelf.specs.Opening.{IsInsideAs}
-use Rattle.sql_shelf.proofs.TxLemmas.{leaves_then}
+use Rattle.sql_rows.specs.Opening.{IsInsideAs}
+use Rattle.sql_rows.proofs.TxLemmas.{leaves_then}
 use Rattle.store_sql.proofs.tables.create_third.Goals as goal
 
 itself : (t : ℕ) → t ≤ t

@@ -1,8 +1,8 @@
 use Rattle.std.proofs.Common.{OnOk, subst}
 use Rattle.sqlite.specs.Held.{state}
 use Rattle.sql_tables.proofs.Creates.{grant_to_dropped, tx_in_use_dropped, tx_is_open_dropped, tx_start_at_dropped, reading_transaction_dropped, all_dropped}
-use Rattle.sql_shelf.specs.Opening.{IsInsideAs}
-use Rattle.sql_shelf.proofs.TxLemmas.{leaves_then}
+use Rattle.sql_rows.specs.Opening.{IsInsideAs}
+use Rattle.sql_rows.proofs.TxLemmas.{leaves_then}
 use Rattle.store_sql.proofs.tables.drop_indexes.Goals as goal
 
 pub returns-clause-drops : goal.returns-clause-drops

@@ -1,9 +1,9 @@
 use Rattle.std.proofs.Common.{◌≡◌, ◌<◌, IsTrue, OnOk, arith, rules, subst}
 use Rattle.sqlite.specs.Held.{state}
 use Rattle.sql_tables.specs.Opening.{our_number, schema_at}
-use Rattle.sql_shelf.specs.Opening.{trees_at}
-use Rattle.sql_shelf.proofs.StoreLemmas.{open_is_clean}
-use Rattle.sql_shelf.proofs.RaisingLemmas.{begun_as, cut_at, made_as}
+use Rattle.sql_rows.specs.Opening.{trees_at}
+use Rattle.sql_rows.proofs.StoreLemmas.{open_is_clean}
+use Rattle.sql_rows.proofs.RaisingLemmas.{begun_as, cut_at, made_as}
 use Rattle.store_sql.proofs.tables.make_tables.Goals as goal
 
 pub returns : goal.returns

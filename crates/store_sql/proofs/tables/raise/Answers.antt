@@ -1,8 +1,8 @@
 use Rattle.std.proofs.Common.{◌≡◌, Err, rules, sym, subst}
 use Rattle.sqlite.specs.Held.{state}
-use Rattle.sql_shelf.specs.Opening.{Prepares, trees_at}
-use Rattle.sql_shelf.proofs.StoreLemmas.{open_is_clean}
-use Rattle.sql_shelf.proofs.RaisingLemmas.{begun_as, cut_at, drops_raise, commits_raise}
+use Rattle.sql_rows.specs.Opening.{Prepares, trees_at}
+use Rattle.sql_rows.proofs.StoreLemmas.{open_is_clean}
+use Rattle.sql_rows.proofs.RaisingLemmas.{begun_as, cut_at, drops_raise, commits_raise}
 use Rattle.store_sql.proofs.tables.raise.Goals as goal
 
 pub returns : goal.returns
@@ -17,7 +17,7 @@ returns g c =
     record {
       prepares = subst (λ h. Prepares (state g.S.Store old) (state g.S.Store h) c.commit.result) same
           (commits_raise g.S.Store old tx mid end from c.requires.earlier c.transaction-tx.ensures.begun c.requires.rested c.requires.was (open_is_clean _ _ (g.met.S.Store.shut_if_dirty end.store)) (λ up db. g.met.S.Store.settled old.store db up) c.fill.ensures.leaves
-          c.commit.result (λ shelved. c.in_ok-fill.ensures.has (trees_at from before) (cut_at from before) shelved (begun_as g.S.Store old tx from c.requires.earlier c.transaction-tx.ensures.begun c.requires.rested c.requires.was)) c.in_ok-fill.ensures.mode c.in_ok-fill.ensures.up
+          c.commit.result (λ are_typed. c.in_ok-fill.ensures.has (trees_at from before) (cut_at from before) are_typed (begun_as g.S.Store old tx from c.requires.earlier c.transaction-tx.ensures.begun c.requires.rested c.requires.was)) c.in_ok-fill.ensures.mode c.in_ok-fill.ensures.up
           c.commit.ensures.ok c.commit.ensures.err c.commit.ensures.survives (λ up db. g.met.S.Store.settled end.store db up));
     }
 

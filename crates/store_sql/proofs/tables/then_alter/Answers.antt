@@ -1,6 +1,6 @@
 use Rattle.std.proofs.Common.{OnOk, subst}
 use Rattle.sqlite.specs.Held.{state}
-use Rattle.sql_shelf.specs.Opening.{IsInsideAs}
+use Rattle.sql_rows.specs.Opening.{IsInsideAs}
 use Rattle.store_sql.proofs.tables.then_alter.Goals as goal
 
 pub returns-in-Ok-alter-clause-table : goal.returns-in-Ok-alter-clause-table

@@ -4,7 +4,7 @@ use Rattle.sqlite.specs.Files.{file_state, over_files}
 use Rattle.sqlite.specs.Start.{FindsIn}
 use Rattle.sqlite.specs.State.{HasCleanDisk}
 use Rattle.sqlite_wal.specs.Files.{image_at}
-use Rattle.sql_shelf.specs.Opening.{IsOurs, Prepares}
+use Rattle.sql_rows.specs.Opening.{IsOurs, Prepares}
 use Rattle.hub_rows.specs.Stops.{IsKept}
 use Rattle.store_sql.specs.Store.{IsCleanSql, sql_view}
 use Rattle.store_sql.specs.declared.opening.PrepareFault.{PrepareFault as Unfit}

@@ -3,8 +3,8 @@ use Rattle.std.specs.Prelude.{⊤}
 use Rattle.sqlite_trees.specs.View.{doubt}
 use Rattle.sqlite.specs.Held.{state}
 use Rattle.sqlite.specs.Steps.{over_memory}
-use Rattle.sql_shelf.specs.Opening.{IsOurs, Prepares}
-use Rattle.sql_shelf.proofs.OpeningLemmas.{ours_empty}
+use Rattle.sql_rows.specs.Opening.{IsOurs, Prepares}
+use Rattle.sql_rows.proofs.OpeningLemmas.{ours_empty}
 use Rattle.store_sql.specs.Store.{IsCleanSql}
 use Rattle.store_sql.specs.declared.opening.PrepareFault.{PrepareFault as Unfit}
 use Rattle.store_sql.proofs.sql_store.SqlStore+MemStore.open_in_memory.Goals as goal

@@ -1,7 +1,7 @@
 use Rattle.std.proofs.Common.{IsTrue, Ok, subst, sym, ◌∙◌}
 use Rattle.std.specs.Prelude.{⊤}
 use Rattle.sqlite.specs.Held.{state}
-use Rattle.sql_shelf.specs.Opening.{IsOurs, Prepares}
+use Rattle.sql_rows.specs.Opening.{IsOurs, Prepares}
 use Rattle.store_sql.specs.Store.{ServesIfOurs}
 use Rattle.store_sql.specs.declared.opening.PrepareFault.{PrepareFault as Unfit}
 use Rattle.store_sql.proofs.StopLaws.{leaves_last, prepared_kept}

@@ -1,0 +1,57 @@
+//! Values as they are bound to the parameters of a statement.
+ghost use Rattle.std.specs.Prelude.{◌≡◌, option_map, pos, IfOk, IsErr, IsOk, OnErr, OnOk};
+ghost use Rattle.ocpp_types.specs.TagKey.{key_of};
+
+use hub_rows::StoreFault;
+use ocpp_types::{Mem, Moment, Named, TagKey, Text};
+use sql_rows::told;
+use sqlite::Error;
+use std::alloc::Global;
+
+pub(crate) fn lent(text: &Option<Text>) -> Option<&str>
+    ensures { option_map (λ t. t.now) result ≡ text.now }
+{
+    text.as_ref().map(|text| text.as_str())
+}
+
+pub(crate) fn lent_key(key: &Option<TagKey>) -> Option<&str>
+    ensures { option_map (λ t. t.now) result ≡ key.now }
+{
+    key.as_ref().map(|key| key.as_str())
+}
+
+/// The key of a tag that may be missing.
+pub(crate) fn key_if_any(alloc: Global, tag: &Option<Text>) -> Mem<Option<TagKey>>
+    ensures { IfOk result (λ key. key ≡ option_map key_of tag.now) }
+{
+    match tag {
+        Some(tag) => Ok(Some(TagKey::of(alloc, tag.as_str())?)),
+        None => Ok(None),
+    }
+}
+
+pub(crate) fn seconds(moment: Moment) -> i64
+    ensures { result ≡ pos moment }
+{
+    moment.seconds() as i64
+}
+
+pub(crate) fn seconds_if_any(moment: &Option<Moment>) -> Option<i64>
+    ensures { result ≡ option_map pos moment.now }
+{
+    moment.map(seconds)
+}
+
+pub(crate) fn name_if_any<T: Named>(value: &Option<T>) -> Option<&'static str>
+    ensures { option_map (λ t. t.now) result ≡ option_map T.name_of value.now }
+{
+    value.as_ref().map(|value| value.name())
+}
+
+/// What a statement did, as a store tells it.
+pub(crate) fn done(ran: Result<usize, Error>) -> Result<(), StoreFault>
+    ensures ok { OnOk result (IsOk ran) }
+    ensures err { OnErr result (IsErr ran) }
+{
+    ran.map(|_| ()).map_err(|error| told(error))
+}

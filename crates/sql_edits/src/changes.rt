@@ -1,0 +1,182 @@
+//! Changes of the records.
+ghost use Rattle.std.specs.Prelude.{◌≡◌, IsErr, IsOk, OnErr, OnOk};
+ghost use Rattle.sqlite.specs.Held.{state};
+ghost use Rattle.hub_rows.specs.Changes.{edit};
+ghost use Rattle.sql_rows.specs.Kept.{Changes, Goes, IsInside, IsMade};
+ghost use Rattle.hub_rows.specs.declared.change.Edit.TheVariants.{Stations, Tags, Transactions, Holdings};
+ghost use Rattle.sql_edits.specs.Ready.{IsReady, MayMake};
+
+use crate::connectors::put_connector;
+use crate::grants::{drop_grant, put_grant};
+use crate::local_lists::set_list;
+use crate::readings::add_readings;
+use crate::reports::put_report;
+use crate::reservations::{drop_reservation, put_reservation};
+use crate::stations::{add_station, see_boot, set_policy};
+use crate::tags::{drop_tag, put_tag};
+use crate::txs::{start_tx, stop_tx};
+use crate::uses::put_owner;
+use hub_rows::{Change, Edit, HoldingEdit, StationEdit, StoreFault, TagEdit, TransactionEdit};
+use sql_rows::told;
+use sqlite::{Alter, Connection, Error, Transaction};
+use std::alloc::Global;
+
+/// Makes an edit of a station, a connector or a report.
+fn edit_stations<S: Alter>(
+    tx: &mut Transaction<'_, S>,
+    op: &str,
+    change: &StationEdit,
+) -> Result<(), StoreFault>
+    ensures same_reference { tx.new.conn.ghost_name ≡ tx.old.conn.ghost_name }
+    ensures goes { IsInside (state S.Store tx.old.conn.now) → Goes (IsMade (edit op.now (Stations change.now))) (state S.Store tx.old.conn.now) (state S.Store tx.new.conn.now) result }
+{
+    match change {
+        StationEdit::StationAdded {
+            station,
+            policy,
+            interval,
+        } => add_station(tx, op, station.as_str(), *policy, *interval),
+        StationEdit::BootSeen {
+            station,
+            boot,
+            state,
+        } => see_boot(tx, op, station.as_str(), boot, *state),
+        StationEdit::PolicySet {
+            station,
+            policy,
+            interval,
+        } => set_policy(tx, op, station.as_str(), *policy, *interval),
+        StationEdit::ConnectorSeen {
+            station,
+            connector,
+            report,
+        } => put_connector(tx, op, station.as_str(), *connector, report),
+        StationEdit::ReportSeen {
+            station,
+            status,
+            moment,
+        } => put_report(tx, op, station.as_str(), *status, *moment),
+    }
+}
+
+/// Makes an edit of a tag or a grant.
+fn edit_tags<S: Alter>(
+    tx: &mut Transaction<'_, S>,
+    alloc: Global,
+    op: &str,
+    change: &TagEdit,
+) -> Result<(), StoreFault>
+    ensures same_reference { tx.new.conn.ghost_name ≡ tx.old.conn.ghost_name }
+    ensures goes { IsInside (state S.Store tx.old.conn.now) → Goes (IsMade (edit op.now (Tags change.now))) (state S.Store tx.old.conn.now) (state S.Store tx.new.conn.now) result }
+{
+    match change {
+        TagEdit::TagPut { key, tag } => put_tag(tx, alloc, op, key.as_str(), tag),
+        TagEdit::TagDropped { key } => drop_tag(tx, op, key.as_str()),
+        TagEdit::GrantPut { key, to, until } => put_grant(tx, op, key.as_str(), to.as_str(), until),
+        TagEdit::GrantDropped { key, to } => drop_grant(tx, op, key.as_str(), to.as_str()),
+    }
+}
+
+/// Makes an edit of a transaction or of readings.
+fn edit_transactions<S: Alter>(
+    tx: &mut Transaction<'_, S>,
+    op: &str,
+    change: &TransactionEdit,
+) -> Result<(), StoreFault>
+    ensures same_reference { tx.new.conn.ghost_name ≡ tx.old.conn.ghost_name }
+    ensures goes { IsInside (state S.Store tx.old.conn.now) → Goes (IsMade (edit op.now (Transactions change.now))) (state S.Store tx.old.conn.now) (state S.Store tx.new.conn.now) result }
+{
+    match change {
+        TransactionEdit::TxStarted {
+            station,
+            number,
+            start,
+            owner,
+        } => {
+            let station = station.as_str();
+            start_tx(tx, op, station, *number, start)?;
+            put_owner(tx, op, station, *number, owner)
+        }
+        TransactionEdit::TxStopped {
+            station,
+            number,
+            stop,
+            first,
+            readings,
+        } => {
+            let station = station.as_str();
+            stop_tx(tx, op, station, *number, stop)?;
+            add_readings(tx, op, station, *first, readings.as_slice())
+        }
+        TransactionEdit::ReadingsAdded {
+            station,
+            first,
+            readings,
+        } => add_readings(tx, op, station.as_str(), *first, readings.as_slice()),
+    }
+}
+
+/// Makes an edit of what a station holds, that fits: of a reservation or the local list.
+fn edit_holdings<S: Alter>(
+    tx: &mut Transaction<'_, S>,
+    alloc: Global,
+    op: &str,
+    change: &HoldingEdit,
+) -> Result<(), StoreFault>
+    ensures same_reference { tx.new.conn.ghost_name ≡ tx.old.conn.ghost_name }
+    ensures goes { MayMake op.now (Holdings change.now) (state S.Store tx.old.conn.now) → IsInside (state S.Store tx.old.conn.now) → Goes (IsMade (edit op.now (Holdings change.now))) (state S.Store tx.old.conn.now) (state S.Store tx.new.conn.now) result }
+{
+    match change {
+        HoldingEdit::ReservationPut {
+            station,
+            id,
+            reservation,
+        } => put_reservation(tx, op, station.as_str(), *id, reservation),
+        HoldingEdit::ReservationDropped { station, id } => {
+            drop_reservation(tx, op, station.as_str(), *id)
+        }
+        HoldingEdit::ListSet { station, list } => set_list(tx, alloc, op, station.as_str(), list),
+    }
+}
+
+/// Makes an edit that fits, inside a transaction.
+fn make<S: Alter>(
+    tx: &mut Transaction<'_, S>,
+    alloc: Global,
+    op: &str,
+    change: &Edit,
+) -> Result<(), StoreFault>
+    ensures same_reference { tx.new.conn.ghost_name ≡ tx.old.conn.ghost_name }
+    ensures goes { MayMake op.now change.now (state S.Store tx.old.conn.now) → IsInside (state S.Store tx.old.conn.now) → Goes (IsMade (edit op.now change.now)) (state S.Store tx.old.conn.now) (state S.Store tx.new.conn.now) result }
+{
+    match change {
+        Edit::Stations(change) => edit_stations(tx, op, change),
+        Edit::Tags(change) => edit_tags(tx, alloc, op, change),
+        Edit::Transactions(change) => edit_transactions(tx, op, change),
+        Edit::Holdings(change) => edit_holdings(tx, alloc, op, change),
+    }
+}
+
+/// What a commit did, as a store tells it.
+fn committed(ran: Result<(), Error>) -> Result<(), StoreFault>
+    ensures ok { OnOk result (IsOk ran) }
+    ensures err { OnErr result (IsErr ran) }
+{
+    ran.map_err(|error| told(error))
+}
+
+/// Makes a change, in one transaction.
+pub fn apply<S: Alter>(
+    conn: &mut Connection<S>,
+    alloc: Global,
+    change: &Change<'_>,
+) -> Result<(), StoreFault>
+    ensures changes { IsReady change.now.op.now change.now.edit.now (state S.Store conn.old) → Changes (IsMade (edit change.now.op.now change.now.edit.now)) (state S.Store conn.old) (state S.Store conn.new) result }
+{
+    if !conn.is_autocommit() {
+        return Err(StoreFault::Failed);
+    }
+    let mut tx = conn.transaction();
+    make(&mut tx, alloc, change.op.as_str(), change.edit)?;
+    committed(tx.commit())
+}

@@ -1,0 +1,54 @@
+//! Edits of connectors.
+ghost use Rattle.std.specs.Prelude.{◌≡◌};
+ghost use Rattle.sqlite.specs.Held.{state};
+ghost use Rattle.sql_rows.specs.Kept.{IsInside, IsMade, Goes};
+ghost use Rattle.sql_rows.specs.TypedTables.{connectors};
+ghost use Rattle.hub_rows.specs.Changes.{edit};
+ghost use Rattle.hub_rows.specs.declared.change.Edit.TheVariants.{Stations};
+ghost use Rattle.hub_rows.specs.declared.change.StationEdit.TheVariants.{ConnectorSeen};
+
+use crate::binds::{done, lent};
+use hub_rows::{ConnectorReport, StoreFault};
+use ocpp_types::Named;
+use sqlite::{Alter, Error, Transaction, params};
+
+/// Puts the row of a connector.
+fn put_row<S: Alter>(
+    tx: &mut Transaction<'_, S>,
+    op: &str,
+    station: &str,
+    connector: u8,
+    report: &ConnectorReport,
+) -> Result<usize, Error>
+    ensures same_reference { tx.new.conn.ghost_name ≡ tx.old.conn.ghost_name }
+    ensures goes { IsInside (state S.Store tx.old.conn.now) → Goes (IsMade (edit op.now (Stations (ConnectorSeen station.now connector report.now)))) (state S.Store tx.old.conn.now) (state S.Store tx.new.conn.now) result }
+{
+    tx.execute(
+        sql_tables::connectors::PUT,
+        params![
+            op,
+            station,
+            u32::from(connector),
+            report.status.name(),
+            report.error_code.name(),
+            report.at,
+            lent(&report.info),
+            lent(&report.vendor_id),
+            lent(&report.vendor_error_code)
+        ],
+    )
+}
+
+/// Puts a report on a connector, in place of the one before.
+pub(crate) fn put_connector<S: Alter>(
+    tx: &mut Transaction<'_, S>,
+    op: &str,
+    station: &str,
+    connector: u8,
+    report: &ConnectorReport,
+) -> Result<(), StoreFault>
+    ensures same_reference { tx.new.conn.ghost_name ≡ tx.old.conn.ghost_name }
+    ensures goes { IsInside (state S.Store tx.old.conn.now) → Goes (IsMade (edit op.now (Stations (ConnectorSeen station.now connector report.now)))) (state S.Store tx.old.conn.now) (state S.Store tx.new.conn.now) result }
+{
+    done(put_row(tx, op, station, connector, report))
+}

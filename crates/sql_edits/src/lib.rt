@@ -1,0 +1,17 @@
+//! The changes that a store in SQLite makes, each in one transaction.
+#![tactic(auto)]
+
+mod binds;
+mod changes;
+mod connectors;
+mod grants;
+mod local_lists;
+mod readings;
+mod reports;
+mod reservations;
+mod stations;
+mod tags;
+mod txs;
+mod uses;
+
+pub use changes::apply;

@@ -1,0 +1,137 @@
+//! Edits of local lists, whose versions and entries have a table each.
+ghost use Rattle.std.specs.Prelude.{◌≡◌, ◌&&◌, map, IsTrue};
+ghost use Rattle.std.specs.Str.{bytes_eq};
+ghost use Rattle.sqlite.specs.Held.{state};
+ghost use Rattle.ocpp_types.specs.TagKey.{key_of};
+ghost use Rattle.hub_rows.specs.Changes.{edit};
+ghost use Rattle.hub_rows.specs.declared.change.Edit.TheVariants.{Holdings};
+ghost use Rattle.hub_rows.specs.declared.change.HoldingEdit.TheVariants.{ListSet};
+ghost use Rattle.hub_rows.specs.LocalLists.{AreEntries};
+ghost use Rattle.sql_rows.specs.Kept.{ArePutIn, Goes, IsDropped, IsInside, IsMade, IsPutIn};
+ghost use Rattle.sql_rows.specs.TypedTables.{entries, entry_row, lists};
+
+use crate::binds::{done, lent, seconds_if_any};
+use hub_rows::{LocalList, LocalTag, StoreFault};
+use ocpp_types::{Named, TagKey};
+use sqlite::{Alter, Error, Transaction, params};
+use std::alloc::Global;
+
+/// Drops the rows of a list's entries.
+fn drop_rows<S: Alter>(tx: &mut Transaction<'_, S>, op: &str, station: &str) -> Result<usize, Error>
+    ensures same_reference { tx.new.conn.ghost_name ≡ tx.old.conn.ghost_name }
+    ensures goes { IsInside (state S.Store tx.old.conn.now) → Goes (IsDropped entries (λ e. bytes_eq e.op op.now && bytes_eq e.station station.now)) (state S.Store tx.old.conn.now) (state S.Store tx.new.conn.now) result }
+{
+    tx.execute(sql_tables::list_entries::DROP, params![op, station])
+}
+
+/// Drops the entries of a list.
+fn drop_entries<S: Alter>(
+    tx: &mut Transaction<'_, S>,
+    op: &str,
+    station: &str,
+) -> Result<(), StoreFault>
+    ensures same_reference { tx.new.conn.ghost_name ≡ tx.old.conn.ghost_name }
+    ensures goes { IsInside (state S.Store tx.old.conn.now) → Goes (IsDropped entries (λ e. bytes_eq e.op op.now && bytes_eq e.station station.now)) (state S.Store tx.old.conn.now) (state S.Store tx.new.conn.now) result }
+{
+    done(drop_rows(tx, op, station))
+}
+
+/// Puts the row of a list.
+fn put_row<S: Alter>(
+    tx: &mut Transaction<'_, S>,
+    op: &str,
+    station: &str,
+    version: u32,
+) -> Result<usize, Error>
+    ensures same_reference { tx.new.conn.ghost_name ≡ tx.old.conn.ghost_name }
+    ensures goes { IsInside (state S.Store tx.old.conn.now) → Goes (IsPutIn lists (record { op = op.now; station = station.now; version = version })) (state S.Store tx.old.conn.now) (state S.Store tx.new.conn.now) result }
+{
+    tx.execute(sql_tables::lists::PUT, params![op, station, version])
+}
+
+/// Puts a list, without its entries.
+fn put_head<S: Alter>(
+    tx: &mut Transaction<'_, S>,
+    op: &str,
+    station: &str,
+    version: u32,
+) -> Result<(), StoreFault>
+    ensures same_reference { tx.new.conn.ghost_name ≡ tx.old.conn.ghost_name }
+    ensures goes { IsInside (state S.Store tx.old.conn.now) → Goes (IsPutIn lists (record { op = op.now; station = station.now; version = version })) (state S.Store tx.old.conn.now) (state S.Store tx.new.conn.now) result }
+{
+    done(put_row(tx, op, station, version))
+}
+
+/// Puts the row of an entry.
+fn put_entry_row<S: Alter>(
+    tx: &mut Transaction<'_, S>,
+    op: &str,
+    station: &str,
+    key: &str,
+    entry: &LocalTag,
+) -> Result<usize, Error>
+    requires { key.now ≡ key_of entry.now.tag }
+    ensures same_reference { tx.new.conn.ghost_name ≡ tx.old.conn.ghost_name }
+    ensures goes { IsInside (state S.Store tx.old.conn.now) → Goes (IsPutIn entries (entry_row op.now station.now entry.now)) (state S.Store tx.old.conn.now) (state S.Store tx.new.conn.now) result }
+{
+    tx.execute(
+        sql_tables::list_entries::ADD,
+        params![
+            op,
+            station,
+            key,
+            entry.tag.as_str(),
+            seconds_if_any(&entry.info.expiry_date),
+            lent(&entry.info.parent_id_tag),
+            entry.info.status.name()
+        ],
+    )
+}
+
+/// Puts an entry of a list.
+fn put_entry<S: Alter>(
+    tx: &mut Transaction<'_, S>,
+    alloc: Global,
+    op: &str,
+    station: &str,
+    entry: &LocalTag,
+) -> Result<(), StoreFault>
+    ensures same_reference { tx.new.conn.ghost_name ≡ tx.old.conn.ghost_name }
+    ensures goes { IsInside (state S.Store tx.old.conn.now) → Goes (IsPutIn entries (entry_row op.now station.now entry.now)) (state S.Store tx.old.conn.now) (state S.Store tx.new.conn.now) result }
+{
+    let key = TagKey::of(alloc, entry.tag.as_str())?;
+    done(put_entry_row(tx, op, station, key.as_str(), entry))
+}
+
+/// Puts the entries of a list.
+fn put_entries<S: Alter>(
+    tx: &mut Transaction<'_, S>,
+    alloc: Global,
+    op: &str,
+    station: &str,
+    list: &[LocalTag],
+) -> Result<(), StoreFault>
+    ensures same_reference { tx.new.conn.ghost_name ≡ tx.old.conn.ghost_name }
+    ensures goes { IsInside (state S.Store tx.old.conn.now) → Goes (ArePutIn entries (map (entry_row op.now station.now) list.now)) (state S.Store tx.old.conn.now) (state S.Store tx.new.conn.now) result }
+{
+    'entries: for entry in list {
+        put_entry(tx, alloc, op, station, entry)?;
+    }
+    Ok(())
+}
+
+/// Sets the local list of a station, in place of the one before and all its entries.
+pub(crate) fn set_list<S: Alter>(
+    tx: &mut Transaction<'_, S>,
+    alloc: Global,
+    op: &str,
+    station: &str,
+    list: &LocalList,
+) -> Result<(), StoreFault>
+    ensures same_reference { tx.new.conn.ghost_name ≡ tx.old.conn.ghost_name }
+    ensures goes { (IsTrue (state S.Store tx.old.conn.now).is_open → AreEntries list.now.entries) → IsInside (state S.Store tx.old.conn.now) → Goes (IsMade (edit op.now (Holdings (ListSet station.now list.now)))) (state S.Store tx.old.conn.now) (state S.Store tx.new.conn.now) result }
+{
+    drop_entries(tx, op, station)?;
+    put_head(tx, op, station, list.version)?;
+    put_entries(tx, alloc, op, station, list.entries.as_slice())
+}

@@ -1,0 +1,81 @@
+//! Edits of readings.
+ghost use Rattle.std.specs.Prelude.{◌≡◌, ◌<◌};
+ghost use Rattle.sqlite.specs.Held.{state};
+ghost use Rattle.hub_rows.specs.Keyed.{by_key, put};
+ghost use Rattle.sql_rows.specs.Kept.{IsInside, IsMade, Goes};
+ghost use Rattle.sql_rows.specs.TypedTables.{readings};
+ghost use Rattle.hub_rows.specs.Rows.{reading_key};
+ghost use Rattle.hub_rows.specs.Changes.{with_readings};
+
+use crate::binds::{done, name_if_any};
+use hub_rows::{Reading, StoreFault};
+use ocpp_types::Named;
+use sqlite::{Alter, Error, Transaction, params};
+
+/// Puts the row of a reading.
+fn put_row<S: Alter>(
+    tx: &mut Transaction<'_, S>,
+    op: &str,
+    station: &str,
+    number: u32,
+    reading: &Reading,
+) -> Result<usize, Error>
+    ensures same_reference { tx.new.conn.ghost_name ≡ tx.old.conn.ghost_name }
+    ensures goes { IsInside (state S.Store tx.old.conn.now) → Goes (IsMade (λ rows. record rows { readings = put (by_key reading_key) (record { op = op.now; station = station.now; number = number; reading = reading.now }) rows.readings })) (state S.Store tx.old.conn.now) (state S.Store tx.new.conn.now) result }
+{
+    tx.execute(
+        sql_tables::readings::ADD,
+        params![
+            op,
+            station,
+            number,
+            u32::from(reading.connector),
+            reading.transaction,
+            reading.at,
+            reading.context.name(),
+            reading.format.name(),
+            reading.measurand.name(),
+            name_if_any(&reading.phase),
+            reading.location.name(),
+            name_if_any(&reading.unit),
+            reading.text.as_str()
+        ],
+    )
+}
+
+/// Puts a reading.
+fn put_reading<S: Alter>(
+    tx: &mut Transaction<'_, S>,
+    op: &str,
+    station: &str,
+    number: u32,
+    reading: &Reading,
+) -> Result<(), StoreFault>
+    ensures same_reference { tx.new.conn.ghost_name ≡ tx.old.conn.ghost_name }
+    ensures goes { IsInside (state S.Store tx.old.conn.now) → Goes (IsMade (λ rows. record rows { readings = put (by_key reading_key) (record { op = op.now; station = station.now; number = number; reading = reading.now }) rows.readings })) (state S.Store tx.old.conn.now) (state S.Store tx.new.conn.now) result }
+{
+    done(put_row(tx, op, station, number, reading))
+}
+
+/// Puts readings of a station, numbered from the first number on. The last number is within 32
+/// bits, or else this answers Failed.
+pub(crate) fn add_readings<S: Alter>(
+    tx: &mut Transaction<'_, S>,
+    op: &str,
+    station: &str,
+    first: u32,
+    readings: &[Reading],
+) -> Result<(), StoreFault>
+    ensures same_reference { tx.new.conn.ghost_name ≡ tx.old.conn.ghost_name }
+    ensures goes { IsInside (state S.Store tx.old.conn.now) → Goes (IsMade (λ rows. record rows { readings = with_readings op.now station.now first readings.now rows.readings })) (state S.Store tx.old.conn.now) (state S.Store tx.new.conn.now) result }
+{
+    if readings.len() > (u32::MAX - first) as usize {
+        return Err(StoreFault::Failed);
+    }
+    let mut number = first;
+    'readings: for reading in readings {
+        put_reading(tx, op, station, number, reading)?;
+        number += 1;
+    }
+    Ok(())
+}

@@ -1,0 +1,94 @@
+//! Edits of reservations.
+ghost use Rattle.std.specs.Prelude.{◌≡◌};
+ghost use Rattle.sqlite.specs.Held.{state};
+ghost use Rattle.hub_rows.specs.Reservations.{without_named};
+ghost use Rattle.sql_rows.specs.Kept.{IsInside, IsMade, Goes};
+ghost use Rattle.sql_rows.specs.TypedTables.{reservations};
+ghost use Rattle.hub_rows.specs.Changes.{edit};
+ghost use Rattle.hub_rows.specs.declared.change.Edit.TheVariants.{Holdings};
+ghost use Rattle.hub_rows.specs.declared.change.HoldingEdit.TheVariants.{ReservationPut, ReservationDropped};
+
+use crate::binds::{done, lent, seconds};
+use hub_rows::{Reservation, ReservationId, StoreFault};
+use sqlite::{Alter, Error, Transaction, params};
+
+/// Puts the row of a reservation.
+fn put_row<S: Alter>(
+    tx: &mut Transaction<'_, S>,
+    op: &str,
+    station: &str,
+    id: ReservationId,
+    reservation: &Reservation,
+) -> Result<usize, Error>
+    ensures same_reference { tx.new.conn.ghost_name ≡ tx.old.conn.ghost_name }
+    ensures goes { IsInside (state S.Store tx.old.conn.now) → Goes (IsMade (edit op.now (Holdings (ReservationPut station.now id reservation.now)))) (state S.Store tx.old.conn.now) (state S.Store tx.new.conn.now) result }
+{
+    tx.execute(
+        sql_tables::reservations::PUT,
+        params![
+            op,
+            station,
+            id.get(),
+            u32::from(reservation.connector),
+            reservation.tag.as_str(),
+            lent(&reservation.parent),
+            seconds(reservation.expiry)
+        ],
+    )
+}
+
+/// Drops the row of a reservation.
+fn drop_row<S: Alter>(
+    tx: &mut Transaction<'_, S>,
+    op: &str,
+    station: &str,
+    id: ReservationId,
+) -> Result<usize, Error>
+    ensures same_reference { tx.new.conn.ghost_name ≡ tx.old.conn.ghost_name }
+    ensures goes { IsInside (state S.Store tx.old.conn.now) → Goes (IsMade (edit op.now (Holdings (ReservationDropped station.now id)))) (state S.Store tx.old.conn.now) (state S.Store tx.new.conn.now) result }
+{
+    tx.execute(sql_tables::reservations::DROP, params![op, station, id.get()])
+}
+
+/// Puts a reservation, in place of the one with its id.
+pub(crate) fn put_reservation<S: Alter>(
+    tx: &mut Transaction<'_, S>,
+    op: &str,
+    station: &str,
+    id: ReservationId,
+    reservation: &Reservation,
+) -> Result<(), StoreFault>
+    ensures same_reference { tx.new.conn.ghost_name ≡ tx.old.conn.ghost_name }
+    ensures goes { IsInside (state S.Store tx.old.conn.now) → Goes (IsMade (edit op.now (Holdings (ReservationPut station.now id reservation.now)))) (state S.Store tx.old.conn.now) (state S.Store tx.new.conn.now) result }
+{
+    done(put_row(tx, op, station, id, reservation))
+}
+
+/// Drops the reservation of an id.
+pub(crate) fn drop_reservation<S: Alter>(
+    tx: &mut Transaction<'_, S>,
+    op: &str,
+    station: &str,
+    id: ReservationId,
+) -> Result<(), StoreFault>
+    ensures same_reference { tx.new.conn.ghost_name ≡ tx.old.conn.ghost_name }
+    ensures goes { IsInside (state S.Store tx.old.conn.now) → Goes (IsMade (edit op.now (Holdings (ReservationDropped station.now id)))) (state S.Store tx.old.conn.now) (state S.Store tx.new.conn.now) result }
+{
+    done(drop_row(tx, op, station, id))
+}
+
+/// Drops the reservation that a start names, if it names one.
+pub(crate) fn drop_named<S: Alter>(
+    tx: &mut Transaction<'_, S>,
+    op: &str,
+    station: &str,
+    id: Option<i32>,
+) -> Result<(), StoreFault>
+    ensures same_reference { tx.new.conn.ghost_name ≡ tx.old.conn.ghost_name }
+    ensures goes { IsInside (state S.Store tx.old.conn.now) → Goes (IsMade (λ rows. record rows { reservations = without_named op.now station.now id rows.reservations })) (state S.Store tx.old.conn.now) (state S.Store tx.new.conn.now) result }
+{
+    match id {
+        None => Ok(()),
+        Some(id) => drop_reservation(tx, op, station, ReservationId::new(id)),
+    }
+}

@@ -1,0 +1,193 @@
+//! Edits of stations.
+ghost use Rattle.std.specs.Prelude.{◌≡◌, ◌&&◌, IfOk, IsTrue, None, Some};
+ghost use Rattle.std.specs.Str.{bytes_eq};
+ghost use Rattle.sqlite.specs.Held.{state};
+ghost use Rattle.hub_rows.specs.Rows.{station_in, station_key};
+ghost use Rattle.sql_rows.specs.Kept.{IsInside, IsMade, IsSame, Goes, ShowsInside};
+ghost use Rattle.sql_rows.specs.TypedTables.{stations, rows_of};
+ghost use Rattle.hub_rows.specs.Changes.{edit};
+ghost use Rattle.hub_rows.specs.declared.change.Edit.TheVariants.{Stations};
+ghost use Rattle.hub_rows.specs.declared.change.StationEdit.TheVariants.{StationAdded, BootSeen, PolicySet};
+ghost use Rattle.hub_rows.specs.Keyed.{by_key, put};
+
+use crate::binds::{done, lent, seconds};
+use hub_rows::{Boot, Registration, StationRow, StoreFault};
+use ocpp_types::{Named, Policy, State};
+use sql_rows::first_row;
+use sqlite::{Alter, Error, Row, Transaction, params};
+
+/// Puts the row of a station that hasn't booted.
+fn put_unbooted<S: Alter>(
+    tx: &mut Transaction<'_, S>,
+    op: &str,
+    station: &str,
+    registered: Registration,
+) -> Result<usize, Error>
+    ensures same_reference { tx.new.conn.ghost_name ≡ tx.old.conn.ghost_name }
+    ensures goes { IsInside (state S.Store tx.old.conn.now) → Goes (IsMade (λ rows. record rows { stations = put (by_key station_key) (record { op = op.now; station = station.now; policy = registered.policy; interval = registered.interval; state = registered.state; boot = None }) rows.stations })) (state S.Store tx.old.conn.now) (state S.Store tx.new.conn.now) result }
+{
+    let null: Option<i64> = None;
+    tx.execute(
+        sql_tables::stations::PUT,
+        params![
+            op,
+            station,
+            registered.policy.name(),
+            registered.interval,
+            registered.state.name(),
+            null,
+            null,
+            null,
+            null,
+            null,
+            null,
+            null,
+            null,
+            null,
+            null
+        ],
+    )
+}
+
+/// Puts the row of a station that has booted.
+fn put_booted<S: Alter>(
+    tx: &mut Transaction<'_, S>,
+    op: &str,
+    station: &str,
+    registered: Registration,
+    boot: &Boot,
+) -> Result<usize, Error>
+    ensures same_reference { tx.new.conn.ghost_name ≡ tx.old.conn.ghost_name }
+    ensures goes { IsInside (state S.Store tx.old.conn.now) → Goes (IsMade (λ rows. record rows { stations = put (by_key station_key) (record { op = op.now; station = station.now; policy = registered.policy; interval = registered.interval; state = registered.state; boot = Some boot.now }) rows.stations })) (state S.Store tx.old.conn.now) (state S.Store tx.new.conn.now) result }
+{
+    let texts = boot.texts.as_ref();
+    tx.execute(
+        sql_tables::stations::PUT,
+        params![
+            op,
+            station,
+            registered.policy.name(),
+            registered.interval,
+            registered.state.name(),
+            seconds(boot.moment),
+            texts.charge_point_model.as_str(),
+            texts.charge_point_vendor.as_str(),
+            lent(&texts.charge_box_serial_number),
+            lent(&texts.charge_point_serial_number),
+            lent(&texts.firmware_version),
+            lent(&texts.iccid),
+            lent(&texts.imsi),
+            lent(&texts.meter_serial_number),
+            lent(&texts.meter_type)
+        ],
+    )
+}
+
+fn find_inside<S: Alter>(
+    tx: &mut Transaction<'_, S>,
+    op: &str,
+    station: &str,
+) -> Result<Vec<Row>, Error>
+    ensures same_reference { tx.new.conn.ghost_name ≡ tx.old.conn.ghost_name }
+    ensures shows { IsInside (state S.Store tx.old.conn.now) → ShowsInside (λ v. v.items) stations (λ r. bytes_eq r.op op.now && bytes_eq r.station station.now) (state S.Store tx.old.conn.now) (state S.Store tx.new.conn.now) result }
+{
+    tx.query_all(sql_tables::stations::FIND, params![op, station, station])
+}
+
+/// A station of an operator, inside a transaction.
+fn station_inside<S: Alter>(
+    tx: &mut Transaction<'_, S>,
+    op: &str,
+    station: &str,
+) -> Result<Option<StationRow>, StoreFault>
+    ensures same_reference { tx.new.conn.ghost_name ≡ tx.old.conn.ghost_name }
+    ensures found { IsInside (state S.Store tx.old.conn.now) → IsTrue (state S.Store tx.new.conn.now).is_open → IfOk result (λ r. r ≡ station_in op.now station.now (rows_of (state S.Store tx.old.conn.now).now.trees).stations) }
+    ensures goes { IsInside (state S.Store tx.old.conn.now) → Goes IsSame (state S.Store tx.old.conn.now) (state S.Store tx.new.conn.now) result }
+{
+    first_row(find_inside(tx, op, station))
+}
+
+/// Puts a station, which is Fresh.
+pub(crate) fn add_station<S: Alter>(
+    tx: &mut Transaction<'_, S>,
+    op: &str,
+    station: &str,
+    policy: Policy,
+    interval: u32,
+) -> Result<(), StoreFault>
+    ensures same_reference { tx.new.conn.ghost_name ≡ tx.old.conn.ghost_name }
+    ensures goes { IsInside (state S.Store tx.old.conn.now) → Goes (IsMade (edit op.now (Stations (StationAdded station.now policy interval)))) (state S.Store tx.old.conn.now) (state S.Store tx.new.conn.now) result }
+{
+    let registered = Registration {
+        policy,
+        interval,
+        state: State::Fresh,
+    };
+    done(put_unbooted(tx, op, station, registered))
+}
+
+/// Puts a station.
+fn put_station<S: Alter>(tx: &mut Transaction<'_, S>, row: &StationRow) -> Result<(), StoreFault>
+    ensures same_reference { tx.new.conn.ghost_name ≡ tx.old.conn.ghost_name }
+    ensures goes { IsInside (state S.Store tx.old.conn.now) → Goes (IsMade (λ rows. record rows { stations = put (by_key station_key) (row.now) rows.stations })) (state S.Store tx.old.conn.now) (state S.Store tx.new.conn.now) result }
+{
+    let op = row.op.as_str();
+    let station = row.station.as_str();
+    let registered = row.registration();
+    match &row.boot {
+        None => done(put_unbooted(tx, op, station, registered)),
+        Some(boot) => done(put_booted(tx, op, station, registered, boot)),
+    }
+}
+
+/// Keeps a boot of a station in place of the one before, and the state that it leads to. The station
+/// is on record, or else this answers Failed.
+pub(crate) fn see_boot<S: Alter>(
+    tx: &mut Transaction<'_, S>,
+    op: &str,
+    station: &str,
+    boot: &Boot,
+    answered: State,
+) -> Result<(), StoreFault>
+    ensures same_reference { tx.new.conn.ghost_name ≡ tx.old.conn.ghost_name }
+    ensures goes { IsInside (state S.Store tx.old.conn.now) → Goes (IsMade (edit op.now (Stations (BootSeen station.now boot.now answered)))) (state S.Store tx.old.conn.now) (state S.Store tx.new.conn.now) result }
+{
+    match station_inside(tx, op, station)? {
+        Some(row) => {
+            let op = row.op.as_str();
+            let station = row.station.as_str();
+            let registered = Registration {
+                policy: row.policy,
+                interval: row.interval,
+                state: answered,
+            };
+            done(put_booted(tx, op, station, registered, boot))
+        }
+        None => Err(StoreFault::Failed),
+    }
+}
+
+/// Sets what a station's next boot is answered. The station is on record, or else this answers
+/// Failed.
+pub(crate) fn set_policy<S: Alter>(
+    tx: &mut Transaction<'_, S>,
+    op: &str,
+    station: &str,
+    policy: Policy,
+    interval: u32,
+) -> Result<(), StoreFault>
+    ensures same_reference { tx.new.conn.ghost_name ≡ tx.old.conn.ghost_name }
+    ensures goes { IsInside (state S.Store tx.old.conn.now) → Goes (IsMade (edit op.now (Stations (PolicySet station.now policy interval)))) (state S.Store tx.old.conn.now) (state S.Store tx.new.conn.now) result }
+{
+    match station_inside(tx, op, station)? {
+        Some(row) => put_station(
+            tx,
+            &StationRow {
+                policy,
+                interval,
+                ..row
+            },
+        ),
+        None => Err(StoreFault::Failed),
+    }
+}

@@ -1,0 +1,186 @@
+//! Edits of transactions.
+ghost use Rattle.std.specs.Prelude.{◌≡◌, ◌&&◌, IfOk, IsTrue, None};
+ghost use Rattle.std.specs.Str.{bytes_eq};
+ghost use Rattle.sqlite.specs.Held.{state};
+ghost use Rattle.hub_rows.specs.Keyed.{found, by_key, changed, put};
+ghost use Rattle.hub_rows.specs.Transactions.{is_tx, is_accepted};
+ghost use Rattle.sql_rows.specs.Kept.{IsInside, IsMade, IsSame, Goes, ShowsInside};
+ghost use Rattle.sql_rows.specs.TypedTables.{txs, rows_of};
+ghost use Rattle.hub_rows.specs.Changes.{edit, tx_row, with_stop};
+ghost use Rattle.hub_rows.specs.declared.change.Edit.TheVariants.{Transactions};
+ghost use Rattle.hub_rows.specs.declared.change.TransactionEdit.TheVariants.{TxStarted};
+ghost use Rattle.hub_rows.specs.Rows.{tx_key};
+ghost use Rattle.hub_rows.specs.Uses.{settled_use, with_use};
+
+use crate::binds::{done, lent, seconds};
+use crate::reservations::drop_named;
+use crate::uses::settle;
+use hub_rows::{Start, Stop, StoreFault, TxRow};
+use ocpp_types::{AuthorizationStatus, Named};
+use sql_rows::first_row;
+use sqlite::{Alter, Error, Row, Transaction, params};
+
+fn is_accepted(status: AuthorizationStatus) -> bool
+    ensures { result ≡ is_accepted status }
+{
+    matches!(status, AuthorizationStatus::Accepted)
+}
+
+/// Adds the row of an open transaction.
+fn put_open<S: Alter>(
+    tx: &mut Transaction<'_, S>,
+    op: &str,
+    station: &str,
+    number: u32,
+    start: &Start,
+) -> Result<usize, Error>
+    ensures same_reference { tx.new.conn.ghost_name ≡ tx.old.conn.ghost_name }
+    ensures goes { IsInside (state S.Store tx.old.conn.now) → Goes (IsMade (λ rows. record rows { transactions = put (by_key tx_key) (tx_row op.now station.now number start.now) rows.transactions })) (state S.Store tx.old.conn.now) (state S.Store tx.new.conn.now) result }
+{
+    let null: Option<i64> = None;
+    tx.execute(
+        sql_tables::txs::ADD,
+        params![
+            op,
+            station,
+            number,
+            u32::from(start.id.connector),
+            start.id.key.as_str(),
+            start.id.meter_start,
+            start.id.at,
+            start.tag.as_str(),
+            start.reservation,
+            start.status.name(),
+            seconds(start.begun),
+            true,
+            is_accepted(start.status),
+            null,
+            null,
+            null,
+            null,
+            null
+        ],
+    )
+}
+
+/// Puts the row of a transaction with its stop.
+fn put_stopped<S: Alter>(
+    tx: &mut Transaction<'_, S>,
+    row: &TxRow,
+    stop: &Stop,
+) -> Result<usize, Error>
+    ensures same_reference { tx.new.conn.ghost_name ≡ tx.old.conn.ghost_name }
+    ensures goes { IsInside (state S.Store tx.old.conn.now) → Goes (IsMade (λ rows. record rows { transactions = put (by_key tx_key) (with_stop stop.now row.now) rows.transactions })) (state S.Store tx.old.conn.now) (state S.Store tx.new.conn.now) result }
+{
+    let start = &row.start;
+    tx.execute(
+        sql_tables::txs::PUT,
+        params![
+            row.op.as_str(),
+            row.station.as_str(),
+            row.number,
+            u32::from(start.id.connector),
+            start.id.key.as_str(),
+            start.id.meter_start,
+            start.id.at,
+            start.tag.as_str(),
+            start.reservation,
+            start.status.name(),
+            seconds(start.begun),
+            false,
+            false,
+            stop.meter_stop,
+            stop.at,
+            stop.reason.name(),
+            lent(&stop.tag),
+            seconds(stop.moment)
+        ],
+    )
+}
+
+fn find_inside<S: Alter>(
+    tx: &mut Transaction<'_, S>,
+    op: &str,
+    station: &str,
+    number: u32,
+) -> Result<Vec<Row>, Error>
+    ensures same_reference { tx.new.conn.ghost_name ≡ tx.old.conn.ghost_name }
+    ensures shows { IsInside (state S.Store tx.old.conn.now) → ShowsInside (λ v. v.items) txs (λ r. bytes_eq r.op op.now && is_tx station.now number r) (state S.Store tx.old.conn.now) (state S.Store tx.new.conn.now) result }
+{
+    tx.query_all(sql_tables::txs::FIND, params![op, station, number, number])
+}
+
+/// A transaction of a station, inside a transaction of the database.
+fn tx_inside<S: Alter>(
+    tx: &mut Transaction<'_, S>,
+    op: &str,
+    station: &str,
+    number: u32,
+) -> Result<Option<TxRow>, StoreFault>
+    ensures same_reference { tx.new.conn.ghost_name ≡ tx.old.conn.ghost_name }
+    ensures found { IsInside (state S.Store tx.old.conn.now) → IsTrue (state S.Store tx.new.conn.now).is_open → IfOk result (λ r. r ≡ found (λ r. r.op) op.now (is_tx station.now number) (rows_of (state S.Store tx.old.conn.now).now.trees).transactions) }
+    ensures goes { IsInside (state S.Store tx.old.conn.now) → Goes IsSame (state S.Store tx.old.conn.now) (state S.Store tx.new.conn.now) result }
+{
+    first_row(find_inside(tx, op, station, number))
+}
+
+/// Puts a transaction that has begun.
+fn put_started<S: Alter>(
+    tx: &mut Transaction<'_, S>,
+    op: &str,
+    station: &str,
+    number: u32,
+    start: &Start,
+) -> Result<(), StoreFault>
+    ensures same_reference { tx.new.conn.ghost_name ≡ tx.old.conn.ghost_name }
+    ensures goes { IsInside (state S.Store tx.old.conn.now) → Goes (IsMade (λ rows. record rows { transactions = put (by_key tx_key) (tx_row op.now station.now number start.now) rows.transactions })) (state S.Store tx.old.conn.now) (state S.Store tx.new.conn.now) result }
+{
+    done(put_open(tx, op, station, number, start))
+}
+
+/// Puts a transaction that has ended.
+fn put_ended<S: Alter>(
+    tx: &mut Transaction<'_, S>,
+    row: &TxRow,
+    stop: &Stop,
+) -> Result<(), StoreFault>
+    ensures same_reference { tx.new.conn.ghost_name ≡ tx.old.conn.ghost_name }
+    ensures goes { IsInside (state S.Store tx.old.conn.now) → Goes (IsMade (λ rows. record rows { transactions = put (by_key tx_key) (with_stop stop.now row.now) rows.transactions })) (state S.Store tx.old.conn.now) (state S.Store tx.new.conn.now) result }
+{
+    done(put_stopped(tx, row, stop))
+}
+
+/// Puts a new transaction, and drops the reservation that it names.
+pub(crate) fn start_tx<S: Alter>(
+    tx: &mut Transaction<'_, S>,
+    op: &str,
+    station: &str,
+    number: u32,
+    start: &Start,
+) -> Result<(), StoreFault>
+    ensures same_reference { tx.new.conn.ghost_name ≡ tx.old.conn.ghost_name }
+    ensures goes { IsInside (state S.Store tx.old.conn.now) → Goes (IsMade (edit op.now (Transactions (TxStarted station.now number start.now None)))) (state S.Store tx.old.conn.now) (state S.Store tx.new.conn.now) result }
+{
+    put_started(tx, op, station, number, start)?;
+    drop_named(tx, op, station, start.reservation)
+}
+
+/// Keeps the stop of a transaction, and settles its use. The transaction is on record, or else this answers Failed.
+pub(crate) fn stop_tx<S: Alter>(
+    tx: &mut Transaction<'_, S>,
+    op: &str,
+    station: &str,
+    number: u32,
+    stop: &Stop,
+) -> Result<(), StoreFault>
+    ensures same_reference { tx.new.conn.ghost_name ≡ tx.old.conn.ghost_name }
+    ensures goes { IsInside (state S.Store tx.old.conn.now) → Goes (IsMade (λ rows. record rows { transactions = changed (λ r. r.op) op.now (is_tx station.now number) (with_stop stop.now) rows.transactions; uses = with_use (settled_use op.now station.now number stop.now rows) rows.uses })) (state S.Store tx.old.conn.now) (state S.Store tx.new.conn.now) result }
+{
+    match tx_inside(tx, op, station, number)? {
+        Some(row) => {
+            put_ended(tx, &row, stop)?;
+            settle(tx, &row, stop)
+        }
+        None => Err(StoreFault::Failed),
+    }
+}

@@ -1,0 +1,6 @@
+use Rattle.sqlite.specs.Held.{state}
+use Rattle.sql_rows.proofs.StoreLemmas.{commits_as}
+use Rattle.sql_lookups.proofs.txs.txs_in_use.Goals as goal
+
+pub returns-clause-stops : goal.returns-clause-stops
+returns-clause-stops g c = commits_as (state g.S.Store c.args.conn.now) (state g.S.Store c.list_in_use.new.conn) c.list_in_use.result c.listed.result c.listed.ensures.ok (λ serves. (c.list_in_use.ensures.shows serves).stops)

@@ -1,0 +1,14 @@
+//! The look-ups of a store in SQLite, on a connection that serves.
+#![tactic(auto)]
+
+pub mod connectors;
+pub mod granted;
+pub mod grants;
+pub mod local_lists;
+pub mod readings;
+pub mod reports;
+pub mod reservations;
+pub mod stations;
+pub mod tags;
+pub mod txs;
+pub mod uses;

@@ -1,0 +1,64 @@
+//! Look-ups of stations.
+ghost use Rattle.std.specs.Prelude.{◌≡◌, ◌&&◌, true};
+ghost use Rattle.std.specs.Str.{bytes_eq};
+ghost use Rattle.sqlite.specs.Held.{state};
+ghost use Rattle.hub_rows.specs.Lookups.{stations_in};
+ghost use Rattle.hub_rows.specs.Rows.{registration_in, station_in};
+ghost use Rattle.sql_rows.specs.Kept.{IsServing, Finds, Rests, CommitsNothing, Shows};
+ghost use Rattle.sql_rows.specs.TypedTables.{stations};
+
+use hub_rows::{Registration, StationRow, StoreFault};
+use ocpp_types::Listed;
+use sql_rows::{first_row, listed};
+use sqlite::{Alter, Connection, Error, Row, params};
+
+fn find_one<S: Alter>(conn: &mut Connection<S>, op: &str, station: &str) -> Result<Vec<Row>, Error>
+    ensures shows { IsServing (state S.Store conn.old) → Shows (λ v. v.items) stations (λ r. bytes_eq r.op op.now && bytes_eq r.station station.now) (state S.Store conn.old) (state S.Store conn.new) result }
+{
+    conn.query_all(sql_tables::stations::FIND, params![op, station, station])
+}
+
+fn find_all<S: Alter>(conn: &mut Connection<S>, op: &str) -> Result<Vec<Row>, Error>
+    ensures shows { IsServing (state S.Store conn.old) → Shows (λ v. v.items) stations (λ r. bytes_eq r.op op.now && true) (state S.Store conn.old) (state S.Store conn.new) result }
+{
+    let above: &[u8] = &[];
+    conn.query_all(sql_tables::stations::FIND, params![op, "", above])
+}
+
+/// A station of an operator.
+fn find_station<S: Alter>(
+    conn: &mut Connection<S>,
+    op: &str,
+    station: &str,
+) -> Result<Option<StationRow>, StoreFault>
+    ensures found { Finds (state S.Store conn.old) (state S.Store conn.new) result (λ rows r. r ≡ station_in op.now station.now rows.stations) }
+    ensures same { Rests (state S.Store conn.old) (state S.Store conn.new) }
+    ensures stops { CommitsNothing (state S.Store conn.old) (state S.Store conn.new) result }
+{
+    first_row(find_one(conn, op, station))
+}
+
+/// How a station is registered.
+pub fn registration<S: Alter>(
+    conn: &mut Connection<S>,
+    op: &str,
+    station: &str,
+) -> Result<Option<Registration>, StoreFault>
+    ensures found { Finds (state S.Store conn.old) (state S.Store conn.new) result (λ rows r. r ≡ registration_in op.now station.now rows.stations) }
+    ensures same { Rests (state S.Store conn.old) (state S.Store conn.new) }
+    ensures stops { CommitsNothing (state S.Store conn.old) (state S.Store conn.new) result }
+{
+    Ok(find_station(conn, op, station)?.map(|row| row.registration()))
+}
+
+/// All stations of an operator.
+pub fn stations<S: Alter>(
+    conn: &mut Connection<S>,
+    op: &str,
+) -> Result<Listed<StationRow>, StoreFault>
+    ensures found { Finds (state S.Store conn.old) (state S.Store conn.new) result (λ rows list. list ≡ stations_in op.now rows.stations) }
+    ensures same { Rests (state S.Store conn.old) (state S.Store conn.new) }
+    ensures stops { CommitsNothing (state S.Store conn.old) (state S.Store conn.new) result }
+{
+    listed(find_all(conn, op))
+}

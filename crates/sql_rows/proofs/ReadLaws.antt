@@ -1,0 +1,82 @@
+-- What a SELECT of all columns shows, by the test of typed rows that its WHERE is.
+use Rattle.std.proofs.Common.{◌≡◌, ℕ, ℤ, List, [], ◌∷◌, map, filter, Bool, true, sym, ap, ◌∙◌, subst}
+use Rattle.std.specs.List.{list_all}
+use Rattle.sqlite_value.specs.declared.value.Value.{Value}
+use Rattle.sqlite_value.specs.declared.value.Value.TheVariants.{Int}
+use Rattle.sqlite_value.specs.declared.keys.Key as sort
+use Rattle.sqlite_value.specs.Order.{Row}
+use Rattle.sqlite_trees.specs.Tree.{Trees}
+use Rattle.sqlite_sql.specs.Term.{Term, holds, eval_all}
+use Rattle.sqlite_sql.specs.Query.{IsAnswer, inner, end}
+use Rattle.sqlite_sql.specs.Program.{overlay}
+use Rattle.sqlite_schema.specs.declared.schema.Schema.{Schema}
+use Rattle.sqlite_schema.specs.Rules.{Obeys}
+use Rattle.sqlite_rules.specs.Lists.{Has}
+use Rattle.sqlite_rules.proofs.ListLemmas.{has_filtered, has_kept}
+use Rattle.sqlite_rules.proofs.ProbeLemmas.{has_mapped, mapped_has}
+use Rattle.hub_rows.specs.Keyed.{put_all}
+use Rattle.hub_rows.proofs.ListLaws.{by_key_total}
+use Rattle.sql_tables.specs.Forms.{plain_query}
+use Rattle.sql_rows.specs.TypedTable.{TypedTable, typed, cmp, rows_in, AreTyped}
+use Rattle.sql_rows.proofs.MemberLaws.{IsSingle, same_elements, is_arranged, arranged_from, arranged_has, sorted_filter}
+use Rattle.sql_rows.proofs.QueryLemmas as query
+use Rattle.sql_rows.proofs.TypedTableLemmas as typed_table
+use Rattle.sql_rows.proofs.TypedTableLemmas.{IsTypedTable}
+
+-- the filter of a statement is this test of typed rows
+abbrev pub IsTest : {T : Type 0} → TypedTable T → List Term → Row → (T → Bool) → Type 0
+IsTest {T} s filter params p = (id : ℤ) (t : T) → list_all (holds (params ∷ (Int id ∷ s.row t) ∷ [])) filter ≡ p t
+
+-- the terms are the columns of the table
+abbrev pub IsWhole : {T : Type 0} → TypedTable T → List Term → Type 0
+IsWhole {T} s project = (t : T) (v : Value) (params : Row) → eval_all project (params ∷ (v ∷ s.row t) ∷ []) ≡ s.row t
+
+module _ {T : Type 0} (schema : Schema) (good : ℕ → Row → Type 0) (at : ℕ) (s : TypedTable T) (is : IsTypedTable schema good at s) (wanted : List Term) (params : Row) (p : T → Bool) (test : IsTest s wanted params p)
+    (db : Trees) (kept : AreTyped schema good db) where
+  pub passes : (r : Row) → Has (db s.table.tree) r → list_all (holds (params ∷ r ∷ [])) wanted ≡ p (typed s r)
+  passes r h =
+      let u = typed_table.row_in schema good at s is db kept r h in
+      ap (λ (x : Row). list_all (holds (params ∷ x ∷ [])) wanted) u.2 ∙ test u.0 u.1 ∙ ap p (sym (typed_table.typed_is schema good at s is db kept r h))
+
+  module _ (project : List Term) (whole : IsWhole s project) (order : List (Term × sort.Key)) (obeys : Obeys schema db)
+      (rows : List Row) (answer : IsAnswer (plain_query (inner s.table.tree end) wanted project order) (overlay db []) params rows) where
+    shows_from : (x : Row) → Has rows x → (r : Row) × Has (db s.table.tree) r × (p (typed s r) ≡ true) × (s.read x ≡ typed s r)
+    shows_from x h =
+        let r = query.rows_from wanted project order (overlay db []) s.table.tree params rows answer x h in
+        let there = subst (λ l. Has l r.0) (is.base db) r.1 in
+        let u = typed_table.row_in schema good at s is db kept r.0 there in (
+          r.0,
+          there,
+          sym (passes r.0 there) ∙ r.2,
+          ap s.read (r.3 ∙ ap (λ (z : Row). eval_all project (params ∷ z ∷ [])) u.2 ∙ whole u.1 (Int u.0) params) ∙ is.round u.1 ∙ sym (typed_table.typed_is schema good at s is db kept r.0 there),
+        )
+
+    shows_has : (r : Row) → Has (db s.table.tree) r → p (typed s r) ≡ true → Has (map s.read rows) (typed s r)
+    shows_has r h good_one =
+        let u = typed_table.row_in schema good at s is db kept r h in
+        let x = query.rows_have wanted project order (overlay db []) s.table.tree params rows answer r (subst (λ l. Has l r) (sym (is.base db)) h) (passes r h ∙ good_one) in
+        subst (Has (map s.read rows)) (ap (λ (z : Row). s.read (eval_all project (params ∷ z ∷ []))) u.2 ∙ ap s.read (whole u.1 (Int u.0) params) ∙ is.round u.1 ∙ sym (typed_table.typed_is schema good at s is db kept r h))
+        (mapped_has s.read rows _ x)
+
+    pub once : IsSingle (cmp s) (by_key_total s.key) (map s.read rows)
+    once a b h l tie =
+        let x = has_mapped s.read rows a h in
+        let y = has_mapped s.read rows b l in
+        let r = shows_from x.0 x.1 in
+        let q = shows_from y.0 y.1 in
+        typed_table.single schema good at s is db kept obeys a b (subst (Has (map (typed s) (db s.table.tree))) (sym (x.2 ∙ r.3)) (mapped_has (typed s) (db s.table.tree) r.0 r.1))
+        (subst (Has (map (typed s) (db s.table.tree))) (sym (y.2 ∙ q.3)) (mapped_has (typed s) (db s.table.tree) q.0 q.1)) tie
+
+    -- the rows that are shown, put in their order, are those that pass
+    pub lists_those : put_all (cmp s) (map s.read rows) [] ≡ filter p (rows_in s db)
+    lists_those =
+        same_elements (cmp s) (by_key_total s.key) _ _ (is_arranged (cmp s) (by_key_total s.key) (map s.read rows))
+        (sorted_filter (cmp s) (by_key_total s.key) p (rows_in s db) (is_arranged (cmp s) (by_key_total s.key) (map (typed s) (db s.table.tree))))
+        (λ t h.
+        let x = has_mapped s.read rows t (arranged_from (cmp s) (by_key_total s.key) (map s.read rows) t h) in
+        let r = shows_from x.0 x.1 in
+        subst (Has (filter p (rows_in s db))) (sym (x.2 ∙ r.3)) (has_kept p (rows_in s db) (typed s r.0) (typed_table.rows_have schema good at s is db kept obeys r.0 r.1) r.2))
+        (λ t h.
+        let f = has_filtered p (rows_in s db) t h in
+        let r = typed_table.rows_from schema good at s is db kept obeys t f.0 in
+        arranged_has (cmp s) (by_key_total s.key) (map s.read rows) t once (subst (Has (map s.read rows)) (sym r.2) (shows_has r.0 r.1 (subst (λ u. p u ≡ true) r.2 f.1))))

@@ -1,0 +1,111 @@
+-- What a SELECT answers, in any state of a connection.
+use Rattle.sqlite_rules.specs.Lists.{Has}
+use Rattle.std.proofs.Common.{◌≡◌, Equal, ℕ, ℤ, pos, List, [], ◌∷◌, Bool, Ok, Err, Result, IsTrue, IfOk, IfErr, map, filter, sym, subst, inl, inr}
+use Rattle.sqlite_value.specs.declared.value.Value.TheVariants.{Null, Int}
+use Rattle.sqlite_value.specs.declared.keys.Key as sort
+use Rattle.sqlite_value.specs.Order.{Row, column}
+use Rattle.sqlite_trees.specs.Tree.{Trees}
+use Rattle.sqlite_sql.specs.Term.{Term}
+use Rattle.sqlite_sql.specs.Query.{Query, inner, end, IsAnswer}
+use Rattle.sqlite_sql.specs.Program.{overlay}
+use Rattle.sqlite_schema.specs.Rules.{Obeys}
+use Rattle.sqlite_schema.specs.declared.command.Command.TheVariants.{Select}
+use Rattle.sqlite.specs.declared.error.Error.{Error}
+use Rattle.sqlite.specs.Listing.{understood}
+use Rattle.sqlite.specs.State.{State, HasCleanDisk, Survives, Shown, FailsToQuery, CommitsShowing}
+use Rattle.sqlite.proofs.Callers.{IsPlain, reads_as}
+use Rattle.hub_rows.specs.Keyed.{put_all, greatest}
+use Rattle.sql_tables.specs.Tables.{hub_schema}
+use Rattle.sql_tables.specs.Forms.{plain_query, last_query}
+use Rattle.sql_tables.specs.Meanings.{IsRead}
+use Rattle.sql_rows.specs.TypedTable.{TypedTable, cmp, rows_in, AreTyped}
+use Rattle.sql_rows.specs.TypedTables.{hub_good}
+use Rattle.sql_rows.specs.Kept.{IsServing, IsAsBefore, IsUncommitted, CommitsNothing, Shows, ShowsLast}
+use Rattle.sql_rows.proofs.TypedTableLemmas.{IsTypedTable}
+use Rattle.sql_rows.proofs.ReadLaws.{IsTest, IsWhole, lists_those, once}
+use Rattle.sql_rows.proofs.DownLaws.{last_is}
+use Rattle.sql_rows.proofs.StoreLemmas.{obeys_in, serves_still, shown_was, shown_up, shown_unchanged, commits_none, failed_was, fails_before}
+
+-- what its answers are, and that it changes nothing
+module _ (sql : List ℕ) (body : Query) (names : List (List ℕ)) (text : IsRead sql body names) (params : Row) where
+  answers : (Holds : Trees → List Row → Type 0) → ((db : Trees) → AreTyped hub_schema hub_good db → Obeys hub_schema db → (rows : List Row) → IsAnswer body (overlay db []) params rows → Holds db rows)
+      → {V : Type 0} (items : V → List Row) (old new : State) (values : Row) (r : Result V Error) → values ≡ params → IsServing old → IfOk r (λ v. Shown sql values old new (items v)) → IfOk r (λ v. Holds old.now.trees (items v))
+  answers Holds holds items old new values (Ok v) given h shown =
+      let there : Shown sql params old new (items v) = subst (λ q. Shown sql q old new (items v)) given shown in
+      let was = h (shown_was sql params old new (items v) there) in
+      let read = reads_as sql params old new hub_schema was.schema (Select (record { lets = []; body = body }) names) text.0 text.1 text.2 (items v) there in
+      holds old.now.trees was.rows (obeys_in old was) (items v) (read.answer Null)
+  answers Holds holds items old new values (Err e) given h shown = tt
+
+  stays : {V : Type 0} (items : V → List Row) (old new : State) (values : Row) (r : Result V Error) → new.step_limit ≡ old.step_limit → IsServing old → IsTrue new.is_open
+      → IfOk r (λ v. Shown sql values old new (items v)) → IfErr r (FailsToQuery sql values old new) → IsAsBefore old new
+  stays items old new values (Ok v) limit h up shown failed =
+      let was = shown_was sql values old new (items v) shown in
+      serves_still old new h limit (shown_unchanged sql values old new (items v) (subst (λ k. IsPlain (understood k sql)) (sym (h was).schema) text.1) shown)
+  stays items old new values (Err e) limit h up shown failed =
+      let was = failed_was sql values old new e up failed in
+      fails_before sql values old new h limit up e (subst (λ k. IsPlain (understood k sql)) (sym (h was).schema) text.1) failed
+
+  stops : {V : Type 0} (items : V → List Row) (old new : State) (values : Row) (r : Result V Error) → Survives old new (CommitsShowing sql values old)
+      → (HasCleanDisk new → IfOk r (λ v. Shown sql values old new (items v))) → CommitsNothing old new r
+  stops {V} items old new values r survives shown = go r shown
+    where
+      uncommitted : IsServing old → IsUncommitted old new
+      uncommitted h = record {
+        clean = survives.clean;
+        leaves = λ up sure db left. elim (survives.crash sure db left) [
+          | inl was ↦ was
+          | inr written ↦ absurd (commits_none sql values old new db (subst (λ k. IsPlain (understood k sql)) (sym (h up).schema) text.1) written)
+        ];
+      }
+
+      go : (r : Result V Error) → (HasCleanDisk new → IfOk r (λ v. Shown sql values old new (items v))) → CommitsNothing old new r
+      go (Ok v) shown = λ h. record { stops = uncommitted h; up = λ up sure. shown_up sql values old new (items v) (shown sure) }
+      go (Err e) shown = uncommitted
+
+-- the text with these parameters shows the rows that pass
+pub record ReadsRows {T : Type 0} (sql : List ℕ) (params : Row) (s : TypedTable T) (p : T → Bool) : Type 1 where
+  pub at : ℕ
+  pub is : IsTypedTable hub_schema hub_good at s
+  pub wanted : List Term
+  pub project : List Term
+  pub whole : IsWhole s project
+  pub order : List (Term × sort.Key)
+  pub names : List (List ℕ)
+  pub text : IsRead sql (plain_query (inner s.table.tree end) wanted project order) names
+  pub test : IsTest s wanted params p
+
+-- it shows the row that passes and has the greatest number, which stands at that place
+pub record ReadsLast {T : Type 0} (sql : List ℕ) (params : Row) (s : TypedTable T) (number : T → ℕ) (p : T → Bool) : Type 1 where
+  pub at : ℕ
+  pub is : IsTypedTable hub_schema hub_good at s
+  pub wanted : List Term
+  pub project : List Term
+  pub whole : IsWhole s project
+  pub place : ℕ
+  pub numbered : (id : ℤ) (t : T) → column (Int id ∷ s.row t) place ≡ Int (pos (number t))
+  pub names : List (List ℕ)
+  pub text : IsRead sql (last_query s.table.tree wanted project place) names
+  pub test : IsTest s wanted params p
+
+pub shows : {T : Type 0} {sql : List ℕ} {params : Row} {s : TypedTable T} {p : T → Bool} → ReadsRows sql params s p
+    → {V : Type 0} (items : V → List Row) (old new : State) (values : Row) (r : Result V Error) → (HasCleanDisk new → IfOk r (λ v. Shown sql values old new (items v))) → (HasCleanDisk new → IfErr r (FailsToQuery sql values old new))
+    → Survives old new (CommitsShowing sql values old) → values ≡ params → IsServing old → (IsTrue new.is_open → HasCleanDisk new) → Shows items s p old new r
+shows {T} {sql} {params} {s} {p} f items old new values r ok err survives given h clean = record {
+  ok = λ up. answers sql (plain_query (inner s.table.tree end) f.wanted f.project f.order) f.names f.text params (λ db rows. put_all (cmp s) (map s.read rows) [] ≡ filter p (rows_in s db))
+      (λ db kept obeys rows answer. lists_those hub_schema hub_good f.at s f.is f.wanted params p f.test db kept f.project f.whole f.order obeys rows answer) items old new values r given h (ok (clean up));
+  once = λ up. answers sql (plain_query (inner s.table.tree end) f.wanted f.project f.order) f.names f.text params (λ db rows. (a b : T) → Has (map s.read rows) a → Has (map s.read rows) b → cmp s a b ≡ Equal → a ≡ b)
+      (λ db kept obeys rows answer. once hub_schema hub_good f.at s f.is f.wanted params p f.test db kept f.project f.whole f.order obeys rows answer) items old new values r given h (ok (clean up));
+  same = λ up. stays sql (plain_query (inner s.table.tree end) f.wanted f.project f.order) f.names f.text params items old new values r survives.limit h up (ok (clean up)) (err (clean up));
+  stops = stops sql (plain_query (inner s.table.tree end) f.wanted f.project f.order) f.names f.text params items old new values r survives ok;
+}
+
+pub shows_last : {T : Type 0} {sql : List ℕ} {params : Row} {s : TypedTable T} {number : T → ℕ} {p : T → Bool} → ReadsLast sql params s number p
+    → {V : Type 0} (items : V → List Row) (old new : State) (values : Row) (r : Result V Error) → (HasCleanDisk new → IfOk r (λ v. Shown sql values old new (items v))) → (HasCleanDisk new → IfErr r (FailsToQuery sql values old new))
+    → Survives old new (CommitsShowing sql values old) → values ≡ params → IsServing old → (IsTrue new.is_open → HasCleanDisk new) → ShowsLast items s number p old new r
+shows_last {T} {sql} {params} {s} {number} {p} f items old new values r ok err survives given h clean = record {
+  ok = λ up. answers sql (last_query s.table.tree f.wanted f.project f.place) f.names f.text params (λ db rows. greatest (map number (map s.read rows)) ≡ greatest (map number (filter p (rows_in s db))))
+      (λ db kept obeys rows answer. last_is f.at s f.is f.wanted f.project f.whole params p f.test f.place number f.numbered db kept obeys rows answer) items old new values r given h (ok (clean up));
+  same = λ up. stays sql (last_query s.table.tree f.wanted f.project f.place) f.names f.text params items old new values r survives.limit h up (ok (clean up)) (err (clean up));
+  stops = stops sql (last_query s.table.tree f.wanted f.project f.place) f.names f.text params items old new values r survives ok;
+}

@@ -1,0 +1,247 @@
+-- Transactions, the owners of their tags, readings and uses: their typed tables, and what the texts that write and show them
+-- mean.
+use Rattle.std.proofs.Common.{◌&&◌, ◌++◌, ◌∷◌, ◌≡◌, ℕ, nat_le, pos, List, [], Option, Some, None, option_map, refl, inl, inr, true}
+use Rattle.sql_tables.specs.Tables.{hub_schema, hub_tx, names_of, hub_reading, hub_tx_owner, hub_use}
+use Rattle.sql_tables.specs.Forms.{cols, where_is, range_is, by_column}
+use Rattle.sql_rows.specs.TypedTables.{hub_good, txs, tx_owners, readings, uses, stop_tag, rows_of}
+use Rattle.sql_rows.proofs.TableLemmas.{cast_int}
+use Rattle.sql_rows.proofs.ValueLaws.{text_cast, number_cast, count_cast, flag_cast, text_back, number_back}
+use Rattle.sql_rows.proofs.TypedTableLemmas.{IsTypedTable}
+use Rattle.sql_rows.proofs.PutLemmas.{IsPutForm}
+use Rattle.sql_rows.proofs.ReadLaws.{IsWhole}
+use Rattle.hub_rows.specs.declared.tx_row.TxRow.{TxRow}
+use Rattle.hub_rows.specs.declared.tx_row.TxOwnerRow.{TxOwnerRow}
+use Rattle.hub_rows.specs.declared.tx_row.Stop.{Stop}
+use Rattle.hub_rows.specs.Transactions.{is_open, counts, is_tx, is_started, is_reading}
+use Rattle.sqlite_rules.specs.Cast.{cast_all}
+use Rattle.ocpp_types.specs.Phase.{phase_name}
+use Rattle.ocpp_types.specs.Reason.{reason_name}
+use Rattle.ocpp_types.specs.UnitOfMeasure.{unit_of_measure_name}
+use Rattle.sql_rows.proofs.NameLaws.{judged_back, reason_back, context_back, format_back, location_back, measurand_back, phase_back, unit_back}
+use Rattle.std.specs.Str.{bytes_eq}
+use Rattle.sqlite_value.specs.declared.value.Value.TheVariants.{Int, Text, Blob}
+use Rattle.sqlite_trees.specs.Tree.{Trees}
+use Rattle.hub_rows.specs.declared.reading_row.ReadingRow.{ReadingRow}
+use Rattle.hub_rows.specs.declared.use_row.UseRow.{UseRow}
+use Rattle.hub_rows.specs.Keyed.{by_key, put}
+use Rattle.hub_rows.specs.Rows.{tx_key, tx_owner_key, reading_key, use_key}
+use Rattle.hub_rows.specs.Uses.{is_owner_of}
+use Rattle.sql_tables.specs.declared.readings.TheConstants as sql_readings
+use Rattle.sql_tables.specs.declared.tx_owners.TheConstants as sql_tx_owners
+use Rattle.sql_tables.specs.declared.txs.TheConstants as sql_txs
+use Rattle.sql_tables.specs.declared.uses.TheConstants as sql_uses
+use Rattle.sql_tables.proofs.Texts as texts
+use Rattle.sql_rows.specs.TypedTable.{rows_in, Spares}
+use Rattle.sql_rows.specs.Kept.{IsMade}
+use Rattle.sql_rows.proofs.StoreLemmas.{Means, means_as}
+use Rattle.sql_rows.proofs.Writes.{adds, puts}
+use Rattle.hub_rows.specs.declared.tx_row.StartKey.{StartKey}
+use Rattle.sql_rows.proofs.Selects.{ReadsRows, ReadsLast}
+use Rattle.sql_rows.proofs.Tests as tests
+use Rattle.sql_rows.proofs.HubTables.{all_plain, rest_is, spared}
+
+-- ---- transactions
+
+tx_round : (s : TxRow) → txs.read (txs.row s) ≡ s
+tx_round s = go s.stop
+  where
+    go : (o : Option Stop) → txs.read (txs.row (record s { stop = o })) ≡ record s { stop = o }
+    go None = rw (number_back s.start.reservation, judged_back s.start.status) refl
+    go (Some p) = rw (number_back s.start.reservation, judged_back s.start.status, reason_back p.reason, text_back p.tag) refl
+
+tx_casts : (s : TxRow) → cast_all hub_tx.columns (txs.row s) ≡ txs.row s
+tx_casts s = rw (
+  cast_int (pos s.number),
+  cast_int (pos s.start.id.connector),
+  cast_int s.start.id.meter_start,
+  cast_int s.start.id.at,
+  number_cast s.start.reservation,
+  cast_int (pos s.start.begun),
+  flag_cast (is_open s),
+  flag_cast (counts s),
+  number_cast (option_map (λ s. s.meter_stop) s.stop),
+  number_cast (option_map (λ s. s.at) s.stop),
+  text_cast (option_map (λ s. reason_name s.reason) s.stop),
+  text_cast (stop_tag s.stop),
+  count_cast (option_map (λ s. s.moment) s.stop),
+) refl
+
+pub on_txs : IsTypedTable hub_schema hub_good 5 txs
+on_txs = record {
+  key_row = λ s. refl;
+  row_key = λ s. refl;
+  long = λ s. refl;
+  round = λ s. tx_round s;
+  casts = λ s. tx_casts s;
+  good_is = refl;
+  here = refl;
+  listed = inr (inr (inr (inr (inr (inl refl)))));
+  index = _;
+  guarded = inr (inr (inr (inr (inr (inl refl)))));
+  guards_it = refl;
+  columns = refl;
+  order = refl;
+  orders = all_plain;
+  base = λ db. refl;
+  counted = refl;
+  still = λ olds news some. rw some refl;
+}
+
+pub put_txs : IsPutForm txs 15
+put_txs = record { source = λ s. refl; filter = λ s v i r. refl; project = λ s u v i j. refl }
+
+pub whole_txs : IsWhole txs (cols 1 1 18)
+whole_txs s v params = refl
+
+pub transactions_made : (old new : Trees) (made : List TxRow) → rows_in txs new ≡ made → Spares hub_schema 10 old new → rows_of new ≡ record (rows_of old) { transactions = made }
+transactions_made old new made rows frame = λ i. record (rows_of (rest_is (10 ∷ []) old new (spared 10 old new frame) i)) { transactions = rows i }
+
+pub puts_tx : (r : TxRow) → Means sql_txs.PUT.now (txs.row r) (IsMade (λ rows. record rows { transactions = put (by_key tx_key) r rows.transactions }))
+puts_tx r = means_as (puts 5 txs on_txs sql_txs.PUT.now 15 put_txs texts.put_tx_is r) (λ old new h. transactions_made old new _ h.rows h.frame)
+
+pub adds_tx : (r : TxRow) → Means sql_txs.ADD.now (txs.row r) (IsMade (λ rows. record rows { transactions = put (by_key tx_key) r rows.transactions }))
+adds_tx r = means_as (adds 5 txs on_txs sql_txs.ADD.now 15 put_txs texts.add_tx_is r) (λ old new h. transactions_made old new _ h.rows h.frame)
+
+pub reads_tx : (op station : List ℕ) (n : ℕ) → ReadsRows sql_txs.FIND.now (Text op ∷ Text station ∷ Int (pos n) ∷ Int (pos n) ∷ []) txs (λ r. bytes_eq r.op op && is_tx station n r)
+reads_tx op station n = record { at = 5; is = on_txs; wanted = where_is 0 (1 ∷ 2 ∷ []) ++ range_is 2 3; project = cols 1 1 18; whole = whole_txs; order = by_column 3 ∷ []; names = names_of hub_tx; text = texts.find_txs_is; test = tests.one_tx op station n }
+
+pub reads_txs : (op station : List ℕ) (n : ℕ) → ReadsRows sql_txs.FIND.now (Text op ∷ Text station ∷ Int (pos n) ∷ Blob [] ∷ []) txs (λ r. bytes_eq r.op op && (bytes_eq r.station station && nat_le n r.number))
+reads_txs op station n = record { at = 5; is = on_txs; wanted = where_is 0 (1 ∷ 2 ∷ []) ++ range_is 2 3; project = cols 1 1 18; whole = whole_txs; order = by_column 3 ∷ []; names = names_of hub_tx; text = texts.find_txs_is; test = tests.txs_from op station n }
+
+pub reads_last_tx : (op station : List ℕ) → ReadsLast sql_txs.FIND_LAST.now (Text op ∷ Text station ∷ []) txs (λ r. r.number) (λ r. bytes_eq r.op op && bytes_eq r.station station)
+reads_last_tx op station = record { at = 5; is = on_txs; wanted = where_is 0 (1 ∷ 2 ∷ []); project = cols 1 1 18; whole = whole_txs; place = 3; numbered = λ id r. refl; names = names_of hub_tx; text = texts.find_last_tx_is; test = tests.of_txs op station }
+
+pub reads_txs_in_use : (op key : List ℕ) → ReadsRows sql_txs.LIST_IN_USE.now (Text op ∷ Text key ∷ Int (pos 1) ∷ []) txs (λ r. bytes_eq r.op op && (bytes_eq r.start.id.key key && counts r))
+reads_txs_in_use op key = record { at = 5; is = on_txs; wanted = where_is 0 (1 ∷ 5 ∷ 13 ∷ []); project = cols 1 1 18; whole = whole_txs; order = []; names = names_of hub_tx; text = texts.list_txs_in_use_is; test = tests.used_txs op key }
+
+pub reads_open_txs : (op station : List ℕ) → ReadsRows sql_txs.LIST_OPEN.now (Text op ∷ Text station ∷ Int (pos 1) ∷ []) txs (λ r. bytes_eq r.op op && (bytes_eq r.station station && is_open r))
+reads_open_txs op station = record { at = 5; is = on_txs; wanted = where_is 0 (1 ∷ 2 ∷ 12 ∷ []); project = cols 1 1 18; whole = whole_txs; order = []; names = names_of hub_tx; text = texts.list_open_txs_is; test = tests.open_txs op station }
+
+pub reads_all_open_txs : (op : List ℕ) → ReadsRows sql_txs.LIST_ALL_OPEN.now (Text op ∷ Int (pos 1) ∷ []) txs (λ r. bytes_eq r.op op && is_open r)
+reads_all_open_txs op = record { at = 5; is = on_txs; wanted = where_is 0 (1 ∷ 12 ∷ []); project = cols 1 1 18; whole = whole_txs; order = by_column 2 ∷ by_column 3 ∷ []; names = names_of hub_tx; text = texts.list_all_open_txs_is; test = tests.all_open_txs op }
+
+pub reads_same_starts : (op station : List ℕ) (k : StartKey) → ReadsRows sql_txs.LIST_SAME_STARTS.now (Text op ∷ Text station ∷ Int (pos k.connector) ∷ Text k.key ∷ Int k.meter_start ∷ Int k.at ∷ []) txs (λ r. bytes_eq r.op op && is_started station k r)
+reads_same_starts op station k = record { at = 5; is = on_txs; wanted = where_is 0 (1 ∷ 2 ∷ 4 ∷ 5 ∷ 6 ∷ 7 ∷ []); project = cols 1 1 18; whole = whole_txs; order = by_column 3 ∷ []; names = names_of hub_tx; text = texts.list_same_starts_is; test = tests.same_starts op station k }
+
+-- ---- the owners of their tags
+
+pub on_tx_owners : IsTypedTable hub_schema hub_good 11 tx_owners
+on_tx_owners = record {
+  key_row = λ s. refl;
+  row_key = λ s. refl;
+  long = λ s. refl;
+  round = λ s. refl;
+  casts = λ s. rw (cast_int (pos s.number)) refl;
+  good_is = refl;
+  here = refl;
+  listed = inr (inr (inr (inr (inr (inr (inr (inr (inr (inr (inr (inl refl)))))))))));
+  index = _;
+  guarded = inr (inr (inr (inr (inr (inr (inr (inr (inr (inr (inr (inl refl)))))))))));
+  guards_it = refl;
+  columns = refl;
+  order = refl;
+  orders = all_plain;
+  base = λ db. refl;
+  counted = refl;
+  still = λ olds news some. rw some refl;
+}
+
+pub put_tx_owners : IsPutForm tx_owners 1
+put_tx_owners = record { source = λ s. refl; filter = λ s v i r. refl; project = λ s u v i j. refl }
+
+pub whole_tx_owners : IsWhole tx_owners (cols 1 1 4)
+whole_tx_owners s v params = refl
+
+pub tx_owners_made : (old new : Trees) (made : List TxOwnerRow) → rows_in tx_owners new ≡ made → Spares hub_schema 22 old new → rows_of new ≡ record (rows_of old) { tx_owners = made }
+tx_owners_made old new made rows frame = λ i. record (rows_of (rest_is (22 ∷ []) old new (spared 22 old new frame) i)) { tx_owners = rows i }
+
+pub adds_tx_owner : (r : TxOwnerRow) → Means sql_tx_owners.ADD.now (tx_owners.row r) (IsMade (λ rows. record rows { tx_owners = put (by_key tx_owner_key) r rows.tx_owners }))
+adds_tx_owner r = means_as (adds 11 tx_owners on_tx_owners sql_tx_owners.ADD.now 1 put_tx_owners texts.add_tx_owner_is r) (λ old new h. tx_owners_made old new _ h.rows h.frame)
+
+pub reads_tx_owner : (op station : List ℕ) (n : ℕ) → ReadsRows sql_tx_owners.FIND.now (Text op ∷ Text station ∷ Int (pos n) ∷ []) tx_owners (λ r. bytes_eq r.op op && is_owner_of station n r)
+reads_tx_owner op station n = record { at = 11; is = on_tx_owners; wanted = where_is 0 (1 ∷ 2 ∷ 3 ∷ []); project = cols 1 1 4; whole = whole_tx_owners; order = []; names = names_of hub_tx_owner; text = texts.find_tx_owner_is; test = tests.of_tx_owner op station n }
+
+-- ---- readings
+
+pub on_readings : IsTypedTable hub_schema hub_good 6 readings
+on_readings = record {
+  key_row = λ s. refl;
+  row_key = λ s. refl;
+  long = λ s. refl;
+  round = λ s. rw (number_back s.reading.transaction, context_back s.reading.context, format_back s.reading.format, measurand_back s.reading.measurand, phase_back s.reading.phase, location_back s.reading.location, unit_back s.reading.unit) refl;
+  casts = λ s. rw (cast_int (pos s.number), cast_int (pos s.reading.connector), number_cast s.reading.transaction, cast_int s.reading.at, text_cast (option_map phase_name s.reading.phase), text_cast (option_map unit_of_measure_name s.reading.unit)) refl;
+  good_is = refl;
+  here = refl;
+  listed = inr (inr (inr (inr (inr (inr (inl refl))))));
+  index = _;
+  guarded = inr (inr (inr (inr (inr (inr (inl refl))))));
+  guards_it = refl;
+  columns = refl;
+  order = refl;
+  orders = all_plain;
+  base = λ db. refl;
+  counted = refl;
+  still = λ olds news some. rw some refl;
+}
+
+pub put_readings : IsPutForm readings 10
+put_readings = record { source = λ s. refl; filter = λ s v i r. refl; project = λ s u v i j. refl }
+
+pub whole_readings : IsWhole readings (cols 1 1 13)
+whole_readings s v params = refl
+
+pub readings_made : (old new : Trees) (made : List ReadingRow) → rows_in readings new ≡ made → Spares hub_schema 12 old new → rows_of new ≡ record (rows_of old) { readings = made }
+readings_made old new made rows frame = λ i. record (rows_of (rest_is (12 ∷ []) old new (spared 12 old new frame) i)) { readings = rows i }
+
+pub adds_reading : (r : ReadingRow) → Means sql_readings.ADD.now (readings.row r) (IsMade (λ rows. record rows { readings = put (by_key reading_key) r rows.readings }))
+adds_reading r = means_as (adds 6 readings on_readings sql_readings.ADD.now 10 put_readings texts.add_reading_is r) (λ old new h. readings_made old new _ h.rows h.frame)
+
+pub reads_readings : (op station : List ℕ) → ReadsRows sql_readings.LIST.now (Text op ∷ Text station ∷ []) readings (λ r. bytes_eq r.op op && is_reading station None r)
+reads_readings op station = record { at = 6; is = on_readings; wanted = where_is 0 (1 ∷ 2 ∷ []); project = cols 1 1 13; whole = whole_readings; order = by_column 3 ∷ []; names = names_of hub_reading; text = texts.list_readings_is; test = tests.of_readings op station }
+
+pub reads_tx_readings : (op station : List ℕ) (n : ℕ) → ReadsRows sql_readings.LIST_OF_TX.now (Text op ∷ Text station ∷ Int (pos n) ∷ []) readings (λ r. bytes_eq r.op op && is_reading station (Some n) r)
+reads_tx_readings op station n = record { at = 6; is = on_readings; wanted = where_is 0 (1 ∷ 2 ∷ 5 ∷ []); project = cols 1 1 13; whole = whole_readings; order = by_column 3 ∷ []; names = names_of hub_reading; text = texts.list_tx_readings_is; test = tests.tx_readings op station n }
+
+pub reads_last_reading : (op station : List ℕ) → ReadsLast sql_readings.FIND_LAST.now (Text op ∷ Text station ∷ []) readings (λ r. r.number) (λ r. bytes_eq r.op op && is_reading station None r)
+reads_last_reading op station = record { at = 6; is = on_readings; wanted = where_is 0 (1 ∷ 2 ∷ []); project = cols 1 1 13; whole = whole_readings; place = 3; numbered = λ id r. refl; names = names_of hub_reading; text = texts.find_last_reading_is; test = tests.of_readings op station }
+
+-- ---- uses
+
+pub on_uses : IsTypedTable hub_schema hub_good 12 uses
+on_uses = record {
+  key_row = λ s. refl;
+  row_key = λ s. refl;
+  long = λ s. refl;
+  round = λ s. refl;
+  casts = λ s. rw (cast_int (pos s.number), cast_int (pos s.moment), cast_int s.wh) refl;
+  good_is = refl;
+  here = refl;
+  listed = inr (inr (inr (inr (inr (inr (inr (inr (inr (inr (inr (inr (inl refl))))))))))));
+  index = _;
+  guarded = inr (inr (inr (inr (inr (inr (inr (inr (inr (inr (inr (inr (inl refl))))))))))));
+  guards_it = refl;
+  columns = refl;
+  order = refl;
+  orders = all_plain;
+  base = λ db. refl;
+  counted = refl;
+  still = λ olds news some. rw some refl;
+}
+
+pub put_uses : IsPutForm uses 4
+put_uses = record { source = λ s. refl; filter = λ s v i r. refl; project = λ s u v i j. refl }
+
+pub whole_uses : IsWhole uses (cols 1 1 6)
+whole_uses s v params = refl
+
+pub uses_made : (old new : Trees) (made : List UseRow) → rows_in uses new ≡ made → Spares hub_schema 24 old new → rows_of new ≡ record (rows_of old) { uses = made }
+uses_made old new made rows frame = λ i. record (rows_of (rest_is (24 ∷ []) old new (spared 24 old new frame) i)) { uses = rows i }
+
+pub adds_use : (r : UseRow) → Means sql_uses.ADD.now (uses.row r) (IsMade (λ rows. record rows { uses = put (by_key use_key) r rows.uses }))
+adds_use r = means_as (adds 12 uses on_uses sql_uses.ADD.now 4 put_uses texts.add_use_is r) (λ old new h. uses_made old new _ h.rows h.frame)
+
+pub reads_uses : (op : List ℕ) → ReadsRows sql_uses.LIST.now (Text op ∷ []) uses (λ r. bytes_eq r.op op && true)
+reads_uses op = record { at = 12; is = on_uses; wanted = where_is 0 (1 ∷ []); project = cols 1 1 6; whole = whole_uses; order = by_column 2 ∷ []; names = names_of hub_use; text = texts.list_uses_is; test = tests.of_uses op }
+
+pub reads_last_use : (op : List ℕ) → ReadsLast sql_uses.FIND_LAST.now (Text op ∷ []) uses (λ r. r.number) (λ r. bytes_eq r.op op && true)
+reads_last_use op = record { at = 12; is = on_uses; wanted = where_is 0 (1 ∷ []); project = cols 1 1 6; whole = whole_uses; place = 2; numbered = λ id r. refl; names = names_of hub_use; text = texts.find_last_use_is; test = tests.of_uses op }

@@ -1,0 +1,159 @@
+-- What a connection keeps, and what a call makes of it.
+use Rattle.std.specs.Prelude.{◌≡◌, ◌⊎◌, ℕ, ◌≤◌, false, true, not, None, List, [], map, filter, Bool, IsTrue, Result, Ok, Err, OnOk, OnErr, IfOk}
+use Rattle.std.specs.declared.cmp.Ordering.TheVariants.{Equal}
+use Rattle.sqlite_rules.specs.Lists.{Has}
+use Rattle.sqlite_value.specs.Order.{Row}
+use Rattle.sqlite_trees.specs.Tree.{Trees}
+use Rattle.sqlite_trees.specs.View.{doubt}
+use Rattle.sqlite.specs.declared.error.Error.{Error}
+use Rattle.sqlite.specs.Effect.{IsDatabase}
+use Rattle.sqlite.specs.State.{State, HasCleanDisk, Survives}
+use Rattle.hub_rows.specs.Keyed.{greatest, put, put_all}
+use Rattle.hub_rows.specs.Rows.{Rows}
+use Rattle.sql_tables.specs.Tables.{hub_schema}
+use Rattle.sql_rows.specs.TypedTable.{TypedTable, cmp, rows_in, AreTyped, Spares}
+use Rattle.sql_rows.specs.TypedTables.{hub_good, rows_of}
+
+-- kept while the connection is open, between transactions
+pub record Serves (s : State) : Type 0 where
+  pub schema : s.now.schema ≡ hub_schema
+  pub sound : IsDatabase s.now
+  pub rows : AreTyped hub_schema hub_good s.now.trees
+  pub committed : s.committed ≡ s.now
+  pub mode : s.in_transaction ≡ false
+  pub limit : s.step_limit ≡ None
+
+abbrev pub IsServing : State → Type 0
+IsServing s = IsTrue s.is_open → Serves s
+
+pub record IsAsBefore (old new : State) : Type 0 where
+  pub was_open : IsTrue old.is_open
+  pub now : new.now ≡ old.now
+  pub serves : Serves new
+
+-- ---- reads
+
+-- a call that leaves all as it was
+abbrev pub Rests : State → State → Type 0
+Rests old new = IsServing old → IsTrue new.is_open → IsAsBefore old new
+
+-- nothing is committed and no fault of the disk is forgotten: a stop leaves what it would have left before the call
+pub record IsUncommitted (old new : State) : Type 0 where
+  pub clean : doubt old.is_clean ≤ doubt new.is_clean
+  pub leaves : IsTrue old.is_open → HasCleanDisk new → (db : Trees) → new.may_leave db → old.may_leave db
+
+-- the same, and the connection is still open
+pub record StaysOpen (old new : State) : Type 0 where
+  pub stops : IsUncommitted old new
+  pub up : IsTrue old.is_open → HasCleanDisk new → IsTrue new.is_open
+
+-- what a read says of stops, by its answer
+abbrev pub CommitsNothing : {A E : Type 0} → State → State → Result A E → Type 0
+CommitsNothing old new (Ok x) = IsServing old → StaysOpen old new
+CommitsNothing old new (Err e) = IsServing old → IsUncommitted old new
+
+-- what a call answers, of the tables
+abbrev pub FindsIn : {A E : Type 0} → State → State → Result A E → (Trees → A → Type 0) → Type 0
+FindsIn old new r P = IsServing old → IsTrue new.is_open → IfOk r (P old.now.trees)
+
+-- what a call answers, of the rows of the hub
+abbrev pub Finds : {A E : Type 0} → State → State → Result A E → (Rows → A → Type 0) → Type 0
+Finds old new r P = IsServing old → IsTrue new.is_open → IfOk r (P (rows_of old.now.trees))
+
+-- the rows of an answer are those that pass, and nothing changes
+pub record Shows {V T : Type 0} (items : V → List Row) (s : TypedTable T) (p : T → Bool) (old new : State) (r : Result V Error) : Type 0 where
+  pub ok : IsTrue new.is_open → IfOk r (λ v. put_all (cmp s) (map s.read (items v)) [] ≡ filter p (rows_in s old.now.trees))
+  -- each key is shown once
+  pub once : IsTrue new.is_open → IfOk r (λ v. (a b : T) → Has (map s.read (items v)) a → Has (map s.read (items v)) b → cmp s a b ≡ Equal → a ≡ b)
+  pub same : IsTrue new.is_open → IsAsBefore old new
+  pub stops : CommitsNothing old new r
+
+-- the greatest number that is shown is that of the rows that pass, and nothing changes
+pub record ShowsLast {V T : Type 0} (items : V → List Row) (s : TypedTable T) (number : T → ℕ) (p : T → Bool) (old new : State) (r : Result V Error) : Type 0 where
+  pub ok : IsTrue new.is_open → IfOk r (λ v. greatest (map number (map s.read (items v))) ≡ greatest (map number (filter p (rows_in s old.now.trees))))
+  pub same : IsTrue new.is_open → IsAsBefore old new
+  pub stops : CommitsNothing old new r
+
+-- ---- edits of the tables
+
+-- this row is put
+pub record IsPutIn {T : Type 0} (s : TypedTable T) (t : T) (old new : Trees) : Type 0 where
+  pub rows : rows_in s new ≡ put (cmp s) t (rows_in s old)
+  pub frame : Spares hub_schema s.table.tree old new
+
+-- these rows are put, one after the other
+pub record ArePutIn {T : Type 0} (s : TypedTable T) (ts : List T) (old new : Trees) : Type 0 where
+  pub rows : rows_in s new ≡ put_all (cmp s) ts (rows_in s old)
+  pub frame : Spares hub_schema s.table.tree old new
+
+-- the rows that pass are dropped
+pub record IsDropped {T : Type 0} (s : TypedTable T) (p : T → Bool) (old new : Trees) : Type 0 where
+  pub rows : rows_in s new ≡ filter (λ t. not (p t)) (rows_in s old)
+  pub frame : Spares hub_schema s.table.tree old new
+
+-- the rows of the hub are those that this makes of them
+abbrev pub IsMade : (Rows → Rows) → Trees → Trees → Type 0
+IsMade f old new = rows_of new ≡ f (rows_of old)
+
+-- ---- writes
+
+pub record Made (Edit : Trees → Trees → Type 0) (old new : State) : Type 0 where
+  pub was_open : IsTrue old.is_open
+  pub edit : Edit old.now.trees new.now.trees
+  pub serves : Serves new
+
+-- The edit is made and stays, or all is as it was. A stop of the program in the call leaves the tables from before
+-- it or from after it.
+pub record Changes {A E : Type 0} (Edit : Trees → Trees → Type 0) (old new : State) (r : Result A E) : Type 0 where
+  pub ok : IsTrue new.is_open → OnOk r (Made Edit old new)
+  pub err : IsTrue new.is_open → OnErr r (IsAsBefore old new)
+  pub crash : IsTrue old.is_open → HasCleanDisk new → (db : Trees) → new.may_leave db → (db ≡ old.now.trees) ⊎ Edit old.now.trees db
+  pub durable : IsTrue new.is_open → OnOk r ((db : Trees) → new.may_leave db → db ≡ new.now.trees)
+  -- no fault of the disk is forgotten, and with none an Ok leaves the connection open
+  pub clean : doubt old.is_clean ≤ doubt new.is_clean
+  pub up : HasCleanDisk new → OnOk r (IsTrue new.is_open)
+
+-- ---- transactions of several statements
+
+-- kept while the connection is open, inside a transaction
+pub record Within (s : State) : Type 0 where
+  pub schema : s.now.schema ≡ hub_schema
+  pub sound : IsDatabase s.now
+  pub rows : AreTyped hub_schema hub_good s.now.trees
+  pub mode : s.in_transaction ≡ true
+  pub limit : s.step_limit ≡ None
+
+abbrev pub IsInside : State → Type 0
+IsInside s = IsTrue s.is_open → Within s
+
+-- nothing is committed
+pub record Leaves (old new : State) : Type 0 where
+  pub was_open : IsTrue new.is_open → IsTrue old.is_open
+  pub committed : IsTrue new.is_open → new.committed ≡ old.committed
+  pub survives : Survives old new (λ _. ⊥)
+
+-- a part of a transaction is done
+pub record Inside (Edit : Trees → Trees → Type 0) (old new : State) : Type 0 where
+  pub leaves : Leaves old new
+  pub within : IsTrue new.is_open → Within new
+  pub edit : IsTrue new.is_open → Edit old.now.trees new.now.trees
+  pub still : IsTrue old.is_open → HasCleanDisk new → IsTrue new.is_open
+
+-- what a part of a transaction answers
+pub record Goes {A E : Type 0} (Edit : Trees → Trees → Type 0) (old new : State) (r : Result A E) : Type 0 where
+  pub ok : OnOk r (Inside Edit old new)
+  pub err : OnErr r (Leaves old new)
+
+-- nothing is changed
+abbrev pub IsSame : Trees → Trees → Type 0
+IsSame old new = new ≡ old
+
+-- the rows of an answer inside a transaction are those that pass, and nothing changes
+pub record ShowsInside {V T : Type 0} (items : V → List Row) (s : TypedTable T) (p : T → Bool) (old new : State) (r : Result V Error) : Type 0 where
+  pub ok : IsTrue new.is_open → IfOk r (λ v. put_all (cmp s) (map s.read (items v)) [] ≡ filter p (rows_in s old.now.trees))
+  pub goes : Goes IsSame old new r
+
+-- the greatest number that is shown inside a transaction is that of the rows that pass, and nothing changes
+pub record ShowsLastInside {V T : Type 0} (items : V → List Row) (s : TypedTable T) (number : T → ℕ) (p : T → Bool) (old new : State) (r : Result V Error) : Type 0 where
+  pub ok : IsTrue new.is_open → IfOk r (λ v. greatest (map number (map s.read (items v))) ≡ greatest (map number (filter p (rows_in s old.now.trees))))
+  pub goes : Goes IsSame old new r

@@ -1,0 +1,101 @@
+-- How a connection is taken over.
+use Rattle.std.specs.Prelude.{◌≡◌, ◌⊎◌, ℕ, zero, suc, ◌<◌, ◌≤◌, nat_lt, if◌then◌else◌, codes, true, false, None, [], IsTrue, Result, OnOk, OnErr}
+use Rattle.sqlite_rules.specs.Lists.{Has}
+use Rattle.sqlite_trees.specs.Tree.{Trees}
+use Rattle.sqlite_trees.specs.View.{doubt}
+use Rattle.sqlite_schema.specs.declared.schema.Schema.{Schema}
+use Rattle.sqlite_catalog.specs.Change.{next_tree, KeepsRows}
+use Rattle.sqlite.specs.Effect.{Database, IsDatabase}
+use Rattle.sqlite.specs.State.{State, HasCleanDisk, Survives}
+use Rattle.hub_rows.specs.Rows.{Rows, no_rows}
+use Rattle.hub_rows.specs.WellFormed.{WellFormedRows}
+use Rattle.sql_tables.specs.Tables.{hub_schema}
+use Rattle.sql_tables.specs.Opening.{our_number, tables_at, schema_at}
+use Rattle.sql_rows.specs.TypedTable.{AreTyped, rows_in}
+use Rattle.sql_rows.specs.TypedTables.{MetaRow, metas, hub_good, rows_of}
+use Rattle.sql_rows.specs.Kept.{Serves}
+
+-- the row of hub_meta that has the number of our schema
+abbrev pub our_meta : MetaRow
+our_meta = record { name = codes "schema"; number = our_number }
+
+-- the rows of the hub in a database of the schema of this number
+abbrev pub rows_at : ℕ → Trees → Rows
+rows_at zero db = no_rows
+rows_at (suc zero) db = record (rows_of db) { reports = []; tx_owners = []; uses = [] }
+rows_at (suc (suc zero)) db = record (rows_of db) { tx_owners = []; uses = [] }
+rows_at (suc (suc (suc n))) db = rows_of db
+
+-- the rows of a database that has our tables, of this schema or an earlier one, were written by this project
+abbrev pub IsOurs : State → Type 0
+IsOurs s = (n : ℕ) → s.now.schema ≡ schema_at n → AreTyped (schema_at n) hub_good s.now.trees × WellFormedRows (rows_at n s.now.trees)
+
+-- all tables are there, with these rows of the hub and the number of our schema
+pub record Holds (all : Rows) (db : Trees) : Type 0 where
+  pub whole : IsDatabase (record { schema = hub_schema; trees = db })
+  pub are_typed : AreTyped hub_schema hub_good db
+  pub rows : rows_of db ≡ all
+  pub numbered : Has (rows_in metas db) our_meta
+
+-- A database of an earlier schema is raised to ours. Rows that were written by this project stay.
+pub record IsRaised (old : Database) (new : Trees) : Type 0 where
+  pub from : ℕ
+  pub earlier : from < our_number
+  pub was : old.schema ≡ schema_at from
+  pub holds : AreTyped (schema_at from) hub_good old.trees → Holds (rows_at from old.trees) new
+
+-- ---- inside the transaction that raises it
+
+-- the rows of the tables of the schema of this number, and none of later ones
+abbrev pub trees_at : ℕ → Trees → Trees
+trees_at n db t = if nat_lt t (next_tree (tables_at n)) then db t else []
+
+-- there is no row of a table of a later schema
+abbrev pub IsCut : ℕ → Trees → Type 0
+IsCut n rows = (t : ℕ) → next_tree (tables_at n) ≤ t → rows t ≡ []
+
+-- with this schema so far, whose tables have the rows of these trees
+pub record WithinAs (rows : Trees) (schema : Schema) (s : State) : Type 0 where
+  pub schema_is : s.now.schema ≡ schema
+  pub sound : IsDatabase s.now
+  pub kept : KeepsRows schema.tables rows s.now.trees
+  pub mode : s.in_transaction ≡ true
+  pub limit : s.step_limit ≡ None
+
+abbrev pub IsInsideAs : Trees → Schema → State → Type 0
+IsInsideAs rows schema s = IsTrue s.is_open → WithinAs rows schema s
+
+-- with all tables
+pub record HasTables (rows : Rows) (s : State) : Type 0 where
+  pub schema_is : s.now.schema ≡ hub_schema
+  pub holds : Holds rows s.now.trees
+  pub mode : s.in_transaction ≡ true
+  pub limit : s.step_limit ≡ None
+
+-- ---- the call
+
+-- between transactions, with the last commit seen
+pub record Rested (s : State) : Type 0 where
+  pub sound : IsTrue s.is_open → IsDatabase s.now
+  pub settled : IsTrue s.is_open → s.committed ≡ s.now
+  pub mode : s.in_transaction ≡ false
+  pub limit : s.step_limit ≡ None
+
+-- all is as it was, and nothing was committed
+pub record IsSpared (old new : State) : Type 0 where
+  pub was_open : IsTrue new.is_open → IsTrue old.is_open
+  pub now : IsTrue new.is_open → new.now ≡ old.now
+  pub committed : IsTrue new.is_open → new.committed ≡ old.committed
+  pub mode : new.in_transaction ≡ old.in_transaction
+  pub survives : Survives old new (λ _. ⊥)
+
+-- What was there is taken, or raised from an earlier schema in one step; or nothing changes.
+pub record Prepares {A E : Type 0} (old new : State) (r : Result A E) : Type 0 where
+  pub serves : IsOurs old → IsTrue new.is_open → OnOk r (Serves new × WellFormedRows (rows_of new.now.trees))
+  pub taken : IsTrue new.is_open → OnOk r (((old.now.schema ≡ hub_schema) × (new.now ≡ old.now)) ⊎ IsRaised old.now new.now.trees)
+  pub refused : IsTrue new.is_open → OnErr r (IsTrue old.is_open × (new.now ≡ old.now))
+  pub crash : IsTrue old.is_open → HasCleanDisk new → (db : Trees) → new.may_leave db → (db ≡ old.committed.trees) ⊎ IsRaised old.now db
+  pub durable : IsTrue new.is_open → OnOk r ((db : Trees) → new.may_leave db → db ≡ new.now.trees)
+  -- no fault of the disk is forgotten, and with none an Ok leaves the connection open
+  pub clean : doubt old.is_clean ≤ doubt new.is_clean
+  pub up : HasCleanDisk new → OnOk r (IsTrue new.is_open)

@@ -1,0 +1,14 @@
+//! Typed rows that are kept in tables: how they are read, and the laws of the statements that read and change them.
+#![tactic(auto)]
+
+mod columns;
+mod holding_rows;
+mod list_rows;
+mod station_rows;
+mod stored;
+mod tag_rows;
+mod tx_rows;
+
+pub use columns::told;
+pub use list_rows::{EntryRow, ListHead};
+pub use stored::{Stored, first_row, is_found, listed, only_number};

@@ -1,6 +1,0 @@
-use Rattle.sqlite.specs.Held.{state}
-use Rattle.sql_shelf.proofs.StoreLemmas.{commits_as}
-use Rattle.store_sql.proofs.txs.open_txs.Goals as goal
-
-pub returns-clause-stops : goal.returns-clause-stops
-returns-clause-stops g c = commits_as (state g.S.Store c.args.conn.now) (state g.S.Store c.list_all_open.new.conn) c.list_all_open.result c.listed.result c.listed.ensures.ok (λ serves. (c.list_all_open.ensures.shows serves).stops)

@@ -1,6 +1,0 @@
-use Rattle.sqlite.specs.Held.{state}
-use Rattle.sql_shelf.proofs.StoreLemmas.{commits_as}
-use Rattle.store_sql.proofs.txs.txs_in_use.Goals as goal
-
-pub returns-clause-stops : goal.returns-clause-stops
-returns-clause-stops g c = commits_as (state g.S.Store c.args.conn.now) (state g.S.Store c.list_in_use.new.conn) c.list_in_use.result c.listed.result c.listed.ensures.ok (λ serves. (c.list_in_use.ensures.shows serves).stops)

@@ -1,6 +1,0 @@
-use Rattle.sqlite.specs.Held.{state}
-use Rattle.sql_shelf.proofs.StoreLemmas.{commits_as}
-use Rattle.store_sql.proofs.uses.uses.Goals as goal
-
-pub returns-clause-stops : goal.returns-clause-stops
-returns-clause-stops g c = commits_as (state g.S.Store c.args.conn.now) (state g.S.Store c.list.new.conn) c.list.result c.listed.result c.listed.ensures.ok (λ serves. (c.list.ensures.shows serves).stops)
