@@ -40,10 +40,7 @@ fn find_tag<S: Alter>(
 }
 
 /// All tags of an operator.
-pub fn tags<S: Alter>(
-    conn: &mut Connection<S>,
-    op: &str,
-) -> Result<Listed<TagRow>, StoreFault>
+pub fn tags<S: Alter>(conn: &mut Connection<S>, op: &str) -> Result<Listed<TagRow>, StoreFault>
     ensures found { Finds (state S.Store conn.old) (state S.Store conn.new) result (λ rows list. list ≡ tags_in op.now rows.tags) }
     ensures same { Rests (state S.Store conn.old) (state S.Store conn.new) }
     ensures stops { CommitsNothing (state S.Store conn.old) (state S.Store conn.new) result }

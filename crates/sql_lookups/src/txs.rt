@@ -124,10 +124,7 @@ pub fn txs<S: Alter>(
 }
 
 /// The open transactions of an operator.
-pub fn open_txs<S: Alter>(
-    conn: &mut Connection<S>,
-    op: &str,
-) -> Result<Listed<TxRow>, StoreFault>
+pub fn open_txs<S: Alter>(conn: &mut Connection<S>, op: &str) -> Result<Listed<TxRow>, StoreFault>
     ensures found { Finds (state S.Store conn.old) (state S.Store conn.new) result (λ rows list. list ≡ open_txs_in op.now rows.transactions) }
     ensures same { Rests (state S.Store conn.old) (state S.Store conn.new) }
     ensures stops { CommitsNothing (state S.Store conn.old) (state S.Store conn.new) result }

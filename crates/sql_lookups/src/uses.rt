@@ -19,10 +19,7 @@ fn list<S: Alter>(conn: &mut Connection<S>, op: &str) -> Result<Vec<Row>, Error>
 }
 
 /// The uses of an owner.
-pub fn uses<S: Alter>(
-    conn: &mut Connection<S>,
-    op: &str,
-) -> Result<Listed<UseRow>, StoreFault>
+pub fn uses<S: Alter>(conn: &mut Connection<S>, op: &str) -> Result<Listed<UseRow>, StoreFault>
     ensures found { Finds (state S.Store conn.old) (state S.Store conn.new) result (λ rows list. list ≡ uses_in op.now rows.uses) }
     ensures same { Rests (state S.Store conn.old) (state S.Store conn.new) }
     ensures stops { CommitsNothing (state S.Store conn.old) (state S.Store conn.new) result }
