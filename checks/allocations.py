@@ -28,13 +28,13 @@ from programs import EARLIER, MORE, SCHEMA, SCRIPTS, TIME, listening
 PORT = 9287
 SOURCE = Path(__file__).with_name("refusing_malloc.c")
 REPLAYED = (
-    "boot_and_heartbeat",
-    "start_repeated",
-    "calls_of_a_station",
-    "reservations",
-    "local_list_of_a_station",
-    "reports_of_a_station",
-    "use_of_a_granted_tag",
+    "stations/boot_and_heartbeat",
+    "transactions/start_repeated",
+    "commands/calls_of_a_station",
+    "reservations/reservations",
+    "local_lists/local_list_of_a_station",
+    "reports/reports_of_a_station",
+    "uses/use_of_a_granted_tag",
 )
 NEVER, ALWAYS = 0, (1 << 64) - 1
 ANSWER = re.compile(r'(.* frame \S+ \[3,")(\d+)(".*)', re.DOTALL)
@@ -294,7 +294,7 @@ def check_earlier_schema(checks, earlier):
     told(scenario, count, endings)
 
 
-HANDED = (*REPLAYED, "reservations_follow_the_answer", "day_of_two_operators")
+HANDED = (*REPLAYED, "reservations/reservations_follow_the_answer", "operators/day_of_two_operators")
 FAULTS = re.compile(r"faults: ([01])\n")
 
 
@@ -315,7 +315,7 @@ def check_handed_again(checks, kind, name):
     """Each allocation is refused that the start and then the events of a script come to. Once one was refused to an
     event, no later one is refused to the start."""
     scenario = f"{name}, {kind}, events handed again"
-    handed_again(checks, kind, "no_lines", NEVER)
+    handed_again(checks, kind, "lines/no_lines", NEVER)
     start = checks.allocator.count
     checks.check(scenario, handed_again(checks, kind, name, NEVER) != "no event met it" and "a run that isn't refused")
     count = checks.allocator.count

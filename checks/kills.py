@@ -1,9 +1,8 @@
-"""Kills the server at random moments under a load of eight stations and two operators, opens its file again each time,
-and checks that all that was acknowledged is on record, that what was in flight is there whole or not at all, that each
-transaction on record which is stopped and began with a granted tag has settled one use, and that numbers go on. Then
-kills it as it opens copies of files of each earlier schema, and checks that each has that schema or this one, whole, and
-its records. Prints how many of the changes in flight were found made, how many uses there are, how many of the copies
-were found with this schema, then `N passed, M failed`.
+"""Kills the server at random moments under a load of eight stations and two operators, and opens its file again each
+time. All that was acknowledged is to be on record, and what was in flight whole or not at all. Each stopped transaction
+that began with a granted tag has settled one use, and numbers go on. Then kills it as it opens copies of files of each
+earlier schema: each has that schema or this one, whole, and its records. Prints how many of the changes in flight were
+found made, how many uses there are, how many of the copies were found with this schema, then `N passed, M failed`.
 
     python3 checks/kills.py crates/central/out/central [KILLS] [SEED]
 """

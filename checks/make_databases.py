@@ -1,5 +1,6 @@
 #!/usr/bin/env python3
-"""Makes the databases in crates/check_scripts/data: files of other programs, of later versions and of odd shapes.
+"""Makes the databases in crates/check_scripts/data/databases: files of other programs, of later versions and of odd
+shapes.
 
 Run it at the top of the repository, after a change of the tables. It reads their texts from
 crates/sql_tables/src. The files are written by SQLite itself, all but records_in_each_list.db and
@@ -10,7 +11,7 @@ import os
 import re
 import sqlite3
 
-FOLDER = "crates/check_scripts/data"
+FOLDER = "crates/check_scripts/data/databases"
 SUBJECTS = (
     "meta", "stations", "connectors", "tags", "grants", "txs", "readings", "reservations", "lists", "list_entries",
     "reports", "tx_owners", "uses",

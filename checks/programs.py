@@ -26,7 +26,7 @@ SCRIPTS = Path(__file__).resolve().parent.parent / "crates" / "check_scripts" / 
 OPERATIONS = Path(__file__).resolve().parent.parent / "docs" / "OPERATIONS.md"
 # The number of the schema, and a file of each earlier one, in SCRIPTS.
 SCHEMA = 3
-EARLIER = {1: "records_in_each_list", 2: "records_of_schema_2"}
+EARLIER = {1: "databases/records_in_each_list", 2: "databases/records_of_schema_2"}
 # The tables that each schema has beside those of schema 1.
 MORE = {1: [], 2: ["hub_report"], 3: ["hub_report", "hub_tx_owner", "hub_use"]}
 
@@ -237,7 +237,7 @@ def check_earlier_schemas(checks):
 def check_first_schema(checks):
     """A file of schema 1 is served: its records are as they were, and it has this schema then."""
     served = checks.new_file()
-    shutil.copy(SCRIPTS / "records_in_each_list.db", served)
+    shutil.copy(SCRIPTS / "databases" / "records_in_each_list.db", served)
     with checks.serve("--operators", "ACME,BETA", db=served):
         acme, station = Peer(PORT, "/operator/ACME"), Peer(PORT, "/ocpp/ACME/CP01")
         checks.check("no reports", acme.ask("list reports CP01"), "ACME ok")
@@ -256,7 +256,7 @@ def check_first_schema(checks):
 
 def check_replays(checks):
     """Each script gives over a file what it gives in memory."""
-    scripts = sorted(SCRIPTS.glob("*.script"))
+    scripts = sorted(SCRIPTS.glob("*/*.script"))
     checks.check("scripts", len(scripts) > 100, True)
     for script in scripts:
         operators = script.with_suffix(".operators")
@@ -384,7 +384,7 @@ def check_mended(checks):
     """A file of schema 3 with an index of schema 2 is refused, and taken once it is mended as OPERATIONS says."""
     words, db, new = ["replay", "--operators", "ACME", "--db"], checks.new_file(), checks.new_file()
     checks.check("a new file", checks.run(*words, new), (0, "", ""))
-    shutil.copy(SCRIPTS / "ours_with_an_earlier_index.db", db)
+    shutil.copy(SCRIPTS / "databases" / "ours_with_an_earlier_index.db", db)
     checks.check("the earlier index", checks.run(*words, db), (2, "", "fault Store: the database failed\n"))
     mend = re.search(r'sqlite3 FILE "(DROP INDEX hub_tx_is_open;.*?)"', OPERATIONS.read_text(), re.S)[1]
     with contextlib.closing(sqlite3.connect(db)) as database:

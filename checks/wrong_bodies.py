@@ -1,5 +1,5 @@
 #!/usr/bin/env python3
-"""Wrong bodies that the prover must refuse, beside those in crates/*/must-fail, which `rt ci` tries.
+"""Wrong bodies that the prover must refuse, beside those in crates/hub/must-fail, which `rt ci` tries.
 
     python3 checks/wrong_bodies.py CRATE..   tries those in checks/wrong_bodies/CRATE
     python3 checks/wrong_bodies.py --due     tries those of each crate that has changed since they were refused

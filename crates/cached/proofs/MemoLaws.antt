@@ -1,11 +1,11 @@
 -- Answers that stay.
-use Rattle.std.specs.Prelude.{◌≡◌, ℕ, Bool, List, Some, None, Option, Result, Ok, Err, OnOk, OnErr, IfSome, Contains, option_map}
-use Rattle.std.proofs.Common.{sym, subst, nat_eq, inl, inr}
+use Rattle.std.specs.Prelude.{◌≡◌, ℕ, Bool, false, is_some, List, Some, None, Option, Result, Ok, Err, OnOk, OnErr, IfSome, Contains, option_map}
+use Rattle.std.proofs.Common.{sym, subst, nat_eq, inl, inr, true≢false}
 use Rattle.std.specs.Map.{lookup, remove_entry}
 use Rattle.lru.specs.LruCache.{LruCache, lru_cache, promoted, put_entries}
 use Rattle.lru.proofs.CallerLemmas.{Contains-lookup, Contains-put_entries, Contains-promoted, Contains-remove_entry}
-use Rattle.hub_rows.specs.declared.change.Change.{Change}
-use Rattle.hub_rows.specs.Changes.{after_change}
+use Rattle.hub_rows.specs.declared.change.Edit.{Edit}
+use Rattle.hub_rows.specs.Changes.{edit}
 use Rattle.hub_rows.specs.Rows.{Rows}
 
 module _ {A : Type 0} (P : A → Type 0) where
@@ -41,6 +41,11 @@ module _ {A : Type 0} (P : A → Type 0) where
   kept old new digest answer (Err y) ok err all here = subst (λ c. All c.entries) (sym err) all
 
 -- answers that are right before a change and after it are right by the rows that a store is left with
-pub applied : {A X E : Type 0} (is_right : Rows → A → Type 0) (rows after : Rows) (change : Change) (entries : List (ℕ × A)) (r : Result X E) → All (is_right rows) entries → All (is_right (after_change change rows)) entries → OnOk r (after ≡ after_change change rows) → OnErr r (after ≡ rows) → All (is_right after) entries
-applied is_right rows after change entries (Ok x) before changed ok err = subst (λ rs. All (is_right rs) entries) (sym ok) changed
-applied is_right rows after change entries (Err y) before changed ok err = subst (λ rs. All (is_right rs) entries) (sym err) before
+pub applied : {A X E : Type 0} (is_right : Rows → A → Type 0) (rows after : Rows) (b : List ℕ) (e : Edit) (entries : List (ℕ × A)) (r : Result X E) → All (is_right rows) entries → All (is_right (edit b e rows)) entries → OnOk r (after ≡ edit b e rows) → OnErr r (after ≡ rows) → All (is_right after) entries
+applied is_right rows after b e entries (Ok x) before changed ok err = subst (λ rs. All (is_right rs) entries) (sym ok) changed
+applied is_right rows after b e entries (Err y) before changed ok err = subst (λ rs. All (is_right rs) entries) (sym err) before
+
+-- what is said of a value that isn't there
+pub if_none : {A : Type 0} (P : A → Type 0) (o : Option A) → is_some o ≡ false → IfSome o P
+if_none P None none = tt
+if_none P (Some x) none = absurd (true≢false none)

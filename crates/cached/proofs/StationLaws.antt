@@ -1,11 +1,15 @@
 -- Answers on registrations that an edit leaves right.
-use Rattle.std.specs.Prelude.{◌≡◌, ℕ, List, [], ◌∷◌, Bool, true, false, ◌&&◌, is_some, Some}
+use Rattle.std.specs.Prelude.{◌≡◌, ℕ, List, [], ◌∷◌, Bool, true, false, ◌&&◌, is_some, IfSome}
 use Rattle.std.proofs.Common.{refl, sym, ◌∙◌, ap, subst, arith, true≢false}
 use Rattle.std.specs.Option.{option_map}
 use Rattle.std.specs.Str.{bytes_eq}
 use Rattle.std.specs.Cmp.Lexicographic.{bytes_decides}
 use Rattle.hub_rows.specs.declared.change.Edit.{Edit}
-use Rattle.hub_rows.specs.declared.change.Edit.TheVariants.{StationAdded, BootSeen, PolicySet}
+use Rattle.hub_rows.specs.declared.change.Edit.TheVariants.{Stations, Tags, Transactions, Holdings}
+use Rattle.hub_rows.specs.declared.change.StationEdit.TheVariants.{StationAdded, BootSeen, PolicySet}
+use Rattle.hub_rows.specs.declared.change.TagEdit.TheVariants.{TagDropped}
+use Rattle.hub_rows.specs.declared.change.TransactionEdit.TheVariants.{ReadingsAdded}
+use Rattle.hub_rows.specs.declared.change.HoldingEdit.TheVariants.{ReservationDropped}
 use Rattle.hub_rows.specs.declared.station_row.StationRow.{StationRow}
 use Rattle.hub_rows.specs.Changes.{edit, new_station, with_boot, with_policy}
 use Rattle.hub_rows.specs.Keyed.{by_key, changed, first, put}
@@ -15,6 +19,7 @@ use Rattle.hub_rows.proofs.ListLaws.{filter-put_not, head, ties_key, same_text}
 use Rattle.hub_rows.proofs.OrderLaws.{find-first}
 use Rattle.cached.specs.declared.station_answer.StationAnswer.{StationAnswer}
 use Rattle.cached.specs.StationAnswers.{changed_station, IsOf, IsRegistered}
+use Rattle.cached.proofs.MemoLaws.{if_none}
 
 and_first : (p q : Bool) → p && q ≡ true → p ≡ true
 and_first p q e = grind (arith, e)
@@ -53,25 +58,21 @@ flipped a s b t other =
           absurd (true≢false (sym (both (bytes_eq a b) (bytes_eq s t) op name) ∙ other))
     ] refl
 
-pub unchanged_station : (b t : List ℕ) (e : Edit) (rows : Rows) (answer : StationAnswer) → changed_station e ≡ Some t → bytes_eq answer.op b && bytes_eq answer.station t ≡ false → IsRegistered rows answer → IsRegistered (edit b e rows) answer
-unchanged_station b t (StationAdded station policy interval) rows answer is other right =
-    let same : t ≡ station = cc in
-    let apart = flipped answer.op answer.station b station (subst (λ x. bytes_eq answer.op b && bytes_eq answer.station x ≡ false) same other) in
-    right ∙ sym (ap (option_map registration_of) (station-put answer.op answer.station (new_station b station policy interval) rows.stations apart))
-unchanged_station b t (BootSeen station boot state) rows answer is other right =
-    let same : t ≡ station = cc in
-    right ∙ sym (ap (option_map registration_of) (station-changed answer.op answer.station b station (with_boot boot state) (λ r. (refl, refl)) (subst (λ x. bytes_eq answer.op b && bytes_eq answer.station x ≡ false) same other) rows.stations))
-unchanged_station b t (PolicySet station policy interval) rows answer is other right =
-    let same : t ≡ station = cc in
-    right ∙ sym (ap (option_map registration_of) (station-changed answer.op answer.station b station (with_policy policy interval) (λ r. (refl, refl)) (subst (λ x. bytes_eq answer.op b && bytes_eq answer.station x ≡ false) same other) rows.stations))
-unchanged_station b t e rows answer is other right = right
+-- an edit that changes no station, or another than that of an answer, leaves it right
+pub kept_station : (b : List ℕ) (e : Edit) (rows : Rows) (answer : StationAnswer) → IfSome (changed_station e) (λ t. bytes_eq answer.op b && bytes_eq answer.station t ≡ false) → IsRegistered rows answer → IsRegistered (edit b e rows) answer
+kept_station b (Stations (StationAdded station policy interval)) rows answer other right =
+    right ∙ sym (ap (option_map registration_of) (station-put answer.op answer.station (new_station b station policy interval) rows.stations (flipped answer.op answer.station b station other)))
+kept_station b (Stations (BootSeen station boot state)) rows answer other right =
+    right ∙ sym (ap (option_map registration_of) (station-changed answer.op answer.station b station (with_boot boot state) (λ r. (refl, refl)) other rows.stations))
+kept_station b (Stations (PolicySet station policy interval)) rows answer other right =
+    right ∙ sym (ap (option_map registration_of) (station-changed answer.op answer.station b station (with_policy policy interval) (λ r. (refl, refl)) other rows.stations))
+kept_station b (Tags (TagDropped key)) rows answer other right = right
+kept_station b (Transactions (ReadingsAdded station first readings)) rows answer other right = right
+kept_station b (Holdings (ReservationDropped station id)) rows answer other right = right
+kept_station b e rows answer other right = right
 
--- an edit that changes no station
 pub unseen_station : (b : List ℕ) (e : Edit) (rows : Rows) (answer : StationAnswer) → is_some (changed_station e) ≡ false → IsRegistered rows answer → IsRegistered (edit b e rows) answer
-unseen_station b (StationAdded station policy interval) rows answer none right = absurd (true≢false none)
-unseen_station b (BootSeen station boot state) rows answer none right = absurd (true≢false none)
-unseen_station b (PolicySet station policy interval) rows answer none right = absurd (true≢false none)
-unseen_station b e rows answer none right = right
+unseen_station b e rows answer none right = kept_station b e rows answer (if_none _ (changed_station e) none) right
 
 -- what the rows give of the station that an answer is of
 pub registered_of : (rows : Rows) (answer : StationAnswer) (a name : List ℕ) → IsOf a name answer → registration_at answer.op answer.station rows ≡ registration_at a name rows

@@ -1,6 +1,6 @@
 -- Answers to look-ups of tags that an edit leaves right.
 use Rattle.std.specs.Prelude.{◌≡◌, ◌≢◌, ℕ, List, [], ◌∷◌, Bool, true, false, cond, ◌&&◌, ◌||◌, filter, Option, Some, None, IfSome}
-use Rattle.std.proofs.Common.{refl, sym, ◌∙◌, ap, subst, arith, true≢false}
+use Rattle.std.proofs.Common.{refl, sym, ◌∙◌, ap, subst, arith}
 use Rattle.std.specs.Char.{to_ascii_lowercase}
 use Rattle.std.specs.List.{AllByRecursion, filter_map, cons_option}
 use Rattle.std.specs.Option.{option_map}
@@ -8,7 +8,11 @@ use Rattle.std.specs.Prelude.{is_some}
 use Rattle.std.specs.Str.{bytes_eq}
 use Rattle.ocpp_types.specs.TagKey.{key_of}
 use Rattle.hub_rows.specs.declared.change.Edit.{Edit}
-use Rattle.hub_rows.specs.declared.change.Edit.TheVariants.{TagPut, TagDropped, GrantPut, GrantDropped}
+use Rattle.hub_rows.specs.declared.change.Edit.TheVariants.{Stations, Tags, Transactions, Holdings}
+use Rattle.hub_rows.specs.declared.change.StationEdit.TheVariants.{ReportSeen}
+use Rattle.hub_rows.specs.declared.change.TagEdit.TheVariants.{TagPut, TagDropped, GrantPut, GrantDropped}
+use Rattle.hub_rows.specs.declared.change.TransactionEdit.TheVariants.{ReadingsAdded}
+use Rattle.hub_rows.specs.declared.change.HoldingEdit.TheVariants.{ReservationDropped}
 use Rattle.hub_rows.specs.declared.grant_row.GrantRow.{GrantRow}
 use Rattle.hub_rows.specs.declared.info.Info.{Info}
 use Rattle.hub_rows.specs.declared.tag_row.Tag.{Tag}
@@ -25,6 +29,7 @@ use Rattle.cached.specs.declared.tag_answer.TagAnswer.{TagAnswer}
 use Rattle.cached.specs.declared.tag_answer.LookUp.{LookUp}
 use Rattle.cached.specs.declared.tag_answer.LookUp.TheVariants.{Own, Granted}
 use Rattle.cached.specs.TagAnswers.{answered, looked_up, touched, IsAbout, IsApart, IsParentApart, IsRight}
+use Rattle.cached.proofs.MemoLaws.{if_none}
 
 -- ---- letters in any case
 
@@ -135,32 +140,23 @@ grant-dropped b key to gs a k other =
 apart_by : (key : List ℕ) (rows : Rows) (answer : TagAnswer) → IsApart key answer → IsRight rows answer → IsParentApart key (answered answer.look_up answer.op answer.key rows.tags rows.grants)
 apart_by key rows answer apart right = subst (IsParentApart key) right apart.parent
 
-pub untouched_right : (key b : List ℕ) (e : Edit) (rows : Rows) (answer : TagAnswer) → touched e ≡ Some key → IsApart key answer → IsRight rows answer → IsRight (edit b e rows) answer
-untouched_right key b (TagPut k tag) rows answer is apart right =
-    let other : answer.key ≢ k = λ q. (apart.key (let same : k ≡ key = cc in q ∙ same)) in
-    let parent = subst (λ x. IsParentApart x (answered answer.look_up answer.op answer.key rows.tags rows.grants)) (let same : key ≡ k = cc in same) (apart_by key rows answer apart right) in
-    right ∙ sym (answered_same k rows.tags (put (by_key tag_key) (tag_row b k tag) rows.tags) (tag-put b k tag rows.tags) answer.look_up answer.op answer.key rows.grants rows.grants (λ a j o. refl) other parent)
-untouched_right key b (TagDropped k) rows answer is apart right =
-    let other : answer.key ≢ k = λ q. (apart.key (let same : k ≡ key = cc in q ∙ same)) in
-    let parent = subst (λ x. IsParentApart x (answered answer.look_up answer.op answer.key rows.tags rows.grants)) (let same : key ≡ k = cc in same) (apart_by key rows answer apart right) in
-    right ∙ sym (answered_same k rows.tags (without (λ r. r.op) b (λ r. bytes_eq r.key k) rows.tags) (tag-dropped b k rows.tags) answer.look_up answer.op answer.key rows.grants (without (λ r. r.op) b (λ r. bytes_eq r.key k) rows.grants) (grants-dropped b k rows.grants) other parent)
-untouched_right key b (GrantPut k to until) rows answer is apart right =
-    let other : answer.key ≢ k = λ q. (apart.key (let same : k ≡ key = cc in q ∙ same)) in
-    let parent = subst (λ x. IsParentApart x (answered answer.look_up answer.op answer.key rows.tags rows.grants)) (let same : key ≡ k = cc in same) (apart_by key rows answer apart right) in
-    right ∙ sym (answered_same k rows.tags rows.tags (λ a j o. refl) answer.look_up answer.op answer.key rows.grants (put (by_key grant_key) (grant_row b k to until) rows.grants) (grant-put b k to until rows.grants) other parent)
-untouched_right key b (GrantDropped k to) rows answer is apart right =
-    let other : answer.key ≢ k = λ q. (apart.key (let same : k ≡ key = cc in q ∙ same)) in
-    let parent = subst (λ x. IsParentApart x (answered answer.look_up answer.op answer.key rows.tags rows.grants)) (let same : key ≡ k = cc in same) (apart_by key rows answer apart right) in
-    right ∙ sym (answered_same k rows.tags rows.tags (λ a j o. refl) answer.look_up answer.op answer.key rows.grants (without (λ r. r.op) b (is_grant k to) rows.grants) (grant-dropped b k to rows.grants) other parent)
-untouched_right key b e rows answer is apart right = right
+-- an edit of no tag, or of one that an answer doesn't depend on, leaves it right
+pub kept_right : (b : List ℕ) (e : Edit) (rows : Rows) (answer : TagAnswer) → IfSome (touched e) (λ key. IsApart key answer) → IsRight rows answer → IsRight (edit b e rows) answer
+kept_right b (Tags (TagPut k tag)) rows answer apart right =
+    right ∙ sym (answered_same k rows.tags (put (by_key tag_key) (tag_row b k tag) rows.tags) (tag-put b k tag rows.tags) answer.look_up answer.op answer.key rows.grants rows.grants (λ a j o. refl) apart.key (apart_by k rows answer apart right))
+kept_right b (Tags (TagDropped k)) rows answer apart right =
+    right ∙ sym (answered_same k rows.tags (without (λ r. r.op) b (λ r. bytes_eq r.key k) rows.tags) (tag-dropped b k rows.tags) answer.look_up answer.op answer.key rows.grants (without (λ r. r.op) b (λ r. bytes_eq r.key k) rows.grants) (grants-dropped b k rows.grants) apart.key (apart_by k rows answer apart right))
+kept_right b (Tags (GrantPut k to until)) rows answer apart right =
+    right ∙ sym (answered_same k rows.tags rows.tags (λ a j o. refl) answer.look_up answer.op answer.key rows.grants (put (by_key grant_key) (grant_row b k to until) rows.grants) (grant-put b k to until rows.grants) apart.key (apart_by k rows answer apart right))
+kept_right b (Tags (GrantDropped k to)) rows answer apart right =
+    right ∙ sym (answered_same k rows.tags rows.tags (λ a j o. refl) answer.look_up answer.op answer.key rows.grants (without (λ r. r.op) b (is_grant k to) rows.grants) (grant-dropped b k to rows.grants) apart.key (apart_by k rows answer apart right))
+kept_right b (Stations (ReportSeen station status moment)) rows answer apart right = right
+kept_right b (Transactions (ReadingsAdded station first readings)) rows answer apart right = right
+kept_right b (Holdings (ReservationDropped station id)) rows answer apart right = right
+kept_right b e rows answer apart right = right
 
--- an edit that changes no tag and no grant
 pub unseen_right : (b : List ℕ) (e : Edit) (rows : Rows) (answer : TagAnswer) → is_some (touched e) ≡ false → IsRight rows answer → IsRight (edit b e rows) answer
-unseen_right b (TagPut key tag) rows answer none right = absurd (true≢false none)
-unseen_right b (TagDropped key) rows answer none right = absurd (true≢false none)
-unseen_right b (GrantPut key to until) rows answer none right = absurd (true≢false none)
-unseen_right b (GrantDropped key to) rows answer none right = absurd (true≢false none)
-unseen_right b e rows answer none right = right
+unseen_right b e rows answer none right = kept_right b e rows answer (if_none _ (touched e) none) right
 
 -- what is right of an answer about a look-up
 pub about_right : (rows : Rows) (answer : TagAnswer) (how : LookUp) (a k : List ℕ) → IsAbout how a k answer → looked_up answer.look_up answer.op answer.key rows ≡ looked_up how a k rows

@@ -1,7 +1,7 @@
 -- Answers that are kept.
-use Rattle.std.specs.Prelude.{ℕ, Contains}
-use Rattle.hub_rows.specs.declared.change.Change.{Change}
-use Rattle.hub_rows.specs.Changes.{after_change}
+use Rattle.std.specs.Prelude.{ℕ, List, Contains}
+use Rattle.hub_rows.specs.declared.change.Edit.{Edit}
+use Rattle.hub_rows.specs.Changes.{edit}
 use Rattle.hub_rows.specs.Rows.{Rows}
 use Rattle.cached.specs.declared.memo.Memo.{Memo}
 
@@ -18,6 +18,6 @@ module _ {A : Type 0} where
   abbrev pub AreRight : (Rows → A → Type 0) → Rows → Memo A → Type 0
   AreRight is_right rows = Keeps (is_right rows)
 
-  -- each answer that is kept and right stays right as the change is made
-  abbrev pub AreUnchanged : (Rows → A → Type 0) → Change → Memo A → Type 0
-  AreUnchanged is_right change = Keeps (λ a. (rows : Rows) → is_right rows a → is_right (after_change change rows) a)
+  -- each answer that is kept and right stays right as operator b makes the edit
+  abbrev pub AreUnchanged : (Rows → A → Type 0) → List ℕ → Edit → Memo A → Type 0
+  AreUnchanged is_right b e = Keeps (λ a. (rows : Rows) → is_right rows a → is_right (edit b e rows) a)

@@ -1,7 +1,8 @@
 -- Answers on how stations are registered.
 use Rattle.std.specs.Prelude.{◌≡◌, ℕ, List, Option, Some, None}
 use Rattle.hub_rows.specs.declared.change.Edit.{Edit}
-use Rattle.hub_rows.specs.declared.change.Edit.TheVariants.{StationAdded, BootSeen, PolicySet}
+use Rattle.hub_rows.specs.declared.change.Edit.TheVariants.{Stations}
+use Rattle.hub_rows.specs.declared.change.StationEdit.TheVariants.{StationAdded, BootSeen, PolicySet}
 use Rattle.hub_rows.specs.Rows.{Rows, registration_at}
 use Rattle.cached.specs.declared.station_answer.StationAnswer.{StationAnswer}
 
@@ -16,7 +17,7 @@ IsRegistered rows answer = answer.registration ≡ registration_at answer.op ans
 
 -- the station whose record an edit changes
 abbrev pub changed_station : Edit → Option (List ℕ)
-changed_station (StationAdded station policy interval) = Some station
-changed_station (BootSeen station boot state) = Some station
-changed_station (PolicySet station policy interval) = Some station
+changed_station (Stations (StationAdded station policy interval)) = Some station
+changed_station (Stations (BootSeen station boot state)) = Some station
+changed_station (Stations (PolicySet station policy interval)) = Some station
 changed_station e = None

@@ -5,7 +5,8 @@ use Rattle.hub_rows.specs.declared.grant_row.GrantRow.{GrantRow}
 use Rattle.hub_rows.specs.declared.info.Info.{Info}
 use Rattle.hub_rows.specs.declared.tag_row.TagRow.{TagRow}
 use Rattle.hub_rows.specs.declared.change.Edit.{Edit}
-use Rattle.hub_rows.specs.declared.change.Edit.TheVariants.{TagPut, TagDropped, GrantPut, GrantDropped}
+use Rattle.hub_rows.specs.declared.change.Edit.TheVariants.{Tags}
+use Rattle.hub_rows.specs.declared.change.TagEdit.TheVariants.{TagPut, TagDropped, GrantPut, GrantDropped}
 use Rattle.hub_rows.specs.Grants.{granted_tag_in}
 use Rattle.hub_rows.specs.Rows.{Rows}
 use Rattle.hub_rows.specs.Tags.{own_tag_in}
@@ -43,8 +44,8 @@ IsRight rows answer = answer.info ≡ looked_up answer.look_up answer.op answer.
 
 -- the key of the tag that an edit changes, or whose grants it changes
 abbrev pub touched : Edit → Option (List ℕ)
-touched (TagPut key tag) = Some key
-touched (TagDropped key) = Some key
-touched (GrantPut key to until) = Some key
-touched (GrantDropped key to) = Some key
+touched (Tags (TagPut key tag)) = Some key
+touched (Tags (TagDropped key)) = Some key
+touched (Tags (GrantPut key to until)) = Some key
+touched (Tags (GrantDropped key to)) = Some key
 touched e = None

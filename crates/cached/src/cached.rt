@@ -13,9 +13,9 @@ use crate::station_answer::StationAnswer;
 use crate::tag_answer::{LookUp, TagAnswer};
 use crate::{station_answer, tag_answer};
 use hub_rows::{
-    Change, ConnectorRow, GrantRow, GrantedTag, Info, LastNumbers, LocalList, ReadingRow,
-    Registration, ReportRow, ReservationId, ReservationRow, StartKey, StationRow, Store,
-    StoreFault, TagRow, TxKey, TxRow, TxState, UseRow,
+    Change, ConnectorRow, GrantRow, GrantedTag, Info, LocalList, ReadingRow, Registration,
+    ReportRow, ReservationId, ReservationRow, StartKey, StationRow, Store, StoreFault, TagRow,
+    TxKey, TxRow, TxState, UseRow,
 };
 use ocpp_types::{Listed, Moment, TagKey};
 use std::alloc::Global;
@@ -185,8 +185,12 @@ impl<S: Store> Store for Cached<S> {
         self.store.has_open(op, station)
     }
 
-    fn last_numbers(&mut self, op: &str, station: &str) -> Result<LastNumbers, StoreFault> {
-        self.store.last_numbers(op, station)
+    fn last_tx(&mut self, op: &str, station: &str) -> Result<u32, StoreFault> {
+        self.store.last_tx(op, station)
+    }
+
+    fn last_reading(&mut self, op: &str, station: &str) -> Result<u32, StoreFault> {
+        self.store.last_reading(op, station)
     }
 
     fn reserved_until(
@@ -255,7 +259,7 @@ impl<S: Store> Store for Cached<S> {
         self.store.uses(op)
     }
 
-    fn apply(&mut self, change: &Change) -> Result<(), StoreFault> {
+    fn apply(&mut self, change: &Change<'_>) -> Result<(), StoreFault> {
         self.tags.drop_stale(change);
         self.stations.drop_stale(change);
         self.store.apply(change)

@@ -1,6 +1,6 @@
 //! The answers that are kept, the last used first.
 ghost use Rattle.std.specs.Prelude.{IfNone, IfOk, IfSome};
-ghost use Rattle.hub_rows.specs.Changes.{after_change};
+ghost use Rattle.hub_rows.specs.Changes.{edit};
 ghost use Rattle.hub_rows.specs.Rows.{Rows};
 ghost use Rattle.cached.specs.Answers.{AreRight, AreUnchanged};
 
@@ -57,18 +57,18 @@ impl<A: Answer> Memo<A> {
     }
 
     /// Drops the answers that a change may make wrong, and others too where they are many.
-    pub fn drop_stale(&mut self, change: &Change)
+    pub fn drop_stale(&mut self, change: &Change<'_>)
         ensures before { (rows : Rows) → AreRight A.is_right rows self.old → AreRight A.is_right rows self.new }
-        ensures after { (rows : Rows) → AreRight A.is_right rows self.old → AreRight A.is_right (after_change change.now rows) self.new }
+        ensures after { (rows : Rows) → AreRight A.is_right rows self.old → AreRight A.is_right (edit change.now.op.now change.now.edit.now rows) self.new }
     {
         if A::is_touched(change) {
             self.drop_touched(change);
         }
     }
 
-    fn drop_touched(&mut self, change: &Change)
+    fn drop_touched(&mut self, change: &Change<'_>)
         ensures kept { (rows : Rows) → AreRight A.is_right rows self.old → AreRight A.is_right rows self.new }
-        ensures unchanged { AreUnchanged A.is_right change.now self.new }
+        ensures unchanged { AreUnchanged A.is_right change.now.op.now change.now.edit.now self.new }
     {
         if self.answers.len() <= MOST_SEARCHED {
             for _ in 0..MOST_DROPPED {
@@ -84,8 +84,8 @@ impl<A: Answer> Memo<A> {
     }
 
     /// The number of the first answer that a change may make wrong.
-    fn first_touched(&self, change: &Change) -> Option<u64>
-        ensures { IfNone result (AreUnchanged A.is_right change.now self.now) }
+    fn first_touched(&self, change: &Change<'_>) -> Option<u64>
+        ensures { IfNone result (AreUnchanged A.is_right change.now.op.now change.now.edit.now self.now) }
     {
         for (digest, answer) in self.answers.iter() {
             if answer.may_change(change) {

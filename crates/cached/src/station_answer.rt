@@ -4,7 +4,7 @@ ghost use Rattle.std.specs.Str.{bytes_eq};
 ghost use Rattle.cached.specs.StationAnswers.{changed_station, IsOf};
 
 use crate::answer::Answer;
-use hub_rows::{Change, Edit, Registration};
+use hub_rows::{Change, Edit, Registration, StationEdit};
 use ocpp_types::{Mem, Text};
 use std::alloc::Global;
 use std::hash::{BuildHasher, BuildHasherDefault, FoldHasher};
@@ -61,26 +61,28 @@ impl Answer for StationAnswer {
 
     ghost is_right = { IsRegistered };
 
-    fn is_touched(change: &Change) -> bool {
-        changed_station(change.edit.as_ref()).is_some()
+    fn is_touched(change: &Change<'_>) -> bool {
+        changed_station(change.edit).is_some()
     }
 
-    fn may_change(&self, change: &Change) -> bool {
-        match changed_station(change.edit.as_ref()) {
-            Some(station) => self.is_named(&change.op, station),
+    fn may_change(&self, change: &Change<'_>) -> bool {
+        match changed_station(change.edit) {
+            Some(station) => self.is_named(change.op, station),
             None => false,
         }
     }
 }
 
 /// The station whose record an edit changes.
-fn changed_station(change: &Edit) -> Option<&Text>
-    ensures { option_map (λ s. s.now) result ≡ changed_station change.now }
+fn changed_station(edit: &Edit) -> Option<&Text>
+    ensures { option_map (λ s. s.now) result ≡ changed_station edit.now }
 {
-    match change {
-        Edit::StationAdded { station, .. }
-        | Edit::BootSeen { station, .. }
-        | Edit::PolicySet { station, .. } => Some(station),
+    match edit {
+        Edit::Stations(
+            StationEdit::StationAdded { station, .. }
+            | StationEdit::BootSeen { station, .. }
+            | StationEdit::PolicySet { station, .. },
+        ) => Some(station),
         _ => None,
     }
 }

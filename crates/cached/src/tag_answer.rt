@@ -3,7 +3,7 @@ ghost use Rattle.std.specs.Prelude.{◌≡◌, true, false, IfOk, option_map};
 ghost use Rattle.cached.specs.TagAnswers.{IsAbout, IsApart, IsParentApart, touched};
 
 use crate::answer::Answer;
-use hub_rows::{Change, Edit, Info};
+use hub_rows::{Change, Edit, Info, TagEdit};
 use ocpp_types::{Mem, TagKey, Text, copied};
 use std::alloc::Global;
 use std::hash::{BuildHasher, BuildHasherDefault, FoldHasher};
@@ -75,12 +75,12 @@ impl Answer for TagAnswer {
 
     ghost is_right = { IsRight };
 
-    fn is_touched(change: &Change) -> bool {
-        touched(change.edit.as_ref()).is_some()
+    fn is_touched(change: &Change<'_>) -> bool {
+        touched(change.edit).is_some()
     }
 
-    fn may_change(&self, change: &Change) -> bool {
-        match touched(change.edit.as_ref()) {
+    fn may_change(&self, change: &Change<'_>) -> bool {
+        match touched(change.edit) {
             Some(key) => self.depends_on(key),
             None => false,
         }
@@ -88,14 +88,16 @@ impl Answer for TagAnswer {
 }
 
 /// The key of the tag that an edit changes, or whose grants it changes.
-fn touched(change: &Edit) -> Option<&TagKey>
-    ensures { option_map (λ k. k.now) result ≡ touched change.now }
+fn touched(edit: &Edit) -> Option<&TagKey>
+    ensures { option_map (λ k. k.now) result ≡ touched edit.now }
 {
-    match change {
-        Edit::TagPut { key, .. }
-        | Edit::TagDropped { key }
-        | Edit::GrantPut { key, .. }
-        | Edit::GrantDropped { key, .. } => Some(key),
+    match edit {
+        Edit::Tags(
+            TagEdit::TagPut { key, .. }
+            | TagEdit::TagDropped { key }
+            | TagEdit::GrantPut { key, .. }
+            | TagEdit::GrantDropped { key, .. },
+        ) => Some(key),
         _ => None,
     }
 }

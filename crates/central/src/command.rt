@@ -4,6 +4,7 @@ use crate::help;
 use crate::journal::level_of;
 use clap::error::ErrorKind;
 use clap::{Arg, ArgAction, ArgMatches, Command, Error, value_parser};
+use clients::{AskOptions, SimOptions};
 use log::LevelFilter;
 use ocpp_types::Text;
 use std::alloc::{AllocError, Global};
@@ -51,24 +52,6 @@ pub struct ServeOptions {
     pub turns: Option<u32>,
     /// Which lines its log has.
     pub log: LevelFilter,
-}
-
-/// What a simulated station is to do.
-#[derive(Drop)]
-pub struct SimOptions {
-    pub port: u16,
-    pub path: Text,
-}
-
-/// What an operator asks for.
-#[derive(Drop)]
-pub struct AskOptions {
-    pub port: u16,
-    pub operator: Text,
-    /// The line to send; without it, the lines of standard input.
-    pub line: Option<Text>,
-    /// The call of a command is followed to its end.
-    pub wait: bool,
 }
 
 /// Reads the words of a command line, the program's name first. An error prints itself; it is

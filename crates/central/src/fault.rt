@@ -2,44 +2,14 @@
 
 use crate::hosted::BadOperators;
 use cached::CacheFault;
+use clients::ClientFault;
 use ocpp_types::NoMemory;
 use replay::ReplayFault;
 use std::alloc::{AllocError, AllocFailed};
-use std::fmt::{Display, Formatter, Write};
+use std::io;
 use std::net::SocketAddr;
-use std::{fmt, io};
 use store_sql::PrepareFault;
 use thiserror::Error;
-
-/// What became of a socket.
-#[derive(Debug, Drop)]
-pub enum Lost {
-    /// The system says so.
-    Failed(io::Error),
-    /// The path can't be asked for.
-    NoPath,
-    /// The handshake was answered with that status.
-    Answered(u16),
-    /// The handshake ended before it was done.
-    NoHandshake,
-    /// The connection has ended.
-    Ended,
-    /// No answer came in time.
-    Silent,
-}
-
-impl Display for Lost {
-    fn fmt<W: Write>(&self, f: &mut Formatter<W>) -> fmt::Result {
-        match self {
-            Lost::Failed(error) => write!(f, "{error}"),
-            Lost::NoPath => write!(f, "the path can't be asked for"),
-            Lost::Answered(status) => write!(f, "the handshake was answered {status}"),
-            Lost::NoHandshake => write!(f, "the handshake was not done"),
-            Lost::Ended => write!(f, "the connection has ended"),
-            Lost::Silent => write!(f, "no answer in time"),
-        }
-    }
-}
 
 /// Why a run stops.
 #[derive(Debug, Drop, Error)]
@@ -56,26 +26,26 @@ pub enum RunFault {
     /// The operators can't be hosted.
     #[error("BadOperators")]
     BadOperators(BadOperators),
-    /// A socket of that address isn't opened or fails.
+    /// A client stopped.
+    #[error("{0}")]
+    Client(ClientFault),
+    /// The socket that listens at that address isn't opened or fails.
     #[error("Stream")]
-    Stream(SocketAddr, Lost),
+    Listener(SocketAddr, io::Error),
     /// Standard input or output fails.
     #[error("Stream")]
     Console(io::Error),
-    /// The script of a station is out of its bounds.
-    #[error("Script")]
-    Script,
     /// The clock gives no moment.
     #[error("Clock")]
     Clock,
 }
 
 impl RunFault {
-    /// A call on a socket of that address failed so.
+    /// A call on the socket that listens at that address failed so.
     pub fn at(address: SocketAddr, error: io::Error) -> RunFault {
         match error.kind() {
             io::ErrorKind::OutOfMemory => RunFault::NoMemory,
-            _ => RunFault::Stream(address, Lost::Failed(error)),
+            _ => RunFault::Listener(address, error),
         }
     }
 
@@ -83,13 +53,12 @@ impl RunFault {
     pub fn write_detail(&self, rt: &HostRuntime) -> io::Result<()> {
         match self {
             RunFault::BadOperators(why) => eprintln!(rt; "{why}"),
-            RunFault::Stream(address, lost) => eprintln!(rt; "{address}: {lost}"),
+            RunFault::Client(fault) => fault.write_detail(rt),
+            RunFault::Listener(address, error) => eprintln!(rt; "{address}: {error}"),
             RunFault::Console(error) => eprintln!(rt; "standard input or output: {error}"),
-            RunFault::Database(_)
-            | RunFault::Replay(_)
-            | RunFault::NoMemory
-            | RunFault::Script
-            | RunFault::Clock => Ok(()),
+            RunFault::Database(_) | RunFault::Replay(_) | RunFault::NoMemory | RunFault::Clock => {
+                Ok(())
+            }
         }
     }
 }
@@ -107,6 +76,15 @@ impl From<CacheFault> for RunFault {
     /// The program's capacity is a good one, so a cache that isn't made found no memory.
     fn from(_fault: CacheFault) -> RunFault {
         RunFault::NoMemory
+    }
+}
+
+impl From<ClientFault> for RunFault {
+    fn from(fault: ClientFault) -> RunFault {
+        match fault {
+            ClientFault::NoMemory => RunFault::NoMemory,
+            other => RunFault::Client(other),
+        }
     }
 }
 

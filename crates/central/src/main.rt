@@ -1,9 +1,6 @@
 //! The program: replays lines, serves connections, and simulates a station.
 #![tactic(auto)]
 
-mod asking;
-mod client;
-mod clock;
 mod command;
 mod fault;
 mod help;
@@ -12,18 +9,15 @@ mod journal;
 mod new_file;
 mod records;
 mod replaying;
-mod reply;
 mod server;
-mod simulation;
 mod status;
 
-use asking::ask;
 use clap::error::ErrorKind;
+use clients::{ask, simulate};
 use command::Plan;
 use fault::RunFault;
 use replaying::replay_lines;
 use server::serve;
-use simulation::simulate;
 use station_calls::{Echo, VendorHandler};
 use std::env;
 use std::process::ExitCode;
@@ -40,23 +34,28 @@ fn main(rt: HostRuntime) -> anyhow::Result<ExitCode> {
 
 /// Does what the command line asks for, and gives the program's status.
 fn run(rt: &HostRuntime) -> Result<u8, RunFault> {
-    let alloc = rt.alloc();
-    let words: Vec<String> = env::args(rt)?.collect(alloc)?;
-    let plan = match command::read(alloc, words.as_slice()) {
-        Ok(plan) => plan,
-        Err(error) if error.kind() == ErrorKind::OutOfMemory => return Err(RunFault::NoMemory),
+    let words: Vec<String> = env::args(rt)?.collect(rt.alloc())?;
+    match command::read(rt.alloc(), words.as_slice()) {
+        Ok(plan) => carry_out(rt, plan),
+        Err(error) if error.kind() == ErrorKind::OutOfMemory => Err(RunFault::NoMemory),
         Err(error) => {
             error.print(rt)?;
-            return Ok(status::of_usage(error.use_stderr()));
+            Ok(status::of_usage(error.use_stderr()))
         }
-    };
+    }
+}
+
+/// Does what a plan asks for, and gives the program's status.
+fn carry_out(rt: &HostRuntime, plan: Plan) -> Result<u8, RunFault> {
+    let alloc = rt.alloc();
     let mut vendors: Vec<Box<dyn VendorHandler>> = Vec::new(alloc);
     vendors.push(Box::new(alloc, Echo { alloc })?)?;
-    let all_taken = match plan {
-        Plan::Replay(options) => replay_lines(rt, options, vendors).map(|()| true),
-        Plan::Serve(options) => serve(rt, options, vendors).map(|()| true),
-        Plan::Sim(options) => simulate(rt, &options).map(|()| true),
-        Plan::Ask(options) => ask(rt, &options),
-    };
-    Ok(status::of_lines(all_taken?))
+    let mut all_taken = true;
+    match plan {
+        Plan::Replay(options) => replay_lines(rt, options, vendors)?,
+        Plan::Serve(options) => serve(rt, options, vendors)?,
+        Plan::Sim(options) => simulate(rt, &options)?,
+        Plan::Ask(options) => all_taken = ask(rt, &options)?,
+    }
+    Ok(status::of_lines(all_taken))
 }

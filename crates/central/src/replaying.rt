@@ -42,10 +42,20 @@ pub fn replay_lines<V: VendorHandler>(
     }
 }
 
-/// Replays the lines over the records of a database, behind a cache.
+/// Replays the lines over the records of a database.
 fn replay_database<A: Alter + Drop, V: VendorHandler>(
     rt: &HostRuntime,
     store: SqlStore<A>,
+    operators: Vec<Text>,
+    vendors: Vec<V>,
+) -> Result<(), RunFault> {
+    replay_cached(rt, store, operators, vendors)
+}
+
+/// Replays the lines over the records of a store, behind a cache.
+fn replay_cached<S: Store + Drop, V: VendorHandler>(
+    rt: &HostRuntime,
+    store: S,
     operators: Vec<Text>,
     vendors: Vec<V>,
 ) -> Result<(), RunFault> {

@@ -1,12 +1,12 @@
 //! The server.
 
-use crate::clock::now;
 use crate::command::ServeOptions;
 use crate::fault::RunFault;
 use crate::hosted::hub_of;
 use crate::journal::{start_text, write_notes, write_start};
 use crate::records::{ANSWERS, open};
 use cached::Cached;
+use clients::now;
 use hub::{Fault, Hub};
 use hub_rows::Store;
 use log::sink::Console;
@@ -82,10 +82,21 @@ pub fn serve<V: VendorHandler>(
     serve_database(rt, store, options, vendors, opening)
 }
 
-/// Serves by the records of a database, behind a cache.
+/// Serves by the records of a database.
 fn serve_database<A: Alter + Drop, V: VendorHandler>(
     rt: &HostRuntime,
     store: SqlStore<A>,
+    options: ServeOptions,
+    vendors: Vec<V>,
+    opening: Duration,
+) -> Result<(), RunFault> {
+    serve_cached(rt, store, options, vendors, opening)
+}
+
+/// Serves by the records of a store, behind a cache.
+fn serve_cached<S: Store + Drop, V: VendorHandler>(
+    rt: &HostRuntime,
+    store: S,
     options: ServeOptions,
     vendors: Vec<V>,
     opening: Duration,
@@ -255,7 +266,7 @@ impl<S: Store + Drop, V: VendorHandler> Server<S, V> {
             .gateway
             .turn(&mut self.hub, self.moment, self.places.as_slice());
         self.report(rt, served);
-        self.streams.settle();
+        self.streams.end_turn();
     }
 
     /// Tells the fault of a turn, if it ended in one.
@@ -278,10 +289,10 @@ impl<S: Store + Drop, V: VendorHandler> Server<S, V> {
     /// Chooses whom to serve in this turn: each station whose stream may be read, and one such connection of an
     /// operator, in turn, since its order may take long. One for which there is no memory is served later.
     fn choose(&mut self) {
-        let ready = self.streams.ready();
-        let operator = next_operator(&self.gateway, ready, self.last_operator);
+        let readable = self.streams.readable_peers();
+        let operator = next_operator(&self.gateway, readable, self.last_operator);
         self.places.clear();
-        for place in ready {
+        for place in readable {
             if operator == Some(*place) || !self.gateway.is_operator(*place) {
                 let _later = self.places.push(*place);
             }

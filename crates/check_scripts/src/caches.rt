@@ -2,10 +2,11 @@
 
 use anyhow::Result;
 use cached::Cached;
+use failing_store::Failing;
 use hub_rows::{Store, StoreFault};
 use ocpp_types::TagKey;
 use std::alloc::Global;
-use store_mem::{Failing, MemStore};
+use store_mem::MemStore;
 
 /// Prints what caches of several capacities answer, and what look-ups are answered whose second asking would fail.
 pub fn try_caches(rt: &HostRuntime) -> Result<()> {

@@ -30,7 +30,7 @@ impl Tally {
     }
 }
 
-/// Checks the scripts of this folder, each over a new store.
+/// Checks the scripts, each over a new store.
 pub fn check_all<R, M>(rt: &R, stores: &M) -> Result<Tally>
 where
     R: Files + AllocGlobal + Print + Clone + Drop,

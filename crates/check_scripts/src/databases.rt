@@ -10,7 +10,7 @@ use store_sql::PrepareFault;
 /// The most bytes of a log without a change.
 const EMPTY_LOG: usize = 41;
 
-/// Opens each database of this folder, and prints what the store says of it.
+/// Opens each database, and prints what the store says of it.
 pub fn open_all(rt: &HostRuntime) -> Result<()> {
     for name in &names(rt, ".db")? {
         open(rt, name.as_str()).context(format_args!("database {name}"))?;
@@ -32,6 +32,7 @@ fn open(rt: &HostRuntime, name: &str) -> Result<()> {
     } else {
         "changed"
     };
+    let name = name.strip_prefix("databases/").unwrap_or(name);
     println!(rt; "{name}: {said}, {change}")?;
     Ok(())
 }

@@ -4,22 +4,23 @@ use crate::handed_again::{Answers, hand_all};
 use crate::script::{lines_of, operators_of, wanted_of};
 use anyhow::{Context, Result};
 use cached::Cached;
+use failing_store::Failing;
 use sqlite::Alter;
 use std::alloc::Global;
 use std::rt::Files;
-use store_mem::{Failing, MemStore};
+use store_mem::MemStore;
 use store_sql::SqlStore;
 
 /// The scripts that are tried.
 const SCRIPTS: &[&str] = &[
-    "boot_and_heartbeat",
-    "start_repeated",
-    "calls_of_a_station",
-    "reservations",
-    "local_list_of_a_station",
-    "reservations_follow_the_answer",
-    "reports_of_a_station",
-    "day_of_two_operators",
+    "stations/boot_and_heartbeat",
+    "transactions/start_repeated",
+    "commands/calls_of_a_station",
+    "reservations/reservations",
+    "local_lists/local_list_of_a_station",
+    "reservations/reservations_follow_the_answer",
+    "reports/reports_of_a_station",
+    "operators/day_of_two_operators",
 ];
 
 /// How many calls of a script fail at most, one at a time.

@@ -1,14 +1,14 @@
 //! Worked scripts: what a replay of each writes, beside what it is to write.
 //!
-//! `data/` has the lines of each script, `NAME.script`, and what is to be written, `NAME.expected`.
-//! The operators are those of `NAME.operators`, or else ACME and BETA. A fault is the last line,
+//! A folder of `data/` has the scripts of a subject: the lines of each, `NAME.script`, and what is to be written,
+//! `NAME.expected`. The operators are those of `NAME.operators`, or else ACME and BETA. A fault is the last line,
 //! `fault NAME`. Each script is replayed over a new store of each kind.
 //!
 //! `NAME.later` has the lines of a script over the file that `NAME.script` has left, and `NAME.between` statements of SQL
 //! that are run over the file before it.
 //!
-//! `data/` has databases too, `NAME.db`, which are opened. `NAME.opened` has the lines of a script over a copy of one that
-//! an earlier version of the program made, and `NAME.again` those of a script after it.
+//! `data/databases` has databases too, `NAME.db`, which are opened. `NAME.opened` has the lines of a script over a copy of
+//! one that an earlier version of the program made, and `NAME.again` those of a script after it.
 //!
 //! Some of the scripts are tried over stores of which each call fails in turn. `check_scripts memory NAME` and `check_scripts cache
 //! NAME` print what one script is answered over a store in memory, and over a cache before a database. An event that

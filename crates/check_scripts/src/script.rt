@@ -7,13 +7,36 @@ use std::fs;
 use std::path::Path;
 use std::rt::Files;
 
-/// The names of the files of this folder with that ending, without it, in their order.
+/// The folders of scripts and databases, by subject.
+const FOLDERS: &[&str] = &[
+    "commands",
+    "connections",
+    "databases",
+    "frames",
+    "grants",
+    "lines",
+    "local_lists",
+    "operators",
+    "readings",
+    "reports",
+    "reservations",
+    "stations",
+    "tags",
+    "transactions",
+    "uses",
+    "vendors",
+];
+
+/// The names of the files with that ending, without it and with their folder, in their order.
 pub fn names<R: Files + AllocGlobal + Clone + Drop>(rt: &R, ending: &str) -> Result<Vec<String>> {
-    let mut names = Vec::new(rt.alloc());
-    for entry in fs::read_dir(rt, ".")? {
-        let entry = entry?;
-        if let Some(name) = entry.file_name().strip_suffix(ending) {
-            names.push(name.to_string(rt.alloc())?)?;
+    let alloc = rt.alloc();
+    let mut names = Vec::new(alloc);
+    for folder in FOLDERS {
+        for entry in fs::read_dir(rt, *folder)? {
+            let entry = entry?;
+            if let Some(name) = entry.file_name().strip_suffix(ending) {
+                names.push(format!(in alloc; "{folder}/{name}")?)?;
+            }
         }
     }
     names.sort_unstable();

@@ -26,7 +26,8 @@ use Rattle.hub_rows.specs.declared.change.StationEdit.TheVariants.{StationAdded,
 use Rattle.hub_rows.specs.declared.change.TagEdit.TheVariants.{TagPut, TagDropped, GrantPut, GrantDropped}
 use Rattle.hub_rows.specs.declared.change.TransactionEdit.TheVariants.{TxStarted, TxStopped, ReadingsAdded}
 use Rattle.hub_rows.specs.declared.change.HoldingEdit.TheVariants.{ReservationPut, ReservationDropped, ListSet}
-use Rattle.hub_rows.specs.declared.change.StationEdit.TheVariants as edit_to
+use Rattle.hub_rows.specs.declared.change.StationEdit.TheVariants as station_edit
+use Rattle.hub_rows.specs.declared.change.TagEdit.TheVariants as tag_edit
 use Rattle.hub_rows.specs.declared.station_row.Registration.{Registration}
 use Rattle.hub_rows.specs.Lookups.{Lookups, lookups_at}
 use Rattle.ocpp_types.specs.declared.authorization_status.AuthorizationStatus.{AuthorizationStatus}
@@ -225,7 +226,7 @@ list_fits : (station : List ℕ) (c : ListUpdate) (l : Lookups) → IsSome (l.re
 list_fits station c l here =
     let kept : List LocalTag = kept_for c.update_type (l.local_list station) in
     let sent : List AuthorizationData = unwrap_or c.entries [] in
-    elim (version_of c.list_version) as (λ o. IfSome (option_map (λ version. ListSet station (record { version = version; entries = entries_after kept sent })) o) (FitsLookups l)) [
+    elim (version_of c.list_version) as (λ o. IfSome (option_map (λ version. Holdings (ListSet station (record { version = version; entries = entries_after kept sent }))) o) (FitsLookups l)) [
       | None ↦ tt
       | Some version ↦ (here, sorted-entries (not_named sent kept ++ with_info sent))
     ]
@@ -242,7 +243,7 @@ reserved_fits station c l here =
     ]
 
 cancelled_fits : (station : List ℕ) (c : CancelReservation) (l : Lookups) → IfSome (cancelled station c) (FitsLookups l)
-cancelled_fits station c l = elim (reservation_id c.reservation_id) as (λ o. IfSome (option_map (λ id. ReservationDropped station id) o) (FitsLookups l)) [ None ↦ tt | Some id ↦ tt ]
+cancelled_fits station c l = elim (reservation_id c.reservation_id) as (λ o. IfSome (option_map (λ id. Holdings (ReservationDropped station id)) o) (FitsLookups l)) [ None ↦ tt | Some id ↦ tt ]
 
 accepted_fits : (station : List ℕ) (c : Command) (l : Lookups) → IsSome (l.registration station) → IfSome (accepted_edit station c l) (FitsLookups l)
 accepted_fits station (command.CancelReservation c) l here = cancelled_fits station c l
@@ -294,16 +295,16 @@ policy_fits station policy interval f =
     let kept : Bool = is_kept_from station policy f.lookups in
     elim (f.lookups.registration station) as (λ o. f.lookups.registration station ≡ o → PlanFits f (edit_plan (policy_edit station policy interval kept o))) [
       | None ↦ λ e. tt
-      | Some r ↦ λ e. elim (nat_le interval MAX_INTERVAL) as (λ b. PlanFits f (edit_plan (cond b (cond kept (Err HasOpenTransactions) (Ok (Stations (edit_to.PolicySet station policy interval)))) (Err (BadField (codes "interval")))))) [
-        | true ↦ elim kept as (λ b. PlanFits f (edit_plan (cond b (Err HasOpenTransactions) (Ok (Stations (edit_to.PolicySet station policy interval)))))) [ true ↦ tt | false ↦ ap is_some e ]
+      | Some r ↦ λ e. elim (nat_le interval MAX_INTERVAL) as (λ b. PlanFits f (edit_plan (cond b (cond kept (Err HasOpenTransactions) (Ok (Stations (station_edit.PolicySet station policy interval)))) (Err (BadField (codes "interval")))))) [
+        | true ↦ elim kept as (λ b. PlanFits f (edit_plan (cond b (Err HasOpenTransactions) (Ok (Stations (station_edit.PolicySet station policy interval)))))) [ true ↦ tt | false ↦ ap is_some e ]
         | false ↦ tt
       ]
     ] refl
 
 put_fits : (t : Tag) (f : Facts) → PlanFits f (edit_plan (put_rule t))
 put_fits t f =
-    elim (is_tag t.text) as (λ b. PlanFits f (edit_plan (cond b (cond (is_parent t.parent) (Ok (Tags (edit_to.TagPut (key_of t.text) t))) (Err (BadField (codes "parent")))) (Err (BadField (codes "tag")))))) [
-      | true ↦ elim (is_parent t.parent) as (λ b. PlanFits f (edit_plan (cond b (Ok (Tags (edit_to.TagPut (key_of t.text) t))) (Err (BadField (codes "parent")))))) [ true ↦ refl | false ↦ tt ]
+    elim (is_tag t.text) as (λ b. PlanFits f (edit_plan (cond b (cond (is_parent t.parent) (Ok (Tags (tag_edit.TagPut (key_of t.text) t))) (Err (BadField (codes "parent")))) (Err (BadField (codes "tag")))))) [
+      | true ↦ elim (is_parent t.parent) as (λ b. PlanFits f (edit_plan (cond b (Ok (Tags (tag_edit.TagPut (key_of t.text) t))) (Err (BadField (codes "parent")))))) [ true ↦ refl | false ↦ tt ]
       | false ↦ tt
     ]
 

@@ -33,8 +33,8 @@ pub fn plan_result<S: Store>(
     payload: &Payload,
 ) -> Result<Plan, StoreFault>
     ensures reads { OnlyReads S.view store.old store.new result }
-    ensures plan { (S.view store.new).clean → IfOk result (λ p. p ≡ result_plan message.now.at.station.now message.now.id.now payload.now
-        (slot_at message.now.at.op.now message.now.at.station.now slots.now) (lookups_at message.now.at.op.now (S.view store.old).rows)) }
+    ensures plan { (S.view store.new).clean → IfOk result (λ p. p ≡ result_plan message.now.at.now.station.now message.now.id.now payload.now
+        (slot_at message.now.at.now.op.now message.now.at.now.station.now slots.now) (lookups_at message.now.at.now.op.now (S.view store.old).rows)) }
     ensures ready { IfOk result (λ p. (slot : List ℕ → StationSlot) → IsReady slot p.effect) }
 {
     let Some(command) = answered_command(slots, message) else {
@@ -52,7 +52,7 @@ pub fn plan_error(
     code: Text,
     description: Text,
 ) -> Mem<Plan>
-    ensures { IfOk result (λ p. p ≡ failure_plan message.now.at.station.now message.now.id.now code description (slot_at message.now.at.op.now message.now.at.station.now slots.now)) }
+    ensures { IfOk result (λ p. p ≡ failure_plan message.now.at.now.station.now message.now.id.now code description (slot_at message.now.at.now.op.now message.now.at.now.station.now slots.now)) }
 {
     if answered_command(slots, message).is_none() {
         return Ok(Plan::nothing(alloc));
@@ -71,7 +71,7 @@ fn answered_command<'a>(
     slots: &'a Slots<Boxed<Command>>,
     message: &MessageAt<'_>,
 ) -> Option<&'a Command>
-    ensures { option_map (λ c. c.now) result ≡ answered_command message.now.id.now (slot_at message.now.at.op.now message.now.at.station.now slots.now) }
+    ensures { option_map (λ c. c.now) result ≡ answered_command message.now.id.now (slot_at message.now.at.now.op.now message.now.at.now.station.now slots.now) }
 {
     let at = message.at;
     let command = slots.answered_command(at.op.as_str(), at.station.as_str(), message.id.as_str())?;
@@ -88,14 +88,14 @@ fn ended_plan<S: Store>(
 ) -> Result<Plan, StoreFault>
     requires { IfOk read.now (λ known. has_float known ≡ false) }
     ensures reads { OnlyReads S.view store.old store.new result }
-    ensures plan { (S.view store.new).clean → IfOk result (λ p. p ≡ changing (effect.Answer message.now.at.station.now message.now.id.now
-        (read_outcome read.now) (edit_by message.now.at.station.now command.now read.now (lookups_at message.now.at.op.now (S.view store.old).rows)))) }
+    ensures plan { (S.view store.new).clean → IfOk result (λ p. p ≡ changing (effect.Answer message.now.at.now.station.now message.now.id.now
+        (read_outcome read.now) (edit_by message.now.at.now.station.now command.now read.now (lookups_at message.now.at.now.op.now (S.view store.old).rows)))) }
     ensures ready { IfOk result (λ p. (slot : List ℕ → StationSlot) → IsReady slot p.effect) }
 {
     let answered = message.at.station.clone()?;
     let number = message.id.clone()?;
     let outcome = read_outcome(alloc, read)?;
-    let edit = read_edit(alloc, store, &message.at, command, read)?;
+    let edit = read_edit(alloc, store, message.at, command, read)?;
     let effect = Effect::Answer {
         station: answered,
         id: number,

@@ -45,14 +45,14 @@ pub fn plan_text<S: Store, V: VendorHandler>(
             payload,
         } => {
             let class = action_class(action.as_str());
-            plan_call(alloc, book, &MessageAt { at: *at, id: &id }, class, &payload)
+            plan_call(alloc, book, &MessageAt { at, id: &id }, class, &payload)
         }
         Frame::Broken { id } => {
             let code = ErrorCode::FormationViolation;
             Ok(error_plan(alloc, at.station, &id, code, "")?)
         }
         Frame::CallResult { id, payload } => {
-            let message = MessageAt { at: *at, id: &id };
+            let message = MessageAt { at, id: &id };
             plan_result(alloc, &mut book.store, slots, &message, &payload)
         }
         Frame::CallError {
@@ -60,7 +60,7 @@ pub fn plan_text<S: Store, V: VendorHandler>(
             code,
             description,
         } => {
-            let message = MessageAt { at: *at, id: &id };
+            let message = MessageAt { at, id: &id };
             Ok(plan_error(alloc, slots, &message, code, description)?)
         }
         Frame::Ignored => Ok(Plan::nothing(alloc)),
@@ -77,7 +77,7 @@ fn plan_call<S: Store, V: VendorHandler>(
 ) -> Result<Plan, StoreFault>
     ensures reads { OnlyReads (book_view S.view) book.old book.new result }
     ensures plan { IsCleanBook S.view book.new → IfOk result (λ p. p
-        ≡ call_plan (book_answers V.view book.old) call.now.at.station.now call.now.id.now class payload.now call.now.at.moment (lookups_at call.now.at.op.now (book_rows S.view book.old))) }
+        ≡ call_plan (book_answers V.view book.old) call.now.at.now.station.now call.now.id.now class payload.now call.now.at.now.moment (lookups_at call.now.at.now.op.now (book_rows S.view book.old))) }
     ensures answers { book_answers V.view book.new ≡ book_answers V.view book.old }
     ensures ready { IfOk result (λ p. (slot : List ℕ → StationSlot) → IsReady slot p.effect) }
 {
@@ -103,12 +103,12 @@ fn plan_known<S: Store, V: VendorHandler>(
 ) -> Result<Plan, StoreFault>
     ensures reads { OnlyReads (book_view S.view) book.old book.new result }
     ensures plan { IsCleanBook S.view book.new → IfOk result (λ p. p
-        ≡ state_plan (book_answers V.view book.old) call.now.at.station.now ((lookups_at call.now.at.op.now (book_rows S.view book.old)).registration call.now.at.station.now)
-        call.now.id.now action payload.now call.now.at.moment (lookups_at call.now.at.op.now (book_rows S.view book.old))) }
+        ≡ state_plan (book_answers V.view book.old) call.now.at.now.station.now ((lookups_at call.now.at.now.op.now (book_rows S.view book.old)).registration call.now.at.now.station.now)
+        call.now.id.now action payload.now call.now.at.now.moment (lookups_at call.now.at.now.op.now (book_rows S.view book.old))) }
     ensures answers { book_answers V.view book.new ≡ book_answers V.view book.old }
     ensures ready { IfOk result (λ p. (slot : List ℕ → StationSlot) → IsReady slot p.effect) }
 {
-    let StationAt { op, station, .. } = call.at;
+    let StationAt { op, station, .. } = *call.at;
     let Some(registration) = book.store.station(op.as_str(), station.as_str())? else {
         return Ok(error_plan(alloc, station, call.id, ErrorCode::InternalError, "")?);
     };
@@ -117,7 +117,7 @@ fn plan_known<S: Store, V: VendorHandler>(
     }
     match read_request(alloc, action, payload.as_value())? {
         Ok(request) => {
-            let decision = decide(alloc, book, &call.at, registration, request)?;
+            let decision = decide(alloc, book, call.at, registration, request)?;
             Ok(decided_plan(alloc, station, call.id, decision)?)
         }
         Err(fault) => {

@@ -7,7 +7,7 @@ use registry::StationAt;
 #[derive(Clone, Copy, Drop)]
 pub struct MessageAt<'a> {
     /// The station and the moment.
-    pub at: StationAt<'a>,
+    pub at: &'a StationAt<'a>,
     /// The id of the call, or of the call that is answered.
     pub id: &'a Text,
 }

@@ -18,7 +18,7 @@ const _: () = prove!(size_of::<Conf>() <= 128);
 
 const _: () = prove!(size_of::<Decision>() <= 128);
 
-const _: () = prove!(size_of::<Edit>() <= 168);
+const _: () = prove!(size_of::<Edit>() <= 176);
 
 const _: () = prove!(size_of::<Effect>() <= 128);
 

@@ -52,4 +52,4 @@ version_of (negsuc n) = None
 
 -- the list of a station that has accepted a command; a command with a version out of its range edits nothing
 abbrev pub list_set : List ℕ → Option LocalList → ListUpdate → Option Edit
-list_set station kept c = option_map (λ version. ListSet station (record { version = version; entries = entries_after (kept_for c.update_type kept) (unwrap_or c.entries []) })) (version_of c.list_version)
+list_set station kept c = option_map (λ version. Holdings (ListSet station (record { version = version; entries = entries_after (kept_for c.update_type kept) (unwrap_or c.entries []) }))) (version_of c.list_version)

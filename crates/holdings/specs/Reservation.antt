@@ -49,10 +49,10 @@ reservation_of c connector = record { connector = connector; tag = c.id_tag; par
 
 -- the reservation at its id; a command out of its ranges edits nothing
 abbrev pub put_at : List ℕ → ReserveNow → ℕ → Option ℕ → Option Edit
-put_at station c connector id = option_map (λ id. ReservationPut station id (reservation_of c connector)) id
+put_at station c connector id = option_map (λ id. Holdings (ReservationPut station id (reservation_of c connector))) id
 
 abbrev pub reserved : List ℕ → ReserveNow → Option Edit
 reserved station c = option_and_then (λ connector. put_at station c connector (reservation_id c.reservation_id)) (connector_of c.connector_id)
 
 abbrev pub cancelled : List ℕ → CancelReservation → Option Edit
-cancelled station c = option_map (λ id. ReservationDropped station id) (reservation_id c.reservation_id)
+cancelled station c = option_map (λ id. Holdings (ReservationDropped station id)) (reservation_id c.reservation_id)

@@ -35,7 +35,7 @@ pub struct Streams {
     free: Vec<usize>,
     /// The tokens of the streams that may be read. It has room for all.
     readable: Vec<usize>,
-    /// The places of their peers, as `ready` found them. It has room for all.
+    /// The places of their peers, as `readable_peers` found them. It has room for all.
     places: Vec<usize>,
     /// The places of the peers to whom a ping is due, as `find_silent` found them. It has room for all.
     to_ping: Vec<usize>,
@@ -164,7 +164,7 @@ impl Streams {
     }
 
     /// The places of the peers whose streams may be read, in order.
-    pub fn ready(&mut self) -> &[usize] {
+    pub fn readable_peers(&mut self) -> &[usize] {
         self.places.clear();
         for token in &self.readable {
             if let Some(Some(link)) = self.links.get(*token) {
@@ -222,16 +222,17 @@ impl Streams {
     }
 
     /// Ends a turn: what was written is given to the system, and the streams that are gone are closed.
-    pub fn settle(&mut self) {
+    pub fn end_turn(&mut self) {
         for _ in 0..self.turn.count_used() {
             if let Some(token) = self.turn.take_used() {
-                self.settle_one(token);
+                self.give_and_release(token);
             }
         }
         self.unlist();
     }
 
-    fn settle_one(&mut self, token: usize) {
+    /// Gives the system what waits in the stream with that token, and closes it if it is gone.
+    fn give_and_release(&mut self, token: usize) {
         if let Some(Some(link)) = self.links.get(token) {
             link.is_noted.set(false);
             link.give();

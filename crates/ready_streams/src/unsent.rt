@@ -8,8 +8,8 @@ use std::{io, mem};
 /// As soon as so many bytes wait they are given to the system.
 const ENOUGH: usize = 65_536;
 
-/// The most room that is kept when no byte waits.
-const KEPT: usize = 4096;
+/// The most room that stays when no byte waits.
+const IDLE_ROOM: usize = 4096;
 
 /// Bytes that wait until the system takes them.
 #[derive(Drop)]
@@ -93,7 +93,7 @@ impl Unsent {
 
     fn clear(&mut self) {
         self.sent = 0;
-        if self.bytes.capacity() > KEPT {
+        if self.bytes.capacity() > IDLE_ROOM {
             let alloc = *self.bytes.allocator();
             drop(mem::replace(&mut self.bytes, Vec::new(alloc)));
         } else {

@@ -23,7 +23,10 @@ fn put_row<S: Alter>(
     ensures same_reference { tx.new.conn.ghost_name ≡ tx.old.conn.ghost_name }
     ensures goes { IsInside (state S.Store tx.old.conn.now) → Goes (IsMade (edit op.now (Tags (GrantPut key.now to.now until.now)))) (state S.Store tx.old.conn.now) (state S.Store tx.new.conn.now) result }
 {
-    tx.execute(sql_tables::grants::PUT, params![op, key, to, seconds_if_any(until)])
+    tx.execute(
+        sql_tables::grants::PUT,
+        params![op, key, to, seconds_if_any(until)],
+    )
 }
 
 /// Drops the row of a grant.

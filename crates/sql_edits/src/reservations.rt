@@ -47,7 +47,10 @@ fn drop_row<S: Alter>(
     ensures same_reference { tx.new.conn.ghost_name ≡ tx.old.conn.ghost_name }
     ensures goes { IsInside (state S.Store tx.old.conn.now) → Goes (IsMade (edit op.now (Holdings (ReservationDropped station.now id)))) (state S.Store tx.old.conn.now) (state S.Store tx.new.conn.now) result }
 {
-    tx.execute(sql_tables::reservations::DROP, params![op, station, id.get()])
+    tx.execute(
+        sql_tables::reservations::DROP,
+        params![op, station, id.get()],
+    )
 }
 
 /// Puts a reservation, in place of the one with its id.

@@ -25,7 +25,10 @@ fn add_owner<S: Alter>(
     ensures same_reference { tx.new.conn.ghost_name ≡ tx.old.conn.ghost_name }
     ensures goes { IsInside (state S.Store tx.old.conn.now) → Goes (IsMade (λ rows. record rows { tx_owners = put (by_key tx_owner_key) (record { op = op.now; station = station.now; number = number; owner = owner.now }) rows.tx_owners })) (state S.Store tx.old.conn.now) (state S.Store tx.new.conn.now) result }
 {
-    tx.execute(sql_tables::tx_owners::ADD, params![op, station, number, owner])
+    tx.execute(
+        sql_tables::tx_owners::ADD,
+        params![op, station, number, owner],
+    )
 }
 
 /// Puts the owner of the tag with which a transaction begins, where another operator granted it.

@@ -28,7 +28,10 @@ fn list_of_tx<S: Alter>(
     requires { transaction < 2 ^ 63 }
     ensures shows { IsServing (state S.Store conn.old) → Shows (λ v. v.items) readings (λ r. bytes_eq r.op op.now && is_reading station.now (Some transaction) r) (state S.Store conn.old) (state S.Store conn.new) result }
 {
-    conn.query_all(sql_tables::readings::LIST_OF_TX, params![op, station, transaction as i64])
+    conn.query_all(
+        sql_tables::readings::LIST_OF_TX,
+        params![op, station, transaction as i64],
+    )
 }
 
 fn find_last<S: Alter>(conn: &mut Connection<S>, op: &str, station: &str) -> Result<Vec<Row>, Error>

@@ -25,14 +25,20 @@ fn find_one<S: Alter>(
     ensures shows { IsServing (state S.Store conn.old) → Shows (λ v. v.items) reservations (λ r. bytes_eq r.op op.now && is_reservation station.now id r) (state S.Store conn.old) (state S.Store conn.new) result }
 {
     let number = id.get();
-    conn.query_all(sql_tables::reservations::FIND, params![op, station, number, number])
+    conn.query_all(
+        sql_tables::reservations::FIND,
+        params![op, station, number, number],
+    )
 }
 
 fn find_all<S: Alter>(conn: &mut Connection<S>, op: &str, station: &str) -> Result<Vec<Row>, Error>
     ensures shows { IsServing (state S.Store conn.old) → Shows (λ v. v.items) reservations (λ r. bytes_eq r.op op.now && bytes_eq r.station station.now) (state S.Store conn.old) (state S.Store conn.new) result }
 {
     let above: &[u8] = &[];
-    conn.query_all(sql_tables::reservations::FIND, params![op, station, LEAST, above])
+    conn.query_all(
+        sql_tables::reservations::FIND,
+        params![op, station, LEAST, above],
+    )
 }
 
 /// The reservation of an id at a station.

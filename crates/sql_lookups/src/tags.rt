@@ -39,10 +39,7 @@ fn find_tag<S: Alter>(
 }
 
 /// All tags of an operator.
-pub fn tags<S: Alter>(
-    conn: &mut Connection<S>,
-    op: &str,
-) -> Result<Listed<TagRow>, StoreFault>
+pub fn tags<S: Alter>(conn: &mut Connection<S>, op: &str) -> Result<Listed<TagRow>, StoreFault>
     ensures asks { Asks (state S.Store conn.old) (state S.Store conn.new) result (λ rows list. list ≡ tags_in op.now rows.tags) }
 {
     listed(find_all(conn, op))

@@ -119,10 +119,7 @@ pub fn txs<S: Alter>(
 }
 
 /// The open transactions of an operator.
-pub fn open_txs<S: Alter>(
-    conn: &mut Connection<S>,
-    op: &str,
-) -> Result<Listed<TxRow>, StoreFault>
+pub fn open_txs<S: Alter>(conn: &mut Connection<S>, op: &str) -> Result<Listed<TxRow>, StoreFault>
     ensures asks { Asks (state S.Store conn.old) (state S.Store conn.new) result (λ rows list. list ≡ open_txs_in op.now rows.transactions) }
 {
     listed(list_all_open(conn, op))

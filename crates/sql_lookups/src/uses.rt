@@ -20,10 +20,7 @@ fn list<S: Alter>(conn: &mut Connection<S>, op: &str) -> Result<Vec<Row>, Error>
 }
 
 /// The uses of an owner.
-pub fn uses<S: Alter>(
-    conn: &mut Connection<S>,
-    op: &str,
-) -> Result<Listed<UseRow>, StoreFault>
+pub fn uses<S: Alter>(conn: &mut Connection<S>, op: &str) -> Result<Listed<UseRow>, StoreFault>
     ensures asks { Asks (state S.Store conn.old) (state S.Store conn.new) result (λ rows list. list ≡ uses_in op.now rows.uses) }
 {
     listed(list(conn, op))

@@ -1,11 +1,12 @@
 //! Reservations and local lists, read from their columns.
 
-
-use crate::columns::{connector, count, moment, moment_if_any, named, reservation_id, text, text_if_any};
+use crate::columns::{
+    connector, count, moment, moment_if_any, named, reservation_id, text, text_if_any,
+};
+use crate::list_rows::{EntryRow, ListHead};
 use crate::stored::Stored;
 use hub_rows::{LocalTag, Reservation, ReservationRow, StoreFault};
 use ocpp_types::IdTagInfo;
-use crate::list_rows::{EntryRow, ListHead};
 use sqlite::Row;
 use std::alloc::Global;
 

@@ -6,7 +6,9 @@ ghost use Rattle.sqlite_value.specs.Order.{column};
 
 use crate::columns::{connector, count, moment, moment_if_any, named, number, text, text_if_any};
 use crate::stored::Stored;
-use hub_rows::{Boot, ConnectorReport, ConnectorRow, ReportRow, ReportedStatus, StationRow, StoreFault};
+use hub_rows::{
+    Boot, ConnectorReport, ConnectorRow, ReportRow, ReportedStatus, StationRow, StoreFault,
+};
 use ocpp_types::{BootNotification, Boxed};
 use sqlite::Row;
 use std::alloc::Global;

@@ -1,6 +1,5 @@
 //! Id tags and grants, read from their columns.
 
-
 use crate::columns::{flag, key, moment_if_any, text, text_if_any};
 use crate::stored::Stored;
 use hub_rows::{GrantRow, StoreFault, Tag, TagRow};

@@ -2,7 +2,10 @@
 ghost use Rattle.std.specs.Prelude.{◌≡◌, IfOk, None, Some, ◌<◌};
 ghost use Rattle.sql_rows.specs.TypedTables.{stop_in, txs, readings};
 
-use crate::columns::{connector, count, key, moment, moment_if_any, named, named_if_any, number, number_if_any, text, text_if_any};
+use crate::columns::{
+    connector, count, key, moment, moment_if_any, named, named_if_any, number, number_if_any, text,
+    text_if_any,
+};
 use crate::stored::Stored;
 use hub_rows::{Reading, ReadingRow, Start, StartKey, Stop, StoreFault, TxOwnerRow, TxRow, UseRow};
 use sqlite::Row;

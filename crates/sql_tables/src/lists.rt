@@ -11,10 +11,14 @@ macro_rules! with_columns {
     };
 }
 
-pub const CREATE: &str = "CREATE TABLE hub_list (op TEXT NOT NULL, station TEXT NOT NULL, version INTEGER NOT NULL, PRIMARY KEY (op, station)) STRICT";
+pub const CREATE: &str =
+    "CREATE TABLE hub_list (op TEXT NOT NULL, station TEXT NOT NULL, version INTEGER NOT NULL, PRIMARY KEY (op, station)) STRICT";
 
 /// The version of a station's local list.
 pub const FIND: &str = with_columns!("SELECT ", " FROM hub_list WHERE op = ?1 AND station = ?2");
 
 /// Puts a version in place of the one of that station.
-pub const PUT: &str = with_columns!("INSERT INTO hub_list (", ") VALUES (?1, ?2, ?3) ON CONFLICT (op, station) DO UPDATE SET version = excluded.version");
+pub const PUT: &str = with_columns!(
+    "INSERT INTO hub_list (",
+    ") VALUES (?1, ?2, ?3) ON CONFLICT (op, station) DO UPDATE SET version = excluded.version"
+);

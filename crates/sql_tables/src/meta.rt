@@ -1,8 +1,10 @@
 //! hub_meta: the number of the schema of a database.
 
-pub const CREATE: &str = "CREATE TABLE hub_meta (name TEXT NOT NULL, number INTEGER NOT NULL, PRIMARY KEY (name)) STRICT";
+pub const CREATE: &str =
+    "CREATE TABLE hub_meta (name TEXT NOT NULL, number INTEGER NOT NULL, PRIMARY KEY (name)) STRICT";
 
 pub const LIST: &str = "SELECT * FROM hub_meta";
 
 /// Puts a row in place of the one of its name.
-pub const PUT: &str = "INSERT INTO hub_meta (name, number) VALUES (?1, ?2) ON CONFLICT (name) DO UPDATE SET number = excluded.number";
+pub const PUT: &str =
+    "INSERT INTO hub_meta (name, number) VALUES (?1, ?2) ON CONFLICT (name) DO UPDATE SET number = excluded.number";

@@ -11,10 +11,14 @@ macro_rules! with_columns {
     };
 }
 
-pub const CREATE: &str = "CREATE TABLE hub_tx_owner (op TEXT NOT NULL, station TEXT NOT NULL, number INTEGER NOT NULL, owner TEXT NOT NULL, PRIMARY KEY (op, station, number)) STRICT";
+pub const CREATE: &str =
+    "CREATE TABLE hub_tx_owner (op TEXT NOT NULL, station TEXT NOT NULL, number INTEGER NOT NULL, owner TEXT NOT NULL, PRIMARY KEY (op, station, number)) STRICT";
 
 /// The owner of the tag of one transaction.
-pub const FIND: &str = with_columns!("SELECT ", " FROM hub_tx_owner WHERE op = ?1 AND station = ?2 AND number = ?3");
+pub const FIND: &str = with_columns!(
+    "SELECT ",
+    " FROM hub_tx_owner WHERE op = ?1 AND station = ?2 AND number = ?3"
+);
 
 /// Adds an owner.
 pub const ADD: &str = with_columns!("INSERT INTO hub_tx_owner (", ") VALUES (?1, ?2, ?3, ?4)");

@@ -7,4 +7,3 @@ pub mod Received
 pub mod Starts
 pub mod TxOwners
 pub mod Uses
-pub mod Edits

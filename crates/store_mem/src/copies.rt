@@ -6,6 +6,14 @@ use hub_rows::NamedRow;
 use ocpp_types::{Listed, Mem};
 use std::alloc::Global;
 
+/// A copy of a row, or of what is in one.
+pub fn copy<R: Clone>(row: &R) -> Mem<R>
+    requires { (row copy : R) → R.is_clone row copy → copy ≡ row }
+    ensures { IfOk result (λ copy. copy ≡ row.now) }
+{
+    Ok(row.clone()?)
+}
+
 /// Copies of all rows.
 #[tactic(auto, using(hub_rows::proofs::Steps::drop_here))]
 pub fn copies<R: Clone + Drop>(alloc: Global, rows: &[R]) -> Mem<Listed<R>>

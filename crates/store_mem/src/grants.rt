@@ -8,6 +8,7 @@ ghost use Rattle.hub_rows.specs.Rows.{grant_key};
 ghost use Rattle.store_mem.specs.Groups.{all_of, AreGroups};
 ghost use Rattle.store_mem.specs.Received.{receiver_key, AreReceived};
 
+use crate::copies::copy;
 use crate::groups::{Group, make_room, place_of_group, put_in_room, rows_of_group};
 use crate::received::{Received, drop_from_each};
 use crate::triples::{drop_row, place_of_row};
@@ -48,7 +49,7 @@ impl Grants {
         make_room(self.alloc, &mut self.given, grant.op.as_str())?;
         make_room(self.alloc, &mut self.received, grant.to.as_str())?;
         let received = Received {
-            grant: grant.clone()?,
+            grant: copy(&grant)?,
         };
         put_in_room(&mut self.received, received);
         put_in_room(&mut self.given, grant);

@@ -78,22 +78,22 @@ pub fn make_room<R: GroupedRow>(alloc: Global, groups: &mut Vec<Group<R>>, name:
     ensures room { OnOk result (HasRoom name.now groups.new.items) }
 {
     match place_of_group(groups.as_slice(), name) {
-        Ok(place) => make_room_in(&mut groups[place])?,
+        Ok(place) => make_room_in(&mut groups[place].rows),
         Err(place) => {
             let rows = Vec::with_capacity(alloc, 1)?;
             let name = Text::copy_of(alloc, name)?;
             groups.insert(place, Group { name, rows })?;
+            Ok(())
         }
     }
-    Ok(())
 }
 
-fn make_room_in<R: Drop>(group: &mut Group<R>) -> Mem<()>
-    ensures name { group.new.name ≡ group.old.name }
-    ensures rows { group.new.rows.items ≡ group.old.rows.items }
-    ensures room { OnOk result (vec_len group.new.rows < vec_capacity group.new.rows) }
+/// Makes room for one more row.
+pub fn make_room_in<R: Drop>(rows: &mut Vec<R>) -> Mem<()>
+    ensures rows { rows.new.items ≡ rows.old.items }
+    ensures room { OnOk result (vec_len rows.new < vec_capacity rows.new) }
 {
-    group.rows.reserve(1)?;
+    rows.reserve(1)?;
     Ok(())
 }
 

@@ -3,7 +3,6 @@
 
 mod copies;
 mod edits;
-mod failing;
 mod granted;
 mod grants;
 mod groups;
@@ -14,7 +13,6 @@ mod open;
 mod readings;
 mod received;
 mod reservations;
-mod started;
 mod starts;
 mod station_copies;
 mod station_rows;
@@ -26,5 +24,4 @@ mod tx_owners;
 mod tx_rows;
 mod uses;
 
-pub use failing::Failing;
 pub use mem_store::MemStore;

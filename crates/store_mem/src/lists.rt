@@ -17,6 +17,7 @@ use std::alloc::Global;
 /// The records of all operators, each kind in the order of its keys or in groups.
 #[derive(Drop)]
 pub struct Lists {
+    pub alloc: Global,
     pub stations: Vec<StationRow>,
     pub connectors: Vec<ConnectorRow>,
     pub tags: Tags,
@@ -36,6 +37,7 @@ impl Lists {
         ensures { rows_in result ≡ no_rows }
     {
         Lists {
+            alloc,
             stations: Vec::new(alloc),
             connectors: Vec::new(alloc),
             tags: Tags::new(alloc),

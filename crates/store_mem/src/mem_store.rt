@@ -13,9 +13,9 @@ use crate::reservations::reserved_until;
 use crate::station_copies::{copies_of_station, local_list_of};
 use crate::stations::registration_of;
 use hub_rows::{
-    Change, ConnectorRow, GrantRow, GrantedTag, Info, LastNumbers, LocalList, ReadingRow,
-    Registration, ReportRow, ReservationId, ReservationRow, StartKey, StationRow, Store,
-    StoreFault, TagRow, TxKey, TxRow, TxState, UseRow,
+    Change, ConnectorRow, GrantRow, GrantedTag, Info, LocalList, ReadingRow, Registration,
+    ReportRow, ReservationId, ReservationRow, StartKey, StationRow, Store, StoreFault, TagRow,
+    TxKey, TxRow, TxState, UseRow,
 };
 use ocpp_types::{Listed, Moment, TagKey};
 use std::alloc::Global;
@@ -23,8 +23,7 @@ use std::alloc::Global;
 /// Records in memory. It is always clean, and fails only where memory is refused.
 #[derive(Drop)]
 pub struct MemStore {
-    pub(crate) alloc: Global,
-    pub(crate) lists: Lists,
+    lists: Lists,
     ghost good: { WellFormedRows (rows_in lists) } by { Prim.hlevel props },
 }
 
@@ -34,7 +33,6 @@ impl MemStore {
         ensures { (⟦<MemStore as Store>⟧.view result).rows ≡ no_rows }
     {
         MemStore {
-            alloc,
             lists: Lists::new(alloc),
         }
     }
@@ -89,11 +87,12 @@ impl Store for MemStore {
         Ok(self.lists.transactions.has_open(op, station))
     }
 
-    fn last_numbers(&mut self, op: &str, station: &str) -> Result<LastNumbers, StoreFault> {
-        Ok(LastNumbers {
-            transaction: self.lists.transactions.last_number(op, station),
-            reading: self.lists.readings.last_number(op, station),
-        })
+    fn last_tx(&mut self, op: &str, station: &str) -> Result<u32, StoreFault> {
+        Ok(self.lists.transactions.last_number(op, station))
+    }
+
+    fn last_reading(&mut self, op: &str, station: &str) -> Result<u32, StoreFault> {
+        Ok(self.lists.readings.last_number(op, station))
     }
 
     fn reserved_until(
@@ -106,34 +105,34 @@ impl Store for MemStore {
     }
 
     fn local_list(&mut self, op: &str, station: &str) -> Result<Option<LocalList>, StoreFault> {
-        Ok(local_list_of(self.alloc, &self.lists.local_lists, op, station)?)
+        Ok(local_list_of(self.lists.alloc, &self.lists.local_lists, op, station)?)
     }
 
     fn stations(&mut self, op: &str) -> Result<Listed<StationRow>, StoreFault> {
-        Ok(own_copies(self.alloc, &self.lists.stations, op)?)
+        Ok(own_copies(self.lists.alloc, &self.lists.stations, op)?)
     }
 
     fn tags(&mut self, op: &str) -> Result<Listed<TagRow>, StoreFault> {
-        Ok(copies(self.alloc, self.lists.tags.of_operator(op))?)
+        Ok(copies(self.lists.alloc, self.lists.tags.of_operator(op))?)
     }
 
     fn grants_out(&mut self, op: &str) -> Result<Listed<GrantRow>, StoreFault> {
         let given = rows_of_group(&self.lists.grants.given, op);
-        Ok(copies(self.alloc, given)?)
+        Ok(copies(self.lists.alloc, given)?)
     }
 
     fn granted(&mut self, op: &str) -> Result<Listed<GrantedTag>, StoreFault> {
         let Lists { tags, grants, .. } = &self.lists;
-        Ok(granted(self.alloc, tags, grants, op)?)
+        Ok(granted(self.lists.alloc, tags, grants, op)?)
     }
 
     fn connectors(&mut self, op: &str, station: &str) -> Result<Listed<ConnectorRow>, StoreFault> {
-        Ok(copies_of_station(self.alloc, &self.lists.connectors, op, station)?)
+        Ok(copies_of_station(self.lists.alloc, &self.lists.connectors, op, station)?)
     }
 
     fn txs(&mut self, op: &str, station: &str, first: u32) -> Result<Listed<TxRow>, StoreFault> {
         let rows = self.lists.transactions.of_station(op, station, first);
-        Ok(copies(self.alloc, rows)?)
+        Ok(copies(self.lists.alloc, rows)?)
     }
 
     fn open_txs(&mut self, op: &str) -> Result<Listed<TxRow>, StoreFault> {
@@ -155,18 +154,18 @@ impl Store for MemStore {
         op: &str,
         station: &str,
     ) -> Result<Listed<ReservationRow>, StoreFault> {
-        Ok(copies_of_station(self.alloc, &self.lists.reservations, op, station)?)
+        Ok(copies_of_station(self.lists.alloc, &self.lists.reservations, op, station)?)
     }
 
     fn reports(&mut self, op: &str, station: &str) -> Result<Listed<ReportRow>, StoreFault> {
-        Ok(copies_of_station(self.alloc, &self.lists.reports, op, station)?)
+        Ok(copies_of_station(self.lists.alloc, &self.lists.reports, op, station)?)
     }
 
     fn uses(&mut self, op: &str) -> Result<Listed<UseRow>, StoreFault> {
-        Ok(copies(self.alloc, self.lists.uses.of_owner(op))?)
+        Ok(copies(self.lists.alloc, self.lists.uses.of_owner(op))?)
     }
 
-    fn apply(&mut self, change: &Change) -> Result<(), StoreFault> {
-        Ok(self.make(change)?)
+    fn apply(&mut self, change: &Change<'_>) -> Result<(), StoreFault> {
+        Ok(self.lists.make(change.op, change.edit)?)
     }
 }

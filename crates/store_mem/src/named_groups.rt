@@ -1,11 +1,12 @@
 //! Rows that are kept in groups, each of an operator and a name, so that a change of one group
 //! moves no row of another.
-ghost use Rattle.std.specs.Prelude.{◌≡◌, ℕ, ◌<◌, List, ◌&&◌, if◌then◌else◌, OnOk, vec_len, vec_capacity};
+ghost use Rattle.std.specs.Prelude.{◌≡◌, ℕ, List, ◌&&◌, if◌then◌else◌, OnOk};
 ghost use Rattle.std.specs.List.Sorted.{IsStrictlySortedBy};
 ghost use Rattle.std.specs.Str.{bytes_eq};
 ghost use Rattle.hub_rows.specs.Keyed.{by_key, put};
 ghost use Rattle.store_mem.specs.NamedGroups.{rows_at, all_rows, AreGrouped, AreInPlace, HasRoomAt};
 
+use crate::groups::make_room_in;
 use hub_rows::{Keyed, NamedRow, place_of_name, put_ready};
 use ocpp_types::{Mem, Text};
 use std::alloc::Global;
@@ -58,7 +59,7 @@ pub fn make_room_at<R: Drop>(
     ensures room { OnOk result (HasRoomAt op.now name.now groups.new.items) }
 {
     match place_of_name(groups.as_slice(), op, name) {
-        Ok(place) => make_room_in(&mut groups[place])?,
+        Ok(place) => make_room_in(&mut groups[place].rows),
         Err(place) => {
             let group = NamedGroup {
                 op: Text::copy_of(alloc, op)?,
@@ -66,19 +67,9 @@ pub fn make_room_at<R: Drop>(
                 rows: Vec::with_capacity(alloc, 1)?,
             };
             groups.insert(place, group)?;
+            Ok(())
         }
     }
-    Ok(())
-}
-
-fn make_room_in<R: Drop>(group: &mut NamedGroup<R>) -> Mem<()>
-    ensures op { group.new.op ≡ group.old.op }
-    ensures name { group.new.name ≡ group.old.name }
-    ensures rows { group.new.rows.items ≡ group.old.rows.items }
-    ensures room { OnOk result (vec_len group.new.rows < vec_capacity group.new.rows) }
-{
-    group.rows.reserve(1)?;
-    Ok(())
 }
 
 /// Puts a row at its place among those under its name. There is room for it, so that it can't fail.

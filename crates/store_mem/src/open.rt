@@ -11,6 +11,7 @@ ghost use Rattle.hub_rows.specs.declared.tx_row.Stop.{Stop};
 ghost use Rattle.store_mem.specs.NamedGroups.{all_rows, AreGrouped, rows_at, AreInPlace, HasRoomAt};
 ghost use Rattle.store_mem.specs.Open.{open_key, open_of, has_at, has_other, is_excepted, is_open_tx, tx_of, txs_of, AreOpens};
 
+use crate::copies::copy;
 use crate::named_groups::{NamedGroup, drop_if_empty, make_room_at, put_at};
 use crate::station_rows::row_of_number;
 use hub_rows::{Keyed, TxKey, TxRow, place_of_name};
@@ -92,7 +93,7 @@ fn tx_of(groups: &[NamedGroup<TxRow>], op: &str, row: &OpenRow) -> Mem<Option<Tx
     ensures { IfOk result (λ r. r ≡ tx_of op.now (all_rows groups.now) row.now) }
 {
     match row_of_number(groups, op, row.station.as_str(), row.number) {
-        Some(tx) => Ok(Some(tx.clone()?)),
+        Some(tx) => Ok(Some(copy(tx)?)),
         None => Ok(None),
     }
 }

@@ -1,11 +1,11 @@
 //! Meter readings, kept station by station.
-ghost use Rattle.std.specs.Prelude.{◌≡◌, ◌+◌, ◌≤◌, [], length, filter, map, None, IfOk, OnOk, OnErr};
+ghost use Rattle.std.specs.Prelude.{◌≡◌, ◌+◌, ◌≤◌, [], length, filter, IfOk, OnOk, OnErr};
 ghost use Rattle.std.proofs.Props.{props};
 ghost use Rattle.hub_rows.specs.Changes.{with_readings};
-ghost use Rattle.hub_rows.specs.Keyed.{greatest};
-ghost use Rattle.hub_rows.specs.Transactions.{reading_rows, readings_in, is_sent_with, AreNext};
+ghost use Rattle.hub_rows.specs.Transactions.{last_reading_in, reading_rows, readings_in, is_sent_with, AreNext};
 ghost use Rattle.store_mem.specs.NamedGroups.{all_rows, AreGrouped};
 
+use crate::copies::copy;
 use crate::named_groups::NamedGroup;
 use crate::station_rows::{append_rows, last_number, rows_of};
 use hub_rows::{Reading, ReadingRow};
@@ -34,7 +34,7 @@ impl Readings {
 
     /// Adds readings after those of their station, numbered from the first number on.
     pub fn add(&mut self, op: &Text, station: &Text, first: u32, readings: &[Reading]) -> Mem<()>
-        requires { AreNext (greatest (map (λ r. r.number) (readings_in op.now station.now None (all_rows self.old.rows.items)))) first (length readings.now) }
+        requires { AreNext (last_reading_in op.now station.now (all_rows self.old.rows.items)) first (length readings.now) }
         ensures ok { OnOk result (all_rows self.new.rows.items ≡ with_readings op.now station.now first readings.now (all_rows self.old.rows.items)) }
         ensures err { OnErr result (all_rows self.new.rows.items ≡ all_rows self.old.rows.items) }
     {
@@ -65,7 +65,7 @@ impl Readings {
 
     /// The number of a station's last reading, 0 where there is none.
     pub fn last_number(&self, op: &str, station: &str) -> u32
-        ensures { result ≡ greatest (map (λ r. r.number) (readings_in op.now station.now None (all_rows self.now.rows.items))) }
+        ensures { result ≡ last_reading_in op.now station.now (all_rows self.now.rows.items) }
     {
         last_number(rows_of(&self.rows, op, station))
     }
@@ -90,7 +90,7 @@ fn reading_rows(
             op: op.clone()?,
             station: station.clone()?,
             number,
-            reading: reading.clone()?,
+            reading: copy(reading)?,
         })?;
         number += 1;
     }

@@ -1,11 +1,11 @@
 //! Transactions, with what finds them.
-ghost use Rattle.std.specs.Prelude.{◌≡◌, [], map, option_map, IfOk, OnOk, OnErr};
+ghost use Rattle.std.specs.Prelude.{◌≡◌, [], option_map, IfOk, OnOk, OnErr};
 ghost use Rattle.std.specs.List.Sorted.{IsStrictlySortedBy};
 ghost use Rattle.std.proofs.Props.{props};
 ghost use Rattle.hub_rows.specs.Changes.{tx_row, with_stop};
-ghost use Rattle.hub_rows.specs.Keyed.{by_key, changed, found, greatest, put};
+ghost use Rattle.hub_rows.specs.Keyed.{by_key, changed, found, put};
 ghost use Rattle.hub_rows.specs.Rows.{tx_key};
-ghost use Rattle.hub_rows.specs.Transactions.{counts, is_open, is_tx, is_used_in, same_start_in, tx_in, has_open_in, open_txs_in, txs_in, txs_from_in, AreNext};
+ghost use Rattle.hub_rows.specs.Transactions.{counts, is_open, is_tx, is_used_in, same_start_in, tx_in, has_open_in, open_txs_in, last_tx_in, txs_from_in, AreNext};
 ghost use Rattle.store_mem.specs.NamedGroups.{all_rows, AreGrouped};
 ghost use Rattle.store_mem.specs.Open.{AreOpens};
 ghost use Rattle.store_mem.specs.Starts.{AreStarts};
@@ -14,10 +14,9 @@ use crate::named_groups::{NamedGroup, make_room_at, put_at, rows_at};
 use crate::open::{
     OpenRow, close, close_tag, has_at, has_other, make_room_if, open_of, put_counted, txs_of,
 };
-use crate::started::{start_tx, started};
 use crate::starts::{StartRow, number_of, start_of};
-use crate::station_rows::{last_number, row_of_number, rows_from, rows_of};
-use crate::tx_rows::stop_tx;
+use crate::station_rows::{last_number, put_last, row_of_number, rows_from, rows_of};
+use crate::tx_rows::{started, stop_tx};
 use hub_rows::{Start, StartKey, Stop, TxKey, TxRow, TxState};
 use ocpp_types::{Listed, Mem, Text};
 use std::alloc::Global;
@@ -57,7 +56,7 @@ impl Transactions {
 
     /// Adds a transaction after those of its station.
     pub fn start(&mut self, op: &Text, station: &Text, number: u32, start: &Start) -> Mem<()>
-        requires { AreNext (greatest (map (λ r. r.number) (txs_in op.now station.now (all_rows self.old.rows.items)))) number 1 }
+        requires { AreNext (last_tx_in op.now station.now (all_rows self.old.rows.items)) number 1 }
         ensures ok { OnOk result (all_rows self.new.rows.items ≡ put (by_key tx_key) (tx_row op.now station.now number start.now) (all_rows self.old.rows.items)) }
         ensures err { OnErr result (all_rows self.new.rows.items ≡ all_rows self.old.rows.items) }
     {
@@ -66,15 +65,16 @@ impl Transactions {
         let open_row = open_of(&row)?;
         let used_row = open_of(&row)?;
         let counts = row.counts();
-        let key = start.id.key.as_str();
-        make_room_at(self.alloc, &mut self.starts, op.as_str(), station.as_str())?;
-        make_room_if(self.alloc, &mut self.opens, op.as_str(), key, counts)?;
-        make_room_at(self.alloc, &mut self.open_txs, op.as_str(), op.as_str())?;
-        start_tx(self.alloc, &mut self.rows, op, station, row)?;
         let (op, station) = (op.as_str(), station.as_str());
+        let key = start.id.key.as_str();
+        make_room_at(self.alloc, &mut self.starts, op, station)?;
+        make_room_if(self.alloc, &mut self.opens, op, key, counts)?;
+        make_room_at(self.alloc, &mut self.open_txs, op, op)?;
+        make_room_at(self.alloc, &mut self.rows, op, station)?;
         put_at(&mut self.starts, op, station, start_row);
         put_counted(&mut self.opens, op, key, used_row, counts);
         put_at(&mut self.open_txs, op, op, open_row);
+        put_last(&mut self.rows, row);
         Ok(())
     }
 
@@ -139,7 +139,7 @@ impl Transactions {
 
     /// The number of a station's last transaction, 0 where there is none.
     pub fn last_number(&self, op: &str, station: &str) -> u32
-        ensures { result ≡ greatest (map (λ r. r.number) (txs_in op.now station.now (all_rows self.now.rows.items))) }
+        ensures { result ≡ last_tx_in op.now station.now (all_rows self.now.rows.items) }
     {
         last_number(rows_of(&self.rows, op, station))
     }

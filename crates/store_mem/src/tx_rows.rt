@@ -1,14 +1,28 @@
-//! The rows of transactions, kept station by station, are stopped.
-ghost use Rattle.std.specs.Prelude.{◌≡◌, ◌==◌, if◌then◌else◌, map};
+//! The rows of transactions as they begin and are stopped.
+ghost use Rattle.std.specs.Prelude.{◌≡◌, ◌==◌, if◌then◌else◌, map, IfOk};
 ghost use Rattle.std.specs.List.Sorted.{IsStrictlySortedBy};
-ghost use Rattle.hub_rows.specs.Changes.{with_stop};
+ghost use Rattle.hub_rows.specs.Changes.{tx_row, with_stop};
 ghost use Rattle.hub_rows.specs.Keyed.{by_key, changed};
 ghost use Rattle.hub_rows.specs.Transactions.{is_tx};
 ghost use Rattle.store_mem.specs.NamedGroups.{number_key, all_rows, AreGrouped};
 
 use crate::named_groups::NamedGroup;
 use crate::station_rows::place_of_number;
-use hub_rows::{Stop, TxRow, place_of_name};
+use hub_rows::{Start, Stop, TxRow, place_of_name};
+use ocpp_types::{Mem, Text};
+
+/// The record of a transaction that begins.
+pub fn started(op: &Text, station: &Text, number: u32, start: &Start) -> Mem<TxRow>
+    ensures { IfOk result (λ r. r ≡ tx_row op.now station.now number start.now) }
+{
+    Ok(TxRow {
+        op: op.clone()?,
+        station: station.clone()?,
+        number,
+        start: start.clone()?,
+        stop: None,
+    })
+}
 
 /// Stops a transaction, if it is there.
 pub fn stop_tx(

@@ -5,9 +5,9 @@ ghost use Rattle.hub_rows.specs.declared.store.StoreFault.TheVariants as store_f
 
 use crate::opening::{PrepareFault, fault, prepare};
 use hub_rows::{
-    Change, ConnectorRow, GrantRow, GrantedTag, Info, LocalList, ReadingRow,
-    Registration, ReportRow, ReservationId, ReservationRow, StartKey, StationRow, Store,
-    StoreFault, TagRow, TxKey, TxRow, TxState, UseRow,
+    Change, ConnectorRow, GrantRow, GrantedTag, Info, LocalList, ReadingRow, Registration,
+    ReportRow, ReservationId, ReservationRow, StartKey, StationRow, Store, StoreFault, TagRow,
+    TxKey, TxRow, TxState, UseRow,
 };
 use ocpp_types::{Listed, Moment, TagKey};
 use sql_lookups::{

@@ -11,6 +11,7 @@ use Rattle.httparse.specs.declared.Status.TheVariants.{Complete}
 use Rattle.httparse.specs.declared.spans.HeaderSpan.{HeaderSpan}
 use Rattle.httparse.specs.declared.spans.RequestSpans.{RequestSpans}
 use Rattle.websocket.specs.Headers.{Fields, fields_of}
+use Rattle.ws_handshake.specs.declared.head.TheConstants.{MAX_FIELDS}
 use Rattle.ws_handshake.specs.Heads.{BytesJudged, Either, Judged, PathJudged, UpgradeJudged, KeyJudged, HeadJudged, is_version, lacks_host, only_value}
 use Rattle.ws_handshake.specs.declared.head.Asked.{Asked}
 use Rattle.ws_peers.specs.declared.routes.Route.{Route}
@@ -48,11 +49,11 @@ by_key leads route fields len asked version key is right version_is key_is judge
 
 -- a judgement of the request that the spans cover is that of each head that the bytes begin with
 pub each_head : {E : Type 0} (buf : List ℕ) (headers : List HeaderSpan) (found : RequestSpans) (status : Status RequestSpans) (r : Result Asked E)
-    → status ≡ Complete found → FindsRequest buf 64 headers (Ok status)
+    → status ≡ Complete found → FindsRequest buf MAX_FIELDS headers (Ok status)
     → IfOk r (Judged (span_bytes buf found.path) (span_bytes buf found.method) found.version (fields_of buf (take found.headers headers)) found.len)
-    → IfOk r (λ a. (h : RequestHead) (rest : List ℕ) → ReadsRequest buf h rest → length h.fields ≤ 64 → HeadJudged h a)
+    → IfOk r (λ a. (h : RequestHead) (rest : List ℕ) → ReadsRequest buf h rest → length h.fields ≤ MAX_FIELDS → HeadJudged h a)
 each_head buf headers found status (Ok asked) same finds is =
-    let at = subst (λ s. FindsRequest buf 64 headers (Ok s)) same finds in
+    let at = subst (λ s. FindsRequest buf MAX_FIELDS headers (Ok s)) same finds in
     λ h rest reads fits. at_head buf headers found h asked (at h rest reads fits) is
 each_head buf headers found status (Err e) same finds is = tt
 

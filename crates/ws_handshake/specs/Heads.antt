@@ -1,17 +1,27 @@
 -- What the head of a request asks for.
-use Rattle.std.specs.Prelude.{◌≡◌, ◌⊎◌, ◌≤◌, ◌<◌, ℕ, Bool, true, false, not, ◌&&◌, ◌||◌, ◌==◌, List, length, map, codes, bytes_eq, Option, Some, None, if◌then◌else◌}
+use Rattle.std.specs.Prelude.{◌≡◌, ◌⊎◌, ◌≤◌, ◌<◌, ℕ, Bool, true, false, not, ◌&&◌, ◌||◌, ◌==◌, List, length, map, All, codes, bytes_eq, Option, Some, None, if◌then◌else◌}
 use Rattle.std.specs.List.{filter, list_any, slice_split}
 use Rattle.httparse.specs.Grammar.{RequestHead, ReadsRequest, HasNoRequest, NeverHasRequest, MayBecomeRequest, print_request}
-use Rattle.httparse.specs.Spans.{name_and_value, RequestExceeds}
+use Rattle.httparse.specs.Spans.{IsHeaderWithin, name_and_value, RequestExceeds}
 use Rattle.http.specs.Uri.{Spells, SpellsNone, uri_path}
-use Rattle.websocket.specs.Headers.{Fields, eq_ignore_case, header_value}
+use Rattle.websocket.specs.Headers.{Fields, eq_ignore_case, fields_of, header_value}
 use Rattle.websocket.specs.Handshake.{IsValidKey, accept_key_of}
 use Rattle.ws_peers.specs.Paths.{route_of}
 use Rattle.ws_peers.specs.declared.routes.Route.{Route}
+use Rattle.ws_handshake.specs.declared.head.TheConstants.{MAX_FIELDS, MAX_HEAD}
 use Rattle.ws_handshake.specs.declared.answer.Answer.{Answer}
 use Rattle.ws_handshake.specs.declared.answer.Answer.TheVariants as answer
 use Rattle.ws_handshake.specs.declared.head.Asked.{Asked}
+use Rattle.ws_handshake.specs.declared.head.Request.{Request}
 use Rattle.ws_handshake.specs.declared.head.Asked.TheVariants.{More, Plain, Upgraded}
+
+-- the fields of a request lie within its bytes
+abbrev pub HasFieldsWithin : Request → Type 0
+HasFieldsWithin request = All (IsHeaderWithin (length request.bytes.now)) request.fields.now
+
+-- the fields of a request
+abbrev pub fields_in : Request → Fields
+fields_in request = fields_of request.bytes.now request.fields.now
 
 -- a comma, a space or a tab
 abbrev pub is_between : ℕ → Bool
@@ -112,10 +122,10 @@ Asks bytes asked = (h : RequestHead) × (rest : List ℕ) × ReadsRequest bytes 
 -- are fewer than a head may have. They are answered where no bytes can follow that make a request of them, where they
 -- have more than 64 fields, or where they are as many as a head may have and no request yet
 abbrev pub NoHeadJudged : List ℕ → Asked → Type 0
-NoHeadJudged bytes More = (length bytes < 8192) × HasNoRequest bytes × MayBecomeRequest bytes
+NoHeadJudged bytes More = (length bytes < MAX_HEAD) × HasNoRequest bytes × MayBecomeRequest bytes
 NoHeadJudged bytes (Plain a) =
     ((a ≡ answer.BadRequest) × NeverHasRequest bytes)
-    ⊎ ((a ≡ answer.TooLarge) × (RequestExceeds 64 bytes ⊎ ((8192 ≤ length bytes) × HasNoRequest bytes)))
+    ⊎ ((a ≡ answer.TooLarge) × (RequestExceeds MAX_FIELDS bytes ⊎ ((MAX_HEAD ≤ length bytes) × HasNoRequest bytes)))
 NoHeadJudged bytes (Upgraded upgrade) = ⊥
 
 -- what the first bytes of a connection ask for

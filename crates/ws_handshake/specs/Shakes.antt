@@ -4,6 +4,7 @@ use Rattle.tungstenite.specs.Socket.{Socket, IsFresh}
 use Rattle.websocket.specs.Headers.{crlf, field_line}
 use Rattle.websocket.specs.declared.protocol.config.WebSocketConfig.{WebSocketConfig as Config}
 use Rattle.websocket.specs.declared.protocol.Role.{Role}
+use Rattle.ws_handshake.specs.declared.upgrade.TheConstants.{MAX_MESSAGE}
 use Rattle.ws_handshake.specs.Answers.{Exchanged}
 use Rattle.ws_handshake.specs.declared.head.Upgrade.{Upgrade}
 
@@ -32,4 +33,4 @@ module _ {T : Type 0} where
     pub stream : T
     pub exchanged : Exchanged remaining contents upgrade.len (upgrade_text upgrade.accept upgrade.offers_ocpp) old stream
     pub fresh : IsFresh socket stream Role.Server
-    pub limits : TakesAtMost 4_194_304 socket.conn.config
+    pub limits : TakesAtMost MAX_MESSAGE socket.conn.config

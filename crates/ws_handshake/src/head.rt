@@ -1,9 +1,8 @@
 //! The head of a request.
-ghost use Rattle.std.specs.Prelude.{◌≡◌, ℕ, List, ◌≤◌, true, length, All, IfOk, Some, option_map};
+ghost use Rattle.std.specs.Prelude.{◌≡◌, ℕ, List, ◌≤◌, true, length, IfOk, Some, option_map};
 ghost use Rattle.httparse.specs.Grammar.{RequestHead, ReadsRequest};
-ghost use Rattle.httparse.specs.Spans.{IsHeaderWithin};
-ghost use Rattle.websocket.specs.Headers.{fields_of};
-ghost use Rattle.ws_handshake.specs.Heads.{BytesJudged, HeadJudged, Judged, PathJudged, UpgradeJudged, KeyJudged, asks_upgrade, lacks_host, is_version, plain_answer};
+ghost use Rattle.ws_handshake.specs.declared.head.TheConstants.{MAX_FIELDS};
+ghost use Rattle.ws_handshake.specs.Heads.{BytesJudged, HeadJudged, Judged, PathJudged, UpgradeJudged, KeyJudged, HasFieldsWithin, fields_in, asks_upgrade, lacks_host, is_version, plain_answer};
 
 use crate::answer::Answer;
 use crate::fields::{count_of, lists, offers_ocpp, only_value};
@@ -50,7 +49,7 @@ pub struct Upgrade {
 /// 64 fields.
 pub fn judge(alloc: Global, bytes: &[u8]) -> Mem<Asked>
     ensures judged { IfOk result (λ a. (h : RequestHead) (rest : List ℕ) → ReadsRequest bytes.now h rest
-        → length h.fields ≤ 64 → HeadJudged h a) }
+        → length h.fields ≤ MAX_FIELDS → HeadJudged h a) }
     ensures bytes { IfOk result (BytesJudged bytes.now) }
 {
     let mut fields = [EMPTY_HEADER_SPAN; MAX_FIELDS];
@@ -86,9 +85,9 @@ struct Request<'b> {
 
 /// What a request with that target asks for.
 fn judge_request(alloc: Global, target: &[u8], request: &Request<'_>) -> Mem<Asked>
-    requires { All (IsHeaderWithin (length request.now.bytes.now)) request.now.fields.now }
+    requires { HasFieldsWithin request.now }
     ensures { IfOk result (Judged target.now request.now.method.now request.now.minor
-        (fields_of request.now.bytes.now request.now.fields.now) request.now.len) }
+        (fields_in request.now) request.now.len) }
 {
     if lacks_host(request) {
         return Ok(Asked::Plain(Answer::BadRequest));
@@ -102,17 +101,17 @@ fn judge_request(alloc: Global, target: &[u8], request: &Request<'_>) -> Mem<Ask
 
 /// Whether a request of HTTP/1.1 doesn't name its host once (RFC 9112, section 3.2).
 fn lacks_host(request: &Request<'_>) -> bool
-    requires { All (IsHeaderWithin (length request.now.bytes.now)) request.now.fields.now }
-    ensures { result ≡ lacks_host request.now.minor (fields_of request.now.bytes.now request.now.fields.now) }
+    requires { HasFieldsWithin request.now }
+    ensures { result ≡ lacks_host request.now.minor (fields_in request.now) }
 {
     request.minor == 1 && count_of(request.bytes, request.fields, b"Host") != 1
 }
 
 /// What a request of that path asks for.
 fn judge_path(alloc: Global, path: &str, request: &Request<'_>) -> Mem<Asked>
-    requires { All (IsHeaderWithin (length request.now.bytes.now)) request.now.fields.now }
+    requires { HasFieldsWithin request.now }
     ensures { IfOk result (PathJudged path.now request.now.method.now request.now.minor
-        (fields_of request.now.bytes.now request.now.fields.now) request.now.len) }
+        (fields_in request.now) request.now.len) }
 {
     let route = route(alloc, path)?;
     if asks_upgrade(request) {
@@ -124,9 +123,9 @@ fn judge_path(alloc: Global, path: &str, request: &Request<'_>) -> Mem<Asked>
 
 /// Whether a request asks for an upgrade to WebSocket (RFC 9110, section 7.8).
 fn asks_upgrade(request: &Request<'_>) -> bool
-    requires { All (IsHeaderWithin (length request.now.bytes.now)) request.now.fields.now }
+    requires { HasFieldsWithin request.now }
     ensures { result ≡ asks_upgrade request.now.method.now request.now.minor
-        (fields_of request.now.bytes.now request.now.fields.now) }
+        (fields_in request.now) }
 {
     request.method == b"GET".as_slice()
         && request.minor == 1
@@ -153,8 +152,8 @@ fn plain_answer(method: &[u8], path: &str, route: Option<&Route>) -> Answer
 /// An upgrade to that route, if its path leads to one: its version is 13 (RFC 6455, section 4.2.2), and its key is the
 /// base64 of 16 bytes.
 fn judge_upgrade(route: Option<Route>, request: &Request<'_>) -> Asked
-    requires { All (IsHeaderWithin (length request.now.bytes.now)) request.now.fields.now }
-    ensures { UpgradeJudged route (fields_of request.now.bytes.now request.now.fields.now) request.now.len result }
+    requires { HasFieldsWithin request.now }
+    ensures { UpgradeJudged route (fields_in request.now) request.now.len result }
 {
     let Some(route) = route else {
         return Asked::Plain(Answer::NotFound);
@@ -171,8 +170,8 @@ fn judge_upgrade(route: Option<Route>, request: &Request<'_>) -> Asked
 
 /// An upgrade to that route with that key.
 fn judge_key(route: Route, request: &Request<'_>, key: &[u8]) -> Asked
-    requires { All (IsHeaderWithin (length request.now.bytes.now)) request.now.fields.now }
-    ensures { KeyJudged route (fields_of request.now.bytes.now request.now.fields.now) request.now.len (Some key.now) result }
+    requires { HasFieldsWithin request.now }
+    ensures { KeyJudged route (fields_in request.now) request.now.len (Some key.now) result }
 {
     match accept_key(key) {
         Ok(accept) => Asked::Upgraded(Upgrade {

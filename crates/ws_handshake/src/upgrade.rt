@@ -1,5 +1,6 @@
 //! The answer to an upgrade, and its socket.
 ghost use Rattle.std.specs.Prelude.{◌≡◌, false, Some, IfOk, vec_items, codes};
+ghost use Rattle.ws_handshake.specs.declared.upgrade.TheConstants.{MAX_MESSAGE};
 ghost use Rattle.ws_handshake.specs.Shakes.{Shaken, upgrade_text};
 
 use crate::answer::take;
@@ -18,8 +19,8 @@ const READ_SIZE: usize = 4096;
 const MAX_MESSAGE: usize = 4_194_304;
 
 fn limits() -> WebSocketConfig
-    ensures message { result.max_message_size ≡ Some 4_194_304 }
-    ensures frame { result.max_frame_size ≡ Some 4_194_304 }
+    ensures message { result.max_message_size ≡ Some MAX_MESSAGE }
+    ensures frame { result.max_frame_size ≡ Some MAX_MESSAGE }
     ensures unmasked { result.accept_unmasked_frames ≡ false }
 {
     WebSocketConfig::default()

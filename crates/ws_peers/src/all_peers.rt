@@ -7,7 +7,7 @@ ghost use Rattle.ws_peers.specs.Peers.{is_open_peer};
 use crate::operators::{list_operators, list_place, tell};
 use crate::peer::Peer;
 use crate::peers::Peers;
-use crate::ready::push_ready;
+use crate::reserved::push_reserved;
 use crate::routes::Route;
 use crate::stations::{first_open, give_way, list_keys};
 use ocpp_types::Mem;
@@ -118,11 +118,11 @@ impl<T: Read + Write + Served + Drop> Peers<T> {
     {
         self.make_way(&route);
         list_place(&mut self.operators, self.items.len(), route.is_operator());
-        push_ready(&mut self.keys, route.key());
+        push_reserved(&mut self.keys, route.key());
         let peer = Peer::new(socket, route);
         peer.set_place(self.items.len());
         peer.set_room();
-        push_ready(&mut self.items, peer);
+        push_reserved(&mut self.items, peer);
     }
 
     /// Adds a peer that isn't admitted, for which there is room: its socket is closed with the code 1008 and that
@@ -132,10 +132,10 @@ impl<T: Read + Write + Served + Drop> Peers<T> {
         ensures { Shut T.contents reason.now socket route (peers self.old) (peers self.new) }
     {
         list_place(&mut self.operators, self.items.len(), route.is_operator());
-        push_ready(&mut self.keys, route.key());
+        push_reserved(&mut self.keys, route.key());
         let mut peer = Peer::new(socket, route);
         peer.shut(reason);
-        push_ready(&mut self.items, peer);
+        push_reserved(&mut self.items, peer);
         self.has_ended = true;
     }
 

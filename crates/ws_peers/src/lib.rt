@@ -11,7 +11,7 @@ mod operators;
 pub mod paths;
 mod peer;
 mod peers;
-mod ready;
+mod reserved;
 mod routes;
 mod stage;
 mod stations;

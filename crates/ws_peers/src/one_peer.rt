@@ -1,57 +1,18 @@
 //! One of the connected peers.
-ghost use Rattle.std.specs.Prelude.{◌≡◌, ◌<◌, [], length, slice_index_or, true, false};
-ghost use Rattle.std.specs.List.{filter, list_all};
+ghost use Rattle.std.specs.Prelude.{◌≡◌, ◌<◌, length, slice_index_or};
 
 use crate::cause::Cause;
 use crate::peer::Peer;
 use crate::peers::Peers;
-use std::alloc::Global;
 use std::io::{Read, Write};
 use tungstenite::Utf8Bytes;
 
 #[tactic(auto, using(crate::proofs::ListLaws::at_set, crate::proofs::ListLaws::kept_set, crate::proofs::ListLaws::keyed_set, crate::proofs::StageLaws::ended_set, crate::proofs::StageLaws::surely))]
 impl<T: Read + Write + Drop> Peers<T> {
-    ghost use Rattle.ws_peers.specs.Lists.{peers, At, is_open_for};
-    ghost use Rattle.ws_peers.specs.Peers.{ends, finishes, is_open_peer};
+    ghost use Rattle.ws_peers.specs.Lists.{peers, At};
+    ghost use Rattle.ws_peers.specs.Peers.{ends, finishes};
     ghost use Rattle.ws_peers.specs.Reads.{Took};
     ghost use Rattle.ws_peers.specs.Sends.{Sent, Pinged};
-
-    /// No peer. It takes no memory yet.
-    pub fn new(alloc: Global) -> Peers<T>
-        ensures { peers result ≡ [] }
-    {
-        Peers {
-            alloc,
-            items: Vec::new(alloc),
-            operators: Vec::new(alloc),
-            keys: Vec::new(alloc),
-            has_ended: false,
-        }
-    }
-
-    /// How many there are, those that have ended too.
-    pub fn count(&self) -> usize
-        ensures { result ≡ length (peers self.now) }
-    {
-        self.items.len()
-    }
-
-    /// How many open connections an operator has.
-    pub fn count_of(&self, op: &str) -> usize
-        ensures { result ≡ length (filter (is_open_for op.now) (peers self.now)) }
-    {
-        self.items
-            .iter()
-            .filter(|peer| peer.is_open_for(op))
-            .count()
-    }
-
-    /// Whether a connection may be among them that has ended.
-    pub fn has_ended(&self) -> bool
-        ensures { result ≡ false → list_all is_open_peer (peers self.now) ≡ true }
-    {
-        self.has_ended
-    }
 
     /// One of them.
     pub fn peer(&self, n: usize) -> &Peer<T>

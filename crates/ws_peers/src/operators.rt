@@ -5,7 +5,7 @@ ghost use Rattle.ws_peers.specs.Lists.{ForText, Hears};
 ghost use Rattle.ws_peers.specs.Peers.{is_open_peer, is_operator_peer, places_of};
 
 use crate::peer::Peer;
-use crate::ready::push_ready;
+use crate::reserved::push_reserved;
 use std::alloc::Global;
 use std::io::{Read, Write};
 
@@ -51,6 +51,6 @@ pub(crate) fn list_place(places: &mut Vec<usize>, place: usize, is_operator: boo
     ensures capacity { vec_capacity places.old ≤ vec_capacity places.new }
 {
     if is_operator {
-        push_ready(places, place);
+        push_reserved(places, place);
     }
 }

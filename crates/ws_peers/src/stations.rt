@@ -6,7 +6,7 @@ ghost use Rattle.ws_peers.specs.Peers.{is_open_peer, key_of_peer};
 
 use crate::keys::station_key;
 use crate::peer::Peer;
-use crate::ready::push_ready;
+use crate::reserved::push_reserved;
 use std::io::{Read, Write};
 
 /// The place of the first open connection of a station.
@@ -61,6 +61,6 @@ pub(crate) fn list_keys<T: Read + Write + Drop>(peers: &[Peer<T>], keys: &mut Ve
 {
     keys.clear();
     for peer in peers {
-        push_ready(keys, peer.route().key());
+        push_reserved(keys, peer.route().key());
     }
 }

@@ -16,6 +16,7 @@ use Rattle.ws_peers.specs.declared.routes.Route.{Route}
 use Rattle.ws_peers.specs.declared.routes.Route.TheVariants.{Station, Operator}
 use Rattle.ws_peers.specs.Lists.{GiveWay, Shut, is_open_for}
 use Rattle.ws_peers.specs.Peers.{open_peer}
+use Rattle.ws_server.specs.declared.welcome.TheConstants.{MAX_CONNECTIONS}
 use Rattle.ws_server.specs.Events.{turns_away}
 use Rattle.ws_server.specs.Tells.{TellsAll}
 use Rattle.ws_server.specs.Steps.{Step}
@@ -58,7 +59,7 @@ is_known is_hosted rows (Operator op) = is_hosted op
 
 -- an operator has as many open connections as it may have
 abbrev pub is_full : {T : Type 0} → Route → List (Peer T) → Bool
-is_full (Operator op) peers = nat_le 32 (length (filter (is_open_for op) peers))
+is_full (Operator op) peers = nat_le MAX_CONNECTIONS (length (filter (is_open_for op) peers))
 is_full (Station op station) peers = false
 
 -- the bytes come next from a stream, where it tells what comes

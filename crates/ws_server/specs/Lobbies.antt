@@ -1,6 +1,7 @@
 -- Connections whose handshake is not done.
 use Rattle.std.specs.Prelude.{ℕ, ◌+◌, Bool, ◌||◌, List, drop, if◌then◌else◌, length, nat_lt, ⊤}
 use Rattle.ws_handshake.specs.declared.head.Upgrade.{Upgrade}
+use Rattle.ws_server.specs.declared.lobby.TheConstants.{MAX_WAITING}
 use Rattle.ws_server.specs.declared.lobby.Lobby.{Lobby}
 use Rattle.ws_server.specs.declared.lobby.Next.{Next}
 use Rattle.ws_server.specs.declared.lobby.Next.TheVariants.{Wait, Drop, Refuse, Welcome}
@@ -11,7 +12,7 @@ waiting_count l = length l.waiting.items
 
 -- those that wait as one more comes: of 4,096 or more the first is dropped
 abbrev pub with_room : {A : Type 0} → List A → List A
-with_room waiting = if nat_lt (length waiting) 4096 then waiting else drop 1 waiting
+with_room waiting = if nat_lt (length waiting) MAX_WAITING then waiting else drop 1 waiting
 
 -- one that was accepted at moment since has waited at moment m for more than so many seconds; where the clock was set
 -- back, it counts as longer

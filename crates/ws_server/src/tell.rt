@@ -1,60 +1,16 @@
 //! Sending outputs to the peers.
-ghost use Rattle.std.specs.Prelude.{◌≡◌, ◌<◌, ◌≤◌, false, [], length, slice_index_or};
+ghost use Rattle.std.specs.Prelude.{◌≡◌, ◌<◌, length};
 
 use crate::gateway::Gateway;
-use crate::notes::{Note, Notes};
 use hub_events::{Out, Said};
 use lines::print_out;
 use ready_streams::Served;
-use std::alloc::Global;
 use std::io::{Read, Write};
-use ws_peers::{Peer, Peers};
 
 impl<T: Read + Write + Served + Drop> Gateway<T> {
     ghost use Rattle.lines.specs.OutputLines.{line_of};
     ghost use Rattle.ws_peers.specs.Lists.{At, ToOperator};
-    ghost use Rattle.ws_peers.specs.Peers.{is_operator_peer};
     ghost use Rattle.ws_server.specs.Tells.{peers_of, SentWhileOpen, Tells, TellsAll};
-
-    /// No peer. It takes no memory yet.
-    pub fn new(alloc: Global) -> Gateway<T>
-        ensures { peers_of result ≡ [] }
-    {
-        Gateway {
-            alloc,
-            peers: Peers::new(alloc),
-            notes: Notes::new(alloc),
-        }
-    }
-
-    /// From now on it keeps notes of what becomes of connections.
-    pub fn keep_notes(&mut self)
-        ensures { peers_of self.new ≡ peers_of self.old }
-    {
-        self.notes.keep();
-    }
-
-    /// The notes since they were last taken, in order.
-    pub fn take_notes(&mut self) -> Vec<Note>
-        ensures { peers_of self.new ≡ peers_of self.old }
-    {
-        self.notes.take()
-    }
-
-    /// How many peers there are. Those that have ended count until a turn has dropped them.
-    pub fn count(&self) -> usize
-        ensures { result ≡ length (peers_of self.now) }
-    {
-        self.peers.count()
-    }
-
-    /// Whether there is a peer at that place that is an operator.
-    pub fn is_operator(&self, place: usize) -> bool
-        ensures there { (other : Peer T) → place < length (peers_of self.now) → result ≡ is_operator_peer (slice_index_or (peers_of self.now) place other) }
-        ensures missing { length (peers_of self.now) ≤ place → result ≡ false }
-    {
-        place < self.count() && self.peers.peer(place).route().is_operator()
-    }
 
     /// Sends one output: a text to its station's open connection, if there is one, and all else as a
     /// line to each open connection of its operator (docs/RULES.md, Connections). A connection ends

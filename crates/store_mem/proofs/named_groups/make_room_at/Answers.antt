@@ -1,56 +1,32 @@
 use Rattle.std.proofs.Common.{ap, arith, ◌∙◌}
+use Rattle.store_mem.proofs.Kept.{on_ok}
 use Rattle.store_mem.proofs.NamedGroupLaws.{set-in_place, set-same, set-room, insert-in_place, insert-rows, insert-room}
 use Rattle.store_mem.proofs.StationRowsLaws.{set-same as set-grouped, insert-none}
 use Rattle.store_mem.proofs.named_groups.make_room_at.Goals as goal
 
-pub returns-in_err-make_room_in-in-Ok-clause-in_place : goal.returns-in_err-make_room_in-in-Ok-clause-in_place
-returns-in_err-make_room_in-in-Ok-clause-in_place g c =
+pub returns-in-Ok-clause-in_place : goal.returns-in-Ok-clause-in_place
+returns-in-Ok-clause-in_place g c =
     let at = (rw c.as_slice.ensures.value at c.in-Ok.ensures) in
     let row = c.index_mut.ensures.value ∙ at.here c.index_mut.result.now in
-    let e = c.in_err-make_room_in-in-Ok.ensures in
-    set-in_place c.args.op.now c.args.name.now c.args.groups.now.items c.in-Ok.place at c.make_room_in.new.group (e.op ∙ ap (λ s. s.op) row) (e.name ∙ ap (λ s. s.name) row) c.requires
+    set-in_place c.args.op.now c.args.name.now c.args.groups.now.items c.in-Ok.place at (record { op = c.index_mut.result.now.op; name = c.index_mut.result.now.name; rows = c.make_room_in.new.rows }) (ap (λ s. s.op) row) (ap (λ s. s.name) row) c.requires
 
-pub returns-in_err-make_room_in-in-Ok-clause-rows : goal.returns-in_err-make_room_in-in-Ok-clause-rows
-returns-in_err-make_room_in-in-Ok-clause-rows g c =
+pub returns-in-Ok-clause-rows : goal.returns-in-Ok-clause-rows
+returns-in-Ok-clause-rows g c =
     let at = (rw c.as_slice.ensures.value at c.in-Ok.ensures) in
     let row = c.index_mut.ensures.value ∙ at.here c.index_mut.result.now in
-    let e = c.in_err-make_room_in-in-Ok.ensures in
-    set-same c.args.op.now c.args.name.now c.args.groups.now.items c.in-Ok.place at c.make_room_in.new.group (e.op ∙ ap (λ s. s.op) row) (e.name ∙ ap (λ s. s.name) row) (e.rows ∙ ap (λ s. s.rows.items) row)
+    set-same c.args.op.now c.args.name.now c.args.groups.now.items c.in-Ok.place at (record { op = c.index_mut.result.now.op; name = c.index_mut.result.now.name; rows = c.make_room_in.new.rows }) (ap (λ s. s.op) row) (ap (λ s. s.name) row) (c.make_room_in.ensures.rows ∙ ap (λ s. s.rows.items) row)
 
-pub returns-in_err-make_room_in-in-Ok-clause-grouped : goal.returns-in_err-make_room_in-in-Ok-clause-grouped
-returns-in_err-make_room_in-in-Ok-clause-grouped g c =
+pub returns-in-Ok-clause-grouped : goal.returns-in-Ok-clause-grouped
+returns-in-Ok-clause-grouped g c =
     let at = (rw c.as_slice.ensures.value at c.in-Ok.ensures) in
     let row = c.index_mut.ensures.value ∙ at.here c.index_mut.result.now in
-    let e = c.in_err-make_room_in-in-Ok.ensures in
-    λ op station number good. set-grouped op station number c.args.op.now c.args.name.now c.args.groups.now.items c.in-Ok.place good at c.make_room_in.new.group (e.op ∙ ap (λ s. s.op) row) (e.name ∙ ap (λ s. s.name) row) (e.rows ∙ ap (λ s. s.rows.items) row)
+    λ op station number good. set-grouped op station number c.args.op.now c.args.name.now c.args.groups.now.items c.in-Ok.place good at (record { op = c.index_mut.result.now.op; name = c.index_mut.result.now.name; rows = c.make_room_in.new.rows }) (ap (λ s. s.op) row) (ap (λ s. s.name) row) (c.make_room_in.ensures.rows ∙ ap (λ s. s.rows.items) row)
 
-pub returns-in_ok-make_room_in-in-Ok-clause-in_place : goal.returns-in_ok-make_room_in-in-Ok-clause-in_place
-returns-in_ok-make_room_in-in-Ok-clause-in_place g c =
+pub returns-in-Ok-clause-room : goal.returns-in-Ok-clause-room
+returns-in-Ok-clause-room g c =
     let at = (rw c.as_slice.ensures.value at c.in-Ok.ensures) in
     let row = c.index_mut.ensures.value ∙ at.here c.index_mut.result.now in
-    let e = c.in_ok-make_room_in-in-Ok.ensures in
-    set-in_place c.args.op.now c.args.name.now c.args.groups.now.items c.in-Ok.place at c.make_room_in.new.group (e.op ∙ ap (λ s. s.op) row) (e.name ∙ ap (λ s. s.name) row) c.requires
-
-pub returns-in_ok-make_room_in-in-Ok-clause-rows : goal.returns-in_ok-make_room_in-in-Ok-clause-rows
-returns-in_ok-make_room_in-in-Ok-clause-rows g c =
-    let at = (rw c.as_slice.ensures.value at c.in-Ok.ensures) in
-    let row = c.index_mut.ensures.value ∙ at.here c.index_mut.result.now in
-    let e = c.in_ok-make_room_in-in-Ok.ensures in
-    set-same c.args.op.now c.args.name.now c.args.groups.now.items c.in-Ok.place at c.make_room_in.new.group (e.op ∙ ap (λ s. s.op) row) (e.name ∙ ap (λ s. s.name) row) (e.rows ∙ ap (λ s. s.rows.items) row)
-
-pub returns-in_ok-make_room_in-in-Ok-clause-grouped : goal.returns-in_ok-make_room_in-in-Ok-clause-grouped
-returns-in_ok-make_room_in-in-Ok-clause-grouped g c =
-    let at = (rw c.as_slice.ensures.value at c.in-Ok.ensures) in
-    let row = c.index_mut.ensures.value ∙ at.here c.index_mut.result.now in
-    let e = c.in_ok-make_room_in-in-Ok.ensures in
-    λ op station number good. set-grouped op station number c.args.op.now c.args.name.now c.args.groups.now.items c.in-Ok.place good at c.make_room_in.new.group (e.op ∙ ap (λ s. s.op) row) (e.name ∙ ap (λ s. s.name) row) (e.rows ∙ ap (λ s. s.rows.items) row)
-
-pub returns-in_ok-make_room_in-in-Ok-clause-room : goal.returns-in_ok-make_room_in-in-Ok-clause-room
-returns-in_ok-make_room_in-in-Ok-clause-room g c =
-    let at = (rw c.as_slice.ensures.value at c.in-Ok.ensures) in
-    let row = c.index_mut.ensures.value ∙ at.here c.index_mut.result.now in
-    let e = c.in_ok-make_room_in-in-Ok.ensures in
-    set-room c.args.op.now c.args.name.now c.args.groups.now.items c.in-Ok.place at c.make_room_in.new.group (e.op ∙ ap (λ s. s.op) row) (e.name ∙ ap (λ s. s.name) row) e.room
+    on_ok c.make_room_in.result (set-room c.args.op.now c.args.name.now c.args.groups.now.items c.in-Ok.place at (record { op = c.index_mut.result.now.op; name = c.index_mut.result.now.name; rows = c.make_room_in.new.rows }) (ap (λ s. s.op) row) (ap (λ s. s.name) row)) c.make_room_in.ensures.room
 
 pub returns-in_ok-insert-in-Err-clause-in_place : goal.returns-in_ok-insert-in-Err-clause-in_place
 returns-in_ok-insert-in-Err-clause-in_place g c =

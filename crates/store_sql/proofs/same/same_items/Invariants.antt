@@ -2,4 +2,4 @@ use Rattle.std.proofs.Common.{◌≡◌, take}
 use Rattle.store_sql.proofs.same.same_items.Given as goal
 
 abbrev pub invariant-items : goal.invariant-items
-invariant-items l = take l.i l.a ≡ take l.i l.b
+invariant-items g l = take l.i l.a ≡ take l.i l.b

@@ -1,8 +1,10 @@
-use Rattle.std.proofs.Common.{sym, subst, ◌≡◌, Some}
-use Rattle.cached.specs.TagAnswers.{touched}
-use Rattle.cached.proofs.TagLaws.{untouched_right}
+use Rattle.std.proofs.Common.{subst, IfSome}
+use Rattle.cached.specs.TagAnswers.{IsApart}
+use Rattle.cached.proofs.TagLaws.{kept_right}
 use Rattle.cached.proofs.tag_answer.TagAnswerAnswer.may_change.Goals as goal
 
 pub returns-in-Some : goal.returns-in-Some
 returns-in-Some c = λ apart rows right.
-    untouched_right c.in-Some.key.now c.args.change.now.op c.args.change.now.edit rows c.args.self.now (subst (λ e. touched e ≡ Some c.in-Some.key.now) c.as_ref.ensures (sym c.in-Some.ensures)) (c.depends_on.ensures apart) right
+    let change = c.args.change.now in
+    let answer = c.args.self.now in
+    kept_right change.op.now change.edit.now rows answer (subst (λ o. IfSome o (λ key. IsApart key answer)) c.in-Some.ensures (c.depends_on.ensures apart)) right

@@ -10,9 +10,9 @@ use Rattle.store_mem.proofs.grants.Grants.put.Goals as goal
 pub invariant_of-self-2 : goal.invariant_of-self-2
 invariant_of-self-2 c =
     let s = c.args.self.now in
-    let row : Received = record { grant = c.in_ok-clone.field-0 } in
+    let row : Received = record { grant = c.in_ok-copy.field-0 } in
     let received = c.put_in_room.ensures.rows ∙ ap (put (by_key receiver_key) row) c.in_ok-make_room-2.ensures.rows in
-    let given = c.put_in_room-2.ensures.rows ∙ (λ i. put (by_key grant_key) (sym c.in_ok-clone.ensures.cases i) (c.in_ok-make_room.ensures.rows i)) in
+    let given = c.put_in_room-2.ensures.rows ∙ (λ i. put (by_key grant_key) (sym c.in_ok-copy.ensures i) (c.in_ok-make_room.ensures.rows i)) in
     record {
       by_owner = c.put_in_room-2.ensures.groups;
       by_receiver = c.put_in_room.ensures.groups;

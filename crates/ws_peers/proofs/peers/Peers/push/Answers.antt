@@ -16,9 +16,9 @@ invariant_of-self g c =
     let all = c.make_way.new.self in
     let test : c.is_operator.result ≡ is_operator_peer c.new-peer.result = c.is_operator.ensures ∙ ap (λ p. is_operator p.route) (sym c.new-peer.ensures) in
     record {
-      places = pushed all.operators.items c.list_place.new.places.items all.items.items c.push_ready-2.new.items.items c.new-peer.result all.places c.push_ready-2.ensures.items
+      places = pushed all.operators.items c.list_place.new.places.items all.items.items c.push_reserved-2.new.items.items c.new-peer.result all.places c.push_reserved-2.ensures.items
           (c.list_place.ensures.items ∙ ap (λ n. if c.is_operator.result then all.operators.items ++ n ∷ [] else all.operators.items) (c.len.ensures ∙ all.items.ok.0) ∙ ap (λ b. if b then all.operators.items ++ length all.items.items ∷ [] else all.operators.items) test);
-      room = omega (arith, c.make_way.ensures.room.1, c.list_place.ensures.capacity, c.push_ready-2.ensures.len);
-      keyed = keyed_pushed all.keys.items c.push_ready.new.items.items c.key.result all.items.items c.push_ready-2.new.items.items c.new-peer.result (c.key.ensures ∙ ap key_of_peer (sym c.new-peer.ensures)) all.keyed c.push_ready.ensures.items c.push_ready-2.ensures.items;
-      ended = ended_pushed all.has_ended all.items.items c.push_ready-2.new.items.items c.new-peer.result c.push_ready-2.ensures.items (ap is_open_peer c.new-peer.ensures) all.ended;
+      room = omega (arith, c.make_way.ensures.room.1, c.list_place.ensures.capacity, c.push_reserved-2.ensures.len);
+      keyed = keyed_pushed all.keys.items c.push_reserved.new.items.items c.key.result all.items.items c.push_reserved-2.new.items.items c.new-peer.result (c.key.ensures ∙ ap key_of_peer (sym c.new-peer.ensures)) all.keyed c.push_reserved.ensures.items c.push_reserved-2.ensures.items;
+      ended = ended_pushed all.has_ended all.items.items c.push_reserved-2.new.items.items c.new-peer.result c.push_reserved-2.ensures.items (ap is_open_peer c.new-peer.ensures) all.ended;
     }

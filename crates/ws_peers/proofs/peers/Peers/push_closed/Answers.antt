@@ -19,13 +19,13 @@ invariant_of-self g c =
     let route : c.args.route ≡ c.shut.new.self.route = sym (ap (λ p. p.route) c.shut.ensures.rest ∙ ap (λ p. p.route) c.new-peer.ensures) in
     let test : c.is_operator.result ≡ is_operator_peer c.shut.new.self = c.is_operator.ensures ∙ ap is_operator route in
     record {
-      places = pushed all.operators.items c.list_place.new.places.items all.items.items c.push_ready-2.new.items.items c.shut.new.self all.places c.push_ready-2.ensures.items
+      places = pushed all.operators.items c.list_place.new.places.items all.items.items c.push_reserved-2.new.items.items c.shut.new.self all.places c.push_reserved-2.ensures.items
           (c.list_place.ensures.items ∙ ap (λ n. if c.is_operator.result then all.operators.items ++ n ∷ [] else all.operators.items) (c.len.ensures ∙ all.items.ok.0) ∙ ap (λ b. if b then all.operators.items ++ length all.items.items ∷ [] else all.operators.items) test);
-      room = omega (arith, c.requires.1, c.list_place.ensures.capacity, c.push_ready-2.ensures.len);
-      keyed = keyed_pushed all.keys.items c.push_ready.new.items.items c.key.result all.items.items c.push_ready-2.new.items.items c.shut.new.self (c.key.ensures ∙ ap key_of route) all.keyed c.push_ready.ensures.items c.push_ready-2.ensures.items;
+      room = omega (arith, c.requires.1, c.list_place.ensures.capacity, c.push_reserved-2.ensures.len);
+      keyed = keyed_pushed all.keys.items c.push_reserved.new.items.items c.key.result all.items.items c.push_reserved-2.new.items.items c.shut.new.self (c.key.ensures ∙ ap key_of route) all.keyed c.push_reserved.ensures.items c.push_reserved-2.ensures.items;
       ended = refl;
     }
 
 pub returns : goal.returns
 returns g c =
-    (c.shut.new.self, subst (λ p. Closed g.T.Write.contents (Some (Policy, c.args.reason.now)) Gone p c.shut.new.self) c.new-peer.ensures c.shut.ensures, c.push_ready-2.ensures.items)
+    (c.shut.new.self, subst (λ p. Closed g.T.Write.contents (Some (Policy, c.args.reason.now)) Gone p c.shut.new.self) c.new-peer.ensures c.shut.ensures, c.push_reserved-2.ensures.items)

@@ -1,0 +1,76 @@
+#!/usr/bin/env python3
+"""The test command: proves every crate, and runs every test.
+
+    python3 checks/gate.py             `rt ci`, and the test programs in tests/
+    python3 checks/gate.py --program   also what checks the files that are kept, the console and the built program
+
+It ends at the first step that fails. The last line is `N passed, M failed`, over all steps. A step that prints no such
+line counts as one.
+"""
+
+import re
+import shutil
+import subprocess
+import sys
+import time
+from pathlib import Path
+
+ROOT = Path(__file__).resolve().parent.parent
+PROGRAM = "crates/central/out/central"
+CONSOLE = ["python3", "console/check.py"]
+COUNTS = re.compile(r"^(\d+) passed, (\d+) failed\b")
+
+FILES = [
+    # whether docs/MODEL.md lists the definitions as they stand
+    ["python3", "docs/model.py", "--check"],
+    # whether the wrong bodies that rt ci doesn't try can be applied, and were refused of each crate as it stands
+    ["python3", "checks/wrong_bodies.py", "--check"],
+]
+TESTS = [["rt", "ci"], ["python3", "tests/run.py"]]
+OF_PROGRAM = [
+    # how frames of hostile stations are answered
+    ["python3", "checks/hostile.py", PROGRAM],
+    # what is served over a full disk
+    ["python3", "checks/full_disk.py", PROGRAM],
+    # what is on record after kills
+    ["python3", "checks/kills.py", PROGRAM, "20"],
+    # what one operator's connections cost another's stations
+    ["python3", "checks/load.py", PROGRAM, "--small"],
+]
+
+
+def steps(with_program):
+    if not with_program:
+        return TESTS
+    if not shutil.which("chromium"):
+        print("no Chromium: the console is not checked", flush=True)
+        return [*FILES, *TESTS, *OF_PROGRAM]
+    return [*FILES, CONSOLE, *TESTS, *OF_PROGRAM, [*CONSOLE, "--program", PROGRAM]]
+
+
+def run(words):
+    """How many passed and failed of a step, which prints what it has to say as it goes."""
+    print(f"$ {' '.join(words)}", flush=True)
+    begun, counts = time.monotonic(), None
+    with subprocess.Popen(words, cwd=ROOT, stdout=subprocess.PIPE, text=True, errors="replace") as step:
+        for line in step.stdout:
+            print(line, end="", flush=True)
+            counts = COUNTS.match(line) or counts
+    print(f"{' '.join(words)}: status {step.returncode}, {time.monotonic() - begun:.0f} s", flush=True)
+    passed, failed = map(int, counts.groups()) if counts else (int(step.returncode == 0), 0)
+    return passed, failed or int(step.returncode != 0)
+
+
+def main():
+    all_passed = all_failed = 0
+    for words in steps("--program" in sys.argv[1:]):
+        passed, failed = run(words)
+        all_passed, all_failed = all_passed + passed, all_failed + failed
+        if failed:
+            break
+    print(f"{all_passed} passed, {all_failed} failed")
+    return 1 if all_failed else 0
+
+
+if __name__ == "__main__":
+    sys.exit(main())

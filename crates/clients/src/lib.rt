@@ -1,0 +1,14 @@
+//! Clients of a server on this machine: an operator that sends lines, and a simulated station.
+#![tactic(auto)]
+
+mod asking;
+mod clock;
+mod connection;
+mod fault;
+mod reply;
+mod simulation;
+
+pub use asking::{AskOptions, ask};
+pub use clock::now;
+pub use fault::{ClientFault, Lost};
+pub use simulation::{SimOptions, simulate};

@@ -1,0 +1,131 @@
+//! What a text says that an operator is sent.
+ghost use Rattle.std.specs.Prelude.{◌≡◌, option_map};
+ghost use Rattle.clients.specs.Replies.{at_space, after_word, after_sign, number_of, leading_number, call_reply, refused_reply, told_reply, reply_of, ended_call, marked, begun, ended};
+
+use ocpp_types::number_of_digits;
+
+/// The most digits of a number.
+const MAX_DIGITS: usize = 19;
+
+/// What a text says of the operator's line.
+#[derive(Clone, Copy, Debug, PartialEq, Eq, Drop)]
+pub enum Reply {
+    /// It is taken.
+    Taken,
+    /// It is a command, which is taken; its call has the number.
+    Call(u64),
+    /// It is refused, or has no form.
+    Refused,
+    /// It isn't answered with this: a row, or something else that the operator is told.
+    Other,
+}
+
+/// The number of the line whose answer follows, by the text `#N begin`.
+pub fn begun(text: &str) -> Option<u64>
+    ensures { result ≡ begun text.now }
+{
+    marked(text, "begin")
+}
+
+/// The number of the line whose answer has come, by the text `#N end`.
+pub fn ended(text: &str) -> Option<u64>
+    ensures { result ≡ ended text.now }
+{
+    marked(text, "end")
+}
+
+fn marked(text: &str, mark: &str) -> Option<u64>
+    ensures { result ≡ marked text.now mark.now }
+{
+    let (word, rest) = at_space(after_sign(text)?)?;
+    if rest == mark { number_of(word) } else { None }
+}
+
+/// What a text says of the operator's line: `OP ok`, `OP ok N`, `OP refused NUMBER ..` and `bad line` answer it.
+pub fn reply_of(operator: &str, text: &str) -> Reply
+    ensures { result ≡ reply_of operator.now text.now }
+{
+    if text == "bad line" {
+        return Reply::Refused;
+    }
+    match after_word(operator, text) {
+        Some(told) => told_reply(told),
+        None => Reply::Other,
+    }
+}
+
+/// What is told to the operator says so.
+fn told_reply(told: &str) -> Reply
+    ensures { result ≡ told_reply told.now }
+{
+    if told == "ok" {
+        return Reply::Taken;
+    }
+    match after_word("ok", told) {
+        Some(rest) => call_reply(number_of(rest)),
+        None => refused_reply(after_word("refused", told)),
+    }
+}
+
+fn call_reply(number: Option<u64>) -> Reply
+    ensures { result ≡ call_reply number }
+{
+    match number {
+        Some(call) => Reply::Call(call),
+        None => Reply::Other,
+    }
+}
+
+fn refused_reply(why: Option<&str>) -> Reply
+    ensures { result ≡ refused_reply (option_map (λ t. t.now) why.entry) }
+{
+    match why {
+        Some(why) if leading_number(why).is_some() => Reply::Refused,
+        _ => Reply::Other,
+    }
+}
+
+/// The number of the call to that station that has ended, by a text `OP ST done N ..`.
+pub fn ended_call(operator: &str, station: &str, text: &str) -> Option<u64>
+    ensures { result ≡ ended_call operator.now station.now text.now }
+{
+    let told = after_word(operator, text)?;
+    let said = after_word(station, told)?;
+    leading_number(after_word("done", said)?)
+}
+
+/// What follows the first word of a text, if that is `word`.
+fn after_word<'a>(word: &str, text: &'a str) -> Option<&'a str>
+    ensures { option_map (λ t. t.now) result ≡ after_word word.now text.now }
+{
+    let (first, rest) = at_space(text)?;
+    if first == word { Some(rest) } else { None }
+}
+
+/// The number before the first space.
+fn leading_number(text: &str) -> Option<u64>
+    ensures { result ≡ leading_number text.now }
+{
+    let (word, _rest) = at_space(text)?;
+    number_of(word)
+}
+
+/// What is before and what is after the first space.
+fn at_space(text: &str) -> Option<(&str, &str)>
+    ensures { option_map (λ p. (p.0.now, p.1.now)) result ≡ at_space text.now }
+{
+    text.split_once(' ')
+}
+
+/// What follows the `#` with which a text begins.
+fn after_sign(text: &str) -> Option<&str>
+    ensures { option_map (λ r. r.now) result ≡ after_sign text.now }
+{
+    text.strip_prefix('#')
+}
+
+fn number_of(word: &str) -> Option<u64>
+    ensures { result ≡ number_of word.now }
+{
+    number_of_digits(word, MAX_DIGITS)
+}

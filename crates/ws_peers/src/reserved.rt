@@ -1,0 +1,15 @@
+//! Lists with reserved room.
+ghost use Rattle.std.specs.Prelude.{◌+◌, ◌≤◌, ◌≡◌, ◌++◌, ◌∷◌, [], vec_len, vec_capacity};
+
+/// Adds an item, for which there is room.
+pub(crate) fn push_reserved<X: Drop>(items: &mut Vec<X>, item: X)
+    requires { vec_len items.old + 1 ≤ vec_capacity items.old }
+    ensures items { items.new.items ≡ items.old.items ++ item ∷ [] }
+    ensures len { vec_len items.new ≡ vec_len items.old + 1 }
+    ensures capacity { vec_capacity items.old ≤ vec_capacity items.new }
+{
+    match items.push(item) {
+        Ok(()) => {}
+        Err(_) => unreachable!(),
+    }
+}
