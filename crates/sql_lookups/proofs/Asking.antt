@@ -1,5 +1,6 @@
 -- What a look-up says, by the statements and the look-ups that it makes.
-use Rattle.std.proofs.Common.{◌≡◌, ◌∙◌, ℕ, List, [], Bool, Option, Result, Ok, Err, IfOk, IsOk, IsTrue, OnOk, filter, find, map, subst}
+use Rattle.std.proofs.Common.{◌≡◌, ◌∙◌, ℕ, List, [], Bool, Option, Result, Ok, Err, IfOk, IsErr, IsOk, IsTrue, OnOk, filter, find, map, refl, subst, arith}
+use Rattle.std.proofs.lemmas.Result.{IfOk-from_err}
 use Rattle.sqlite_trees.specs.Tree.{Trees}
 use Rattle.sqlite_value.specs.Order.{Row, column}
 use Rattle.sqlite.specs.declared.error.Error.{Error}
@@ -10,12 +11,16 @@ use Rattle.sql_rows.specs.Kept.{CommitsNothing, IsServing, Shows, ShowsLast}
 use Rattle.sql_rows.specs.TypedTable.{TypedTable, cmp, rows_in}
 use Rattle.sql_rows.specs.Values.{count_in}
 use Rattle.sql_rows.proofs.Calls.{first_finds, last_finds}
-use Rattle.sql_rows.proofs.StoreLemmas.{commits_as, commits_then, rests_before, rests_then}
+use Rattle.sql_rows.proofs.StoreLemmas.{commits_after, commits_as, commits_then, rests_before, rests_then}
 use Rattle.sql_lookups.specs.Asks.{AsksIn}
 
 if_ok : {A E : Type 0} {P Q : A → Type 0} (r : Result A E) → ((a : A) → P a → Q a) → IfOk r P → IfOk r Q
 if_ok (Ok a) turn is = turn a is
 if_ok (Err e) turn is = tt
+
+no_answer : {A E : Type 0} (r : Result A E) (P : Type 0) → IsErr r → OnOk r P
+no_answer (Ok a) P failed = absurd cc
+no_answer (Err e) P failed = tt
 
 rows_find : {V T E F : Type 0} (items : V → List Row) (s : TypedTable T) (p : T → Bool) (db : Trees) (r : Result V E) (q : Result (List T) F) → OnOk q (IsOk r)
     → IfOk r (λ v. IfOk q (λ l. l ≡ put_all (cmp s) (map s.read (items v)) [])) → IfOk r (λ v. put_all (cmp s) (map s.read (items v)) [] ≡ filter p (rows_in s db)) → IfOk q (λ l. l ≡ filter p (rows_in s db))
@@ -55,6 +60,14 @@ asks_last {V} {T} {F} {items} {s} {number} {p} {old} {new} {r} {q} {P} at same s
 
 -- ---- look-ups of others
 
+-- none yet
+pub asks_none : {A E : Type 0} {old : State} {x : A} {P : Trees → A → Type 0} → ((db : Trees) → P db x) → AsksIn {E = E} old old (Ok x) P
+asks_none {A} {E} {old} {x} {P} means = record {
+  found = λ serves up. means old.now.trees;
+  same = λ serves up. record { was_open = up; now = refl; serves = serves up };
+  stops = λ serves. record { stops = record { clean = omega arith; leaves = λ up sure db left. left }; up = λ up sure. up };
+}
+
 -- what follows from the answer of another
 pub asks_as : {A B E F : Type 0} {old new : State} {r : Result A E} {q : Result B F} {P : Trees → A → Type 0} {Q : Trees → B → Type 0} → AsksIn old new r P → OnOk q (IsOk r) → ((db : Trees) → IfOk r (P db) → IfOk q (Q db)) → AsksIn old new q Q
 asks_as {A} {B} {E} {F} {old} {new} {r} {q} {P} {Q} asks ok means = record {
@@ -63,12 +76,33 @@ asks_as {A} {B} {E} {F} {old} {new} {r} {q} {P} {Q} asks ok means = record {
   stops = commits_as old new r q ok (λ serves. asks.stops);
 }
 
+-- the same answer by another definition
+pub asks_also : {A E : Type 0} {old new : State} {r : Result A E} {P Q : Trees → A → Type 0} → AsksIn old new r P → ((db : Trees) (a : A) → P db a → Q db a) → AsksIn old new r Q
+asks_also {A} {E} {old} {new} {r} {P} {Q} asks means = record {
+  found = λ serves up. if_ok r (means old.now.trees) (asks.found serves up);
+  same = asks.same;
+  stops = asks.stops;
+}
+
+-- what is made of the answer x of another
+pub asks_of : {A B E F : Type 0} {old new : State} {x : A} {q : Result B F} {P : Trees → A → Type 0} {Q : Trees → B → Type 0} → AsksIn {E = E} old new (Ok x) P → ((db : Trees) → P db x → IfOk q (Q db)) → AsksIn old new q Q
+asks_of {A} {B} {E} {F} {old} {new} {x} {q} {P} {Q} asks means = record {
+  found = λ serves up. means old.now.trees (asks.found serves up);
+  same = asks.same;
+  stops = commits_after old new q asks.stops;
+}
+
+-- an error after another
+pub asks_err : {A B E F : Type 0} {old new : State} {r : Result A E} {q : Result B F} {P : Trees → A → Type 0} {Q : Trees → B → Type 0} → AsksIn old new r P → IsErr q → AsksIn old new q Q
+asks_err {A} {B} {E} {F} {old} {new} {r} {q} {P} {Q} asks failed = asks_as asks (no_answer q (IsOk r) failed) (λ db was. IfOk-from_err q (Q db) failed)
+
 -- one after the other, where the first answered x
-pub asks_then : {A B C E F G : Type 0} {a b c : State} {x : A} {q : Result B F} {o : Result C G} {P : Trees → A → Type 0} {Q : Trees → B → Type 0} {R : Trees → C → Type 0} → AsksIn a b (Ok {E = E} x) P → AsksIn b c q Q → OnOk o (IsOk q) → ((db : Trees) → P db x → IfOk q (Q db) → IfOk o (R db)) → AsksIn a c o R
-asks_then {A} {B} {C} {E} {F} {G} {a} {b} {c} {x} {q} {o} {P} {Q} {R} one two ok means = record {
+pub asks_then : {A B E F : Type 0} {a b c : State} {x : A} {q : Result B F} {P : Trees → A → Type 0} {Q : Trees → B → Type 0} → AsksIn {E = E} a b (Ok x) P → AsksIn b c q Q → AsksIn a c q (λ db y. P db x × Q db y)
+asks_then {A} {B} {E} {F} {a} {b} {c} {x} {q} {P} {Q} one two = record {
   found = λ serves up.
       let between = rests_before a b c one.same two.same serves up in
-      means a.now.trees (one.found serves (two.same between.0 up).was_open) (subst (λ (d : Database). IfOk q (Q d.trees)) between.1 (two.found between.0 up));
+      let was = one.found serves (two.same between.0 up).was_open in
+      if_ok q (λ y is. (was, is)) (subst (λ (d : Database). IfOk q (Q d.trees)) between.1 (two.found between.0 up));
   same = rests_then a b c one.same two.same;
-  stops = commits_as a c q o ok (λ serves. commits_then a b c one.same one.stops q two.stops);
+  stops = commits_then a b c one.same one.stops q two.stops;
 }
