@@ -19,7 +19,7 @@ use Rattle.hub_rows.proofs.WellFormedLaws.{well_formed-edit}
 use Rattle.sql_rows.specs.Kept.{Serves, IsServing, IsAsBefore, Rests, CommitsNothing, Finds, Changes, IsMade, Made}
 use Rattle.sql_rows.specs.Opening.{IsOurs}
 use Rattle.sql_rows.specs.TypedTables.{rows_of}
-use Rattle.sql_lookups.specs.Asks.{Asks}
+use Rattle.sql_lookups.specs.Asks.{Asks, AsksIn}
 use Rattle.store_sql.specs.Store.{SqlView, ServesIfOurs, sql_rows, sql_view, IsCleanSql}
 use Rattle.sql_edits.specs.Ready.{IsReady}
 use Rattle.store_sql.proofs.StopLaws.{LeavesSome, LeavesLast, leaves_last, read_stopped, read_stays, change_stopped, change_stays}
@@ -80,7 +80,7 @@ pub record IsDisk {S : Type 0} (g : Ghosts S) : Type 0 where
   pub stays : (s : S) → IsTrue (g.view s).is_open → g.recovers s (g.view s).committed
 
 -- a look-up of the connection is a read of the store
-pub reads : {S T : Type 0} (g : Ghosts S) {inside old new : SqlView S} {conn : Held S} {done result : Result T StoreFault} {P : Rows → T → Type 0} → IsDisk g → inside ≡ old → ServesIfOurs (state g inside.taken) (state g inside.conn) → Asks (state g inside.conn) (state g conn) done P
+pub reads : {S T : Type 0} (g : Ghosts S) {inside old new : SqlView S} {conn : Held S} {done result : Result T StoreFault} {P : Trees → T → Type 0} → IsDisk g → inside ≡ old → ServesIfOurs (state g inside.taken) (state g inside.conn) → AsksIn (state g inside.conn) (state g conn) done P
     → new.taken ≡ inside.taken → new.conn ≡ conn → result ≡ done → (done ≡ Err Failed → Rose inside.failures new.failures) → inside.failures ≤ new.failures → OnlyReads (sql_view g) old new result
 reads g {inside} {old} {new} {conn} {done} {result} disk view_is kept asks same_taken same_conn same failed count =
     only_reads g inside old new view_is kept conn same_taken same_conn asks.same done result same failed count asks.stops (disk.survives inside.conn.store) (leaves_last g inside.conn (disk.shut inside.conn.store) (disk.stays inside.conn.store)) (leaves_last g conn (disk.shut conn.store) (disk.stays conn.store))

@@ -1,11 +1,12 @@
 use Rattle.std.proofs.Common.{◌≡◌, IfOk, subst}
+use Rattle.sqlite.specs.Held.{state}
 use Rattle.hub_rows.specs.Tags.{own_tag_in}
 use Rattle.store_sql.specs.Store.{sql_rows}
 use Rattle.store_sql.proofs.StoreLaws.{finds, kept_still, reads}
 use Rattle.store_sql.proofs.sql_store.SqlStoreStore.own_tag.Goals as goal
 
 pub invariant_of-self : goal.invariant_of-self
-invariant_of-self g c = kept_still _ _ _ c.self.invariant c.own_tag-found.ensures.asks.same
+invariant_of-self g c = kept_still (state g.A.Store c.self.inside.taken.value) (state g.A.Store c.self.inside.conn) (state g.A.Store c.own_tag-found.new.conn) c.self.invariant c.own_tag-found.ensures.asks.same
 
 pub returns-clause-reads : goal.returns-clause-reads
 returns-clause-reads g c = reads g.A.Store (record { survives = g.met.A.Store.survives; shut = g.met.A.Store.shut_if_dirty; stays = g.met.A.Store.stays }) c.self.view_is c.self.invariant c.own_tag-found.ensures.asks c.counted.ensures.taken c.counted.ensures.conn c.counted.ensures.same c.counted.ensures.failed c.counted.ensures.count
