@@ -43,13 +43,6 @@ pub none_more : {X Y : Type 0} (f : X → Option Y) (xs ys : List X) (x : X) (o 
 none_more f xs ys x None more none here some = mapped_more f xs ys x more ∙ ap (λ l. l ++ cons_option (f x) []) none ∙ ap (λ o. cons_option o []) (sym here)
 none_more f xs ys x (Some y) more none here some = absurd cc
 
--- what is found with what was found before
-pub finds_from : {X A E : Type 0} (a b c : State) (r : Result A E) (xs ys : X) (f : Rows → X) (P : Rows → X → A → Type 0) → Rests a b → Rests b c → (IsServing a → IsTrue b.is_open → xs ≡ f (rows_of a.now.trees)) → ys ≡ xs → Finds b c r (λ rows. P rows ys) → Finds a c r (λ rows. P rows (f rows))
-finds_from a b c r xs ys f P p q had same h = λ serves up.
-    let mid = rests_before a b c p q serves up in
-    let is : ys ≡ f (rows_of a.now.trees) = same ∙ had serves (q mid.0 up).was_open in
-    subst (λ d. IfOk r (P (rows_of d.trees) (f (rows_of a.now.trees)))) mid.1 (subst (λ x. IfOk r (P (rows_of b.now.trees) x)) is (h mid.0 up))
-
 pub granted_is : (op : List ℕ) (tags : List TagRow) (rows : List GrantRow) → filter_map (entry_by tags) (in_order (by_key received_key) (grants_to op rows)) ≡ granted_in op tags rows
 unfolding granted_in
 granted_is op tags rows = refl

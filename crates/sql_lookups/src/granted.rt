@@ -4,7 +4,7 @@ ghost use Rattle.std.specs.List.{cons_option, filter_map};
 ghost use Rattle.sqlite.specs.Held.{state};
 ghost use Rattle.hub_rows.specs.Grants.{entry_by, granted_in, granted_tag_in, grants_to, info_by, received_key};
 ghost use Rattle.hub_rows.specs.Keyed.{by_key, first, in_order};
-ghost use Rattle.sql_rows.specs.Kept.{Finds, Rests, CommitsNothing};
+ghost use Rattle.sql_lookups.specs.Asks.{Asks};
 
 use crate::grants::{list_received, received_of_key};
 use crate::tags::own_tag;
@@ -70,9 +70,7 @@ fn grants_received<S: Alter>(
     conn: &mut Connection<S>,
     to: &str,
 ) -> Result<Listed<Received>, StoreFault>
-    ensures found { Finds (state S.Store conn.old) (state S.Store conn.new) result (λ rows list. list ≡ in_order (by_key received_key) (grants_to to.now rows.grants)) }
-    ensures same { Rests (state S.Store conn.old) (state S.Store conn.new) }
-    ensures stops { CommitsNothing (state S.Store conn.old) (state S.Store conn.new) result }
+    ensures asks { Asks (state S.Store conn.old) (state S.Store conn.new) result (λ rows list. list ≡ in_order (by_key received_key) (grants_to to.now rows.grants)) }
 {
     listed(list_received(conn, to))
 }
@@ -83,9 +81,7 @@ fn info_of<S: Alter>(
     alloc: Global,
     grant: &GrantRow,
 ) -> Result<Option<Info>, StoreFault>
-    ensures found { Finds (state S.Store conn.old) (state S.Store conn.new) result (λ rows info. info ≡ info_by rows.tags grant.now) }
-    ensures same { Rests (state S.Store conn.old) (state S.Store conn.new) }
-    ensures stops { CommitsNothing (state S.Store conn.old) (state S.Store conn.new) result }
+    ensures asks { Asks (state S.Store conn.old) (state S.Store conn.new) result (λ rows info. info ≡ info_by rows.tags grant.now) }
 {
     match own_tag(conn, alloc, grant.op.as_str(), grant.key.as_str())? {
         Some(info) => Ok(Some(info.granted(grant.op.clone()?, grant.until))),
@@ -99,9 +95,7 @@ fn entry_of<S: Alter>(
     alloc: Global,
     grant: &GrantRow,
 ) -> Result<Option<GrantedTag>, StoreFault>
-    ensures found { Finds (state S.Store conn.old) (state S.Store conn.new) result (λ rows entry. entry ≡ entry_by rows.tags grant.now) }
-    ensures same { Rests (state S.Store conn.old) (state S.Store conn.new) }
-    ensures stops { CommitsNothing (state S.Store conn.old) (state S.Store conn.new) result }
+    ensures asks { Asks (state S.Store conn.old) (state S.Store conn.new) result (λ rows entry. entry ≡ entry_by rows.tags grant.now) }
 {
     match info_of(conn, alloc, grant)? {
         Some(info) => Ok(Some(GrantedTag {
@@ -129,9 +123,7 @@ fn first_info<S: Alter>(
     alloc: Global,
     grants: &[GrantRow],
 ) -> Result<Option<Info>, StoreFault>
-    ensures found { Finds (state S.Store conn.old) (state S.Store conn.new) result (λ rows info. info ≡ first (filter_map (info_by rows.tags) grants.now)) }
-    ensures same { Rests (state S.Store conn.old) (state S.Store conn.new) }
-    ensures stops { CommitsNothing (state S.Store conn.old) (state S.Store conn.new) result }
+    ensures asks { Asks (state S.Store conn.old) (state S.Store conn.new) result (λ rows info. info ≡ first (filter_map (info_by rows.tags) grants.now)) }
 {
     'grants: for grant in grants {
         let info = info_of(conn, alloc, grant)?;
@@ -148,9 +140,7 @@ fn entries<S: Alter>(
     alloc: Global,
     grants: &[Received],
 ) -> Result<Listed<GrantedTag>, StoreFault>
-    ensures found { Finds (state S.Store conn.old) (state S.Store conn.new) result (λ rows list. list ≡ filter_map (entry_by rows.tags) grants.now) }
-    ensures same { Rests (state S.Store conn.old) (state S.Store conn.new) }
-    ensures stops { CommitsNothing (state S.Store conn.old) (state S.Store conn.new) result }
+    ensures asks { Asks (state S.Store conn.old) (state S.Store conn.new) result (λ rows list. list ≡ filter_map (entry_by rows.tags) grants.now) }
 {
     let mut list = Listed::new(alloc);
     'grants: for grant in grants {
@@ -167,9 +157,7 @@ pub fn granted_tag<S: Alter>(
     op: &str,
     key: &str,
 ) -> Result<Option<Info>, StoreFault>
-    ensures found { Finds (state S.Store conn.old) (state S.Store conn.new) result (λ rows info. info ≡ granted_tag_in op.now key.now rows.tags rows.grants) }
-    ensures same { Rests (state S.Store conn.old) (state S.Store conn.new) }
-    ensures stops { CommitsNothing (state S.Store conn.old) (state S.Store conn.new) result }
+    ensures asks { Asks (state S.Store conn.old) (state S.Store conn.new) result (λ rows info. info ≡ granted_tag_in op.now key.now rows.tags rows.grants) }
 {
     let grants = received_of_key(conn, op, key)?;
     first_info(conn, alloc, grants.as_slice())
@@ -181,9 +169,7 @@ pub fn granted<S: Alter>(
     alloc: Global,
     op: &str,
 ) -> Result<Listed<GrantedTag>, StoreFault>
-    ensures found { Finds (state S.Store conn.old) (state S.Store conn.new) result (λ rows list. list ≡ granted_in op.now rows.tags rows.grants) }
-    ensures same { Rests (state S.Store conn.old) (state S.Store conn.new) }
-    ensures stops { CommitsNothing (state S.Store conn.old) (state S.Store conn.new) result }
+    ensures asks { Asks (state S.Store conn.old) (state S.Store conn.new) result (λ rows list. list ≡ granted_in op.now rows.tags rows.grants) }
 {
     let grants = grants_received(conn, op)?;
     entries(conn, alloc, grants.as_slice())

@@ -4,7 +4,8 @@ ghost use Rattle.std.specs.Str.{bytes_eq};
 ghost use Rattle.sqlite.specs.Held.{state};
 ghost use Rattle.hub_rows.specs.Grants.{grants_in, grants_of_key, has_grant_in, is_grant};
 ghost use Rattle.hub_rows.specs.Keyed.{found};
-ghost use Rattle.sql_rows.specs.Kept.{IsServing, Finds, Rests, CommitsNothing, Shows};
+ghost use Rattle.sql_rows.specs.Kept.{IsServing, Shows};
+ghost use Rattle.sql_lookups.specs.Asks.{Asks};
 ghost use Rattle.sql_rows.specs.TypedTables.{grants};
 
 use hub_rows::{GrantRow, StoreFault};
@@ -49,9 +50,7 @@ fn find_grant<S: Alter>(
     key: &str,
     to: &str,
 ) -> Result<Option<GrantRow>, StoreFault>
-    ensures found { Finds (state S.Store conn.old) (state S.Store conn.new) result (λ rows r. r ≡ found (λ g. g.op) op.now (is_grant key.now to.now) rows.grants) }
-    ensures same { Rests (state S.Store conn.old) (state S.Store conn.new) }
-    ensures stops { CommitsNothing (state S.Store conn.old) (state S.Store conn.new) result }
+    ensures asks { Asks (state S.Store conn.old) (state S.Store conn.new) result (λ rows r. r ≡ found (λ g. g.op) op.now (is_grant key.now to.now) rows.grants) }
 {
     first_row(find(conn, op, key, to))
 }
@@ -63,9 +62,7 @@ pub fn has_grant<S: Alter>(
     key: &str,
     to: &str,
 ) -> Result<bool, StoreFault>
-    ensures found { Finds (state S.Store conn.old) (state S.Store conn.new) result (λ rows has. has ≡ has_grant_in op.now key.now to.now rows.grants) }
-    ensures same { Rests (state S.Store conn.old) (state S.Store conn.new) }
-    ensures stops { CommitsNothing (state S.Store conn.old) (state S.Store conn.new) result }
+    ensures asks { Asks (state S.Store conn.old) (state S.Store conn.new) result (λ rows has. has ≡ has_grant_in op.now key.now to.now rows.grants) }
 {
     is_found(find_grant(conn, op, key, to))
 }
@@ -75,9 +72,7 @@ pub fn grants_out<S: Alter>(
     conn: &mut Connection<S>,
     op: &str,
 ) -> Result<Listed<GrantRow>, StoreFault>
-    ensures found { Finds (state S.Store conn.old) (state S.Store conn.new) result (λ rows list. list ≡ grants_in op.now rows.grants) }
-    ensures same { Rests (state S.Store conn.old) (state S.Store conn.new) }
-    ensures stops { CommitsNothing (state S.Store conn.old) (state S.Store conn.new) result }
+    ensures asks { Asks (state S.Store conn.old) (state S.Store conn.new) result (λ rows list. list ≡ grants_in op.now rows.grants) }
 {
     listed(list(conn, op))
 }
@@ -88,9 +83,7 @@ pub fn received_of_key<S: Alter>(
     to: &str,
     key: &str,
 ) -> Result<Listed<GrantRow>, StoreFault>
-    ensures found { Finds (state S.Store conn.old) (state S.Store conn.new) result (λ rows list. list ≡ grants_of_key to.now key.now rows.grants) }
-    ensures same { Rests (state S.Store conn.old) (state S.Store conn.new) }
-    ensures stops { CommitsNothing (state S.Store conn.old) (state S.Store conn.new) result }
+    ensures asks { Asks (state S.Store conn.old) (state S.Store conn.new) result (λ rows list. list ≡ grants_of_key to.now key.now rows.grants) }
 {
     listed(find_received(conn, to, key))
 }

@@ -3,7 +3,8 @@ ghost use Rattle.std.specs.Prelude.{◌≡◌, ◌&&◌, filter, find, map, IfOk
 ghost use Rattle.std.specs.Str.{bytes_eq};
 ghost use Rattle.sqlite.specs.Held.{state};
 ghost use Rattle.hub_rows.specs.Lookups.{local_list_in};
-ghost use Rattle.sql_rows.specs.Kept.{Finds, FindsIn, IsServing, Rests, CommitsNothing, Shows};
+ghost use Rattle.sql_rows.specs.Kept.{IsServing, Shows};
+ghost use Rattle.sql_lookups.specs.Asks.{Asks, AsksIn};
 ghost use Rattle.sql_rows.specs.TypedTable.{rows_in};
 ghost use Rattle.sql_rows.specs.TypedTables.{entries, lists};
 
@@ -35,9 +36,7 @@ fn head<S: Alter>(
     op: &str,
     station: &str,
 ) -> Result<Option<ListHead>, StoreFault>
-    ensures found { FindsIn (state S.Store conn.old) (state S.Store conn.new) result (λ db head. head ≡ find (λ l. bytes_eq l.op op.now && bytes_eq l.station station.now) (rows_in lists db)) }
-    ensures same { Rests (state S.Store conn.old) (state S.Store conn.new) }
-    ensures stops { CommitsNothing (state S.Store conn.old) (state S.Store conn.new) result }
+    ensures asks { AsksIn (state S.Store conn.old) (state S.Store conn.new) result (λ db head. head ≡ find (λ l. bytes_eq l.op op.now && bytes_eq l.station station.now) (rows_in lists db)) }
 {
     first_row(find_one(conn, op, station))
 }
@@ -48,9 +47,7 @@ fn entry_rows<S: Alter>(
     op: &str,
     station: &str,
 ) -> Result<Listed<EntryRow>, StoreFault>
-    ensures found { FindsIn (state S.Store conn.old) (state S.Store conn.new) result (λ db rows. rows ≡ filter (λ e. bytes_eq e.op op.now && bytes_eq e.station station.now) (rows_in entries db)) }
-    ensures same { Rests (state S.Store conn.old) (state S.Store conn.new) }
-    ensures stops { CommitsNothing (state S.Store conn.old) (state S.Store conn.new) result }
+    ensures asks { AsksIn (state S.Store conn.old) (state S.Store conn.new) result (λ db rows. rows ≡ filter (λ e. bytes_eq e.op op.now && bytes_eq e.station station.now) (rows_in entries db)) }
 {
     listed(find_entries(conn, op, station))
 }
@@ -74,9 +71,7 @@ pub fn local_list<S: Alter>(
     op: &str,
     station: &str,
 ) -> Result<Option<LocalList>, StoreFault>
-    ensures found { Finds (state S.Store conn.old) (state S.Store conn.new) result (λ rows list. list ≡ local_list_in op.now station.now rows.local_lists) }
-    ensures same { Rests (state S.Store conn.old) (state S.Store conn.new) }
-    ensures stops { CommitsNothing (state S.Store conn.old) (state S.Store conn.new) result }
+    ensures asks { Asks (state S.Store conn.old) (state S.Store conn.new) result (λ rows list. list ≡ local_list_in op.now station.now rows.local_lists) }
 {
     match head(conn, op, station)? {
         None => Ok(None),

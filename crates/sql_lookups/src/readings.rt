@@ -3,7 +3,8 @@ ghost use Rattle.std.specs.Prelude.{◌≡◌, ◌&&◌, ◌<◌, ◌^◌, None,
 ghost use Rattle.std.specs.Str.{bytes_eq};
 ghost use Rattle.sqlite.specs.Held.{state};
 ghost use Rattle.hub_rows.specs.Transactions.{is_reading, is_sent_with, readings_in, last_reading_in};
-ghost use Rattle.sql_rows.specs.Kept.{IsServing, Finds, Rests, CommitsNothing, Shows, ShowsLast};
+ghost use Rattle.sql_rows.specs.Kept.{IsServing, Shows, ShowsLast};
+ghost use Rattle.sql_lookups.specs.Asks.{Asks};
 ghost use Rattle.sql_rows.specs.TypedTables.{readings};
 
 use hub_rows::{ReadingRow, StoreFault};
@@ -45,9 +46,7 @@ fn all_readings<S: Alter>(
     op: &str,
     station: &str,
 ) -> Result<Listed<ReadingRow>, StoreFault>
-    ensures found { Finds (state S.Store conn.old) (state S.Store conn.new) result (λ rows list. list ≡ readings_in op.now station.now None rows.readings) }
-    ensures same { Rests (state S.Store conn.old) (state S.Store conn.new) }
-    ensures stops { CommitsNothing (state S.Store conn.old) (state S.Store conn.new) result }
+    ensures asks { Asks (state S.Store conn.old) (state S.Store conn.new) result (λ rows list. list ≡ readings_in op.now station.now None rows.readings) }
 {
     listed(list(conn, op, station))
 }
@@ -60,9 +59,7 @@ fn tx_readings<S: Alter>(
     transaction: u64,
 ) -> Result<Listed<ReadingRow>, StoreFault>
     requires { transaction < 2 ^ 63 }
-    ensures found { Finds (state S.Store conn.old) (state S.Store conn.new) result (λ rows list. list ≡ readings_in op.now station.now (Some transaction) rows.readings) }
-    ensures same { Rests (state S.Store conn.old) (state S.Store conn.new) }
-    ensures stops { CommitsNothing (state S.Store conn.old) (state S.Store conn.new) result }
+    ensures asks { Asks (state S.Store conn.old) (state S.Store conn.new) result (λ rows list. list ≡ readings_in op.now station.now (Some transaction) rows.readings) }
 {
     listed(list_of_tx(conn, op, station, transaction))
 }
@@ -101,9 +98,7 @@ pub fn readings<S: Alter>(
     station: &str,
     transaction: Option<u64>,
 ) -> Result<Listed<ReadingRow>, StoreFault>
-    ensures found { Finds (state S.Store conn.old) (state S.Store conn.new) result (λ rows list. list ≡ readings_in op.now station.now transaction rows.readings) }
-    ensures same { Rests (state S.Store conn.old) (state S.Store conn.new) }
-    ensures stops { CommitsNothing (state S.Store conn.old) (state S.Store conn.new) result }
+    ensures asks { Asks (state S.Store conn.old) (state S.Store conn.new) result (λ rows list. list ≡ readings_in op.now station.now transaction rows.readings) }
 {
     let wanted = match transaction {
         None => return all_readings(conn, op, station),
@@ -122,9 +117,7 @@ pub fn last_reading<S: Alter>(
     op: &str,
     station: &str,
 ) -> Result<u32, StoreFault>
-    ensures found { Finds (state S.Store conn.old) (state S.Store conn.new) result (λ rows n. n ≡ last_reading_in op.now station.now rows.readings) }
-    ensures same { Rests (state S.Store conn.old) (state S.Store conn.new) }
-    ensures stops { CommitsNothing (state S.Store conn.old) (state S.Store conn.new) result }
+    ensures asks { Asks (state S.Store conn.old) (state S.Store conn.new) result (λ rows n. n ≡ last_reading_in op.now station.now rows.readings) }
 {
     only_number(find_last(conn, op, station), 2)
 }

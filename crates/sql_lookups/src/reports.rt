@@ -3,7 +3,8 @@ ghost use Rattle.std.specs.Prelude.{◌≡◌, ◌&&◌};
 ghost use Rattle.std.specs.Str.{bytes_eq};
 ghost use Rattle.sqlite.specs.Held.{state};
 ghost use Rattle.hub_rows.specs.Lookups.{reports_in};
-ghost use Rattle.sql_rows.specs.Kept.{IsServing, Finds, Rests, CommitsNothing, Shows};
+ghost use Rattle.sql_rows.specs.Kept.{IsServing, Shows};
+ghost use Rattle.sql_lookups.specs.Asks.{Asks};
 ghost use Rattle.sql_rows.specs.TypedTables.{reports};
 
 use hub_rows::{ReportRow, StoreFault};
@@ -23,9 +24,7 @@ pub fn reports<S: Alter>(
     op: &str,
     station: &str,
 ) -> Result<Listed<ReportRow>, StoreFault>
-    ensures found { Finds (state S.Store conn.old) (state S.Store conn.new) result (λ rows list. list ≡ reports_in op.now station.now rows.reports) }
-    ensures same { Rests (state S.Store conn.old) (state S.Store conn.new) }
-    ensures stops { CommitsNothing (state S.Store conn.old) (state S.Store conn.new) result }
+    ensures asks { Asks (state S.Store conn.old) (state S.Store conn.new) result (λ rows list. list ≡ reports_in op.now station.now rows.reports) }
 {
     listed(list(conn, op, station))
 }

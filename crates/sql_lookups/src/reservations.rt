@@ -4,7 +4,8 @@ ghost use Rattle.std.specs.Str.{bytes_eq};
 ghost use Rattle.sqlite.specs.Held.{state};
 ghost use Rattle.hub_rows.specs.Keyed.{found};
 ghost use Rattle.hub_rows.specs.Reservations.{is_reservation, reservations_in, reserved_until_in};
-ghost use Rattle.sql_rows.specs.Kept.{IsServing, Finds, Rests, CommitsNothing, Shows};
+ghost use Rattle.sql_rows.specs.Kept.{IsServing, Shows};
+ghost use Rattle.sql_lookups.specs.Asks.{Asks};
 ghost use Rattle.sql_rows.specs.TypedTables.{reservations};
 
 use hub_rows::{ReservationId, ReservationRow, StoreFault};
@@ -47,9 +48,7 @@ fn find_reservation<S: Alter>(
     station: &str,
     id: ReservationId,
 ) -> Result<Option<ReservationRow>, StoreFault>
-    ensures found { Finds (state S.Store conn.old) (state S.Store conn.new) result (λ rows r. r ≡ found (λ r. r.op) op.now (is_reservation station.now id) rows.reservations) }
-    ensures same { Rests (state S.Store conn.old) (state S.Store conn.new) }
-    ensures stops { CommitsNothing (state S.Store conn.old) (state S.Store conn.new) result }
+    ensures asks { Asks (state S.Store conn.old) (state S.Store conn.new) result (λ rows r. r ≡ found (λ r. r.op) op.now (is_reservation station.now id) rows.reservations) }
 {
     first_row(find_one(conn, op, station, id))
 }
@@ -61,9 +60,7 @@ pub fn reserved_until<S: Alter>(
     station: &str,
     id: ReservationId,
 ) -> Result<Option<Moment>, StoreFault>
-    ensures found { Finds (state S.Store conn.old) (state S.Store conn.new) result (λ rows until. until ≡ reserved_until_in op.now station.now id rows.reservations) }
-    ensures same { Rests (state S.Store conn.old) (state S.Store conn.new) }
-    ensures stops { CommitsNothing (state S.Store conn.old) (state S.Store conn.new) result }
+    ensures asks { Asks (state S.Store conn.old) (state S.Store conn.new) result (λ rows until. until ≡ reserved_until_in op.now station.now id rows.reservations) }
 {
     let found = find_reservation(conn, op, station, id)?;
     Ok(found.as_ref().map(|row| row.reservation.expiry))
@@ -75,9 +72,7 @@ pub fn reservations<S: Alter>(
     op: &str,
     station: &str,
 ) -> Result<Listed<ReservationRow>, StoreFault>
-    ensures found { Finds (state S.Store conn.old) (state S.Store conn.new) result (λ rows list. list ≡ reservations_in op.now station.now rows.reservations) }
-    ensures same { Rests (state S.Store conn.old) (state S.Store conn.new) }
-    ensures stops { CommitsNothing (state S.Store conn.old) (state S.Store conn.new) result }
+    ensures asks { Asks (state S.Store conn.old) (state S.Store conn.new) result (λ rows list. list ≡ reservations_in op.now station.now rows.reservations) }
 {
     listed(find_all(conn, op, station))
 }

@@ -4,7 +4,8 @@ ghost use Rattle.std.specs.Str.{bytes_eq};
 ghost use Rattle.sqlite.specs.Held.{state};
 ghost use Rattle.hub_rows.specs.Lookups.{stations_in};
 ghost use Rattle.hub_rows.specs.Rows.{registration_in, station_in};
-ghost use Rattle.sql_rows.specs.Kept.{IsServing, Finds, Rests, CommitsNothing, Shows};
+ghost use Rattle.sql_rows.specs.Kept.{IsServing, Shows};
+ghost use Rattle.sql_lookups.specs.Asks.{Asks};
 ghost use Rattle.sql_rows.specs.TypedTables.{stations};
 
 use hub_rows::{Registration, StationRow, StoreFault};
@@ -31,9 +32,7 @@ fn find_station<S: Alter>(
     op: &str,
     station: &str,
 ) -> Result<Option<StationRow>, StoreFault>
-    ensures found { Finds (state S.Store conn.old) (state S.Store conn.new) result (λ rows r. r ≡ station_in op.now station.now rows.stations) }
-    ensures same { Rests (state S.Store conn.old) (state S.Store conn.new) }
-    ensures stops { CommitsNothing (state S.Store conn.old) (state S.Store conn.new) result }
+    ensures asks { Asks (state S.Store conn.old) (state S.Store conn.new) result (λ rows r. r ≡ station_in op.now station.now rows.stations) }
 {
     first_row(find_one(conn, op, station))
 }
@@ -44,9 +43,7 @@ pub fn registration<S: Alter>(
     op: &str,
     station: &str,
 ) -> Result<Option<Registration>, StoreFault>
-    ensures found { Finds (state S.Store conn.old) (state S.Store conn.new) result (λ rows r. r ≡ registration_in op.now station.now rows.stations) }
-    ensures same { Rests (state S.Store conn.old) (state S.Store conn.new) }
-    ensures stops { CommitsNothing (state S.Store conn.old) (state S.Store conn.new) result }
+    ensures asks { Asks (state S.Store conn.old) (state S.Store conn.new) result (λ rows r. r ≡ registration_in op.now station.now rows.stations) }
 {
     Ok(find_station(conn, op, station)?.map(|row| row.registration()))
 }
@@ -56,9 +53,7 @@ pub fn stations<S: Alter>(
     conn: &mut Connection<S>,
     op: &str,
 ) -> Result<Listed<StationRow>, StoreFault>
-    ensures found { Finds (state S.Store conn.old) (state S.Store conn.new) result (λ rows list. list ≡ stations_in op.now rows.stations) }
-    ensures same { Rests (state S.Store conn.old) (state S.Store conn.new) }
-    ensures stops { CommitsNothing (state S.Store conn.old) (state S.Store conn.new) result }
+    ensures asks { Asks (state S.Store conn.old) (state S.Store conn.new) result (λ rows list. list ≡ stations_in op.now rows.stations) }
 {
     listed(find_all(conn, op))
 }

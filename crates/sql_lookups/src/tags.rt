@@ -4,7 +4,8 @@ ghost use Rattle.std.specs.Str.{bytes_eq};
 ghost use Rattle.sqlite.specs.Held.{state};
 ghost use Rattle.hub_rows.specs.Lookups.{tags_in};
 ghost use Rattle.hub_rows.specs.Tags.{tag_in, own_tag_in, is_blocked, is_parent_blocked};
-ghost use Rattle.sql_rows.specs.Kept.{IsServing, Finds, Rests, CommitsNothing, Shows};
+ghost use Rattle.sql_rows.specs.Kept.{IsServing, Shows};
+ghost use Rattle.sql_lookups.specs.Asks.{Asks};
 ghost use Rattle.sql_rows.specs.TypedTables.{tags};
 
 use hub_rows::{Info, StoreFault, TagRow};
@@ -32,18 +33,14 @@ fn find_tag<S: Alter>(
     op: &str,
     key: &str,
 ) -> Result<Option<TagRow>, StoreFault>
-    ensures found { Finds (state S.Store conn.old) (state S.Store conn.new) result (λ rows tag. tag ≡ tag_in op.now key.now rows.tags) }
-    ensures same { Rests (state S.Store conn.old) (state S.Store conn.new) }
-    ensures stops { CommitsNothing (state S.Store conn.old) (state S.Store conn.new) result }
+    ensures asks { Asks (state S.Store conn.old) (state S.Store conn.new) result (λ rows tag. tag ≡ tag_in op.now key.now rows.tags) }
 {
     first_row(find_one(conn, op, key))
 }
 
 /// All tags of an operator.
 pub fn tags<S: Alter>(conn: &mut Connection<S>, op: &str) -> Result<Listed<TagRow>, StoreFault>
-    ensures found { Finds (state S.Store conn.old) (state S.Store conn.new) result (λ rows list. list ≡ tags_in op.now rows.tags) }
-    ensures same { Rests (state S.Store conn.old) (state S.Store conn.new) }
-    ensures stops { CommitsNothing (state S.Store conn.old) (state S.Store conn.new) result }
+    ensures asks { Asks (state S.Store conn.old) (state S.Store conn.new) result (λ rows list. list ≡ tags_in op.now rows.tags) }
 {
     listed(find_all(conn, op))
 }
@@ -55,9 +52,7 @@ fn is_parent_blocked<S: Alter>(
     op: &str,
     parent: &Option<Text>,
 ) -> Result<bool, StoreFault>
-    ensures found { Finds (state S.Store conn.old) (state S.Store conn.new) result (λ rows blocked. blocked ≡ is_parent_blocked (λ k. is_blocked (tag_in op.now k rows.tags)) parent.now) }
-    ensures same { Rests (state S.Store conn.old) (state S.Store conn.new) }
-    ensures stops { CommitsNothing (state S.Store conn.old) (state S.Store conn.new) result }
+    ensures asks { Asks (state S.Store conn.old) (state S.Store conn.new) result (λ rows blocked. blocked ≡ is_parent_blocked (λ k. is_blocked (tag_in op.now k rows.tags)) parent.now) }
 {
     match parent {
         None => Ok(false),
@@ -78,9 +73,7 @@ pub fn own_tag<S: Alter>(
     op: &str,
     key: &str,
 ) -> Result<Option<Info>, StoreFault>
-    ensures found { Finds (state S.Store conn.old) (state S.Store conn.new) result (λ rows info. info ≡ own_tag_in op.now key.now rows.tags) }
-    ensures same { Rests (state S.Store conn.old) (state S.Store conn.new) }
-    ensures stops { CommitsNothing (state S.Store conn.old) (state S.Store conn.new) result }
+    ensures asks { Asks (state S.Store conn.old) (state S.Store conn.new) result (λ rows info. info ≡ own_tag_in op.now key.now rows.tags) }
 {
     match find_tag(conn, op, key)? {
         None => Ok(None),

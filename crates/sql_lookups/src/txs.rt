@@ -5,7 +5,8 @@ ghost use Rattle.std.specs.Str.{bytes_eq};
 ghost use Rattle.sqlite.specs.Held.{state};
 ghost use Rattle.hub_rows.specs.Keyed.{found};
 ghost use Rattle.hub_rows.specs.Transactions.{counts, has_open_in, is_left_out, is_open, is_started, is_tx, is_used_in, last_tx_in, open_txs_in, same_start_in, tx_in, txs_from_in};
-ghost use Rattle.sql_rows.specs.Kept.{IsServing, Finds, Rests, CommitsNothing, Shows, ShowsLast};
+ghost use Rattle.sql_rows.specs.Kept.{IsServing, Shows, ShowsLast};
+ghost use Rattle.sql_lookups.specs.Asks.{Asks};
 ghost use Rattle.sql_rows.specs.TypedTables.{txs};
 
 use hub_rows::{StartKey, StoreFault, TxKey, TxRow, TxState};
@@ -88,9 +89,7 @@ fn find_tx<S: Alter>(
     station: &str,
     number: u32,
 ) -> Result<Option<TxRow>, StoreFault>
-    ensures found { Finds (state S.Store conn.old) (state S.Store conn.new) result (λ rows r. r ≡ found (λ r. r.op) op.now (is_tx station.now number) rows.transactions) }
-    ensures same { Rests (state S.Store conn.old) (state S.Store conn.new) }
-    ensures stops { CommitsNothing (state S.Store conn.old) (state S.Store conn.new) result }
+    ensures asks { Asks (state S.Store conn.old) (state S.Store conn.new) result (λ rows r. r ≡ found (λ r. r.op) op.now (is_tx station.now number) rows.transactions) }
 {
     first_row(find_one(conn, op, station, number))
 }
@@ -102,9 +101,7 @@ pub fn tx<S: Alter>(
     station: &str,
     number: u32,
 ) -> Result<Option<TxState>, StoreFault>
-    ensures found { Finds (state S.Store conn.old) (state S.Store conn.new) result (λ rows r. r ≡ tx_in op.now station.now number rows.transactions) }
-    ensures same { Rests (state S.Store conn.old) (state S.Store conn.new) }
-    ensures stops { CommitsNothing (state S.Store conn.old) (state S.Store conn.new) result }
+    ensures asks { Asks (state S.Store conn.old) (state S.Store conn.new) result (λ rows r. r ≡ tx_in op.now station.now number rows.transactions) }
 {
     Ok(find_tx(conn, op, station, number)?.map(|row| row.state()))
 }
@@ -116,18 +113,14 @@ pub fn txs<S: Alter>(
     station: &str,
     first: u32,
 ) -> Result<Listed<TxRow>, StoreFault>
-    ensures found { Finds (state S.Store conn.old) (state S.Store conn.new) result (λ rows list. list ≡ txs_from_in op.now station.now first rows.transactions) }
-    ensures same { Rests (state S.Store conn.old) (state S.Store conn.new) }
-    ensures stops { CommitsNothing (state S.Store conn.old) (state S.Store conn.new) result }
+    ensures asks { Asks (state S.Store conn.old) (state S.Store conn.new) result (λ rows list. list ≡ txs_from_in op.now station.now first rows.transactions) }
 {
     listed(find_from(conn, op, station, first))
 }
 
 /// The open transactions of an operator.
 pub fn open_txs<S: Alter>(conn: &mut Connection<S>, op: &str) -> Result<Listed<TxRow>, StoreFault>
-    ensures found { Finds (state S.Store conn.old) (state S.Store conn.new) result (λ rows list. list ≡ open_txs_in op.now rows.transactions) }
-    ensures same { Rests (state S.Store conn.old) (state S.Store conn.new) }
-    ensures stops { CommitsNothing (state S.Store conn.old) (state S.Store conn.new) result }
+    ensures asks { Asks (state S.Store conn.old) (state S.Store conn.new) result (λ rows list. list ≡ open_txs_in op.now rows.transactions) }
 {
     listed(list_all_open(conn, op))
 }
@@ -138,9 +131,7 @@ fn txs_in_use<S: Alter>(
     op: &str,
     key: &str,
 ) -> Result<Listed<TxRow>, StoreFault>
-    ensures found { Finds (state S.Store conn.old) (state S.Store conn.new) result (λ rows list. list ≡ filter (λ r. bytes_eq r.op op.now && (bytes_eq r.start.id.key key.now && counts r)) rows.transactions) }
-    ensures same { Rests (state S.Store conn.old) (state S.Store conn.new) }
-    ensures stops { CommitsNothing (state S.Store conn.old) (state S.Store conn.new) result }
+    ensures asks { Asks (state S.Store conn.old) (state S.Store conn.new) result (λ rows list. list ≡ filter (λ r. bytes_eq r.op op.now && (bytes_eq r.start.id.key key.now && counts r)) rows.transactions) }
 {
     listed(list_in_use(conn, op, key))
 }
@@ -168,9 +159,7 @@ pub fn is_used<S: Alter>(
     key: &str,
     except: &Option<TxKey>,
 ) -> Result<bool, StoreFault>
-    ensures found { Finds (state S.Store conn.old) (state S.Store conn.new) result (λ rows used. used ≡ is_used_in op.now key.now except.now rows.transactions) }
-    ensures same { Rests (state S.Store conn.old) (state S.Store conn.new) }
-    ensures stops { CommitsNothing (state S.Store conn.old) (state S.Store conn.new) result }
+    ensures asks { Asks (state S.Store conn.old) (state S.Store conn.new) result (λ rows used. used ≡ is_used_in op.now key.now except.now rows.transactions) }
 {
     let rows = txs_in_use(conn, op, key)?;
     Ok(has_other(rows.as_slice(), except))
@@ -182,9 +171,7 @@ fn open_tx<S: Alter>(
     op: &str,
     station: &str,
 ) -> Result<Option<TxRow>, StoreFault>
-    ensures found { Finds (state S.Store conn.old) (state S.Store conn.new) result (λ rows r. r ≡ found (λ r. r.op) op.now (λ r. bytes_eq r.station station.now && is_open r) rows.transactions) }
-    ensures same { Rests (state S.Store conn.old) (state S.Store conn.new) }
-    ensures stops { CommitsNothing (state S.Store conn.old) (state S.Store conn.new) result }
+    ensures asks { Asks (state S.Store conn.old) (state S.Store conn.new) result (λ rows r. r ≡ found (λ r. r.op) op.now (λ r. bytes_eq r.station station.now && is_open r) rows.transactions) }
 {
     first_row(list_open(conn, op, station))
 }
@@ -195,9 +182,7 @@ pub fn has_open<S: Alter>(
     op: &str,
     station: &str,
 ) -> Result<bool, StoreFault>
-    ensures found { Finds (state S.Store conn.old) (state S.Store conn.new) result (λ rows has. has ≡ has_open_in op.now station.now rows.transactions) }
-    ensures same { Rests (state S.Store conn.old) (state S.Store conn.new) }
-    ensures stops { CommitsNothing (state S.Store conn.old) (state S.Store conn.new) result }
+    ensures asks { Asks (state S.Store conn.old) (state S.Store conn.new) result (λ rows has. has ≡ has_open_in op.now station.now rows.transactions) }
 {
     is_found(open_tx(conn, op, station))
 }
@@ -209,9 +194,7 @@ fn tx_of_start<S: Alter>(
     station: &str,
     start: &StartKey,
 ) -> Result<Option<TxRow>, StoreFault>
-    ensures found { Finds (state S.Store conn.old) (state S.Store conn.new) result (λ rows r. r ≡ found (λ r. r.op) op.now (is_started station.now start.now) rows.transactions) }
-    ensures same { Rests (state S.Store conn.old) (state S.Store conn.new) }
-    ensures stops { CommitsNothing (state S.Store conn.old) (state S.Store conn.new) result }
+    ensures asks { Asks (state S.Store conn.old) (state S.Store conn.new) result (λ rows r. r ≡ found (λ r. r.op) op.now (is_started station.now start.now) rows.transactions) }
 {
     first_row(list_same(conn, op, station, start))
 }
@@ -223,9 +206,7 @@ pub fn same_start<S: Alter>(
     station: &str,
     start: &StartKey,
 ) -> Result<Option<u32>, StoreFault>
-    ensures found { Finds (state S.Store conn.old) (state S.Store conn.new) result (λ rows number. number ≡ same_start_in op.now station.now start.now rows.transactions) }
-    ensures same { Rests (state S.Store conn.old) (state S.Store conn.new) }
-    ensures stops { CommitsNothing (state S.Store conn.old) (state S.Store conn.new) result }
+    ensures asks { Asks (state S.Store conn.old) (state S.Store conn.new) result (λ rows number. number ≡ same_start_in op.now station.now start.now rows.transactions) }
 {
     Ok(tx_of_start(conn, op, station, start)?.map(|row| row.number))
 }
@@ -236,9 +217,7 @@ pub fn last_tx<S: Alter>(
     op: &str,
     station: &str,
 ) -> Result<u32, StoreFault>
-    ensures found { Finds (state S.Store conn.old) (state S.Store conn.new) result (λ rows n. n ≡ last_tx_in op.now station.now rows.transactions) }
-    ensures same { Rests (state S.Store conn.old) (state S.Store conn.new) }
-    ensures stops { CommitsNothing (state S.Store conn.old) (state S.Store conn.new) result }
+    ensures asks { Asks (state S.Store conn.old) (state S.Store conn.new) result (λ rows n. n ≡ last_tx_in op.now station.now rows.transactions) }
 {
     only_number(find_last(conn, op, station), 2)
 }

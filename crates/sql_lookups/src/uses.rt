@@ -4,7 +4,8 @@ ghost use Rattle.std.specs.Str.{bytes_eq};
 ghost use Rattle.sqlite.specs.Held.{state};
 ghost use Rattle.hub_rows.specs.Keyed.{found};
 ghost use Rattle.hub_rows.specs.Uses.{uses_in};
-ghost use Rattle.sql_rows.specs.Kept.{IsServing, Finds, Rests, CommitsNothing, Shows};
+ghost use Rattle.sql_rows.specs.Kept.{IsServing, Shows};
+ghost use Rattle.sql_lookups.specs.Asks.{Asks};
 ghost use Rattle.sql_rows.specs.TypedTables.{uses};
 
 use hub_rows::{StoreFault, UseRow};
@@ -20,9 +21,7 @@ fn list<S: Alter>(conn: &mut Connection<S>, op: &str) -> Result<Vec<Row>, Error>
 
 /// The uses of an owner.
 pub fn uses<S: Alter>(conn: &mut Connection<S>, op: &str) -> Result<Listed<UseRow>, StoreFault>
-    ensures found { Finds (state S.Store conn.old) (state S.Store conn.new) result (λ rows list. list ≡ uses_in op.now rows.uses) }
-    ensures same { Rests (state S.Store conn.old) (state S.Store conn.new) }
-    ensures stops { CommitsNothing (state S.Store conn.old) (state S.Store conn.new) result }
+    ensures asks { Asks (state S.Store conn.old) (state S.Store conn.new) result (λ rows list. list ≡ uses_in op.now rows.uses) }
 {
     listed(list(conn, op))
 }

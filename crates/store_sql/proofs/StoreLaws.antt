@@ -1,5 +1,7 @@
 -- What the store says of a call, by what the connection says of it.
-use Rattle.std.proofs.Common.{◌≡◌, ◌≤◌, ℕ, List, IsTrue, Result, Ok, Err, OnOk, OnErr, IfOk, sym, ap, ◌∙◌, subst, subst₂}
+use Rattle.std.proofs.Common.{◌≡◌, ◌≤◌, ℕ, List, false, IsTrue, Result, Ok, Err, OnOk, OnErr, IfOk, sym, ap, ◌∙◌, subst, subst₂}
+use Rattle.sqlite_trees.specs.Tree.{Trees}
+use Rattle.sqlite_trees.specs.View.{IsClean}
 use Rattle.sqlite_trees.specs.declared.store.Store.{Ghosts}
 use Rattle.sqlite.specs.Effect.{Database}
 use Rattle.sqlite.specs.Held.{Held, state}
@@ -17,9 +19,10 @@ use Rattle.hub_rows.proofs.WellFormedLaws.{well_formed-edit}
 use Rattle.sql_rows.specs.Kept.{Serves, IsServing, IsAsBefore, Rests, CommitsNothing, Finds, Changes, IsMade, Made}
 use Rattle.sql_rows.specs.Opening.{IsOurs}
 use Rattle.sql_rows.specs.TypedTables.{rows_of}
+use Rattle.sql_lookups.specs.Asks.{Asks, AsksIn}
 use Rattle.store_sql.specs.Store.{SqlView, ServesIfOurs, sql_rows, sql_view, IsCleanSql}
 use Rattle.sql_edits.specs.Ready.{IsReady}
-use Rattle.store_sql.proofs.StopLaws.{LeavesSome, LeavesLast, read_stopped, read_stays, change_stopped, change_stays}
+use Rattle.store_sql.proofs.StopLaws.{LeavesSome, LeavesLast, leaves_last, read_stopped, read_stays, change_stopped, change_stays}
 
 pub serving_if : (taken s : State) → ServesIfOurs taken s → IsOurs taken → IsServing s
 serving_if taken s kept ours = λ up. (kept ours up).0
@@ -69,6 +72,23 @@ module _ {S : Type 0} (g : Ghosts S) (inside old new : SqlView S) (view_is : ins
   found_in done result same P found clean =
       subst (λ o. IfOk result (P (sql_rows g o))) view_is
       (subst (λ r. IfOk r (P (sql_rows g inside))) (sym same) (found (serving_before clean) (subst (λ h. IsTrue (state g h).is_open) same_conn clean.up)))
+
+-- what the disk of a connection promises
+pub record IsDisk {S : Type 0} (g : Ghosts S) : Type 0 where
+  pub survives : (s : S) → IsClean (g.view s) → ∥ ((db : Trees) × g.recovers s db) ∥₁
+  pub shut : (s : S) → (g.view s).is_clean ≡ false → (g.view s).is_open ≡ false
+  pub stays : (s : S) → IsTrue (g.view s).is_open → g.recovers s (g.view s).committed
+
+-- a look-up of the connection is a read of the store
+pub reads : {S T : Type 0} (g : Ghosts S) {inside old new : SqlView S} {conn : Held S} {done result : Result T StoreFault} {P : Trees → T → Type 0} → IsDisk g → inside ≡ old → ServesIfOurs (state g inside.taken) (state g inside.conn) → AsksIn (state g inside.conn) (state g conn) done P
+    → new.taken ≡ inside.taken → new.conn ≡ conn → result ≡ done → (done ≡ Err Failed → Rose inside.failures new.failures) → inside.failures ≤ new.failures → OnlyReads (sql_view g) old new result
+reads g {inside} {old} {new} {conn} {done} {result} disk view_is kept asks same_taken same_conn same failed count =
+    only_reads g inside old new view_is kept conn same_taken same_conn asks.same done result same failed count asks.stops (disk.survives inside.conn.store) (leaves_last g inside.conn (disk.shut inside.conn.store) (disk.stays inside.conn.store)) (leaves_last g conn (disk.shut conn.store) (disk.stays conn.store))
+
+-- and its answer is that of the store
+pub finds : {S T : Type 0} (g : Ghosts S) {inside old new : SqlView S} {conn : Held S} {done result : Result T StoreFault} (P : Rows → T → Type 0) → inside ≡ old → ServesIfOurs (state g inside.taken) (state g inside.conn) → Asks (state g inside.conn) (state g conn) done P
+    → new.taken ≡ inside.taken → new.conn ≡ conn → result ≡ done → IsCleanSql g new → IfOk result (P (sql_rows g old))
+finds g {inside} {old} {new} {conn} {done} {result} P view_is kept asks same_taken same_conn same = found_in g inside old new view_is kept conn same_taken same_conn asks.same done result same P asks.found
 
 -- ---- a change
 

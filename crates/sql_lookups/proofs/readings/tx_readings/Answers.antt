@@ -1,6 +1,5 @@
-use Rattle.sqlite.specs.Held.{state}
-use Rattle.sql_rows.proofs.StoreLemmas.{commits_as}
+use Rattle.sql_lookups.proofs.Asking.{asks_rows}
 use Rattle.sql_lookups.proofs.readings.tx_readings.Goals as goal
 
-pub returns-clause-stops : goal.returns-clause-stops
-returns-clause-stops g c = commits_as (state g.S.Store c.args.conn.now) (state g.S.Store c.list_of_tx.new.conn) c.list_of_tx.result c.listed.result c.listed.ensures.ok (λ serves. (c.list_of_tx.ensures.shows serves).stops)
+pub returns : goal.returns
+returns g c = record { asks = asks_rows c.list_of_tx.ensures.shows c.listed.ensures.ok c.listed.ensures.rows (λ db rows is. is) }

@@ -1,14 +1,6 @@
-use Rattle.std.proofs.Common.{◌&&◌, refl}
-use Rattle.std.specs.Str.{bytes_eq}
-use Rattle.sqlite.specs.Held.{state}
-use Rattle.sql_rows.specs.TypedTables.{txs}
-use Rattle.sql_rows.proofs.StoreLemmas.{commits_as}
-use Rattle.sql_rows.proofs.Calls.{last_finds}
+use Rattle.std.proofs.Common.{refl}
+use Rattle.sql_lookups.proofs.Asking.{asks_last}
 use Rattle.sql_lookups.proofs.txs.last_tx.Goals as goal
 
-pub returns-clause-found : goal.returns-clause-found
-returns-clause-found g c = λ serves up.
-    last_finds (λ v. v.items) txs (λ r. r.number) 2 (λ r. bytes_eq r.op c.args.op.now && bytes_eq r.station c.args.station.now) (state g.S.Store c.args.conn.now).now.trees c.find_last.result c.only_number.result (λ x. refl) c.only_number.ensures.ok c.only_number.ensures.number ((c.find_last.ensures.shows serves).ok up)
-
-pub returns-clause-stops : goal.returns-clause-stops
-returns-clause-stops g c = commits_as (state g.S.Store c.args.conn.now) (state g.S.Store c.find_last.new.conn) c.find_last.result c.only_number.result c.only_number.ensures.ok (λ serves. (c.find_last.ensures.shows serves).stops)
+pub returns : goal.returns
+returns g c = record { asks = asks_last 2 (λ x. refl) c.find_last.ensures.shows c.only_number.ensures.ok c.only_number.ensures.number (λ db n is. is) }

@@ -1,15 +1,5 @@
-use Rattle.std.proofs.Common.{◌&&◌}
-use Rattle.std.specs.Str.{bytes_eq}
-use Rattle.sqlite.specs.Held.{state}
-use Rattle.sql_rows.specs.TypedTables.{txs}
-use Rattle.hub_rows.specs.Transactions.{is_open}
-use Rattle.sql_rows.proofs.StoreLemmas.{commits_as}
-use Rattle.sql_rows.proofs.Calls.{first_finds}
+use Rattle.sql_lookups.proofs.Asking.{asks_first}
 use Rattle.sql_lookups.proofs.txs.open_tx.Goals as goal
 
-pub returns-clause-found : goal.returns-clause-found
-returns-clause-found g c = λ serves up.
-    first_finds (λ v. v.items) txs (λ r. bytes_eq r.op c.args.op.now && (bytes_eq r.station c.args.station.now && is_open r)) (state g.S.Store c.args.conn.now).now.trees c.list_open.result c.first_row.result c.first_row.ensures.ok c.first_row.ensures.row ((c.list_open.ensures.shows serves).ok up)
-
-pub returns-clause-stops : goal.returns-clause-stops
-returns-clause-stops g c = commits_as (state g.S.Store c.args.conn.now) (state g.S.Store c.list_open.new.conn) c.list_open.result c.first_row.result c.first_row.ensures.ok (λ serves. (c.list_open.ensures.shows serves).stops)
+pub returns : goal.returns
+returns g c = record { asks = asks_first c.list_open.ensures.shows c.first_row.ensures.ok c.first_row.ensures.row (λ db row is. is) }

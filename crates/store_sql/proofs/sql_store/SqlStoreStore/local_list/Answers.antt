@@ -1,21 +1,14 @@
 use Rattle.std.proofs.Common.{◌≡◌}
 use Rattle.sqlite.specs.Held.{state}
 use Rattle.hub_rows.specs.Lookups.{local_list_in}
-use Rattle.store_sql.specs.Store.{SqlView}
-use Rattle.store_sql.proofs.StopLaws.{leaves_last}
-use Rattle.store_sql.proofs.StoreLaws.{found_in, kept_still, only_reads}
+use Rattle.store_sql.proofs.StoreLaws.{finds, kept_still, reads}
 use Rattle.store_sql.proofs.sql_store.SqlStoreStore.local_list.Goals as goal
 
 pub invariant_of-self : goal.invariant_of-self
-invariant_of-self g c = kept_still (state g.A.Store c.self.inside.taken.value) (state g.A.Store c.self.inside.conn) (state g.A.Store c.local_list-found.new.conn) c.self.invariant c.local_list-found.ensures.same
+invariant_of-self g c = kept_still (state g.A.Store c.self.inside.taken.value) (state g.A.Store c.self.inside.conn) (state g.A.Store c.local_list-found.new.conn) c.self.invariant c.local_list-found.ensures.asks.same
 
 pub returns-clause-reads : goal.returns-clause-reads
-returns-clause-reads g c =
-    let inside : SqlView _ = record { conn = c.self.inside.conn; failures = c.self.inside.failures; taken = c.self.inside.taken.value } in
-    only_reads g.A.Store inside c.args.self.now c.counted.new.self c.self.view_is c.self.invariant c.local_list-found.new.conn c.counted.ensures.taken c.counted.ensures.conn c.local_list-found.ensures.same c.local_list-found.result c.counted.result c.counted.ensures.same c.counted.ensures.failed c.counted.ensures.count c.local_list-found.ensures.stops (g.met.A.Store.survives c.self.inside.conn.store) (leaves_last g.A.Store c.self.inside.conn (g.met.A.Store.shut_if_dirty c.self.inside.conn.store) (g.met.A.Store.stays c.self.inside.conn.store)) (leaves_last g.A.Store c.local_list-found.new.conn (g.met.A.Store.shut_if_dirty c.local_list-found.new.conn.store) (g.met.A.Store.stays c.local_list-found.new.conn.store))
+returns-clause-reads g c = reads g.A.Store (record { survives = g.met.A.Store.survives; shut = g.met.A.Store.shut_if_dirty; stays = g.met.A.Store.stays }) c.self.view_is c.self.invariant c.local_list-found.ensures.asks c.counted.ensures.taken c.counted.ensures.conn c.counted.ensures.same c.counted.ensures.failed c.counted.ensures.count
 
 pub returns-clause-found : goal.returns-clause-found
-returns-clause-found g c =
-    let inside : SqlView _ = record { conn = c.self.inside.conn; failures = c.self.inside.failures; taken = c.self.inside.taken.value } in
-    found_in g.A.Store inside c.args.self.now c.counted.new.self c.self.view_is c.self.invariant c.local_list-found.new.conn c.counted.ensures.taken c.counted.ensures.conn c.local_list-found.ensures.same c.local_list-found.result c.counted.result c.counted.ensures.same (λ rows list. list ≡ local_list_in c.args.op.now c.args.station.now rows.local_lists)
-    c.local_list-found.ensures.found
+returns-clause-found g c = finds g.A.Store (λ rows list. list ≡ local_list_in c.args.op.now c.args.station.now rows.local_lists) c.self.view_is c.self.invariant c.local_list-found.ensures.asks c.counted.ensures.taken c.counted.ensures.conn c.counted.ensures.same
