@@ -17,10 +17,10 @@ grants-preserved g c =
     let x = c.grant-item.result in
     let more : take (k + 1) all ≡ take k all ++ x ∷ [] = search (rules, take_more) in
     asks_of (asks_then c.grants.invariant c.in_ok-entry.ensures.asks) (λ db is.
-        let entry = entry_by (rows_of db).tags in
-        c.in_ok-add_entry.ensures ∙ ap (λ l. l ++ cons_option c.in_ok-entry.entry []) is.0
-        ∙ ap (λ o. filter_map entry (take k all) ++ cons_option o []) (is.1 ∙ ap entry c.as_grant.ensures)
-        ∙ sym (mapped_more entry (take k all) (take (k + 1) all) x more))
+    let entry = entry_by (rows_of db).tags in
+    c.in_ok-add_entry.ensures ∙ ap (λ l. l ++ cons_option c.in_ok-entry.entry []) is.0
+    ∙ ap (λ o. filter_map entry (take k all) ++ cons_option o []) (is.1 ∙ ap entry c.as_grant.ensures)
+    ∙ sym (mapped_more entry (take k all) (take (k + 1) all) x more))
 
 pub returns : goal.returns
 returns g c =
