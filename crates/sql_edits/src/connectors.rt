@@ -10,20 +10,20 @@ ghost use Rattle.hub_rows.specs.declared.change.StationEdit.TheVariants.{Connect
 use crate::binds::{done, lent};
 use hub_rows::{ConnectorReport, StoreFault};
 use ocpp_types::Named;
-use sqlite::{Alter, Transaction, params};
+use sqlite::{Alter, Error, Transaction, params};
 
-/// Puts a report on a connector, in place of the one before.
-pub(crate) fn put_connector<S: Alter>(
+/// Puts the row of a connector.
+fn put_row<S: Alter>(
     tx: &mut Transaction<'_, S>,
     op: &str,
     station: &str,
     connector: u8,
     report: &ConnectorReport,
-) -> Result<(), StoreFault>
+) -> Result<usize, Error>
     ensures same_reference { tx.new.conn.ghost_name ≡ tx.old.conn.ghost_name }
     ensures goes { IsInside (state S.Store tx.old.conn.now) → Goes (IsMade (edit op.now (Stations (ConnectorSeen station.now connector report.now)))) (state S.Store tx.old.conn.now) (state S.Store tx.new.conn.now) result }
 {
-    done(tx.execute(
+    tx.execute(
         sql_tables::connectors::PUT,
         params![
             op,
@@ -36,5 +36,19 @@ pub(crate) fn put_connector<S: Alter>(
             lent(&report.vendor_id),
             lent(&report.vendor_error_code)
         ],
-    ))
+    )
+}
+
+/// Puts a report on a connector, in place of the one before.
+pub(crate) fn put_connector<S: Alter>(
+    tx: &mut Transaction<'_, S>,
+    op: &str,
+    station: &str,
+    connector: u8,
+    report: &ConnectorReport,
+) -> Result<(), StoreFault>
+    ensures same_reference { tx.new.conn.ghost_name ≡ tx.old.conn.ghost_name }
+    ensures goes { IsInside (state S.Store tx.old.conn.now) → Goes (IsMade (edit op.now (Stations (ConnectorSeen station.now connector report.now)))) (state S.Store tx.old.conn.now) (state S.Store tx.new.conn.now) result }
+{
+    done(put_row(tx, op, station, connector, report))
 }

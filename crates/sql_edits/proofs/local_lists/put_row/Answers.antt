@@ -1,0 +1,12 @@
+use Rattle.std.proofs.Common.{refl}
+use Rattle.sqlite.specs.Held.{state}
+use Rattle.sql_rows.proofs.HoldingTables.{puts_list}
+use Rattle.sql_rows.proofs.StoreLemmas.{open_is_clean}
+use Rattle.sql_rows.proofs.TxLemmas.{step}
+use Rattle.sql_edits.proofs.local_lists.put_row.Goals as goal
+
+pub returns-clause-goes : goal.returns-clause-goes
+returns-clause-goes g c =
+    let new = c.execute.new.self.conn.now in
+    step (puts_list (record { op = c.args.op.now; station = c.args.station.now; version = c.args.version })) (state g.S.Store) c.args.tx.now.conn.now new _ c.execute.result c.execute.ensures.runs c.execute.ensures.ended c.execute.ensures.survives
+    (rw (c.params-to_sql.ensures, c.params-to_sql-2.ensures, c.params-to_sql-3.ensures) refl) (open_is_clean _ _ (g.met.S.Store.shut_if_dirty new.store))
