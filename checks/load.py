@@ -8,7 +8,8 @@ processor time of idle connections, or the memory of the server. Some figures ha
 
 It prints a line for each figure, then `N passed, M failed`. Its status is 1 where one is over its bound. Each scenario
 has a server of its own over a new file, in the folder for temporary files (the variable TMPDIR names another). In a
-small run the file is in memory, where a sync doesn't wait for a disk.
+small run the file is in memory, where a sync doesn't wait for a disk, and a scenario with a figure over its bound is
+measured up to twice more, since the machine itself may stand still for as long: what the server does comes again.
 
 V and the load are processes of their own, and the load has a lower priority. The time for which the server and V
 itself wait for a processor is the machine's, not the server's. So the bound is of V's longest wait without that time,
@@ -464,6 +465,14 @@ SCENARIOS = {
 }
 
 
+def measure(run, name):
+    try:
+        SCENARIOS[name](run)
+    except (EOFError, OSError, SystemExit) as error:
+        run.failed += 1
+        print(f"{name:<12}can't be measured: {error!r}", flush=True)
+
+
 def main():
     parser = argparse.ArgumentParser(description=__doc__.split("\n\n")[0])
     parser.add_argument("program")
@@ -475,11 +484,13 @@ def main():
     with tempfile.TemporaryDirectory(dir=MEMORY if words.small else None) as folder:
         run = Run(os.path.abspath(words.program), folder, words.small)
         for name in words.only.split(","):
-            try:
-                SCENARIOS[name](run)
-            except (EOFError, OSError, SystemExit) as error:
-                run.failed += 1
-                print(f"{name:<12}can't be measured: {error!r}", flush=True)
+            for left in reversed(range(3 if words.small else 1)):
+                before = run.passed, run.failed
+                measure(run, name)
+                if run.failed == before[1] or not left:
+                    break
+                print(f"{name:<12}is measured again", flush=True)
+                run.passed, run.failed = before
     print(f"{run.passed} passed, {run.failed} failed")
     sys.exit(1 if run.failed else 0)
 
