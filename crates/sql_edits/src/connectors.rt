@@ -10,34 +10,7 @@ ghost use Rattle.hub_rows.specs.declared.change.StationEdit.TheVariants.{Connect
 use crate::binds::{done, lent};
 use hub_rows::{ConnectorReport, StoreFault};
 use ocpp_types::Named;
-use sqlite::{Alter, Error, Transaction, params};
-
-/// Puts the row of a connector.
-fn put_row<S: Alter>(
-    tx: &mut Transaction<'_, S>,
-    op: &str,
-    station: &str,
-    connector: u8,
-    report: &ConnectorReport,
-) -> Result<usize, Error>
-    ensures same_reference { tx.new.conn.ghost_name ≡ tx.old.conn.ghost_name }
-    ensures goes { IsInside (state S.Store tx.old.conn.now) → Goes (IsMade (edit op.now (Stations (ConnectorSeen station.now connector report.now)))) (state S.Store tx.old.conn.now) (state S.Store tx.new.conn.now) result }
-{
-    tx.execute(
-        sql_tables::connectors::PUT,
-        params![
-            op,
-            station,
-            u32::from(connector),
-            report.status.name(),
-            report.error_code.name(),
-            report.at,
-            lent(&report.info),
-            lent(&report.vendor_id),
-            lent(&report.vendor_error_code)
-        ],
-    )
-}
+use sqlite::{Alter, Transaction, params};
 
 /// Puts a report on a connector, in place of the one before.
 pub(crate) fn put_connector<S: Alter>(
@@ -50,5 +23,18 @@ pub(crate) fn put_connector<S: Alter>(
     ensures same_reference { tx.new.conn.ghost_name ≡ tx.old.conn.ghost_name }
     ensures goes { IsInside (state S.Store tx.old.conn.now) → Goes (IsMade (edit op.now (Stations (ConnectorSeen station.now connector report.now)))) (state S.Store tx.old.conn.now) (state S.Store tx.new.conn.now) result }
 {
-    done(put_row(tx, op, station, connector, report))
+    done(tx.execute(
+        sql_tables::connectors::PUT,
+        params![
+            op,
+            station,
+            u32::from(connector),
+            report.status.name(),
+            report.error_code.name(),
+            report.at,
+            lent(&report.info),
+            lent(&report.vendor_id),
+            lent(&report.vendor_error_code)
+        ],
+    ))
 }

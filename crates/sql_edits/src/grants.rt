@@ -10,37 +10,7 @@ ghost use Rattle.hub_rows.specs.declared.change.TagEdit.TheVariants.{GrantPut, G
 use crate::binds::{done, seconds_if_any};
 use hub_rows::StoreFault;
 use ocpp_types::Moment;
-use sqlite::{Alter, Error, Transaction, params};
-
-/// Puts the row of a grant.
-fn put_row<S: Alter>(
-    tx: &mut Transaction<'_, S>,
-    op: &str,
-    key: &str,
-    to: &str,
-    until: &Option<Moment>,
-) -> Result<usize, Error>
-    ensures same_reference { tx.new.conn.ghost_name ≡ tx.old.conn.ghost_name }
-    ensures goes { IsInside (state S.Store tx.old.conn.now) → Goes (IsMade (edit op.now (Tags (GrantPut key.now to.now until.now)))) (state S.Store tx.old.conn.now) (state S.Store tx.new.conn.now) result }
-{
-    tx.execute(
-        sql_tables::grants::PUT,
-        params![op, key, to, seconds_if_any(until)],
-    )
-}
-
-/// Drops the row of a grant.
-fn drop_row<S: Alter>(
-    tx: &mut Transaction<'_, S>,
-    op: &str,
-    key: &str,
-    to: &str,
-) -> Result<usize, Error>
-    ensures same_reference { tx.new.conn.ghost_name ≡ tx.old.conn.ghost_name }
-    ensures goes { IsInside (state S.Store tx.old.conn.now) → Goes (IsMade (edit op.now (Tags (GrantDropped key.now to.now)))) (state S.Store tx.old.conn.now) (state S.Store tx.new.conn.now) result }
-{
-    tx.execute(sql_tables::grants::DROP, params![op, key, to])
-}
+use sqlite::{Alter, Transaction, params};
 
 /// Puts a grant of a tag, in place of the one to that operator.
 pub(crate) fn put_grant<S: Alter>(
@@ -53,7 +23,10 @@ pub(crate) fn put_grant<S: Alter>(
     ensures same_reference { tx.new.conn.ghost_name ≡ tx.old.conn.ghost_name }
     ensures goes { IsInside (state S.Store tx.old.conn.now) → Goes (IsMade (edit op.now (Tags (GrantPut key.now to.now until.now)))) (state S.Store tx.old.conn.now) (state S.Store tx.new.conn.now) result }
 {
-    done(put_row(tx, op, key, to, until))
+    done(tx.execute(
+        sql_tables::grants::PUT,
+        params![op, key, to, seconds_if_any(until)],
+    ))
 }
 
 /// Drops a grant of a tag.
@@ -66,5 +39,5 @@ pub(crate) fn drop_grant<S: Alter>(
     ensures same_reference { tx.new.conn.ghost_name ≡ tx.old.conn.ghost_name }
     ensures goes { IsInside (state S.Store tx.old.conn.now) → Goes (IsMade (edit op.now (Tags (GrantDropped key.now to.now)))) (state S.Store tx.old.conn.now) (state S.Store tx.new.conn.now) result }
 {
-    done(drop_row(tx, op, key, to))
+    done(tx.execute(sql_tables::grants::DROP, params![op, key, to]))
 }

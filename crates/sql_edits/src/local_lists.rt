@@ -13,16 +13,8 @@ ghost use Rattle.sql_rows.specs.TypedTables.{entries, entry_row, lists};
 use crate::binds::{done, lent, seconds_if_any};
 use hub_rows::{LocalList, LocalTag, StoreFault};
 use ocpp_types::{Named, TagKey};
-use sqlite::{Alter, Error, Transaction, params};
+use sqlite::{Alter, Transaction, params};
 use std::alloc::Global;
-
-/// Drops the rows of a list's entries.
-fn drop_rows<S: Alter>(tx: &mut Transaction<'_, S>, op: &str, station: &str) -> Result<usize, Error>
-    ensures same_reference { tx.new.conn.ghost_name ≡ tx.old.conn.ghost_name }
-    ensures goes { IsInside (state S.Store tx.old.conn.now) → Goes (IsDropped entries (λ e. bytes_eq e.op op.now && bytes_eq e.station station.now)) (state S.Store tx.old.conn.now) (state S.Store tx.new.conn.now) result }
-{
-    tx.execute(sql_tables::list_entries::DROP, params![op, station])
-}
 
 /// Drops the entries of a list.
 fn drop_entries<S: Alter>(
@@ -33,20 +25,7 @@ fn drop_entries<S: Alter>(
     ensures same_reference { tx.new.conn.ghost_name ≡ tx.old.conn.ghost_name }
     ensures goes { IsInside (state S.Store tx.old.conn.now) → Goes (IsDropped entries (λ e. bytes_eq e.op op.now && bytes_eq e.station station.now)) (state S.Store tx.old.conn.now) (state S.Store tx.new.conn.now) result }
 {
-    done(drop_rows(tx, op, station))
-}
-
-/// Puts the row of a list.
-fn put_row<S: Alter>(
-    tx: &mut Transaction<'_, S>,
-    op: &str,
-    station: &str,
-    version: u32,
-) -> Result<usize, Error>
-    ensures same_reference { tx.new.conn.ghost_name ≡ tx.old.conn.ghost_name }
-    ensures goes { IsInside (state S.Store tx.old.conn.now) → Goes (IsPutIn lists (record { op = op.now; station = station.now; version = version })) (state S.Store tx.old.conn.now) (state S.Store tx.new.conn.now) result }
-{
-    tx.execute(sql_tables::lists::PUT, params![op, station, version])
+    done(tx.execute(sql_tables::list_entries::DROP, params![op, station]))
 }
 
 /// Puts a list, without its entries.
@@ -59,7 +38,7 @@ fn put_head<S: Alter>(
     ensures same_reference { tx.new.conn.ghost_name ≡ tx.old.conn.ghost_name }
     ensures goes { IsInside (state S.Store tx.old.conn.now) → Goes (IsPutIn lists (record { op = op.now; station = station.now; version = version })) (state S.Store tx.old.conn.now) (state S.Store tx.new.conn.now) result }
 {
-    done(put_row(tx, op, station, version))
+    done(tx.execute(sql_tables::lists::PUT, params![op, station, version]))
 }
 
 /// Puts the row of an entry.
@@ -69,12 +48,12 @@ fn put_entry_row<S: Alter>(
     station: &str,
     key: &str,
     entry: &LocalTag,
-) -> Result<usize, Error>
+) -> Result<(), StoreFault>
     requires { key.now ≡ key_of entry.now.tag }
     ensures same_reference { tx.new.conn.ghost_name ≡ tx.old.conn.ghost_name }
     ensures goes { IsInside (state S.Store tx.old.conn.now) → Goes (IsPutIn entries (entry_row op.now station.now entry.now)) (state S.Store tx.old.conn.now) (state S.Store tx.new.conn.now) result }
 {
-    tx.execute(
+    done(tx.execute(
         sql_tables::list_entries::ADD,
         params![
             op,
@@ -85,7 +64,7 @@ fn put_entry_row<S: Alter>(
             lent(&entry.info.parent_id_tag),
             entry.info.status.name()
         ],
-    )
+    ))
 }
 
 /// Puts an entry of a list.
@@ -100,7 +79,7 @@ fn put_entry<S: Alter>(
     ensures goes { IsInside (state S.Store tx.old.conn.now) → Goes (IsPutIn entries (entry_row op.now station.now entry.now)) (state S.Store tx.old.conn.now) (state S.Store tx.new.conn.now) result }
 {
     let key = TagKey::of(alloc, entry.tag.as_str())?;
-    done(put_entry_row(tx, op, station, key.as_str(), entry))
+    put_entry_row(tx, op, station, key.as_str(), entry)
 }
 
 /// Puts the entries of a list.

@@ -10,20 +10,20 @@ ghost use Rattle.hub_rows.specs.Changes.{with_readings};
 use crate::binds::{done, name_if_any};
 use hub_rows::{Reading, StoreFault};
 use ocpp_types::Named;
-use sqlite::{Alter, Error, Transaction, params};
+use sqlite::{Alter, Transaction, params};
 
-/// Puts the row of a reading.
-fn put_row<S: Alter>(
+/// Puts a reading.
+fn put_reading<S: Alter>(
     tx: &mut Transaction<'_, S>,
     op: &str,
     station: &str,
     number: u32,
     reading: &Reading,
-) -> Result<usize, Error>
+) -> Result<(), StoreFault>
     ensures same_reference { tx.new.conn.ghost_name ≡ tx.old.conn.ghost_name }
     ensures goes { IsInside (state S.Store tx.old.conn.now) → Goes (IsMade (λ rows. record rows { readings = put (by_key reading_key) (record { op = op.now; station = station.now; number = number; reading = reading.now }) rows.readings })) (state S.Store tx.old.conn.now) (state S.Store tx.new.conn.now) result }
 {
-    tx.execute(
+    done(tx.execute(
         sql_tables::readings::ADD,
         params![
             op,
@@ -40,21 +40,7 @@ fn put_row<S: Alter>(
             name_if_any(&reading.unit),
             reading.text.as_str()
         ],
-    )
-}
-
-/// Puts a reading.
-fn put_reading<S: Alter>(
-    tx: &mut Transaction<'_, S>,
-    op: &str,
-    station: &str,
-    number: u32,
-    reading: &Reading,
-) -> Result<(), StoreFault>
-    ensures same_reference { tx.new.conn.ghost_name ≡ tx.old.conn.ghost_name }
-    ensures goes { IsInside (state S.Store tx.old.conn.now) → Goes (IsMade (λ rows. record rows { readings = put (by_key reading_key) (record { op = op.now; station = station.now; number = number; reading = reading.now }) rows.readings })) (state S.Store tx.old.conn.now) (state S.Store tx.new.conn.now) result }
-{
-    done(put_row(tx, op, station, number, reading))
+    ))
 }
 
 /// Puts readings of a station, numbered from the first number on. The last number is within 32

@@ -10,24 +10,7 @@ ghost use Rattle.hub_rows.specs.declared.change.StationEdit.TheVariants.{ReportS
 use crate::binds::{done, seconds};
 use hub_rows::{ReportedStatus, StoreFault};
 use ocpp_types::Moment;
-use sqlite::{Alter, Error, Transaction, params};
-
-/// Puts the row of a report.
-fn put_row<S: Alter>(
-    tx: &mut Transaction<'_, S>,
-    op: &str,
-    station: &str,
-    status: ReportedStatus,
-    moment: Moment,
-) -> Result<usize, Error>
-    ensures same_reference { tx.new.conn.ghost_name ≡ tx.old.conn.ghost_name }
-    ensures goes { IsInside (state S.Store tx.old.conn.now) → Goes (IsMade (edit op.now (Stations (ReportSeen station.now status moment)))) (state S.Store tx.old.conn.now) (state S.Store tx.new.conn.now) result }
-{
-    tx.execute(
-        sql_tables::reports::PUT,
-        params![op, station, status.kind(), status.name(), seconds(moment)],
-    )
-}
+use sqlite::{Alter, Transaction, params};
 
 /// Puts a report, in place of the one of its kind before.
 pub(crate) fn put_report<S: Alter>(
@@ -40,5 +23,8 @@ pub(crate) fn put_report<S: Alter>(
     ensures same_reference { tx.new.conn.ghost_name ≡ tx.old.conn.ghost_name }
     ensures goes { IsInside (state S.Store tx.old.conn.now) → Goes (IsMade (edit op.now (Stations (ReportSeen station.now status moment)))) (state S.Store tx.old.conn.now) (state S.Store tx.new.conn.now) result }
 {
-    done(put_row(tx, op, station, status, moment))
+    done(tx.execute(
+        sql_tables::reports::PUT,
+        params![op, station, status.kind(), status.name(), seconds(moment)],
+    ))
 }

@@ -10,48 +10,7 @@ ghost use Rattle.hub_rows.specs.declared.change.HoldingEdit.TheVariants.{Reserva
 
 use crate::binds::{done, lent, seconds};
 use hub_rows::{Reservation, ReservationId, StoreFault};
-use sqlite::{Alter, Error, Transaction, params};
-
-/// Puts the row of a reservation.
-fn put_row<S: Alter>(
-    tx: &mut Transaction<'_, S>,
-    op: &str,
-    station: &str,
-    id: ReservationId,
-    reservation: &Reservation,
-) -> Result<usize, Error>
-    ensures same_reference { tx.new.conn.ghost_name ≡ tx.old.conn.ghost_name }
-    ensures goes { IsInside (state S.Store tx.old.conn.now) → Goes (IsMade (edit op.now (Holdings (ReservationPut station.now id reservation.now)))) (state S.Store tx.old.conn.now) (state S.Store tx.new.conn.now) result }
-{
-    tx.execute(
-        sql_tables::reservations::PUT,
-        params![
-            op,
-            station,
-            id.get(),
-            u32::from(reservation.connector),
-            reservation.tag.as_str(),
-            lent(&reservation.parent),
-            seconds(reservation.expiry)
-        ],
-    )
-}
-
-/// Drops the row of a reservation.
-fn drop_row<S: Alter>(
-    tx: &mut Transaction<'_, S>,
-    op: &str,
-    station: &str,
-    id: ReservationId,
-) -> Result<usize, Error>
-    ensures same_reference { tx.new.conn.ghost_name ≡ tx.old.conn.ghost_name }
-    ensures goes { IsInside (state S.Store tx.old.conn.now) → Goes (IsMade (edit op.now (Holdings (ReservationDropped station.now id)))) (state S.Store tx.old.conn.now) (state S.Store tx.new.conn.now) result }
-{
-    tx.execute(
-        sql_tables::reservations::DROP,
-        params![op, station, id.get()],
-    )
-}
+use sqlite::{Alter, Transaction, params};
 
 /// Puts a reservation, in place of the one with its id.
 pub(crate) fn put_reservation<S: Alter>(
@@ -64,7 +23,18 @@ pub(crate) fn put_reservation<S: Alter>(
     ensures same_reference { tx.new.conn.ghost_name ≡ tx.old.conn.ghost_name }
     ensures goes { IsInside (state S.Store tx.old.conn.now) → Goes (IsMade (edit op.now (Holdings (ReservationPut station.now id reservation.now)))) (state S.Store tx.old.conn.now) (state S.Store tx.new.conn.now) result }
 {
-    done(put_row(tx, op, station, id, reservation))
+    done(tx.execute(
+        sql_tables::reservations::PUT,
+        params![
+            op,
+            station,
+            id.get(),
+            u32::from(reservation.connector),
+            reservation.tag.as_str(),
+            lent(&reservation.parent),
+            seconds(reservation.expiry)
+        ],
+    ))
 }
 
 /// Drops the reservation of an id.
@@ -77,7 +47,10 @@ pub(crate) fn drop_reservation<S: Alter>(
     ensures same_reference { tx.new.conn.ghost_name ≡ tx.old.conn.ghost_name }
     ensures goes { IsInside (state S.Store tx.old.conn.now) → Goes (IsMade (edit op.now (Holdings (ReservationDropped station.now id)))) (state S.Store tx.old.conn.now) (state S.Store tx.new.conn.now) result }
 {
-    done(drop_row(tx, op, station, id))
+    done(tx.execute(
+        sql_tables::reservations::DROP,
+        params![op, station, id.get()],
+    ))
 }
 
 /// Drops the reservation that a start names, if it names one.

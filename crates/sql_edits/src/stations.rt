@@ -22,12 +22,12 @@ fn put_unbooted<S: Alter>(
     op: &str,
     station: &str,
     registered: Registration,
-) -> Result<usize, Error>
+) -> Result<(), StoreFault>
     ensures same_reference { tx.new.conn.ghost_name ≡ tx.old.conn.ghost_name }
     ensures goes { IsInside (state S.Store tx.old.conn.now) → Goes (IsMade (λ rows. record rows { stations = put (by_key station_key) (record { op = op.now; station = station.now; policy = registered.policy; interval = registered.interval; state = registered.state; boot = None }) rows.stations })) (state S.Store tx.old.conn.now) (state S.Store tx.new.conn.now) result }
 {
     let null: Option<i64> = None;
-    tx.execute(
+    done(tx.execute(
         sql_tables::stations::PUT,
         params![
             op,
@@ -46,7 +46,7 @@ fn put_unbooted<S: Alter>(
             null,
             null
         ],
-    )
+    ))
 }
 
 /// Puts the row of a station that has booted.
@@ -56,12 +56,12 @@ fn put_booted<S: Alter>(
     station: &str,
     registered: Registration,
     boot: &Boot,
-) -> Result<usize, Error>
+) -> Result<(), StoreFault>
     ensures same_reference { tx.new.conn.ghost_name ≡ tx.old.conn.ghost_name }
     ensures goes { IsInside (state S.Store tx.old.conn.now) → Goes (IsMade (λ rows. record rows { stations = put (by_key station_key) (record { op = op.now; station = station.now; policy = registered.policy; interval = registered.interval; state = registered.state; boot = Some boot.now }) rows.stations })) (state S.Store tx.old.conn.now) (state S.Store tx.new.conn.now) result }
 {
     let texts = boot.texts.as_ref();
-    tx.execute(
+    done(tx.execute(
         sql_tables::stations::PUT,
         params![
             op,
@@ -80,7 +80,7 @@ fn put_booted<S: Alter>(
             lent(&texts.meter_serial_number),
             lent(&texts.meter_type)
         ],
-    )
+    ))
 }
 
 fn find_inside<S: Alter>(
@@ -123,7 +123,7 @@ pub(crate) fn add_station<S: Alter>(
         interval,
         state: State::Fresh,
     };
-    done(put_unbooted(tx, op, station, registered))
+    put_unbooted(tx, op, station, registered)
 }
 
 /// Puts a station.
@@ -135,8 +135,8 @@ fn put_station<S: Alter>(tx: &mut Transaction<'_, S>, row: &StationRow) -> Resul
     let station = row.station.as_str();
     let registered = row.registration();
     match &row.boot {
-        None => done(put_unbooted(tx, op, station, registered)),
-        Some(boot) => done(put_booted(tx, op, station, registered, boot)),
+        None => put_unbooted(tx, op, station, registered),
+        Some(boot) => put_booted(tx, op, station, registered, boot),
     }
 }
 
@@ -161,7 +161,7 @@ pub(crate) fn see_boot<S: Alter>(
                 interval: row.interval,
                 state: answered,
             };
-            done(put_booted(tx, op, station, registered, boot))
+            put_booted(tx, op, station, registered, boot)
         }
         None => Err(StoreFault::Failed),
     }

@@ -10,7 +10,7 @@ ghost use Rattle.ocpp_types.specs.TagKey.{key_of};
 
 use crate::binds::{done, key_if_any, lent, lent_key, seconds_if_any};
 use hub_rows::{StoreFault, Tag};
-use sqlite::{Alter, Error, Transaction, params};
+use sqlite::{Alter, Transaction, params};
 use std::alloc::Global;
 
 /// Puts the row of a tag, with the key of its parent.
@@ -20,12 +20,12 @@ fn put_row<S: Alter>(
     key: &str,
     tag: &Tag,
     parent_key: Option<&str>,
-) -> Result<usize, Error>
+) -> Result<(), StoreFault>
     requires { option_map (λ k. k.now) parent_key ≡ option_map key_of tag.now.parent }
     ensures same_reference { tx.new.conn.ghost_name ≡ tx.old.conn.ghost_name }
     ensures goes { IsInside (state S.Store tx.old.conn.now) → Goes (IsMade (edit op.now (Tags (TagPut key.now tag.now)))) (state S.Store tx.old.conn.now) (state S.Store tx.new.conn.now) result }
 {
-    tx.execute(
+    done(tx.execute(
         sql_tables::tags::PUT,
         params![
             op,
@@ -36,15 +36,19 @@ fn put_row<S: Alter>(
             tag.blocked,
             seconds_if_any(&tag.expiry)
         ],
-    )
+    ))
 }
 
-/// Drops the row of a tag. Its grants go with it.
-fn drop_row<S: Alter>(tx: &mut Transaction<'_, S>, op: &str, key: &str) -> Result<usize, Error>
+/// Drops a tag and its grants.
+pub(crate) fn drop_tag<S: Alter>(
+    tx: &mut Transaction<'_, S>,
+    op: &str,
+    key: &str,
+) -> Result<(), StoreFault>
     ensures same_reference { tx.new.conn.ghost_name ≡ tx.old.conn.ghost_name }
     ensures goes { IsInside (state S.Store tx.old.conn.now) → Goes (IsMade (edit op.now (Tags (TagDropped key.now)))) (state S.Store tx.old.conn.now) (state S.Store tx.new.conn.now) result }
 {
-    tx.execute(sql_tables::tags::DROP, params![op, key])
+    done(tx.execute(sql_tables::tags::DROP, params![op, key]))
 }
 
 /// Puts a tag, in place of the one with its key, whose grants it keeps.
@@ -59,17 +63,5 @@ pub(crate) fn put_tag<S: Alter>(
     ensures goes { IsInside (state S.Store tx.old.conn.now) → Goes (IsMade (edit op.now (Tags (TagPut key.now tag.now)))) (state S.Store tx.old.conn.now) (state S.Store tx.new.conn.now) result }
 {
     let parent_key = key_if_any(alloc, &tag.parent)?;
-    done(put_row(tx, op, key, tag, lent_key(&parent_key)))
-}
-
-/// Drops a tag and its grants.
-pub(crate) fn drop_tag<S: Alter>(
-    tx: &mut Transaction<'_, S>,
-    op: &str,
-    key: &str,
-) -> Result<(), StoreFault>
-    ensures same_reference { tx.new.conn.ghost_name ≡ tx.old.conn.ghost_name }
-    ensures goes { IsInside (state S.Store tx.old.conn.now) → Goes (IsMade (edit op.now (Tags (TagDropped key.now)))) (state S.Store tx.old.conn.now) (state S.Store tx.new.conn.now) result }
-{
-    done(drop_row(tx, op, key))
+    put_row(tx, op, key, tag, lent_key(&parent_key))
 }

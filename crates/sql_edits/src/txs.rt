@@ -26,19 +26,19 @@ fn is_accepted(status: AuthorizationStatus) -> bool
     matches!(status, AuthorizationStatus::Accepted)
 }
 
-/// Adds the row of an open transaction.
-fn put_open<S: Alter>(
+/// Puts a transaction that has begun.
+fn put_started<S: Alter>(
     tx: &mut Transaction<'_, S>,
     op: &str,
     station: &str,
     number: u32,
     start: &Start,
-) -> Result<usize, Error>
+) -> Result<(), StoreFault>
     ensures same_reference { tx.new.conn.ghost_name ≡ tx.old.conn.ghost_name }
     ensures goes { IsInside (state S.Store tx.old.conn.now) → Goes (IsMade (λ rows. record rows { transactions = put (by_key tx_key) (tx_row op.now station.now number start.now) rows.transactions })) (state S.Store tx.old.conn.now) (state S.Store tx.new.conn.now) result }
 {
     let null: Option<i64> = None;
-    tx.execute(
+    done(tx.execute(
         sql_tables::txs::ADD,
         params![
             op,
@@ -60,20 +60,20 @@ fn put_open<S: Alter>(
             null,
             null
         ],
-    )
+    ))
 }
 
-/// Puts the row of a transaction with its stop.
-fn put_stopped<S: Alter>(
+/// Puts a transaction that has ended.
+fn put_ended<S: Alter>(
     tx: &mut Transaction<'_, S>,
     row: &TxRow,
     stop: &Stop,
-) -> Result<usize, Error>
+) -> Result<(), StoreFault>
     ensures same_reference { tx.new.conn.ghost_name ≡ tx.old.conn.ghost_name }
     ensures goes { IsInside (state S.Store tx.old.conn.now) → Goes (IsMade (λ rows. record rows { transactions = put (by_key tx_key) (with_stop stop.now row.now) rows.transactions })) (state S.Store tx.old.conn.now) (state S.Store tx.new.conn.now) result }
 {
     let start = &row.start;
-    tx.execute(
+    done(tx.execute(
         sql_tables::txs::PUT,
         params![
             row.op.as_str(),
@@ -95,7 +95,7 @@ fn put_stopped<S: Alter>(
             lent(&stop.tag),
             seconds(stop.moment)
         ],
-    )
+    ))
 }
 
 fn find_inside<S: Alter>(
@@ -122,32 +122,6 @@ fn tx_inside<S: Alter>(
     ensures goes { IsInside (state S.Store tx.old.conn.now) → Goes IsSame (state S.Store tx.old.conn.now) (state S.Store tx.new.conn.now) result }
 {
     first_row(find_inside(tx, op, station, number))
-}
-
-/// Puts a transaction that has begun.
-fn put_started<S: Alter>(
-    tx: &mut Transaction<'_, S>,
-    op: &str,
-    station: &str,
-    number: u32,
-    start: &Start,
-) -> Result<(), StoreFault>
-    ensures same_reference { tx.new.conn.ghost_name ≡ tx.old.conn.ghost_name }
-    ensures goes { IsInside (state S.Store tx.old.conn.now) → Goes (IsMade (λ rows. record rows { transactions = put (by_key tx_key) (tx_row op.now station.now number start.now) rows.transactions })) (state S.Store tx.old.conn.now) (state S.Store tx.new.conn.now) result }
-{
-    done(put_open(tx, op, station, number, start))
-}
-
-/// Puts a transaction that has ended.
-fn put_ended<S: Alter>(
-    tx: &mut Transaction<'_, S>,
-    row: &TxRow,
-    stop: &Stop,
-) -> Result<(), StoreFault>
-    ensures same_reference { tx.new.conn.ghost_name ≡ tx.old.conn.ghost_name }
-    ensures goes { IsInside (state S.Store tx.old.conn.now) → Goes (IsMade (λ rows. record rows { transactions = put (by_key tx_key) (with_stop stop.now row.now) rows.transactions })) (state S.Store tx.old.conn.now) (state S.Store tx.new.conn.now) result }
-{
-    done(put_stopped(tx, row, stop))
 }
 
 /// Puts a new transaction, and drops the reservation that it names.

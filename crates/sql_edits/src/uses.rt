@@ -21,14 +21,14 @@ fn add_owner<S: Alter>(
     station: &str,
     number: u32,
     owner: &str,
-) -> Result<usize, Error>
+) -> Result<(), StoreFault>
     ensures same_reference { tx.new.conn.ghost_name ≡ tx.old.conn.ghost_name }
     ensures goes { IsInside (state S.Store tx.old.conn.now) → Goes (IsMade (λ rows. record rows { tx_owners = put (by_key tx_owner_key) (record { op = op.now; station = station.now; number = number; owner = owner.now }) rows.tx_owners })) (state S.Store tx.old.conn.now) (state S.Store tx.new.conn.now) result }
 {
-    tx.execute(
+    done(tx.execute(
         sql_tables::tx_owners::ADD,
         params![op, station, number, owner],
-    )
+    ))
 }
 
 /// Puts the owner of the tag with which a transaction begins, where another operator granted it.
@@ -43,7 +43,7 @@ pub(crate) fn put_owner<S: Alter>(
     ensures goes { IsInside (state S.Store tx.old.conn.now) → Goes (IsMade (λ rows. record rows { tx_owners = with_owner op.now station.now number owner.now rows.tx_owners })) (state S.Store tx.old.conn.now) (state S.Store tx.new.conn.now) result }
 {
     match owner {
-        Some(owner) => done(add_owner(tx, op, station, number, owner.as_str())),
+        Some(owner) => add_owner(tx, op, station, number, owner.as_str()),
         None => Ok(()),
     }
 }
@@ -97,30 +97,6 @@ fn energy_of(row: &TxRow, stop: &Stop) -> i64
     stop.meter_stop.saturating_sub(row.start.id.meter_start)
 }
 
-/// Adds the row of a use, of a transaction that is stopped.
-fn add_row<S: Alter>(
-    tx: &mut Transaction<'_, S>,
-    owner: &str,
-    number: u32,
-    row: &TxRow,
-    stop: &Stop,
-) -> Result<usize, Error>
-    ensures same_reference { tx.new.conn.ghost_name ≡ tx.old.conn.ghost_name }
-    ensures goes { IsInside (state S.Store tx.old.conn.now) → Goes (IsMade (λ rows. record rows { uses = put (by_key use_key) (use_row owner.now number row.now.op row.now stop.now) rows.uses })) (state S.Store tx.old.conn.now) (state S.Store tx.new.conn.now) result }
-{
-    tx.execute(
-        sql_tables::uses::ADD,
-        params![
-            owner,
-            number,
-            row.op.as_str(),
-            row.start.id.key.as_str(),
-            seconds(stop.moment),
-            energy_of(row, stop)
-        ],
-    )
-}
-
 /// Adds a use.
 fn add_use<S: Alter>(
     tx: &mut Transaction<'_, S>,
@@ -132,7 +108,17 @@ fn add_use<S: Alter>(
     ensures same_reference { tx.new.conn.ghost_name ≡ tx.old.conn.ghost_name }
     ensures goes { IsInside (state S.Store tx.old.conn.now) → Goes (IsMade (λ rows. record rows { uses = put (by_key use_key) (use_row owner.now number row.now.op row.now stop.now) rows.uses })) (state S.Store tx.old.conn.now) (state S.Store tx.new.conn.now) result }
 {
-    done(add_row(tx, owner, number, row, stop))
+    done(tx.execute(
+        sql_tables::uses::ADD,
+        params![
+            owner,
+            number,
+            row.op.as_str(),
+            row.start.id.key.as_str(),
+            seconds(stop.moment),
+            energy_of(row, stop)
+        ],
+    ))
 }
 
 /// Adds the use that follows the owner's last one, unless that has the last number of all.

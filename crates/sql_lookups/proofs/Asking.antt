@@ -1,5 +1,5 @@
 -- What a look-up says, by the statements and the look-ups that it makes.
-use Rattle.std.proofs.Common.{◌≡◌, ◌∙◌, ℕ, List, [], Bool, Option, Result, Ok, Err, IfOk, IsErr, IsOk, IsTrue, OnOk, filter, find, map, refl, subst, arith}
+use Rattle.std.proofs.Common.{◌≡◌, ◌∙◌, ℕ, List, [], Bool, Option, Result, Ok, Err, IfOk, IsErr, IsOk, OnOk, filter, find, map, refl, subst, arith}
 use Rattle.std.proofs.lemmas.Result.{IfOk-from_err}
 use Rattle.sqlite_trees.specs.Tree.{Trees}
 use Rattle.sqlite_value.specs.Order.{Row, column}
@@ -7,7 +7,7 @@ use Rattle.sqlite.specs.declared.error.Error.{Error}
 use Rattle.sqlite.specs.Effect.{Database}
 use Rattle.sqlite.specs.State.{State}
 use Rattle.hub_rows.specs.Keyed.{first, greatest, put_all}
-use Rattle.sql_rows.specs.Kept.{CommitsNothing, IsServing, Shows, ShowsLast}
+use Rattle.sql_rows.specs.Kept.{IsServing, Shows, ShowsLast}
 use Rattle.sql_rows.specs.TypedTable.{TypedTable, cmp, rows_in}
 use Rattle.sql_rows.specs.Values.{count_in}
 use Rattle.sql_rows.proofs.Calls.{first_finds, last_finds}

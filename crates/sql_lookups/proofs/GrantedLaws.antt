@@ -1,22 +1,19 @@
 -- What is granted, by the rows that the database shows.
-use Rattle.std.proofs.Common.{◌≡◌, ◌++◌, ℕ, List, [], ◌∷◌, Equal, Option, Some, None, Ok, Err, Result, IfOk, IsOk, OnOk, filter, map, IsTrue, true, false, refl, subst, sym, ap, ◌∙◌}
+use Rattle.std.proofs.Common.{◌≡◌, ◌++◌, ℕ, List, [], ◌∷◌, Equal, Option, Some, None, Ok, Err, Result, IfOk, IsOk, OnOk, filter, map, true, false, refl, sym, ap, ◌∙◌}
 use Rattle.std.specs.List.{cons_option, filter_map}
 use Rattle.std.specs.Option.{is_some}
 use Rattle.std.specs.Str.{bytes_eq}
 use Rattle.std.proofs.lemmas.List.Elements.{filter_map-append}
-use Rattle.sqlite.specs.State.{State}
 use Rattle.sqlite_trees.specs.Tree.{Trees}
 use Rattle.sqlite_value.specs.Order.{Row}
 use Rattle.sqlite_rules.specs.Lists.{Has}
 use Rattle.hub_rows.specs.Grants.{entry_by, granted_in, granted_tag_in, grants_of_key, grants_to, info_by, received_key}
 use Rattle.hub_rows.specs.Keyed.{by_key, first, in_order, put_all}
-use Rattle.hub_rows.specs.Rows.{Rows, grant_key}
+use Rattle.hub_rows.specs.Rows.{grant_key}
 use Rattle.hub_rows.specs.declared.tag_row.TagRow.{TagRow}
 use Rattle.hub_rows.specs.declared.grant_row.GrantRow.{GrantRow}
 use Rattle.sql_rows.specs.TypedTable.{rows_in}
-use Rattle.sql_rows.specs.Kept.{Finds, IsServing, Rests}
-use Rattle.sql_rows.specs.TypedTables.{grants, rows_of}
-use Rattle.sql_rows.proofs.StoreLemmas.{rests_before}
+use Rattle.sql_rows.specs.TypedTables.{grants}
 use Rattle.sql_rows.proofs.OrderedLaws.{in_received}
 
 -- the grants to an operator that are shown, in the order of their receivers

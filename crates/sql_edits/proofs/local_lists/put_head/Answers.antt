@@ -1,7 +1,13 @@
+use Rattle.std.proofs.Common.{refl}
 use Rattle.sqlite.specs.Held.{state}
-use Rattle.sql_rows.proofs.TxLemmas.{goes_as}
+use Rattle.sql_rows.proofs.HoldingTables.{puts_list}
+use Rattle.sql_rows.proofs.StoreLemmas.{open_is_clean}
+use Rattle.sql_rows.proofs.TxLemmas.{goes_as, step}
 use Rattle.sql_edits.proofs.local_lists.put_head.Goals as goal
 
 pub returns-clause-goes : goal.returns-clause-goes
 returns-clause-goes g c = λ inside.
-    goes_as _ (state g.S.Store c.args.tx.now.conn.now) (state g.S.Store c.put_row.new.tx.conn.now) c.put_row.result c.done.result c.done.ensures.ok c.done.ensures.err (c.put_row.ensures.goes inside)
+    let new = c.execute.new.self.conn.now in
+    goes_as _ _ _ _ _ c.done.ensures.ok c.done.ensures.err
+    (step (puts_list (record { op = c.args.op.now; station = c.args.station.now; version = c.args.version })) (state g.S.Store) c.args.tx.now.conn.now new _ c.execute.result c.execute.ensures.runs c.execute.ensures.ended c.execute.ensures.survives
+    (rw (c.params-to_sql.ensures, c.params-to_sql-2.ensures, c.params-to_sql-3.ensures) refl) (open_is_clean _ _ (g.met.S.Store.shut_if_dirty new.store)) inside)

@@ -4,7 +4,6 @@ use Rattle.hub_rows.specs.Keyed.{by_key, put}
 use Rattle.hub_rows.specs.Rows.{station_key}
 use Rattle.hub_rows.specs.declared.station_row.StationRow.{StationRow}
 use Rattle.sql_rows.specs.Kept.{Goes, IsMade}
-use Rattle.sql_rows.proofs.TxLemmas.{goes_as}
 use Rattle.sql_edits.proofs.stations.put_station.Goals as goal
 
 pub returns-in-None-clause-goes : goal.returns-in-None-clause-goes
@@ -13,8 +12,8 @@ returns-in-None-clause-goes g c = λ inside.
     let registered = c.registration-registered in
     let given : StationRow = record { op = c.as_str-op.result.now; station = c.as_str-station.result.now; policy = registered.result.policy; interval = registered.result.interval; state = registered.result.state; boot = None } in
     let same_row : given ≡ row = (λ i. record { op = c.as_str-op.ensures i; station = c.as_str-station.ensures i; policy = (registered.ensures i).policy; interval = (registered.ensures i).interval; state = (registered.ensures i).state; boot = sym c.in-None.is i }) in
-    subst (λ (x : StationRow). Goes (IsMade (λ rows. record rows { stations = put (by_key station_key) x rows.stations })) (state g.S.Store c.args.tx.now.conn.now) (state g.S.Store c.put_unbooted.new.tx.conn.now) c.done.result) same_row
-    (goes_as _ (state g.S.Store c.args.tx.now.conn.now) (state g.S.Store c.put_unbooted.new.tx.conn.now) c.put_unbooted.result c.done.result c.done.ensures.ok c.done.ensures.err (c.put_unbooted.ensures.goes inside))
+    subst (λ (x : StationRow). Goes (IsMade (λ rows. record rows { stations = put (by_key station_key) x rows.stations })) (state g.S.Store c.args.tx.now.conn.now) (state g.S.Store c.put_unbooted.new.tx.conn.now) c.put_unbooted.result) same_row
+    (c.put_unbooted.ensures.goes inside)
 
 pub returns-in-Some-clause-goes : goal.returns-in-Some-clause-goes
 returns-in-Some-clause-goes g c = λ inside.
@@ -22,5 +21,5 @@ returns-in-Some-clause-goes g c = λ inside.
     let registered = c.registration-registered in
     let given : StationRow = record { op = c.as_str-op.result.now; station = c.as_str-station.result.now; policy = registered.result.policy; interval = registered.result.interval; state = registered.result.state; boot = Some c.in-Some.boot } in
     let same_row : given ≡ row = (λ i. record { op = c.as_str-op.ensures i; station = c.as_str-station.ensures i; policy = (registered.ensures i).policy; interval = (registered.ensures i).interval; state = (registered.ensures i).state; boot = sym c.in-Some.is i }) in
-    subst (λ (x : StationRow). Goes (IsMade (λ rows. record rows { stations = put (by_key station_key) x rows.stations })) (state g.S.Store c.args.tx.now.conn.now) (state g.S.Store c.put_booted.new.tx.conn.now) c.done-in-Some.result) same_row
-    (goes_as _ (state g.S.Store c.args.tx.now.conn.now) (state g.S.Store c.put_booted.new.tx.conn.now) c.put_booted.result c.done-in-Some.result c.done-in-Some.ensures.ok c.done-in-Some.ensures.err (c.put_booted.ensures.goes inside))
+    subst (λ (x : StationRow). Goes (IsMade (λ rows. record rows { stations = put (by_key station_key) x rows.stations })) (state g.S.Store c.args.tx.now.conn.now) (state g.S.Store c.put_booted.new.tx.conn.now) c.put_booted.result) same_row
+    (c.put_booted.ensures.goes inside)

@@ -4,14 +4,15 @@ use Rattle.sqlite.specs.Values.{bound_value}
 use Rattle.sqlite_value.specs.declared.value.Value.TheVariants.{Text}
 use Rattle.sql_rows.proofs.StationTables.{puts_station}
 use Rattle.sql_rows.proofs.StoreLemmas.{open_is_clean}
-use Rattle.sql_rows.proofs.TxLemmas.{step}
+use Rattle.sql_rows.proofs.TxLemmas.{goes_as, step}
 use Rattle.sql_edits.proofs.stations.put_unbooted.Goals as goal
 
 pub returns-clause-goes : goal.returns-clause-goes
-returns-clause-goes g c =
+returns-clause-goes g c = λ inside.
     let new = c.execute.new.self.conn.now in
     let registered = c.args.registered in
-    step (puts_station (record { op = c.args.op.now; station = c.args.station.now; policy = registered.policy; interval = registered.interval; state = registered.state; boot = None })) (state g.S.Store) c.args.tx.now.conn.now new _ c.execute.result c.execute.ensures.runs c.execute.ensures.ended c.execute.ensures.survives
+    goes_as _ _ _ _ _ c.done.ensures.ok c.done.ensures.err
+    (step (puts_station (record { op = c.args.op.now; station = c.args.station.now; policy = registered.policy; interval = registered.interval; state = registered.state; boot = None })) (state g.S.Store) c.args.tx.now.conn.now new _ c.execute.result c.execute.ensures.runs c.execute.ensures.ended c.execute.ensures.survives
     (λ i. (ap bound_value c.params-to_sql.ensures) i ∷
     (ap bound_value c.params-to_sql-2.ensures) i ∷
     (ap bound_value c.params-to_sql-3.ensures ∙ ap Text c.name.ensures.value) i ∷
@@ -26,4 +27,4 @@ returns-clause-goes g c =
     (ap bound_value c.params-to_sql-12.ensures) i ∷
     (ap bound_value c.params-to_sql-13.ensures) i ∷
     (ap bound_value c.params-to_sql-14.ensures) i ∷
-    (ap bound_value c.params-to_sql-15.ensures) i ∷ []) (open_is_clean _ _ (g.met.S.Store.shut_if_dirty new.store))
+    (ap bound_value c.params-to_sql-15.ensures) i ∷ []) (open_is_clean _ _ (g.met.S.Store.shut_if_dirty new.store)) inside)

@@ -9,7 +9,7 @@ use Rattle.hub_rows.specs.Rows.{station_key}
 use Rattle.sql_rows.specs.Kept.{IsMade, IsSame}
 use Rattle.sql_rows.specs.TypedTables.{rows_of}
 use Rattle.sql_rows.proofs.RowEdits.{station_changed}
-use Rattle.sql_rows.proofs.TxLemmas.{goes_as, goes_then}
+use Rattle.sql_rows.proofs.TxLemmas.{goes_then}
 use Rattle.sql_edits.proofs.stations.see_boot.Goals as goal
 
 pub returns-in-Some-clause-goes : goal.returns-in-Some-clause-goes
@@ -24,7 +24,7 @@ returns-in-Some-clause-goes g c = λ inside.
     let first = c.in_ok-row.ensures.goes inside in
     let given : StationRow = record { op = c.as_str-op.result.now; station = c.as_str-station.result.now; policy = row.policy; interval = row.interval; state = c.args.answered; boot = Some boot } in
     let same_row : given ≡ with_boot boot c.args.answered row = (λ i. record { op = c.as_str-op.ensures i; station = c.as_str-station.ensures i; policy = row.policy; interval = row.interval; state = c.args.answered; boot = Some boot }) in
-    goes_then IsSame (IsMade (λ rows. record rows { stations = put (by_key station_key) given rows.stations })) (IsMade (edit op (Stations (BootSeen station boot c.args.answered)))) old mid new c.done.result
+    goes_then IsSame (IsMade (λ rows. record rows { stations = put (by_key station_key) given rows.stations })) (IsMade (edit op (Stations (BootSeen station boot c.args.answered)))) old mid new c.put_booted.result
     (λ up same made. station_changed op station (with_boot boot c.args.answered) (λ x. refl) old.now.trees mid.now.trees new.now.trees row (sym (c.in_ok-row.ensures.found inside up) ∙ c.in-Some.is) same
     (made ∙ ap (λ (x : StationRow). record (rows_of mid.now.trees) { stations = put (by_key station_key) x (rows_of mid.now.trees).stations }) same_row))
-    first.ok (goes_as _ mid new c.put_booted.result c.done.result c.done.ensures.ok c.done.ensures.err (c.put_booted.ensures.goes first.ok.within))
+    first.ok (c.put_booted.ensures.goes first.ok.within)

@@ -5,7 +5,7 @@ use Rattle.hub_rows.specs.Rows.{Rows}
 use Rattle.hub_rows.specs.Uses.{with_owner}
 use Rattle.sql_rows.specs.Kept.{Goes, IsMade}
 use Rattle.sql_rows.specs.TypedTables.{rows_of}
-use Rattle.sql_rows.proofs.TxLemmas.{goes_as, inside_self}
+use Rattle.sql_rows.proofs.TxLemmas.{inside_self}
 use Rattle.sql_edits.proofs.uses.put_owner.Goals as goal
 
 pub returns-in-Some-clause-goes : goal.returns-in-Some-clause-goes
@@ -15,8 +15,7 @@ returns-in-Some-clause-goes g c = λ inside.
     let old = state g.S.Store c.args.tx.now.conn.now in
     let new = state g.S.Store c.add_owner.new.tx.conn.now in
     let puts : (Option (List ℕ) → Rows → Rows) = (λ o rows. record rows { tx_owners = with_owner op station c.args.number o rows.tx_owners }) in
-    let from = subst (λ a. Goes (IsMade (puts (Rattle.std.specs.Prelude.Some a))) old new c.add_owner.result) c.as_str.ensures (c.add_owner.ensures.goes inside) in
-    subst (λ o. Goes (IsMade (puts o)) old new c.done.result) (sym c.in-Some.is) (goes_as _ old new c.add_owner.result c.done.result c.done.ensures.ok c.done.ensures.err from)
+    subst (λ o. Goes (IsMade (puts o)) old new c.add_owner.result) (sym c.in-Some.is) (subst (λ a. Goes (IsMade (puts (Rattle.std.specs.Prelude.Some a))) old new c.add_owner.result) c.as_str.ensures (c.add_owner.ensures.goes inside))
 
 pub returns-in-None-clause-goes : goal.returns-in-None-clause-goes
 returns-in-None-clause-goes g c = λ inside.
