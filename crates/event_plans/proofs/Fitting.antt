@@ -78,7 +78,7 @@ use Rattle.operator_cmds.specs.declared.reservations.CancelReservation.{CancelRe
 use Rattle.operator_cmds.specs.declared.reservations.ReserveNow.{ReserveNow}
 use Rattle.holdings.specs.LocalList.{entries_after, kept_for, list_set, not_named, version_of, with_info}
 use Rattle.holdings.specs.Reservation.{cancelled, connector_of, put_at, reservation_id, reserved}
-use Rattle.holdings.specs.Settled.{accepted_edit, settled}
+use Rattle.holdings.specs.Accepted.{accepted_edit, edit_when_accepted}
 use Rattle.holdings.proofs.EntryLaws.{sorted-entries}
 use Rattle.hub_rows.specs.LocalLists.{AreEntries}
 use Rattle.hub_rows.specs.declared.list_row.LocalTag.{LocalTag}
@@ -251,15 +251,15 @@ accepted_fits station (command.ReserveNow c) l here = reserved_fits station c l 
 accepted_fits station (command.SendLocalList c) l here = list_fits station c l here
 accepted_fits station c l here = tt
 
-settled_fits : (station : List ℕ) (c : Command) (l : Lookups) → IfSome (settled station c l) (FitsLookups l)
-settled_fits station c l =
+accepted_fits : (station : List ℕ) (c : Command) (l : Lookups) → IfSome (edit_when_accepted station c l) (FitsLookups l)
+accepted_fits station c l =
     elim (is_some (l.registration station)) as (λ t. is_some (l.registration station) ≡ t → IfSome (cond t (accepted_edit station c l) None) (FitsLookups l)) [
       | true ↦ λ here. accepted_fits station c l here
       | false ↦ λ none. tt
     ] refl
 
 edit_by_fits : (station : List ℕ) (c : Command) (read : Result Data FieldFault) (l : Lookups) → IfSome (edit_by station c read l) (FitsLookups l)
-edit_by_fits station c (Ok known) l = elim (is_accepted known) as (λ a. IfSome (cond a (settled station c l) None) (FitsLookups l)) [ true ↦ settled_fits station c l | false ↦ tt ]
+edit_by_fits station c (Ok known) l = elim (is_accepted known) as (λ a. IfSome (cond a (edit_when_accepted station c l) None) (FitsLookups l)) [ true ↦ accepted_fits station c l | false ↦ tt ]
 edit_by_fits station c (Err fault) l = tt
 
 answer_fits : (station id : List ℕ) (gives : Command → Outcome) (edits : Command → Option Edit) (o : Option Command) (f : Facts) → ((c : Command) → IfSome (edits c) (FitsLookups f.lookups)) → PlanFits f (end_plan station id gives edits o)

@@ -16,7 +16,7 @@ use Rattle.hub_rows.specs.declared.tx_row.TxState.{TxState}
 use Rattle.hub_rows.specs.Lookups.{Lookups}
 use Rattle.hub_rows.specs.Transactions.{last_of_all}
 use Rattle.holdings.specs.Reservation.{cancel_rule, reserve_rule}
-use Rattle.holdings.specs.Settled.{settled}
+use Rattle.holdings.specs.Accepted.{edit_when_accepted}
 use Rattle.id_tags.specs.Refusal.{refuse_rule}
 use Rattle.operator_cmds.specs.Answer.{is_accepted, known_members}
 use Rattle.operator_cmds.specs.Command.{action_name_of, bad_field, command_data}
@@ -109,7 +109,7 @@ result_outcome c payload = read_outcome (known_members c payload)
 
 -- the edit that an answer makes, if it is Accepted
 abbrev pub edit_by : List ℕ → Command → Result Data FieldFault → Lookups → Option Edit
-edit_by station c (Ok known) l = if is_accepted known then settled station c l else None
+edit_by station c (Ok known) l = if is_accepted known then edit_when_accepted station c l else None
 edit_by station c (Err fault) l = None
 
 -- the edit of a call that is answered with a result

@@ -12,7 +12,7 @@ ghost use Rattle.event_plans.specs.declared.plan.Effect.TheVariants as effect;
 
 use crate::message_at::MessageAt;
 use crate::plan::{Effect, Plan};
-use holdings::settle;
+use holdings::edit_when_accepted;
 use hub_events::Outcome;
 use hub_rows::{Edit, Store, StoreFault};
 use ocpp_frame::Payload;
@@ -139,7 +139,7 @@ fn read_edit<S: Store>(
 {
     match read {
         Ok(known) if is_accepted(known.as_value()) => {
-            settle(alloc, store, at.op, at.station, command)
+            edit_when_accepted(alloc, store, at.op, at.station, command)
         }
         _ => Ok(None),
     }

@@ -1,4 +1,4 @@
 pub mod Reservation
 pub mod LocalList
 pub mod Entries
-pub mod Settled
+pub mod Accepted

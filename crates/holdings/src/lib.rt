@@ -2,11 +2,11 @@
 //! list of tags.
 #![tactic(auto)]
 
+mod accepted;
 mod entries;
 mod local_list;
 mod reservation;
-mod settled;
 
+pub use accepted::edit_when_accepted;
 pub use local_list::list_answer;
 pub use reservation::{cancelled, is_current, plan_cancel, plan_reserve, reserved};
-pub use settled::settle;

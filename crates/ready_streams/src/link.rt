@@ -13,8 +13,8 @@ use std::io::{Error, ErrorKind, Read};
 /// The bytes that may wait in a stream, if its server says nothing else.
 const ROOM: usize = 2_097_152;
 
-/// A peer that has sent more bytes than this since it was last written to sends a long message.
-const LONG: usize = 8192;
+/// A message of at most so many bytes is short. A peer that has sent more since it was last written to sends a long one.
+const MAX_SHORT_MESSAGE: usize = 8192;
 
 /// What stands for a place that is none.
 pub const NOWHERE: usize = usize::MAX;
@@ -108,7 +108,7 @@ impl Link {
 
     /// By which right the next read asks the system, if it does.
     fn right(&self, turn: &Turn) -> Option<Right> {
-        let is_long = self.unanswered.get() > LONG && self.readiness.has_bytes();
+        let is_long = self.unanswered.get() > MAX_SHORT_MESSAGE && self.readiness.has_bytes();
         if is_long && !turn.admits_long(self.token) {
             return None;
         }

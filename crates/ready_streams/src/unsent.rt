@@ -5,8 +5,8 @@ use std::alloc::Global;
 use std::io::{Error, ErrorKind, Write};
 use std::{io, mem};
 
-/// As soon as so many bytes wait they are given to the system.
-const ENOUGH: usize = 65_536;
+/// More bytes than this are given to the system at once.
+const WRITE_SIZE: usize = 65_536;
 
 /// The most room that stays when no byte waits.
 const IDLE_ROOM: usize = 4096;
@@ -46,7 +46,7 @@ impl Unsent {
     /// Adds bytes, where no more than `room` wait then. Where many wait they are given to the system first. Errors:
     /// `WriteZero` where there is no room, `OutOfMemory`, and `BrokenPipe` after a write that failed.
     pub fn add<W: Write>(&mut self, stream: &mut W, bytes: &[u8], room: usize) -> io::Result<()> {
-        if self.len().saturating_add(bytes.len()) > ENOUGH {
+        if self.len().saturating_add(bytes.len()) > WRITE_SIZE {
             self.give(stream);
         }
         if self.has_failed {

@@ -38,7 +38,8 @@ pub fn write_last<W: Write>(text: &mut Vec<u8>, writer: &mut W)
     }
 }
 
-const ENOUGH: usize = 65_536;
+/// A text of so many bytes is written at once.
+const WRITE_SIZE: usize = 65_536;
 
 /// Writes the text, if it is long.
 pub fn write_if_long<W: Write>(text: &mut Vec<u8>, writer: &mut W) -> Result<(), LineFault>
@@ -51,7 +52,7 @@ pub fn write_if_long<W: Write>(text: &mut Vec<u8>, writer: &mut W) -> Result<(),
         Falls start (W.contents writer.new) text.new.items whole) }
     ensures kind { IfErr result (λ f. f ≡ line_fault.Write) }
 {
-    if text.len() < ENOUGH {
+    if text.len() < WRITE_SIZE {
         return Ok(());
     }
     write_out(text, writer)

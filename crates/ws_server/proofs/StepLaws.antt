@@ -128,22 +128,24 @@ module _ {S V : Type 0} (view : S → StoreView) (handlers : V → HandlerView) 
   -- one event
   pub handed : (Change : List Step → Type 0) (event : Event) (outs : List Out) → Change (record { event = event; outs = outs } ∷ [])
       → is_taken (setting handlers old) event ≡ true
+      → setting handlers new ≡ setting handlers old
       → (is_clean view new → outs ≡ world_outputs (setting handlers old) (world view old) event)
       → (is_clean view new → world view new ≡ world_step (setting handlers old) (world view old) event)
       → Takes view handlers old new Change
-  handed Change event outs change taken said moves = record {
+  handed Change event outs change taken stays said moves = record {
     steps = record { event = event; outs = outs } ∷ [];
     change = change;
     runs = λ c. (taken, said c, moves c);
+    stays = stays;
   }
 
   -- none
-  pub nothing : (Change : List Step → Type 0) → Change [] → (is_clean view new → world view new ≡ world view old) → Takes view handlers old new Change
-  nothing Change change stands = record { steps = []; change = change; runs = stands }
+  pub nothing : (Change : List Step → Type 0) → Change [] → setting handlers new ≡ setting handlers old → (is_clean view new → world view new ≡ world view old) → Takes view handlers old new Change
+  nothing Change change stays stands = record { steps = []; change = change; runs = stands; stays = stays }
 
   -- the same steps, of which more holds
   pub changed : (C D : List Step → Type 0) → ((steps : List Step) → C steps → D steps) → Takes view handlers old new C → Takes view handlers old new D
-  changed C D to takes = record { steps = takes.steps; change = to takes.steps takes.change; runs = takes.runs }
+  changed C D to takes = record { steps = takes.steps; change = to takes.steps takes.change; runs = takes.runs; stays = takes.stays }
 
 module _ {S V : Type 0} (view : S → StoreView) (handlers : V → HandlerView) (old mid new : Hub S V) where
   pub counted_more : (Early Late : Type 0) → IsCounted (hub_view view) old mid Early → IsCounted (hub_view view) mid new Late → IsCounted (hub_view view) old new ⊥
@@ -155,12 +157,13 @@ module _ {S V : Type 0} (view : S → StoreView) (handlers : V → HandlerView) 
 
   -- steps after steps
   pub taken_on : (C D E : List Step → Type 0) → ((before after : List Step) → C before → D after → E (before ++ after))
-      → setting handlers mid ≡ setting handlers old → (is_clean view new → is_clean view mid)
+      → (is_clean view new → is_clean view mid)
       → Takes view handlers old mid C → Takes view handlers mid new D → Takes view handlers old new E
-  taken_on C D E joins same was first second = record {
+  taken_on C D E joins was first second = record {
     steps = first.steps ++ second.steps;
     change = joins first.steps second.steps first.change second.change;
-    runs = λ c. runs-append (setting handlers old) (world view old) (world view mid) (world view new) first.steps second.steps (first.runs (was c)) (subst (λ st. Runs st (world view mid) second.steps (world view new)) same (second.runs c));
+    runs = λ c. runs-append (setting handlers old) (world view old) (world view mid) (world view new) first.steps second.steps (first.runs (was c)) (subst (λ st. Runs st (world view mid) second.steps (world view new)) first.stays (second.runs c));
+    stays = second.stays ∙ first.stays;
   }
 
 module _ {P : Type 0} (C : ℕ → Change P) where

@@ -25,3 +25,5 @@ module _ {S V : Type 0} where
     pub steps : List Step
     pub change : Change steps
     pub runs : is_clean view new → Runs (setting handlers old) (world view old) steps (world view new)
+    -- its operators and its answers to vendors' messages stay
+    pub stays : setting handlers new ≡ setting handlers old

@@ -47,7 +47,6 @@ impl<T: Read + Write + Served + Drop> Gateway<T> {
         ensures hosted { OnOk result (is_served (setting V.view hub.old).is_hosted arrival.route arrival.offers_ocpp ≡ true) }
         ensures not_hosted { IfErr result (λ f. f ≡ Fault.NoSuchOperator → is_route_of_hosted (setting V.view hub.old).is_hosted arrival.route ≡ false) }
         ensures counted { IsCounted (hub_view S.view) hub.old hub.new (result ≡ Err Fault.Store) }
-        ensures setting { setting V.view hub.new ≡ setting V.view hub.old }
     {
         match &arrival.route {
             Route::Station(op, station) if arrival.offers_ocpp => {
@@ -94,7 +93,6 @@ impl<T: Read + Write + Served + Drop> Gateway<T> {
         ensures taken { OnOk result (is_taken (setting V.view hub.old) event.now ≡ true) }
         ensures not_taken { IfErr result (λ f. f ≡ Fault.NoSuchOperator → is_taken (setting V.view hub.old) event.now ≡ false) }
         ensures counted { IsCounted (hub_view S.view) hub.old hub.new (result ≡ Err Fault.Store) }
-        ensures setting { setting V.view hub.new ≡ setting V.view hub.old }
     {
         self.peers.reserve()?;
         let outs = match hub.handle(event) {

@@ -36,7 +36,6 @@ impl<T: Read + Write + Served + Drop> Gateway<T> {
         ensures takes { Takes S.view V.view hub.old hub.new
             (λ steps. HandsText T.contents (setting V.view hub.old).is_hosted moment n text.now (peers_of self.old) (peers_of self.new) steps result) }
         ensures counted { IsCounted (hub_view S.view) hub.old hub.new (result ≡ Err Fault.Store) }
-        ensures setting { setting V.view hub.new ≡ setting V.view hub.old }
         ensures count { length (peers_of self.new) ≡ length (peers_of self.old) }
     {
         let route = self.peers.peer(n).route();
@@ -62,7 +61,6 @@ impl<T: Read + Write + Served + Drop> Gateway<T> {
         ensures takes { Takes S.view V.view hub.old hub.new
             (λ steps. HandsOrRefuses T.contents (setting V.view hub.old).is_hosted n event.now (peers_of self.old) (peers_of self.new) steps result) }
         ensures counted { IsCounted (hub_view S.view) hub.old hub.new (result ≡ Err Fault.Store) }
-        ensures setting { setting V.view hub.new ≡ setting V.view hub.old }
         ensures count { length (peers_of self.new) ≡ length (peers_of self.old) }
     {
         match event {
@@ -87,7 +85,6 @@ impl<T: Read + Write + Served + Drop> Gateway<T> {
             (λ steps. Between T.contents n (string_bytes bounds.now.begin) (string_bytes bounds.now.end)
             (HandsOrRefuses T.contents (setting V.view hub.old).is_hosted n event.now) (peers_of self.old) (peers_of self.new) steps result) }
         ensures counted { IsCounted (hub_view S.view) hub.old hub.new (result ≡ Err Fault.Store) }
-        ensures setting { setting V.view hub.new ≡ setting V.view hub.old }
         ensures count { length (peers_of self.new) ≡ length (peers_of self.old) }
     {
         let Some(event) = event else {

@@ -150,7 +150,6 @@ impl<T: Peek + Read + Write + Served + Drop> Lobby<T> {
             (λ steps. WelcomesSome T.remaining T.contents moment (peers_of gateway.old) (peers_of gateway.new) steps result) }
         ensures counted { IsCounted (hub_view S.view) hub.old hub.new (result ≡ Err Fault.Store) }
         ensures hosted { is_clean S.view hub.new → IfErr result (λ f. f ≢ Fault.NoSuchOperator) }
-        ensures setting { setting V.view hub.new ≡ setting V.view hub.old }
         ensures fewer { waiting_count self.new ≤ waiting_count self.old }
     {
         let mut n = 0_usize;
@@ -172,7 +171,6 @@ impl<T: Peek + Read + Write + Served + Drop> Lobby<T> {
             (λ steps. WelcomesOne T.remaining T.contents moment (peers_of gateway.old) (peers_of gateway.new) steps result) }
         ensures counted { IsCounted (hub_view S.view) hub.old hub.new (result ≡ Err Fault.Store) }
         ensures hosted { is_clean S.view hub.new → IfErr result (λ f. f ≢ Fault.NoSuchOperator) }
-        ensures setting { setting V.view hub.new ≡ setting V.view hub.old }
         ensures fewer { waiting_count self.new ≤ waiting_count self.old }
     {
         if *n >= self.waiting.len() {

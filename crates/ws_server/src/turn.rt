@@ -31,7 +31,6 @@ impl<T: Read + Write + Served + Drop> Gateway<T> {
         ensures takes { Takes S.view V.view hub.old hub.new
             (λ steps. Hands T.contents (setting V.view hub.old).is_hosted event.now (peers_of self.old) (peers_of self.new) steps result) }
         ensures counted { IsCounted (hub_view S.view) hub.old hub.new (result ≡ Err Fault.Store) }
-        ensures setting { setting V.view hub.new ≡ setting V.view hub.old }
         ensures count { length (peers_of self.new) ≡ length (peers_of self.old) }
     {
         let outs = hub.handle(event)?;
@@ -51,7 +50,6 @@ impl<T: Read + Write + Served + Drop> Gateway<T> {
         ensures takes { Takes S.view V.view hub.old hub.new
             (λ steps. Serves T.remaining T.contents (setting V.view hub.old).is_hosted moment n (peers_of self.old) (peers_of self.new) steps result) }
         ensures counted { IsCounted (hub_view S.view) hub.old hub.new (result ≡ Err Fault.Store) }
-        ensures setting { setting V.view hub.new ≡ setting V.view hub.old }
         ensures count { length (peers_of self.new) ≡ length (peers_of self.old) }
     {
         let Some(text) = self.peers.take(n) else {
@@ -79,7 +77,6 @@ impl<T: Read + Write + Served + Drop> Gateway<T> {
         ensures takes { Takes S.view V.view hub.old hub.new
             (λ steps. Parts T.contents (setting V.view hub.old).is_hosted moment n (peers_of self.old) (peers_of self.new) steps result) }
         ensures counted { IsCounted (hub_view S.view) hub.old hub.new (result ≡ Err Fault.Store) }
-        ensures setting { setting V.view hub.new ≡ setting V.view hub.old }
         ensures count { length (peers_of self.new) ≡ length (peers_of self.old) }
     {
         let Some(event) = parting(self.peers.peer(n), moment)? else {
@@ -107,7 +104,6 @@ impl<T: Read + Write + Served + Drop> Gateway<T> {
         ensures takes { Takes S.view V.view hub.old hub.new
             (λ steps. Each (Parts T.contents (setting V.view hub.old).is_hosted moment) (peers_of self.old) (peers_of self.new) steps result) }
         ensures counted { IsCounted (hub_view S.view) hub.old hub.new (result ≡ Err Fault.Store) }
-        ensures setting { setting V.view hub.new ≡ setting V.view hub.old }
     {
         if !self.peers.has_ended() {
             return Ok(());
@@ -132,7 +128,6 @@ impl<T: Read + Write + Served + Drop> Gateway<T> {
         ensures takes { Takes S.view V.view hub.old hub.new
             (λ steps. Turns T.remaining T.contents (setting V.view hub.old).is_hosted moment places.now (peers_of self.old) (peers_of self.new) steps result) }
         ensures counted { IsCounted (hub_view S.view) hub.old hub.new (result ≡ Err Fault.Store) }
-        ensures setting { setting V.view hub.new ≡ setting V.view hub.old }
     {
         let mut last = None;
         for place in places {
@@ -156,7 +151,6 @@ impl<T: Read + Write + Served + Drop> Gateway<T> {
         ensures takes { Takes S.view V.view hub.old hub.new
             (λ steps. PartsAndTicks T.contents (setting V.view hub.old).is_hosted moment (peers_of self.old) (peers_of self.new) steps result) }
         ensures counted { IsCounted (hub_view S.view) hub.old hub.new (result ≡ Err Fault.Store) }
-        ensures setting { setting V.view hub.new ≡ setting V.view hub.old }
     {
         note_ended(&self.peers, &mut self.notes);
         self.peers.leave();
@@ -173,7 +167,6 @@ impl<T: Read + Write + Served + Drop> Gateway<T> {
         ensures takes { Takes S.view V.view hub.old hub.new
             (λ steps. SweepsAndTicks T.contents (setting V.view hub.old).is_hosted moment (peers_of self.old) (peers_of self.new) steps result) }
         ensures counted { IsCounted (hub_view S.view) hub.old hub.new (result ≡ Err Fault.Store) }
-        ensures setting { setting V.view hub.new ≡ setting V.view hub.old }
     {
         self.peers.sweep();
         self.hand(hub, 0, &Event::Tick { moment })

@@ -41,7 +41,6 @@ impl<T: Read + Write + Served + Drop> Gateway<T> {
         ensures full { is_full upgrade.route (peers_of self.old) ≡ true → peers_of self.new ≡ peers_of self.old }
         ensures hosted { is_clean S.view hub.new → IfErr result (λ f. f ≢ Fault.NoSuchOperator) }
         ensures counted { IsCounted (hub_view S.view) hub.old hub.new (result ≡ Err Fault.Store) }
-        ensures setting { setting V.view hub.new ≡ setting V.view hub.old }
     {
         let Client { stream, address } = client;
         let is_known = match is_known(hub, &upgrade.route) {

@@ -27,4 +27,4 @@ returns-clause-takes g c =
     (λ steps. Between contents n begin end (HandsOrRefuses contents hosts n c.args.event.now) old new steps (Ok tt))
     (λ steps change. subst (λ e. Between contents n begin end (HandsOrRefuses contents hosts n e) old new steps (Ok tt)) is change)
     (handed _ _ _ _ (λ steps. Between contents n begin end (HandsOrRefuses contents hosts n (Some event)) old new steps (Ok tt)) event outs
-    (begun, told, first, (outs, refl, sent), last) c.in_ok-outs.ensures.taken c.in_ok-outs.ensures.outputs c.in_ok-outs.ensures.world)
+    (begun, told, first, (outs, refl, sent), last) c.in_ok-outs.ensures.taken c.in_ok-outs.ensures.setting c.in_ok-outs.ensures.outputs c.in_ok-outs.ensures.world)

@@ -14,4 +14,4 @@ returns-clause-takes g c =
     let inside = subst (λ old. Enters g.T.Write.contents c.args.socket (turns_away outs) c.args.arrival.route old mid) c.in_ok-reserve.ensures.peers entered in
     handed _ _ _ _ _ c.args.event.now outs
     (outs, mid, refl, inside, subst (λ os. TellsAll g.T.Write.contents os mid (peers_of c.tell_all.new.self)) c.deref-2.ensures.value c.tell_all.ensures.told)
-    c.in-Ok.ensures.taken c.in-Ok.ensures.outputs c.in-Ok.ensures.world
+    c.in-Ok.ensures.taken c.in-Ok.ensures.setting c.in-Ok.ensures.outputs c.in-Ok.ensures.world

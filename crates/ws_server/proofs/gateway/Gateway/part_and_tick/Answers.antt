@@ -29,7 +29,7 @@ returns-clause-takes g c =
     let Under : Setting → Change (Peer _) = λ st. SweepsAndTicks g.T.Write.contents st.is_hosted c.args.moment in
     let now = setting g.V.VendorHandler.view c.args.hub.now in
     let Parted = Each (Parts g.T.Write.contents now.is_hosted c.args.moment) in
-    let same = c.in_ok-part_each.ensures.setting in
+    let same = c.in_ok-part_each.ensures.takes.stays in
     taken_on _ _ _ _ _ _ _ (λ steps. PartsAndTicks g.T.Write.contents now.is_hosted c.args.moment old new steps r)
     (λ before after first second. becomes (map leaves) (Then Parted (Under now)) old _ new _ r c.leave.ensures (follows Parted (Under now) _ mid new before after r first (subst (λ st. Under st mid new after r) same second)))
-    same c.sweep_and_tick.ensures.counted.was_clean c.in_ok-part_each.ensures.takes c.sweep_and_tick.ensures.takes
+    c.sweep_and_tick.ensures.counted.was_clean c.in_ok-part_each.ensures.takes c.sweep_and_tick.ensures.takes

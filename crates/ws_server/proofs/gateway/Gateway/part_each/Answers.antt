@@ -15,9 +15,8 @@ loop-n-preserved g c =
     let C = Under (setting g.V.VendorHandler.view c.args.hub.now) in
     record {
       takes = taken_on _ _ _ _ _ _ _ (λ steps. FirstPlaces C (c.loop-n.n + 1) (peers_of c.args.self.now) (peers_of c.part.new.self) steps)
-          (λ before after first more. place_more C c.loop-n.n _ (peers_of c.loop-n.self) (peers_of c.part.new.self) before after first (subst (λ st. Under st c.loop-n.n (peers_of c.loop-n.self) (peers_of c.part.new.self) after (Ok tt)) inv.setting more)) inv.setting e.counted.was_clean inv.takes e.takes;
+          (λ before after first more. place_more C c.loop-n.n _ (peers_of c.loop-n.self) (peers_of c.part.new.self) before after first (subst (λ st. Under st c.loop-n.n (peers_of c.loop-n.self) (peers_of c.part.new.self) after (Ok tt)) inv.takes.stays more)) e.counted.was_clean inv.takes e.takes;
       counted = counted_more g.S.Store.view g.V.VendorHandler.view _ _ _ _ _ inv.counted e.counted;
-      setting = e.setting ∙ inv.setting;
       count = e.count ∙ inv.count;
       end = inv.end;
     }
@@ -27,4 +26,4 @@ returns-then-not-has_ended-clause-takes g c =
     let old = peers_of c.args.self.now in
     let hosts = (setting g.V.VendorHandler.view c.args.hub.now).is_hosted in
     nothing _ _ _ _ (λ steps. Each (Parts g.T.Write.contents hosts c.args.moment) old old steps (Ok tt))
-    (none-parts g.T.Write.contents hosts c.args.moment (length old) old (grind (arith)) (c.has_ended.ensures c.if-not-has_ended.true)) (λ _. refl)
+    (none-parts g.T.Write.contents hosts c.args.moment (length old) old (grind (arith)) (c.has_ended.ensures c.if-not-has_ended.true)) refl (λ _. refl)

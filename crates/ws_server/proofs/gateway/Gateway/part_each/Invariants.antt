@@ -10,7 +10,6 @@ abbrev pub invariant-loop-n : goal.invariant-loop-n
 invariant-loop-n g l = record {
   takes : Takes g.S.Store.view g.V.VendorHandler.view l.fn.hub l.hub (λ steps. FirstPlaces (Parts g.T.Write.contents (setting g.V.VendorHandler.view l.fn.hub).is_hosted l.moment) l.n (peers_of l.fn.self) (peers_of l.self) steps);
   counted : IsCounted (hub_view g.S.Store.view) l.fn.hub l.hub ⊥;
-  setting : setting g.V.VendorHandler.view l.hub ≡ setting g.V.VendorHandler.view l.fn.hub;
   count : length (peers_of l.self) ≡ length (peers_of l.fn.self);
   end : l.n-end ≡ length (peers_of l.fn.self);
 }

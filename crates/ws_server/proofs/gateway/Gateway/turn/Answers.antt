@@ -31,16 +31,14 @@ loop-place-preserved g c =
           let small : n < length mid = grind (arith, c.count.ensures, w.if-place-count.true) in
           rw (w.self-is, w.hub-is) (record {
             takes = taken_on _ _ _ _ _ _ _ (λ before. Rest C all old left new before)
-                (λ before more on change. place-on C all old n left mid new before more small (subst (λ ns. Rest C all old ns mid before) next on) (subst (λ st. Under st n mid new more (Ok tt)) inv.setting change)) inv.setting e.counted.was_clean inv.takes e.takes;
+                (λ before more on change. place-on C all old n left mid new before more small (subst (λ ns. Rest C all old ns mid before) next on) (subst (λ st. Under st n mid new more (Ok tt)) inv.takes.stays change)) e.counted.was_clean inv.takes e.takes;
             counted = counted_more g.S.Store.view g.V.VendorHandler.view _ _ _ _ _ inv.counted e.counted;
-            setting = e.setting ∙ inv.setting;
           })
       | else-place-count w ↦
           let few : length mid ≤ n = grind (arith, c.count.ensures, w.if-place-count.false) in
           rw (w.self-is, w.hub-is) (record {
             takes = changed _ _ _ _ _ (λ before. Rest C all old left mid before) (λ before on. place-over C all old n left mid before few (subst (λ ns. Rest C all old ns mid before) next on)) inv.takes;
             counted = inv.counted;
-            setting = inv.setting;
           })
     ]
 
@@ -67,8 +65,8 @@ returns-in_err-serve-clause-takes g c =
     let next : ascending last (drop i places) ≡ n ∷ left = above-on last n (drop i places) (drop (i + 1) places) (drop_more places i 0 (grind (arith, c.loop-place.auto, c.loop-place-test.true))) above in
     taken_on _ _ _ _ _ _ _ (λ steps. Turns g.T.Read.remaining g.T.Write.contents hosts c.args.moment places old new steps r)
     (λ before more on change. fails (EachOf C all) (PartsAndTicks g.T.Write.contents hosts c.args.moment) old new (before ++ more) fault r c.from_residual.ensures.0 c.from_residual.ensures.1
-    (place-fails C all old n left mid new before more fault small (subst (λ ns. Rest C all old ns mid before) next on) (subst (λ st. Under st n mid new more (Err fault)) inv.setting change)))
-    inv.setting e.counted.was_clean inv.takes e.takes
+    (place-fails C all old n left mid new before more fault small (subst (λ ns. Rest C all old ns mid before) next on) (subst (λ st. Under st n mid new more (Err fault)) inv.takes.stays change)))
+    e.counted.was_clean inv.takes e.takes
 
 pub returns-clause-takes : goal.returns-clause-takes
 returns-clause-takes g c =
@@ -85,5 +83,5 @@ returns-clause-takes g c =
     let r = c.part_and_tick.result in
     let none = ap (ascending c.loop-place.last) (drop_all i places (grind (arith, c.loop-place.auto, c.loop-place-test.false))) in
     taken_on _ _ _ _ _ _ _ (λ steps. Turns g.T.Read.remaining g.T.Write.contents now.is_hosted c.args.moment places old new steps r)
-    (λ before after on rest. follows (EachOf C all) (Under now) old mid new before after r (place-end C all old mid before (subst (λ ns. Rest C all old ns mid before) none on)) (subst (λ st. Under st mid new after r) inv.setting rest))
-    inv.setting c.part_and_tick.ensures.counted.was_clean inv.takes c.part_and_tick.ensures.takes
+    (λ before after on rest. follows (EachOf C all) (Under now) old mid new before after r (place-end C all old mid before (subst (λ ns. Rest C all old ns mid before) none on)) (subst (λ st. Under st mid new after r) inv.takes.stays rest))
+    c.part_and_tick.ensures.counted.was_clean inv.takes c.part_and_tick.ensures.takes

@@ -11,5 +11,4 @@ abbrev pub invariant-loop-place : goal.invariant-loop-place
 invariant-loop-place g l = record {
   takes : Takes g.S.Store.view g.V.VendorHandler.view l.fn.hub l.hub (λ before. Rest (Serves g.T.Read.remaining g.T.Write.contents (setting g.V.VendorHandler.view l.fn.hub).is_hosted l.moment) (ascending None l.places) (peers_of l.fn.self) (ascending l.last (drop l.place-index l.places)) (peers_of l.self) before);
   counted : IsCounted (hub_view g.S.Store.view) l.fn.hub l.hub ⊥;
-  setting : setting g.V.VendorHandler.view l.hub ≡ setting g.V.VendorHandler.view l.fn.hub;
 }

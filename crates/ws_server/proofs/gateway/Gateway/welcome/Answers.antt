@@ -14,5 +14,5 @@ returns-in-Ok-shake-clause-takes g c =
     let Welcomed : List Step → Type 0 = λ steps. Welcomes g.T.Read.remaining g.T.Write.contents c.args.moment c.args.client.stream c.args.upgrade old new steps r in
     taken_on _ _ _ _ _ None _ Welcomed
     (λ before after none change. subst (λ steps. Welcomed (steps ++ after)) (sym none) (inr (c.in-Ok-shake.socket, c.in-Ok-shake.ensures, change)))
-    c.in-Ok.ensures.setting c.admit.ensures.counted.was_clean
-    (nothing _ _ _ _ None refl c.in-Ok.ensures.world) c.admit.ensures.takes
+    c.admit.ensures.counted.was_clean
+    (nothing _ _ _ _ None refl c.in-Ok.ensures.setting c.in-Ok.ensures.world) c.admit.ensures.takes

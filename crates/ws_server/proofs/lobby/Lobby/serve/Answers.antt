@@ -14,7 +14,7 @@ returns-in_err-look-clause-takes g c =
     let r = c.from_residual.result in
     taken_on _ _ _ _ _ _ _ (λ steps. WelcomesSome g.T.Read.remaining g.T.Write.contents c.args.moment old new steps r)
     (λ before after first more. welcomes-fails g.T.Read.remaining g.T.Write.contents c.args.moment old mid new before after c.in_err-look.field-0.0 r c.from_residual.ensures.0 c.from_residual.ensures.1 first more)
-    inv.setting e.counted.was_clean inv.takes e.takes
+    e.counted.was_clean inv.takes e.takes
 
 pub loop-preserved : goal.loop-preserved
 loop-preserved g c =
@@ -25,8 +25,7 @@ loop-preserved g c =
     let new = peers_of c.look.new.gateway in
     record {
       takes = taken_on _ _ _ _ _ _ _ (λ steps. WelcomesSome g.T.Read.remaining g.T.Write.contents c.args.moment old new steps (Ok tt))
-          (λ before after first more. welcomes-more g.T.Read.remaining g.T.Write.contents c.args.moment old mid new before after first more) inv.setting e.counted.was_clean inv.takes e.takes;
+          (λ before after first more. welcomes-more g.T.Read.remaining g.T.Write.contents c.args.moment old mid new before after first more) e.counted.was_clean inv.takes e.takes;
       counted = counted_more g.S.Store.view g.V.VendorHandler.view _ _ _ _ _ inv.counted e.counted;
-      setting = e.setting ∙ inv.setting;
       fewer = omega (arith, e.fewer, inv.fewer);
     }

@@ -3,7 +3,7 @@ ghost use Rattle.std.specs.Prelude.{◌≡◌, Err, IfOk};
 ghost use Rattle.hub_rows.specs.Reads.{OnlyReads};
 ghost use Rattle.hub_rows.specs.Lookups.{lookups_at};
 ghost use Rattle.holdings.specs.LocalList.{kept_for};
-ghost use Rattle.holdings.specs.Settled.{accepted_edit, is_held, settled};
+ghost use Rattle.holdings.specs.Accepted.{accepted_edit, edit_when_accepted, is_held};
 
 use crate::local_list::list_answer;
 use crate::reservation::{cancelled, reserved};
@@ -15,7 +15,7 @@ use std::alloc::Global;
 /// The edit of a command that a station has answered with Accepted: a ReserveNow keeps the
 /// reservation, a CancelReservation removes it, a SendLocalList sets the list. Any other command,
 /// and one to a station that isn't on record, edits nothing.
-pub fn settle<S: Store>(
+pub fn edit_when_accepted<S: Store>(
     alloc: Global,
     store: &mut S,
     op: &Text,
@@ -24,7 +24,7 @@ pub fn settle<S: Store>(
 ) -> Result<Option<Boxed<Edit>>, StoreFault>
     ensures reads { OnlyReads S.view store.old store.new result }
     ensures edit { (S.view store.new).clean → IfOk result (λ e. e
-        ≡ settled station.now command.now (lookups_at op.now (S.view store.old).rows)) }
+        ≡ edit_when_accepted station.now command.now (lookups_at op.now (S.view store.old).rows)) }
 {
     if !is_held(command) {
         return Ok(None);

@@ -22,5 +22,5 @@ accepted_edit station (SendLocalList c) l = list_set station (l.local_list stati
 accepted_edit station c l = None
 
 -- its edit at a station that is on record
-abbrev pub settled : List ℕ → Command → Lookups → Option Edit
-settled station c l = if is_some (l.registration station) then accepted_edit station c l else None
+abbrev pub edit_when_accepted : List ℕ → Command → Lookups → Option Edit
+edit_when_accepted station c l = if is_some (l.registration station) then accepted_edit station c l else None
