@@ -8,6 +8,7 @@
 
 mod disks;
 mod migration;
+mod run_and_stop;
 mod runs;
 mod script;
 mod stop;

@@ -1,5 +1,6 @@
 //! Events over any store, and its records.
 
+use crate::run_and_stop::run_and_stop;
 use anyhow::{Result, bail};
 use hub::{Event, Hub};
 use hub_rows::Store;
@@ -9,7 +10,6 @@ use sqlite::Alter;
 use sqlite_trees::store::Reopen;
 use station_calls::Echo;
 use std::alloc::Global;
-use stops::run_and_stop;
 use store_sql::SqlStore;
 
 /// The events of lines, of the operators ACME and BETA.
