@@ -1,7 +1,6 @@
 //! Edits of readings.
 ghost use Rattle.hub_rows.specs.Keyed.{by_key, put};
 ghost use Rattle.sql_rows.specs.Kept.{Makes};
-ghost use Rattle.sql_rows.specs.TypedTables.{readings};
 ghost use Rattle.hub_rows.specs.Rows.{reading_key};
 ghost use Rattle.hub_rows.specs.Changes.{with_readings};
 

@@ -1,7 +1,6 @@
 //! Edits of reservations.
 ghost use Rattle.hub_rows.specs.Reservations.{without_named};
 ghost use Rattle.sql_rows.specs.Kept.{Makes};
-ghost use Rattle.sql_rows.specs.TypedTables.{reservations};
 ghost use Rattle.hub_rows.specs.Changes.{edit};
 ghost use Rattle.hub_rows.specs.declared.change.Edit.TheVariants.{Holdings};
 ghost use Rattle.hub_rows.specs.declared.change.HoldingEdit.TheVariants.{ReservationPut, ReservationDropped};

@@ -1,7 +1,6 @@
 //! Edits of stations.
 ghost use Rattle.std.specs.Prelude.{◌≡◌, ◌&&◌, None, Some};
 ghost use Rattle.std.specs.Str.{bytes_eq};
-ghost use Rattle.sqlite.specs.Held.{state};
 ghost use Rattle.hub_rows.specs.Rows.{station_in, station_key};
 ghost use Rattle.sql_rows.specs.Kept.{AsksInside, Makes, ShowsInside};
 ghost use Rattle.sql_rows.specs.TypedTables.{stations};

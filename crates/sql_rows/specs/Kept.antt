@@ -143,17 +143,17 @@ pub record Goes {A E : Type 0} (Edit : Trees → Trees → Type 0) (old new : St
   pub ok : OnOk r (Inside Edit old new)
   pub err : OnErr r (Leaves old new)
 
--- A function does a part of a transaction, if this holds where it begins. The transaction is still over the connection
--- that it was lent.
+-- a part of a transaction makes an edit of the tables, if this holds where it begins; the connection is the one that was
+-- lent
 pub record MakesIf {S A E : Type 0} (g : Ghosts S) (Begins : State → Type 0) (Edit : Trees → Trees → Type 0) (old new : Transaction S) (r : Result A E) : Type 0 where
   pub same_reference : new.conn.ghost_name ≡ old.conn.ghost_name
   pub goes : Begins (state g old.conn.now) → Goes Edit (state g old.conn.now) (state g new.conn.now) r
 
--- it makes this edit of the tables
+-- a part of a transaction makes an edit of the tables
 abbrev pub MakesIn : {S A E : Type 0} → Ghosts S → (Trees → Trees → Type 0) → Transaction S → Transaction S → Result A E → Type 0
 MakesIn g Edit old new r = MakesIf g IsInside Edit old new r
 
--- it makes this of the rows of the hub
+-- a part of a transaction makes this of the rows of the hub
 abbrev pub Makes : {S A E : Type 0} → Ghosts S → (Rows → Rows) → Transaction S → Transaction S → Result A E → Type 0
 Makes g f old new r = MakesIn g (IsMade f) old new r
 

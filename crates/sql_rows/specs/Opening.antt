@@ -81,12 +81,12 @@ pub record HasTables (rows : Rows) (s : State) : Type 0 where
   pub mode : s.in_transaction ≡ true
   pub limit : s.step_limit ≡ None
 
--- A function does a part of it, and commits nothing. The transaction is still over the connection that it was lent.
+-- a part of the transaction commits nothing; the connection is the one that was lent
 pub record IsPart {S : Type 0} (g : Ghosts S) (old new : Transaction S) : Type 0 where
   pub same_reference : new.conn.ghost_name ≡ old.conn.ghost_name
   pub leaves : Leaves (state g old.conn.now) (state g new.conn.now)
 
--- it runs a text that makes a table or an index, or drops an index
+-- a part of the transaction makes a table or an index, or drops an index
 pub record Alters {S A E : Type 0} (g : Ghosts S) (If : Type 0 → Type 0) (sql : List ℕ) (old new : Transaction S) (r : Result A E) : Type 0 where
   pub part : IsPart g old new
   pub table : (rows : Trees) (from : Schema) (table : Table) → IsCreate sql from table → rows (next_tree from) ≡ [] → If (IsInsideAs rows from (state g old.conn.now)) → OnOk r (IsInsideAs rows (created from table) (state g new.conn.now))
@@ -94,12 +94,12 @@ pub record Alters {S A E : Type 0} (g : Ghosts S) (If : Type 0 → Type 0) (sql 
   pub dropped : (rows : Trees) (from : Schema) (index : Index) → IsIndexDrop sql from index → If (IsInsideAs rows from (state g old.conn.now)) → OnOk r (IsInsideAs rows (without_index from index.tree) (state g new.conn.now))
   pub up : HasCleanDisk (state g new.conn.now) → OnOk r (IsTrue (state g new.conn.now).is_open)
 
--- it makes this schema, if this holds where it begins
+-- a part of the transaction makes a schema, if this holds where it begins
 pub record MakesSchema {S A E : Type 0} (g : Ghosts S) (Begins : Trees → State → Type 0) (to : Schema) (old new : Transaction S) (r : Result A E) : Type 0 where
   pub part : IsPart g old new
   pub makes : (rows : Trees) → Begins rows (state g old.conn.now) → OnOk r (IsInsideAs rows to (state g new.conn.now))
 
--- it makes our schema with its number, if this holds where it begins
+-- a part of the transaction makes our schema with its number, if this holds where it begins
 pub record MakesOurs {S A E : Type 0} (g : Ghosts S) (Begins : Trees → State → Type 0) (old new : Transaction S) (r : Result A E) : Type 0 where
   pub part : IsPart g old new
   pub has : (rows : Trees) → AreTyped hub_schema hub_good rows → Begins rows (state g old.conn.now) → OnOk r (IsTrue (state g new.conn.now).is_open → HasTables (rows_of rows) (state g new.conn.now))
