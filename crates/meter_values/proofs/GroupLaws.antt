@@ -1,8 +1,8 @@
 -- What one more reading does to meter values.
-use Rattle.std.proofs.Common.{◌≡◌, ◌≢◌, ℕ, zero, suc, ◌+◌, ◌==◌, length, ℤ, List, [], ◌∷◌, ◌++◌, Bool, true, false, cond, ◌&&◌, Option, Some, None, Result, Ok, Err, OnOk, slice_index_or, slice_set, arith, subst, refl, sym, ap, ap₂, ◌∙◌, append_assoc, append-nil, true≢false}
+use Rattle.std.proofs.Common.{◌≡◌, ◌≢◌, ℕ, zero, suc, ◌+◌, ◌==◌, length, ℤ, List, [], ◌∷◌, ◌++◌, Bool, true, false, cond, ◌&&◌, Option, Some, None, Result, Ok, Err, OnOk, slice_index_or, slice_set, get_or, take, ◌<◌, arith, subst, refl, sym, ap, ap₂, ◌∙◌, append_assoc, append-nil, true≢false}
 use Rattle.std.proofs.lemmas.Bool.{and_parts}
 use Rattle.std.proofs.lemmas.Bool.Decides.{Decides-eqb, Decides-int_eq}
-use Rattle.std.proofs.lemmas.List.{map-append}
+use Rattle.std.proofs.lemmas.List.{map-append, take_more}
 use Rattle.std.specs.Bool.{Decides}
 use Rattle.std.specs.Option.{option_eq}
 use Rattle.std.specs.Ordering.{int_eq}
@@ -99,6 +99,12 @@ all_readings-joined [] r = refl
 all_readings-joined (v ∷ []) r = last_readings v r (is_of v r) refl
 all_readings-joined (v ∷ w ∷ rest) r =
     ap (λ l. readings_of v ++ l) (all_readings-joined (w ∷ rest) r) ∙ sym (append_assoc (readings_of v) (all_readings (w ∷ rest)) (r ∷ []))
+
+-- a copy of the next reading is joined
+pub all_readings-take : (vs ws : List MeterValue) (rs : List Reading) (i : ℕ) (r copy : Reading) → i < length rs → r ≡ get_or rs i r → copy ≡ r → ws ≡ joined vs copy
+    → all_readings vs ≡ take i rs → all_readings ws ≡ take (i + 1) rs
+all_readings-take vs ws rs i r copy within is same joins so_far =
+    ap all_readings joins ∙ all_readings-joined vs copy ∙ ap₂ (λ l x. l ++ x ∷ []) so_far (same ∙ is) ∙ sym (take_more rs i r within)
 
 -- ---- the groups
 

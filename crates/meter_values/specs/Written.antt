@@ -32,6 +32,7 @@ rows_of s =
     ∷ (codes "unit", option_map unit_of_measure_name s.unit)
     ∷ []
 
+-- the members with one more before them, if there is one
 abbrev pub some_member : List ℕ → Option (List ℕ) → Members → Members
 some_member name None ms = ms
 some_member name (Some text) ms = member name (string text) ms
@@ -43,6 +44,6 @@ members_by (row ∷ rows) = some_member row.0 row.1 (members_by rows)
 abbrev pub object_of : Sampled → Json
 object_of s = object (members_by (rows_of s))
 
--- with no blanks
+-- the text of sampled values, with no blanks
 abbrev pub text_of : List Sampled → List ℕ
 text_of sampled = print (json_tokens (array (items_of (map object_of sampled))))

@@ -22,6 +22,36 @@ pub fn group(alloc: Global, readings: Listed<Reading>) -> Mem<Listed<MeterValue>
     Ok(Listed::from(values))
 }
 
+/// The same of readings that are lent. It copies the texts.
+#[tactic(auto, using(crate::proofs::GroupLaws::group_laws))]
+pub fn group_copies(alloc: Global, readings: &[Reading]) -> Mem<Listed<MeterValue>>
+    ensures readings { IfOk result (λ values. all_readings values ≡ readings.now) }
+    ensures groups { IfOk result (λ values. AreGroups values) }
+{
+    let mut values = Vec::new(alloc);
+    for reading in readings {
+        join(alloc, &mut values, copy_of(reading)?)?;
+    }
+    Ok(Listed::from(values))
+}
+
+fn copy_of(reading: &Reading) -> Mem<Reading>
+    ensures { IfOk result (λ copy. copy ≡ reading.now) }
+{
+    Ok(Reading {
+        connector: reading.connector,
+        transaction: reading.transaction,
+        at: reading.at,
+        context: reading.context,
+        format: reading.format,
+        measurand: reading.measurand,
+        phase: reading.phase,
+        location: reading.location,
+        unit: reading.unit,
+        text: reading.text.clone()?,
+    })
+}
+
 /// Adds a reading to the last meter value, or as a meter value of its own.
 fn join(alloc: Global, values: &mut Vec<MeterValue>, reading: Reading) -> Mem<()>
     ensures { OnOk result (values.new.items ≡ joined values.old.items reading) }

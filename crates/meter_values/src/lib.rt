@@ -5,9 +5,11 @@
 mod grouping;
 mod meter_value;
 mod read;
+mod readings;
 mod write;
 
-pub use grouping::group;
+pub use grouping::{group, group_copies};
 pub use meter_value::{MeterValue, Sampled};
 pub use read::read_sampled;
+pub use readings::readings_of;
 pub use write::write_sampled;

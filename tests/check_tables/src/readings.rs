@@ -1,20 +1,43 @@
 //! Tables of readings that are grouped, and of sampled values.
 
-use anyhow::{Result, bail};
+use anyhow::{Result, bail, ensure};
 use hub_rows::Reading;
-use meter_values::{MeterValue, group, read_sampled, write_sampled};
+use meter_values::{MeterValue, group, group_copies, read_sampled, readings_of, write_sampled};
 use ocpp_types::{Listed, Location, Measurand, ReadingContext, Text, ValueFormat};
 use std::alloc::Global;
 
 /// The meter values of readings, each reading a connector, a transaction (`-`: none), a time and a
-/// value. A meter value is shown as those of its head and its sampled values, `|` between two.
+/// value. A meter value is shown as those of its head and its sampled values, `|` between two. They
+/// are grouped lent, handed over, and once more from the readings of the meter values.
 pub fn readings_grouped(alloc: Global, texts: &[String]) -> Result<String> {
     let mut readings = Listed::new(alloc);
     for text in texts {
         readings.push(reading_of(alloc, text.as_str())?)?;
     }
+    let lent = shown(alloc, &group_copies(alloc, readings.as_slice())?)?;
+    let values = group(alloc, readings)?;
+    let handed = shown(alloc, &values)?;
+    let again = shown(alloc, &group(alloc, all_readings(alloc, values)?)?)?;
+    ensure!(
+        lent == handed && again == handed,
+        "{lent}, {handed}, {again}"
+    );
+    Ok(handed)
+}
+
+fn all_readings(alloc: Global, values: Listed<MeterValue>) -> Result<Listed<Reading>> {
+    let mut all = Listed::new(alloc);
+    for value in values.into_vec() {
+        for reading in readings_of(alloc, value)?.into_vec() {
+            all.push(reading)?;
+        }
+    }
+    Ok(all)
+}
+
+fn shown(alloc: Global, values: &Listed<MeterValue>) -> Result<String> {
     let mut shown = String::new(alloc);
-    for value in group(alloc, readings)?.as_slice() {
+    for value in values.as_slice() {
         if !shown.is_empty() {
             shown.push('|')?;
         }
