@@ -251,15 +251,15 @@ accepted_fits station (command.ReserveNow c) l here = reserved_fits station c l 
 accepted_fits station (command.SendLocalList c) l here = list_fits station c l here
 accepted_fits station c l here = tt
 
-accepted_fits : (station : List ℕ) (c : Command) (l : Lookups) → IfSome (edit_when_accepted station c l) (FitsLookups l)
-accepted_fits station c l =
+when_accepted_fits : (station : List ℕ) (c : Command) (l : Lookups) → IfSome (edit_when_accepted station c l) (FitsLookups l)
+when_accepted_fits station c l =
     elim (is_some (l.registration station)) as (λ t. is_some (l.registration station) ≡ t → IfSome (cond t (accepted_edit station c l) None) (FitsLookups l)) [
       | true ↦ λ here. accepted_fits station c l here
       | false ↦ λ none. tt
     ] refl
 
 edit_by_fits : (station : List ℕ) (c : Command) (read : Result Data FieldFault) (l : Lookups) → IfSome (edit_by station c read l) (FitsLookups l)
-edit_by_fits station c (Ok known) l = elim (is_accepted known) as (λ a. IfSome (cond a (edit_when_accepted station c l) None) (FitsLookups l)) [ true ↦ accepted_fits station c l | false ↦ tt ]
+edit_by_fits station c (Ok known) l = elim (is_accepted known) as (λ a. IfSome (cond a (edit_when_accepted station c l) None) (FitsLookups l)) [ true ↦ when_accepted_fits station c l | false ↦ tt ]
 edit_by_fits station c (Err fault) l = tt
 
 answer_fits : (station id : List ℕ) (gives : Command → Outcome) (edits : Command → Option Edit) (o : Option Command) (f : Facts) → ((c : Command) → IfSome (edits c) (FitsLookups f.lookups)) → PlanFits f (end_plan station id gives edits o)
