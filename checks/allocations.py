@@ -35,6 +35,7 @@ REPLAYED = (
     "local_lists/local_list_of_a_station",
     "reports/reports_of_a_station",
     "uses/use_of_a_granted_tag",
+    "uses/use_of_a_closed_transaction",
 )
 NEVER, ALWAYS = 0, (1 << 64) - 1
 ANSWER = re.compile(r'(.* frame \S+ \[3,")(\d+)(".*)', re.DOTALL)

@@ -83,7 +83,7 @@ class Script:
         self.frame(operator, "S4", "Heartbeat", "{}")
 
     def session(self, operator, station, turn):
-        """A transaction with readings; each fifth stays open, and one of five begins with a tag of the other operator."""
+        """A transaction with readings; each tenth stays open, each tenth is closed by its operator, and one of five begins with a tag of the other operator."""
         number = self.begun[operator, station] = self.begun.get((operator, station), 0) + 1
         other = "BETA" if operator == "ACME" else "ACME"
         values = f'[{{"timestamp":"{WHEN}","sampledValue":[{{"value":"{turn}.5","unit":"kWh"}},{{"value":"é"}}]}}]'
@@ -106,6 +106,8 @@ class Script:
         if turn % 5 != 4:
             stop = f'"meterStop":99,"timestamp":"{WHEN}","transactionId":{number},"transactionData":{values}'
             self.frame(operator, station, "StopTransaction", f"{{{stop}}}")
+        elif turn % 2:
+            self.group(f"{operator} transaction close {station} {number} {'-' if turn % 4 == 1 else turn}")
 
     def commands(self, operator, station, turn):
         entry = f'{{"idTag":"L{turn % 7}","idTagInfo":{{"status":"Accepted","parentIdTag":"K0"}}}}'

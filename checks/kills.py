@@ -74,7 +74,7 @@ class Load:
 
 
 class Station(Load):
-    """Starts and stops transactions, and sends readings and reports. A stop has a reading too."""
+    """Starts and stops transactions, and sends readings and reports. A stop has a reading too. Some are closed instead."""
 
     def __init__(self, op, name, seed):
         lists = [f"{what} {name}" for what in ("transactions", "readings", "connectors", "reports")]
@@ -84,7 +84,14 @@ class Station(Load):
         self.granted = granted_tag(OPERATORS[op], name)
 
     def begin(self):
+        self.desk = Peer(PORT, f"/operator/{self.op}", patience=10)
         self.ask(BOOT)
+
+    def close(self, number, meter):
+        """Closes a transaction as its operator."""
+        answer = self.desk.order(self.name, f"transaction close {self.name} {number} {meter}")
+        if answer != [self.op, "ok"]:
+            raise AssertionError(f"{self.name}: transaction {number}: {answer}")
 
     def ask(self, text):
         """The answer to a text. Calls of the server that come before it are accepted."""
@@ -131,6 +138,11 @@ class Station(Load):
             text = (
                 f'[2,"m","MeterValues",{{"connectorId":1,"meterValue":[{{"sampledValue":[{values}],{AT}}}]}}]'
             )
+        elif is_open and self.random.random() < 0.3:
+            value = self.steps
+            self.flight = {self.transactions: rows[:-1] + [f"{rows[-1].removesuffix(' - - - -')} {value} T Other -"]}
+            self.close(number, value)
+            return self.flight
         elif is_open:
             head = rows[-1].removesuffix(" - - - -")
             value = self.steps
@@ -172,13 +184,14 @@ class Operator(Load):
 
     def answer(self, text):
         """The answer to an order, or the end of the call that it makes."""
-        self.peer.send(text)
-        while True:
-            line = self.peer.next().split(" ")
-            if line[1] == "refused":
-                return "refused " + line[3]
-            if line[1] == "ok" and len(line) == 2 or line[2:3] == ["done"]:
-                return "ok" if line[1] == "ok" else " ".join(line[4:])
+        answer = self.peer.order("desk", text)
+        if answer[1] == "refused":
+            return "refused " + answer[3]
+        if len(answer) == 2:
+            return "ok"
+        while (line := self.peer.next().split(" "))[2:3] != ["done"]:
+            pass
+        return " ".join(line[4:])
 
     def step(self):
         name = f"T{self.random.randint(1, 6)}"
@@ -244,7 +257,8 @@ class Server:
 
 
 def row_of(line):
-    """A row of a listing, with T for the moment of a report."""
+    """A row of a listing, with T for the moment of a report and of a close."""
+    line = re.sub(r"^(\S+ row transaction .*) \d+ Other -$", r"\1 T Other -", line)
     return re.sub(r"^(\S+ row report .*) \d+$", r"\1 T", line)
 
 

@@ -53,7 +53,7 @@ def check_stations(cases):
                 == "2 connected, 2 offline, 1 with a fault. Running sessions: 1. Calls waiting: 2.")
     last = both((BEGUN + 59 * 60000) // 1000, hours)
     cases.check("running sessions", cases.rows("sessions") == [
-        ["NORTH-01 / 2", "1 h 05 min", "10.856", "11.279", "70", "1", "K2", "Accepted", both(BEGUN // 1000, hours), last, "Stop"]], cases.rows("sessions"))
+        ["NORTH-01 / 2", "1 h 05 min", "10.856", "11.279", "70", "1", "K2", "Accepted", both(BEGUN // 1000, hours), last, "StopClose"]], cases.rows("sessions"))
     for number in range(2, 8):
         mock.records.transaction("NORTH-02", number, "K1", NOW, connector=number)
     cases.poll()

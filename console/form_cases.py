@@ -34,6 +34,7 @@ def check_orders(cases):
         ("station/S9", "others", "Set its policy", None, dict(policy="Rejected", interval="0"), TAKEN, "station policy S9 Rejected 0"),
         ("station/NORTH-01", "others", "Set its policy", None, dict(policy="Rejected"),
          "Refused, HasOpenTransactions: the station has an open transaction.", "station policy NORTH-01 Rejected 300"),
+        ("stations", "sessions", "Close", "NORTH-01 / 2", {}, "closed", "transaction close NORTH-01 2 130856"),
     ]
     for view, section, button, row, values, said, line in wanted:
         cases.go(view)
@@ -47,6 +48,7 @@ def check_orders(cases):
     cases.check("and the grants", [row[:2] for row in cases.rows("grants")] == [["K2", "BETA"], ["K2", "GAMMA"]], cases.rows("grants"))
     cases.go("stations")
     cases.check("and the stations", cases.rows("stations")[-1][0] == "S9", cases.rows("stations"))
+    cases.check("and no session that was closed", cases.rows("sessions") == [], cases.rows("sessions"))
     mock.stop()
 
 

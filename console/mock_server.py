@@ -101,7 +101,7 @@ class Records:
         if words[0] == "call":
             return self.call(words[1])
         known = {"station add": self.add, "station policy": self.policy, "tag put": self.put, "tag drop": self.unput,
-                 "grant": self.give, "revoke": self.take}
+                 "grant": self.give, "revoke": self.take, "transaction close": self.close}
         name = words[0] if words[0] in known else " ".join(words[:2])
         return known[name](*words[len(name.split(" ")):]) if name in known else ["bad line"]
 
@@ -141,6 +141,17 @@ class Records:
 
     def take(self, text, receiver):
         return ["ok"] if self.drop("grants", f"grant {quoted(text)} {receiver} ") else ["refused 6 NoSuchGrant"]
+
+    def close(self, name, number, meter):
+        if f"connectors {name}" not in self.rows:
+            return ["refused 1 NoSuchStation"]
+        if (name, int(number)) not in self.opened:
+            return ["refused 11 NoSuchTransaction"]
+        row = self.found((name, int(number))).split(" ")
+        del self.opened[name, int(number)]
+        stop = f"{row[6] if meter == '-' else meter} {NOW} Other -"
+        self.replace(f"transactions {name}", f"transaction {name} {number} ", f"{' '.join(row[3:9])} {stop}")
+        return ["ok"]
 
     def listing(self, words):
         if words == ["connections"]:

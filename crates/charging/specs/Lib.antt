@@ -1,4 +1,6 @@
 pub mod Numbers
+pub mod WattHours
+pub mod Close
 pub mod Readings
 pub mod Start
 pub mod Stop

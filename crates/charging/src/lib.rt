@@ -1,13 +1,17 @@
 //! The rules on charging: how transactions begin and end, and which readings are kept.
 #![tactic(auto)]
 
+mod close;
 mod meter_values;
 mod numbers;
 mod readings;
 mod start;
 mod stop;
+mod watt_hours;
 
+pub use close::plan_close;
 pub use meter_values::on_meter_values;
 pub use readings::readings_of;
 pub use start::on_start;
 pub use stop::on_stop;
+pub use watt_hours::MAX_WATT_HOURS;

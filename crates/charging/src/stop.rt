@@ -76,6 +76,7 @@ fn edit_of_stop<S: Store>(
         TxState {
             connector,
             is_open: true,
+            ..
         },
     ) = tx
     else {

@@ -15,6 +15,7 @@ use store_sql::SqlStore;
 const SCRIPTS: &[&str] = &[
     "stations/boot_and_heartbeat",
     "transactions/start_repeated",
+    "uses/use_of_a_closed_transaction",
     "commands/calls_of_a_station",
     "reservations/reservations",
     "local_lists/local_list_of_a_station",

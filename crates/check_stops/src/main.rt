@@ -31,6 +31,7 @@ const SCRIPTS: &[&str] = &[
     "local_list_of_a_station",
     "stop_with_a_reading",
     "use_of_a_granted_tag",
+    "use_of_a_closed_transaction",
     "reports_of_a_station",
 ];
 

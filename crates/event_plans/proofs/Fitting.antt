@@ -8,7 +8,7 @@ use Rattle.serde_json.specs.Data.{Data}
 use Rattle.ocpp_types.specs.declared.error_code.ErrorCode.TheVariants as code
 use Rattle.ocpp_types.specs.declared.policy.Policy.{Policy}
 use Rattle.ocpp_types.specs.declared.refusal.Refusal.{Refusal}
-use Rattle.ocpp_types.specs.declared.refusal.Refusal.TheVariants.{BadField, HasOpenTransactions, NoSuchOperator, SelfGrant, NoSuchGrant}
+use Rattle.ocpp_types.specs.declared.refusal.Refusal.TheVariants.{BadField, HasOpenTransactions, NoSuchOperator, NoSuchStation, NoSuchTransaction, SelfGrant, NoSuchGrant}
 use Rattle.ocpp_frame.specs.declared.frame.Frame.{Frame}
 use Rattle.ocpp_frame.specs.declared.frame.Frame.TheVariants.{Call, CallResult, CallError, Broken, Ignored}
 use Rattle.ocpp_frame.specs.Frame.{frame}
@@ -28,7 +28,9 @@ use Rattle.hub_rows.specs.declared.change.TransactionEdit.TheVariants.{TxStarted
 use Rattle.hub_rows.specs.declared.change.HoldingEdit.TheVariants.{ReservationPut, ReservationDropped, ListSet}
 use Rattle.hub_rows.specs.declared.change.StationEdit.TheVariants as station_edit
 use Rattle.hub_rows.specs.declared.change.TagEdit.TheVariants as tag_edit
+use Rattle.hub_rows.specs.declared.reading_row.ReadingRow.{ReadingRow}
 use Rattle.hub_rows.specs.declared.station_row.Registration.{Registration}
+use Rattle.hub_rows.specs.declared.tx_row.TxState.{TxState}
 use Rattle.hub_rows.specs.Lookups.{Lookups, lookups_at}
 use Rattle.ocpp_types.specs.declared.authorization_status.AuthorizationStatus.{AuthorizationStatus}
 use Rattle.ocpp_types.specs.declared.authorization_status.AuthorizationStatus.TheVariants.{Accepted, Blocked, Expired, Invalid, ConcurrentTx}
@@ -50,6 +52,7 @@ use Rattle.id_tags.specs.Judge.{found_tag, judge_rule, judge_with_owner, kept_ow
 use Rattle.id_tags.specs.declared.judgement.Purpose.TheVariants as purpose
 use Rattle.registry.specs.InternalError.{internal_error}
 use Rattle.registry.specs.declared.station_added.TheConstants.{MAX_INTERVAL}
+use Rattle.charging.specs.Close.{close_edit, close_rule, closed_at, is_meter, meter_at_close}
 use Rattle.charging.specs.Numbers.{has_room}
 use Rattle.charging.specs.Readings.{readings_of}
 use Rattle.charging.specs.MeterValues.{meter_values_rule}
@@ -327,20 +330,42 @@ grant_fits is_hosted g f =
 revoke_fits : (tag to : List ℕ) (f : Facts) → PlanFits f (edit_plan (revoke_rule tag to f.lookups))
 revoke_fits tag to f = elim (f.lookups.has_grant (key_of tag) to) as (λ h. PlanFits f (edit_plan (cond h (Ok (Tags (GrantDropped (key_of tag) to))) (Err NoSuchGrant)))) [ true ↦ tt | false ↦ tt ]
 
-admin_fits : (is_hosted : List ℕ → Bool) (a : Admin) (f : Facts) → PlanFits f (edit_plan (admin_rule is_hosted a f.lookups))
-admin_fits is_hosted (admin.StationAdd station policy interval) f = add_fits station policy interval f
-admin_fits is_hosted (admin.StationPolicy station policy interval) f = policy_fits station policy interval f
-admin_fits is_hosted (admin.TagPut tag) f = put_fits tag f
-admin_fits is_hosted (admin.TagDrop tag) f = drop_fits tag f
-admin_fits is_hosted (admin.Grant grant) f = grant_fits is_hosted grant f
-admin_fits is_hosted (admin.Revoke tag to) f = revoke_fits tag to f
+closed_fits : (station : List ℕ) (number : ℕ) (meter : Option ℕ) (m : ℕ) (readings : List ReadingRow) (t : TxState) (f : Facts) → f.lookups.tx station number ≡ Some t → PlanFits f (edit_plan (close_edit station number meter m readings (Some t)))
+closed_fits station number meter m readings t f at =
+    let stopped = Transactions (TxStopped station number (closed_at m (meter_at_close meter t.meter_start readings)) 0 []) in
+    elim t.is_open as (λ b. t.is_open ≡ b → PlanFits f (edit_plan (cond b (cond (is_meter meter) (Ok stopped) (Err (BadField (codes "meterStop")))) (Err NoSuchTransaction)))) [
+      | true ↦ λ is-open. elim (is_meter meter) as (λ b. PlanFits f (edit_plan (cond b (Ok stopped) (Err (BadField (codes "meterStop")))))) [
+        | true ↦ (subst IsOpen (sym at) is-open, inl refl)
+        | false ↦ tt
+      ]
+      | false ↦ λ ended. tt
+    ] refl
+
+close_fits : (station : List ℕ) (number : ℕ) (meter : Option ℕ) (m : ℕ) (f : Facts) → PlanFits f (edit_plan (close_rule station number meter m f.lookups))
+close_fits station number meter m f =
+    elim (is_some (f.lookups.registration station)) as (λ b. PlanFits f (edit_plan (cond b (close_edit station number meter m (f.lookups.readings station (Some number)) (f.lookups.tx station number)) (Err NoSuchStation)))) [
+      | true ↦ elim (f.lookups.tx station number) as (λ o. f.lookups.tx station number ≡ o → PlanFits f (edit_plan (close_edit station number meter m (f.lookups.readings station (Some number)) o))) [
+        | None ↦ λ e. tt
+        | Some t ↦ λ e. closed_fits station number meter m (f.lookups.readings station (Some number)) t f e
+      ] refl
+      | false ↦ tt
+    ]
+
+admin_fits : (is_hosted : List ℕ → Bool) (a : Admin) (m : ℕ) (f : Facts) → PlanFits f (edit_plan (admin_rule is_hosted a m f.lookups))
+admin_fits is_hosted (admin.StationAdd station policy interval) m f = add_fits station policy interval f
+admin_fits is_hosted (admin.StationPolicy station policy interval) m f = policy_fits station policy interval f
+admin_fits is_hosted (admin.TagPut tag) m f = put_fits tag f
+admin_fits is_hosted (admin.TagDrop tag) m f = drop_fits tag f
+admin_fits is_hosted (admin.Grant grant) m f = grant_fits is_hosted grant f
+admin_fits is_hosted (admin.Revoke tag to) m f = revoke_fits tag to f
+admin_fits is_hosted (admin.TransactionClose station number meter_stop) m f = close_fits station number meter_stop m f
 
 pub plan_fits : (is_hosted : List ℕ → Bool) (answers : Answers) (what : What) (m : ℕ) (f : Facts) → PlanFits f (plan is_hosted answers what m f)
 plan_fits is_hosted answers (what.Connect station) m f = elim (f.lookups.registration station) as (λ o. f.lookups.registration station ≡ o → PlanFits f (connect_plan station o)) [ None ↦ λ e. tt | Some r ↦ λ e. ap is_some e ] refl
 plan_fits is_hosted answers (what.Disconnect station) m f = tt
 plan_fits is_hosted answers (what.Frame station text) m f = elim (f.slot station).is_connected as (λ c. PlanFits f (cond c (frame_plan answers station (frame text) m f) (turned_plan station))) [ true ↦ frame_fits answers station (frame text) m f | false ↦ tt ]
 plan_fits is_hosted answers (what.Do station command) m f = command_fits station command (command_rule station command (f.lookups.registration station) (f.slot station) m f.lookups) f
-plan_fits is_hosted answers (what.Admin a) m f = admin_fits is_hosted a f
+plan_fits is_hosted answers (what.Admin a) m f = admin_fits is_hosted a m f
 plan_fits is_hosted answers what.Connections m f = tt
 plan_fits is_hosted answers (what.List listing) m f = elim (rows_rule listing m f.lookups) as (λ r. PlanFits f (list_plan r)) [ Ok rows ↦ tt | Err refusal ↦ tt ]
 

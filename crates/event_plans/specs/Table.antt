@@ -17,6 +17,7 @@ use Rattle.hub_rows.specs.declared.change.Edit.{Edit}
 use Rattle.hub_rows.specs.declared.station_row.Registration.{Registration}
 use Rattle.hub_rows.specs.Lookups.{Lookups, lookups_at}
 use Rattle.hub_rows.specs.Rows.{Rows}
+use Rattle.charging.specs.Close.{close_rule}
 use Rattle.id_tags.specs.Plan.{put_rule, drop_rule, grant_rule, revoke_rule}
 use Rattle.registry.specs.Allowed.{is_allowed}
 use Rattle.registry.specs.PolicySet.{policy_rule}
@@ -83,13 +84,14 @@ text_plan answers station text m f = if (f.slot station).is_connected then frame
 -- ---- requests of the operator
 
 -- the rule of each edit
-abbrev pub admin_rule : (List ℕ → Bool) → Admin → Lookups → Result Edit Refusal
-admin_rule is_hosted (admin.StationAdd station policy interval) l = add_rule station policy interval l
-admin_rule is_hosted (admin.StationPolicy station policy interval) l = policy_rule station policy interval l
-admin_rule is_hosted (admin.TagPut tag) l = put_rule tag
-admin_rule is_hosted (admin.TagDrop tag) l = drop_rule tag l
-admin_rule is_hosted (admin.Grant grant) l = grant_rule is_hosted grant l
-admin_rule is_hosted (admin.Revoke tag to) l = revoke_rule tag to l
+abbrev pub admin_rule : (List ℕ → Bool) → Admin → ℕ → Lookups → Result Edit Refusal
+admin_rule is_hosted (admin.StationAdd station policy interval) m l = add_rule station policy interval l
+admin_rule is_hosted (admin.StationPolicy station policy interval) m l = policy_rule station policy interval l
+admin_rule is_hosted (admin.TagPut tag) m l = put_rule tag
+admin_rule is_hosted (admin.TagDrop tag) m l = drop_rule tag l
+admin_rule is_hosted (admin.Grant grant) m l = grant_rule is_hosted grant l
+admin_rule is_hosted (admin.Revoke tag to) m l = revoke_rule tag to l
+admin_rule is_hosted (admin.TransactionClose station number meter_stop) m l = close_rule station number meter_stop m l
 
 -- ---- the table
 
@@ -100,6 +102,6 @@ plan is_hosted answers (what.Connect station) m f = connect_plan station (f.look
 plan is_hosted answers (what.Disconnect station) m f = disconnect_plan station
 plan is_hosted answers (what.Frame station text) m f = text_plan answers station text m f
 plan is_hosted answers (what.Do station command) m f = command_plan station command (command_rule station command (f.lookups.registration station) (f.slot station) m f.lookups)
-plan is_hosted answers (what.Admin a) m f = edit_plan (admin_rule is_hosted a f.lookups)
+plan is_hosted answers (what.Admin a) m f = edit_plan (admin_rule is_hosted a m f.lookups)
 plan is_hosted answers (what.List listing) m f = list_plan (rows_rule listing m f.lookups)
 plan is_hosted answers what.Connections m f = list_plan (Ok (connections f.slots))

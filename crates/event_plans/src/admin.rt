@@ -5,11 +5,12 @@ ghost use Rattle.hub_rows.specs.Lookups.{lookups_at};
 ghost use Rattle.hub_rows.specs.Operators.{is_hosted};
 ghost use Rattle.event_plans.specs.Table.{admin_rule};
 
+use charging::plan_close;
 use hub_events::Admin;
 use hub_rows::{Edit, Store, StoreFault};
 use id_tags::{plan_drop, plan_grant, plan_put, plan_revoke};
-use ocpp_types::{Refusal, Text};
-use registry::{Terms, plan_add, plan_policy};
+use ocpp_types::{Moment, Refusal, Text};
+use registry::{StationAt, Terms, plan_add, plan_policy};
 use std::alloc::Global;
 
 /// The edit that an operator's request asks for, or the refusal of its rule. `hosted` are the
@@ -17,13 +18,14 @@ use std::alloc::Global;
 pub fn decide_admin<S: Store>(
     alloc: Global,
     store: &mut S,
-    op: &str,
+    op: &Text,
     admin: &Admin,
+    moment: Moment,
     hosted: &[Text],
 ) -> Result<Result<Edit, Refusal>, StoreFault>
     ensures reads { OnlyReads S.view store.old store.new result }
     ensures decision { (S.view store.new).clean → IfOk result (λ p. p
-        ≡ admin_rule (is_hosted hosted.now) admin.now (lookups_at op.now (S.view store.old).rows)) }
+        ≡ admin_rule (is_hosted hosted.now) admin.now moment (lookups_at op.now (S.view store.old).rows)) }
 {
     match admin {
         Admin::StationAdd {
@@ -35,7 +37,7 @@ pub fn decide_admin<S: Store>(
                 policy: *policy,
                 interval: *interval,
             };
-            plan_add(alloc, store, op, station.as_str(), terms)
+            plan_add(alloc, store, op.as_str(), station.as_str(), terms)
         }
         Admin::StationPolicy {
             station,
@@ -46,11 +48,23 @@ pub fn decide_admin<S: Store>(
                 policy: *policy,
                 interval: *interval,
             };
-            plan_policy(alloc, store, op, station.as_str(), terms)
+            plan_policy(alloc, store, op.as_str(), station.as_str(), terms)
         }
         Admin::TagPut { tag } => Ok(plan_put(alloc, tag.as_ref())?),
-        Admin::TagDrop { tag } => plan_drop(alloc, store, op, tag.as_str()),
-        Admin::Grant(grant) => plan_grant(alloc, store, op, grant, hosted),
-        Admin::Revoke { tag, to } => plan_revoke(alloc, store, op, tag.as_str(), to),
+        Admin::TagDrop { tag } => plan_drop(alloc, store, op.as_str(), tag.as_str()),
+        Admin::Grant(grant) => plan_grant(alloc, store, op.as_str(), grant, hosted),
+        Admin::Revoke { tag, to } => plan_revoke(alloc, store, op.as_str(), tag.as_str(), to),
+        Admin::TransactionClose {
+            station,
+            number,
+            meter_stop,
+        } => {
+            let at = StationAt {
+                op,
+                station,
+                moment,
+            };
+            plan_close(alloc, store, &at, *number, *meter_stop)
+        }
     }
 }

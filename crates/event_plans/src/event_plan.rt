@@ -65,7 +65,7 @@ pub fn plan_event<S: Store, V: VendorHandler>(
             plan_command(alloc, &mut book.store, slots, &at, command.as_ref())
         }
         What::Admin(admin) => {
-            let answer = decide_admin(alloc, &mut book.store, op.as_str(), admin, hosted)?;
+            let answer = decide_admin(alloc, &mut book.store, op, admin, moment, hosted)?;
             Ok(edit_plan(alloc, answer)?)
         }
         What::List(listing) => plan_list(alloc, &mut book.store, op, listing, moment),

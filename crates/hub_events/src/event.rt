@@ -91,4 +91,10 @@ pub enum Admin {
         policy: Policy,
         interval: u64,
     },
+    /// An open transaction of a station is closed, with its meter in Wh, or else by its readings.
+    TransactionClose {
+        station: Text,
+        number: u32,
+        meter_stop: Option<u64>,
+    },
 }

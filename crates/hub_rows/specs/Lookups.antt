@@ -182,7 +182,7 @@ abbrev pub own_start : List ℕ → StartKey → TxRow → Bool
 own_start station k r = bytes_eq r.station station && (r.start.id.connector == k.connector && (bytes_eq r.start.id.key k.key && (int_eq r.start.id.meter_start k.meter_start && int_eq r.start.id.at k.at)))
 
 abbrev pub own_state : TxRow → TxState
-own_state r = record { connector = r.start.id.connector; is_open = is_none r.stop }
+own_state r = record { connector = r.start.id.connector; meter_start = r.start.id.meter_start; is_open = is_none r.stop }
 
 -- any, or one that was sent with the number of a transaction
 abbrev pub own_is_sent_with : Option ℕ → Option ℤ → Bool

@@ -31,7 +31,7 @@ abbrev pub counts : TxRow → Bool
 counts r = is_open r && is_accepted r.start.status
 
 abbrev pub state_of : TxRow → TxState
-state_of r = record { connector = r.start.id.connector; is_open = is_open r }
+state_of r = record { connector = r.start.id.connector; meter_start = r.start.id.meter_start; is_open = is_open r }
 
 -- the transaction of that number of a station
 abbrev pub is_tx : List ℕ → ℕ → TxRow → Bool

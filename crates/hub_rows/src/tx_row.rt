@@ -83,6 +83,8 @@ pub struct TxKey {
 #[derive(Clone, Copy, Debug, PartialEq, Eq)]
 pub struct TxState {
     pub connector: u8,
+    /// In Wh.
+    pub meter_start: i64,
     pub is_open: bool,
 }
 
@@ -109,6 +111,7 @@ impl TxRow {
     {
         TxState {
             connector: self.start.id.connector,
+            meter_start: self.start.id.meter_start,
             is_open: self.is_open(),
         }
     }

@@ -9,7 +9,7 @@ use Rattle.operator_cmds.specs.Command.{command}
 use Rattle.ocpp_types.specs.Policy.{policies}
 use Rattle.ocpp_types.specs.declared.policy.Policy.{Policy}
 use Rattle.serde_json.specs.Read.{read}
-use Rattle.lines.specs.Words.{first_word, only_word, number_of, transaction_number, parent_of, is_expiry, expiry_of, ◌>>=◌}
+use Rattle.lines.specs.Words.{first_word, only_word, number_of, transaction_number, meter_of, parent_of, is_expiry, expiry_of, ◌>>=◌}
 
 -- `connect ST`
 abbrev pub connect_form : List ℕ → Option What
@@ -92,6 +92,15 @@ revoke_form rest = do
   to ← only_word tag.1
   Some (what.Admin (admin.Revoke tag.0 to))
 
+-- `transaction close ST N METERSTOP|-`
+abbrev pub transaction_close_form : List ℕ → Option What
+transaction_close_form rest = do
+  station ← first_word rest
+  number ← first_word station.1
+  n ← transaction_number number.0
+  meter ← meter_of number.1
+  Some (what.Admin (admin.TransactionClose station.0 n meter))
+
 -- what the form of the first word reads after that word
 abbrev pub by_word : List (List ℕ × (List ℕ → Option What)) → List ℕ → Option What
 by_word forms text = do
@@ -106,6 +115,10 @@ station_form = by_word ((codes "add", station_add_form) ∷ (codes "policy", sta
 -- the forms after `tag`
 abbrev pub tag_form : List ℕ → Option What
 tag_form = by_word ((codes "put", tag_put_form) ∷ (codes "drop", tag_drop_form) ∷ [])
+
+-- the forms after `transaction`
+abbrev pub transaction_form : List ℕ → Option What
+transaction_form = by_word ((codes "close", transaction_close_form) ∷ [])
 
 -- `connectors ST`
 abbrev pub connectors_form : List ℕ → Option What
@@ -179,4 +192,4 @@ list_form rest = list_by_word (plain_list rest) rest
 
 -- the forms after `MOMENT OP`
 unfoldable pub what_of : List ℕ → Option What
-what_of = by_word ((codes "connect", connect_form) ∷ (codes "disconnect", disconnect_form) ∷ (codes "frame", frame_form) ∷ (codes "call", call_form) ∷ (codes "station", station_form) ∷ (codes "tag", tag_form) ∷ (codes "grant", grant_form) ∷ (codes "revoke", revoke_form) ∷ (codes "list", list_form) ∷ [])
+what_of = by_word ((codes "connect", connect_form) ∷ (codes "disconnect", disconnect_form) ∷ (codes "frame", frame_form) ∷ (codes "call", call_form) ∷ (codes "station", station_form) ∷ (codes "tag", tag_form) ∷ (codes "transaction", transaction_form) ∷ (codes "grant", grant_form) ∷ (codes "revoke", revoke_form) ∷ (codes "list", list_form) ∷ [])

@@ -1,5 +1,5 @@
 -- Words that are separated by one space.
-use Rattle.std.specs.Prelude.{ℕ, nat_le, nat_lt, ◌==◌, slice_index, Bool, ◌&&◌, ◌||◌, is_some, List, length, Option, Some, None, codes, if◌then◌else◌, option_and_then}
+use Rattle.std.specs.Prelude.{ℕ, nat_le, nat_lt, ◌==◌, slice_index, Bool, ◌&&◌, ◌||◌, is_some, List, length, Option, Some, None, codes, if◌then◌else◌, option_and_then, option_map}
 use Rattle.std.specs.List.{position_or_len, before_first, after_first}
 use Rattle.std.specs.Str.{bytes_eq}
 use Rattle.hub_rows.specs.Transactions.{last_of_all}
@@ -36,6 +36,10 @@ moment_at text = option_and_then moment_of (number_of text)
 -- `-` stands for no parent
 abbrev pub parent_of : List ℕ → Option (List ℕ)
 parent_of word = if bytes_eq word (codes "-") then None else Some word
+
+-- a meter is `-` or a number, and `-` stands for none
+abbrev pub meter_of : List ℕ → Option (Option ℕ)
+meter_of word = if bytes_eq word (codes "-") then Some None else option_map Some (number_of word)
 
 -- an expiry is `-` or a moment, and `-` stands for none
 abbrev pub is_expiry : List ℕ → Bool

@@ -3,10 +3,12 @@ ghost use Rattle.std.specs.Prelude.{◌≡◌, IfOk, option_map};
 ghost use Rattle.serde_json.specs.Read.{read};
 ghost use Rattle.serde_json.specs.View.{view};
 ghost use Rattle.lines.specs.Words.{only_word, parent_of};
-ghost use Rattle.lines.specs.Forms.{what_of, connect_form, disconnect_form, frame_form, call_form, station_form, station_add_form, station_policy_form, policy_words, tag_form, tag_put_form, tag_drop_form, grant_form, revoke_form, mark_of};
+ghost use Rattle.lines.specs.Forms.{what_of, connect_form, disconnect_form, frame_form, call_form, station_form, station_add_form, station_policy_form, policy_words, tag_form, tag_put_form, tag_drop_form, transaction_form, transaction_close_form, grant_form, revoke_form, mark_of};
 
 use crate::list_forms::list;
-use crate::words::{expiry_of, first_word, is_expiry, name_of, number_of, only_word};
+use crate::words::{
+    expiry_of, first_word, is_expiry, meter_of, name_of, number_of, only_word, transaction_number,
+};
 use hub_events::{Admin, What};
 use hub_rows::Tag;
 use id_tags::Grant;
@@ -31,6 +33,7 @@ pub fn read_what(alloc: Global, text: &str) -> Mem<Option<What>>
         "call" => call(alloc, rest),
         "station" => station(alloc, rest),
         "tag" => tag(alloc, rest),
+        "transaction" => transaction(alloc, rest),
         "grant" => grant(alloc, rest),
         "revoke" => revoke(alloc, rest),
         "list" => list(alloc, rest),
@@ -209,6 +212,40 @@ fn tag_drop(alloc: Global, rest: &str) -> Mem<Option<What>>
         return Ok(None);
     };
     Ok(Some(What::Admin(Admin::TagDrop { tag })))
+}
+
+fn transaction(alloc: Global, rest: &str) -> Mem<Option<What>>
+    ensures { IfOk result (λ w. w ≡ transaction_form rest.now) }
+{
+    let Some((word, rest)) = first_word(rest) else {
+        return Ok(None);
+    };
+    match word {
+        "close" => transaction_close(alloc, rest),
+        _ => Ok(None),
+    }
+}
+
+fn transaction_close(alloc: Global, rest: &str) -> Mem<Option<What>>
+    ensures { IfOk result (λ w. w ≡ transaction_close_form rest.now) }
+{
+    let Some((station, rest)) = first_word(rest) else {
+        return Ok(None);
+    };
+    let Some((number, meter)) = first_word(rest) else {
+        return Ok(None);
+    };
+    let Some(number) = transaction_number(number) else {
+        return Ok(None);
+    };
+    let Some(meter_stop) = meter_of(meter) else {
+        return Ok(None);
+    };
+    Ok(Some(What::Admin(Admin::TransactionClose {
+        station: Text::copy_of(alloc, station)?,
+        number,
+        meter_stop,
+    })))
 }
 
 fn grant(alloc: Global, rest: &str) -> Mem<Option<What>>

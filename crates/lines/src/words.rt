@@ -1,6 +1,6 @@
 //! The words of a line.
 ghost use Rattle.std.specs.Prelude.{◌≡◌, IfOk, option_map};
-ghost use Rattle.lines.specs.Words.{first_word, only_word, number_of, begins_with_0, transaction_number, moment_at, is_expiry, expiry_of};
+ghost use Rattle.lines.specs.Words.{first_word, only_word, number_of, begins_with_0, transaction_number, moment_at, is_expiry, expiry_of, meter_of};
 
 use hub_rows::LAST_NUMBER;
 use ocpp_types::{Mem, Moment, Text, number_of_digits};
@@ -61,6 +61,16 @@ pub fn expiry_of(word: &str) -> Option<Moment>
     ensures { result ≡ expiry_of word.now }
 {
     if word == "-" { None } else { moment_at(word) }
+}
+
+/// A meter, none for `-`. `None` where the word is neither.
+pub fn meter_of(word: &str) -> Option<Option<u64>>
+    ensures { result ≡ meter_of word.now }
+{
+    if word == "-" {
+        return Some(None);
+    }
+    Some(Some(number_of(word)?))
 }
 
 /// The number that a text of 1 to 12 decimal digits is.

@@ -1,10 +1,10 @@
 //! Changes of the records.
-ghost use Rattle.std.specs.Prelude.{◌≡◌, IsErr, IsOk, OnErr, OnOk};
+ghost use Rattle.std.specs.Prelude.{IsErr, IsOk, OnErr, OnOk};
 ghost use Rattle.sqlite.specs.Held.{state};
 ghost use Rattle.hub_rows.specs.Changes.{edit};
-ghost use Rattle.sql_rows.specs.Kept.{Changes, Goes, IsInside, IsMade};
+ghost use Rattle.sql_rows.specs.Kept.{Changes, IsMade, Makes};
 ghost use Rattle.hub_rows.specs.declared.change.Edit.TheVariants.{Stations, Tags, Transactions, Holdings};
-ghost use Rattle.sql_edits.specs.Ready.{IsReady, MayMake};
+ghost use Rattle.sql_edits.specs.Ready.{IsReady, MakesFitting};
 
 use crate::connectors::put_connector;
 use crate::grants::{drop_grant, put_grant};
@@ -27,8 +27,7 @@ fn edit_stations<S: Alter>(
     op: &str,
     change: &StationEdit,
 ) -> Result<(), StoreFault>
-    ensures same_reference { tx.new.conn.ghost_name ≡ tx.old.conn.ghost_name }
-    ensures goes { IsInside (state S.Store tx.old.conn.now) → Goes (IsMade (edit op.now (Stations change.now))) (state S.Store tx.old.conn.now) (state S.Store tx.new.conn.now) result }
+    ensures makes { Makes S.Store (edit op.now (Stations change.now)) tx.old tx.new result }
 {
     match change {
         StationEdit::StationAdded {
@@ -66,8 +65,7 @@ fn edit_tags<S: Alter>(
     op: &str,
     change: &TagEdit,
 ) -> Result<(), StoreFault>
-    ensures same_reference { tx.new.conn.ghost_name ≡ tx.old.conn.ghost_name }
-    ensures goes { IsInside (state S.Store tx.old.conn.now) → Goes (IsMade (edit op.now (Tags change.now))) (state S.Store tx.old.conn.now) (state S.Store tx.new.conn.now) result }
+    ensures makes { Makes S.Store (edit op.now (Tags change.now)) tx.old tx.new result }
 {
     match change {
         TagEdit::TagPut { key, tag } => put_tag(tx, alloc, op, key.as_str(), tag),
@@ -83,8 +81,7 @@ fn edit_transactions<S: Alter>(
     op: &str,
     change: &TransactionEdit,
 ) -> Result<(), StoreFault>
-    ensures same_reference { tx.new.conn.ghost_name ≡ tx.old.conn.ghost_name }
-    ensures goes { IsInside (state S.Store tx.old.conn.now) → Goes (IsMade (edit op.now (Transactions change.now))) (state S.Store tx.old.conn.now) (state S.Store tx.new.conn.now) result }
+    ensures makes { Makes S.Store (edit op.now (Transactions change.now)) tx.old tx.new result }
 {
     match change {
         TransactionEdit::TxStarted {
@@ -123,8 +120,7 @@ fn edit_holdings<S: Alter>(
     op: &str,
     change: &HoldingEdit,
 ) -> Result<(), StoreFault>
-    ensures same_reference { tx.new.conn.ghost_name ≡ tx.old.conn.ghost_name }
-    ensures goes { MayMake op.now (Holdings change.now) (state S.Store tx.old.conn.now) → IsInside (state S.Store tx.old.conn.now) → Goes (IsMade (edit op.now (Holdings change.now))) (state S.Store tx.old.conn.now) (state S.Store tx.new.conn.now) result }
+    ensures makes { MakesFitting S.Store op.now (Holdings change.now) tx.old tx.new result }
 {
     match change {
         HoldingEdit::ReservationPut {
@@ -146,8 +142,7 @@ fn make<S: Alter>(
     op: &str,
     change: &Edit,
 ) -> Result<(), StoreFault>
-    ensures same_reference { tx.new.conn.ghost_name ≡ tx.old.conn.ghost_name }
-    ensures goes { MayMake op.now change.now (state S.Store tx.old.conn.now) → IsInside (state S.Store tx.old.conn.now) → Goes (IsMade (edit op.now change.now)) (state S.Store tx.old.conn.now) (state S.Store tx.new.conn.now) result }
+    ensures makes { MakesFitting S.Store op.now change.now tx.old tx.new result }
 {
     match change {
         Edit::Stations(change) => edit_stations(tx, op, change),

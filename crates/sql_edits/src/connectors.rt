@@ -1,8 +1,5 @@
 //! Edits of connectors.
-ghost use Rattle.std.specs.Prelude.{◌≡◌};
-ghost use Rattle.sqlite.specs.Held.{state};
-ghost use Rattle.sql_rows.specs.Kept.{IsInside, IsMade, Goes};
-ghost use Rattle.sql_rows.specs.TypedTables.{connectors};
+ghost use Rattle.sql_rows.specs.Kept.{Makes};
 ghost use Rattle.hub_rows.specs.Changes.{edit};
 ghost use Rattle.hub_rows.specs.declared.change.Edit.TheVariants.{Stations};
 ghost use Rattle.hub_rows.specs.declared.change.StationEdit.TheVariants.{ConnectorSeen};
@@ -20,8 +17,7 @@ pub(crate) fn put_connector<S: Alter>(
     connector: u8,
     report: &ConnectorReport,
 ) -> Result<(), StoreFault>
-    ensures same_reference { tx.new.conn.ghost_name ≡ tx.old.conn.ghost_name }
-    ensures goes { IsInside (state S.Store tx.old.conn.now) → Goes (IsMade (edit op.now (Stations (ConnectorSeen station.now connector report.now)))) (state S.Store tx.old.conn.now) (state S.Store tx.new.conn.now) result }
+    ensures makes { Makes S.Store (edit op.now (Stations (ConnectorSeen station.now connector report.now))) tx.old tx.new result }
 {
     done(tx.execute(
         sql_tables::connectors::PUT,

@@ -1,8 +1,5 @@
 //! Edits of grants.
-ghost use Rattle.std.specs.Prelude.{◌≡◌};
-ghost use Rattle.sqlite.specs.Held.{state};
-ghost use Rattle.sql_rows.specs.Kept.{IsInside, IsMade, Goes};
-ghost use Rattle.sql_rows.specs.TypedTables.{grants};
+ghost use Rattle.sql_rows.specs.Kept.{Makes};
 ghost use Rattle.hub_rows.specs.Changes.{edit};
 ghost use Rattle.hub_rows.specs.declared.change.Edit.TheVariants.{Tags};
 ghost use Rattle.hub_rows.specs.declared.change.TagEdit.TheVariants.{GrantPut, GrantDropped};
@@ -20,8 +17,7 @@ pub(crate) fn put_grant<S: Alter>(
     to: &str,
     until: &Option<Moment>,
 ) -> Result<(), StoreFault>
-    ensures same_reference { tx.new.conn.ghost_name ≡ tx.old.conn.ghost_name }
-    ensures goes { IsInside (state S.Store tx.old.conn.now) → Goes (IsMade (edit op.now (Tags (GrantPut key.now to.now until.now)))) (state S.Store tx.old.conn.now) (state S.Store tx.new.conn.now) result }
+    ensures makes { Makes S.Store (edit op.now (Tags (GrantPut key.now to.now until.now))) tx.old tx.new result }
 {
     done(tx.execute(
         sql_tables::grants::PUT,
@@ -36,8 +32,7 @@ pub(crate) fn drop_grant<S: Alter>(
     key: &str,
     to: &str,
 ) -> Result<(), StoreFault>
-    ensures same_reference { tx.new.conn.ghost_name ≡ tx.old.conn.ghost_name }
-    ensures goes { IsInside (state S.Store tx.old.conn.now) → Goes (IsMade (edit op.now (Tags (GrantDropped key.now to.now)))) (state S.Store tx.old.conn.now) (state S.Store tx.new.conn.now) result }
+    ensures makes { Makes S.Store (edit op.now (Tags (GrantDropped key.now to.now))) tx.old tx.new result }
 {
     done(tx.execute(sql_tables::grants::DROP, params![op, key, to]))
 }

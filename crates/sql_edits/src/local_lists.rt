@@ -1,13 +1,12 @@
 //! Edits of local lists, whose versions and entries have a table each.
 ghost use Rattle.std.specs.Prelude.{◌≡◌, ◌&&◌, map, IsTrue};
 ghost use Rattle.std.specs.Str.{bytes_eq};
-ghost use Rattle.sqlite.specs.Held.{state};
 ghost use Rattle.ocpp_types.specs.TagKey.{key_of};
 ghost use Rattle.hub_rows.specs.Changes.{edit};
 ghost use Rattle.hub_rows.specs.declared.change.Edit.TheVariants.{Holdings};
 ghost use Rattle.hub_rows.specs.declared.change.HoldingEdit.TheVariants.{ListSet};
 ghost use Rattle.hub_rows.specs.LocalLists.{AreEntries};
-ghost use Rattle.sql_rows.specs.Kept.{ArePutIn, Goes, IsDropped, IsInside, IsMade, IsPutIn};
+ghost use Rattle.sql_rows.specs.Kept.{ArePutIn, IsDropped, IsMade, IsPutIn, MakesIf, MakesIn, Within};
 ghost use Rattle.sql_rows.specs.TypedTables.{entries, entry_row, lists};
 
 use crate::binds::{done, lent, seconds_if_any};
@@ -22,8 +21,7 @@ fn drop_entries<S: Alter>(
     op: &str,
     station: &str,
 ) -> Result<(), StoreFault>
-    ensures same_reference { tx.new.conn.ghost_name ≡ tx.old.conn.ghost_name }
-    ensures goes { IsInside (state S.Store tx.old.conn.now) → Goes (IsDropped entries (λ e. bytes_eq e.op op.now && bytes_eq e.station station.now)) (state S.Store tx.old.conn.now) (state S.Store tx.new.conn.now) result }
+    ensures makes { MakesIn S.Store (IsDropped entries (λ e. bytes_eq e.op op.now && bytes_eq e.station station.now)) tx.old tx.new result }
 {
     done(tx.execute(sql_tables::list_entries::DROP, params![op, station]))
 }
@@ -35,8 +33,7 @@ fn put_head<S: Alter>(
     station: &str,
     version: u32,
 ) -> Result<(), StoreFault>
-    ensures same_reference { tx.new.conn.ghost_name ≡ tx.old.conn.ghost_name }
-    ensures goes { IsInside (state S.Store tx.old.conn.now) → Goes (IsPutIn lists (record { op = op.now; station = station.now; version = version })) (state S.Store tx.old.conn.now) (state S.Store tx.new.conn.now) result }
+    ensures makes { MakesIn S.Store (IsPutIn lists (record { op = op.now; station = station.now; version = version })) tx.old tx.new result }
 {
     done(tx.execute(sql_tables::lists::PUT, params![op, station, version]))
 }
@@ -50,8 +47,7 @@ fn put_entry_row<S: Alter>(
     entry: &LocalTag,
 ) -> Result<(), StoreFault>
     requires { key.now ≡ key_of entry.now.tag }
-    ensures same_reference { tx.new.conn.ghost_name ≡ tx.old.conn.ghost_name }
-    ensures goes { IsInside (state S.Store tx.old.conn.now) → Goes (IsPutIn entries (entry_row op.now station.now entry.now)) (state S.Store tx.old.conn.now) (state S.Store tx.new.conn.now) result }
+    ensures makes { MakesIn S.Store (IsPutIn entries (entry_row op.now station.now entry.now)) tx.old tx.new result }
 {
     done(tx.execute(
         sql_tables::list_entries::ADD,
@@ -75,8 +71,7 @@ fn put_entry<S: Alter>(
     station: &str,
     entry: &LocalTag,
 ) -> Result<(), StoreFault>
-    ensures same_reference { tx.new.conn.ghost_name ≡ tx.old.conn.ghost_name }
-    ensures goes { IsInside (state S.Store tx.old.conn.now) → Goes (IsPutIn entries (entry_row op.now station.now entry.now)) (state S.Store tx.old.conn.now) (state S.Store tx.new.conn.now) result }
+    ensures makes { MakesIn S.Store (IsPutIn entries (entry_row op.now station.now entry.now)) tx.old tx.new result }
 {
     let key = TagKey::of(alloc, entry.tag.as_str())?;
     put_entry_row(tx, op, station, key.as_str(), entry)
@@ -90,8 +85,7 @@ fn put_entries<S: Alter>(
     station: &str,
     list: &[LocalTag],
 ) -> Result<(), StoreFault>
-    ensures same_reference { tx.new.conn.ghost_name ≡ tx.old.conn.ghost_name }
-    ensures goes { IsInside (state S.Store tx.old.conn.now) → Goes (ArePutIn entries (map (entry_row op.now station.now) list.now)) (state S.Store tx.old.conn.now) (state S.Store tx.new.conn.now) result }
+    ensures makes { MakesIn S.Store (ArePutIn entries (map (entry_row op.now station.now) list.now)) tx.old tx.new result }
 {
     'entries: for entry in list {
         put_entry(tx, alloc, op, station, entry)?;
@@ -107,8 +101,7 @@ pub(crate) fn set_list<S: Alter>(
     station: &str,
     list: &LocalList,
 ) -> Result<(), StoreFault>
-    ensures same_reference { tx.new.conn.ghost_name ≡ tx.old.conn.ghost_name }
-    ensures goes { (IsTrue (state S.Store tx.old.conn.now).is_open → AreEntries list.now.entries) → IsInside (state S.Store tx.old.conn.now) → Goes (IsMade (edit op.now (Holdings (ListSet station.now list.now)))) (state S.Store tx.old.conn.now) (state S.Store tx.new.conn.now) result }
+    ensures makes { MakesIf S.Store (λ s. IsTrue s.is_open → Within s × AreEntries list.now.entries) (IsMade (edit op.now (Holdings (ListSet station.now list.now)))) tx.old tx.new result }
 {
     drop_entries(tx, op, station)?;
     put_head(tx, op, station, list.version)?;

@@ -1,9 +1,6 @@
 //! Edits of readings.
-ghost use Rattle.std.specs.Prelude.{◌≡◌, ◌<◌};
-ghost use Rattle.sqlite.specs.Held.{state};
 ghost use Rattle.hub_rows.specs.Keyed.{by_key, put};
-ghost use Rattle.sql_rows.specs.Kept.{IsInside, IsMade, Goes};
-ghost use Rattle.sql_rows.specs.TypedTables.{readings};
+ghost use Rattle.sql_rows.specs.Kept.{Makes};
 ghost use Rattle.hub_rows.specs.Rows.{reading_key};
 ghost use Rattle.hub_rows.specs.Changes.{with_readings};
 
@@ -20,8 +17,7 @@ fn put_reading<S: Alter>(
     number: u32,
     reading: &Reading,
 ) -> Result<(), StoreFault>
-    ensures same_reference { tx.new.conn.ghost_name ≡ tx.old.conn.ghost_name }
-    ensures goes { IsInside (state S.Store tx.old.conn.now) → Goes (IsMade (λ rows. record rows { readings = put (by_key reading_key) (record { op = op.now; station = station.now; number = number; reading = reading.now }) rows.readings })) (state S.Store tx.old.conn.now) (state S.Store tx.new.conn.now) result }
+    ensures makes { Makes S.Store (λ rows. record rows { readings = put (by_key reading_key) (record { op = op.now; station = station.now; number = number; reading = reading.now }) rows.readings }) tx.old tx.new result }
 {
     done(tx.execute(
         sql_tables::readings::ADD,
@@ -52,8 +48,7 @@ pub(crate) fn add_readings<S: Alter>(
     first: u32,
     readings: &[Reading],
 ) -> Result<(), StoreFault>
-    ensures same_reference { tx.new.conn.ghost_name ≡ tx.old.conn.ghost_name }
-    ensures goes { IsInside (state S.Store tx.old.conn.now) → Goes (IsMade (λ rows. record rows { readings = with_readings op.now station.now first readings.now rows.readings })) (state S.Store tx.old.conn.now) (state S.Store tx.new.conn.now) result }
+    ensures makes { Makes S.Store (λ rows. record rows { readings = with_readings op.now station.now first readings.now rows.readings }) tx.old tx.new result }
 {
     if readings.len() > (u32::MAX - first) as usize {
         return Err(StoreFault::Failed);

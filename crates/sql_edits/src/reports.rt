@@ -1,8 +1,5 @@
 //! Edits of reports.
-ghost use Rattle.std.specs.Prelude.{◌≡◌};
-ghost use Rattle.sqlite.specs.Held.{state};
-ghost use Rattle.sql_rows.specs.Kept.{IsInside, IsMade, Goes};
-ghost use Rattle.sql_rows.specs.TypedTables.{reports};
+ghost use Rattle.sql_rows.specs.Kept.{Makes};
 ghost use Rattle.hub_rows.specs.Changes.{edit};
 ghost use Rattle.hub_rows.specs.declared.change.Edit.TheVariants.{Stations};
 ghost use Rattle.hub_rows.specs.declared.change.StationEdit.TheVariants.{ReportSeen};
@@ -20,8 +17,7 @@ pub(crate) fn put_report<S: Alter>(
     status: ReportedStatus,
     moment: Moment,
 ) -> Result<(), StoreFault>
-    ensures same_reference { tx.new.conn.ghost_name ≡ tx.old.conn.ghost_name }
-    ensures goes { IsInside (state S.Store tx.old.conn.now) → Goes (IsMade (edit op.now (Stations (ReportSeen station.now status moment)))) (state S.Store tx.old.conn.now) (state S.Store tx.new.conn.now) result }
+    ensures makes { Makes S.Store (edit op.now (Stations (ReportSeen station.now status moment))) tx.old tx.new result }
 {
     done(tx.execute(
         sql_tables::reports::PUT,

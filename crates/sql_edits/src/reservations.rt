@@ -1,9 +1,6 @@
 //! Edits of reservations.
-ghost use Rattle.std.specs.Prelude.{◌≡◌};
-ghost use Rattle.sqlite.specs.Held.{state};
 ghost use Rattle.hub_rows.specs.Reservations.{without_named};
-ghost use Rattle.sql_rows.specs.Kept.{IsInside, IsMade, Goes};
-ghost use Rattle.sql_rows.specs.TypedTables.{reservations};
+ghost use Rattle.sql_rows.specs.Kept.{Makes};
 ghost use Rattle.hub_rows.specs.Changes.{edit};
 ghost use Rattle.hub_rows.specs.declared.change.Edit.TheVariants.{Holdings};
 ghost use Rattle.hub_rows.specs.declared.change.HoldingEdit.TheVariants.{ReservationPut, ReservationDropped};
@@ -20,8 +17,7 @@ pub(crate) fn put_reservation<S: Alter>(
     id: ReservationId,
     reservation: &Reservation,
 ) -> Result<(), StoreFault>
-    ensures same_reference { tx.new.conn.ghost_name ≡ tx.old.conn.ghost_name }
-    ensures goes { IsInside (state S.Store tx.old.conn.now) → Goes (IsMade (edit op.now (Holdings (ReservationPut station.now id reservation.now)))) (state S.Store tx.old.conn.now) (state S.Store tx.new.conn.now) result }
+    ensures makes { Makes S.Store (edit op.now (Holdings (ReservationPut station.now id reservation.now))) tx.old tx.new result }
 {
     done(tx.execute(
         sql_tables::reservations::PUT,
@@ -44,8 +40,7 @@ pub(crate) fn drop_reservation<S: Alter>(
     station: &str,
     id: ReservationId,
 ) -> Result<(), StoreFault>
-    ensures same_reference { tx.new.conn.ghost_name ≡ tx.old.conn.ghost_name }
-    ensures goes { IsInside (state S.Store tx.old.conn.now) → Goes (IsMade (edit op.now (Holdings (ReservationDropped station.now id)))) (state S.Store tx.old.conn.now) (state S.Store tx.new.conn.now) result }
+    ensures makes { Makes S.Store (edit op.now (Holdings (ReservationDropped station.now id))) tx.old tx.new result }
 {
     done(tx.execute(
         sql_tables::reservations::DROP,
@@ -60,8 +55,7 @@ pub(crate) fn drop_named<S: Alter>(
     station: &str,
     id: Option<i32>,
 ) -> Result<(), StoreFault>
-    ensures same_reference { tx.new.conn.ghost_name ≡ tx.old.conn.ghost_name }
-    ensures goes { IsInside (state S.Store tx.old.conn.now) → Goes (IsMade (λ rows. record rows { reservations = without_named op.now station.now id rows.reservations })) (state S.Store tx.old.conn.now) (state S.Store tx.new.conn.now) result }
+    ensures makes { Makes S.Store (λ rows. record rows { reservations = without_named op.now station.now id rows.reservations }) tx.old tx.new result }
 {
     match id {
         None => Ok(()),

@@ -1,10 +1,9 @@
 //! Edits of stations.
-ghost use Rattle.std.specs.Prelude.{◌≡◌, ◌&&◌, IfOk, IsTrue, None, Some};
+ghost use Rattle.std.specs.Prelude.{◌≡◌, ◌&&◌, None, Some};
 ghost use Rattle.std.specs.Str.{bytes_eq};
-ghost use Rattle.sqlite.specs.Held.{state};
 ghost use Rattle.hub_rows.specs.Rows.{station_in, station_key};
-ghost use Rattle.sql_rows.specs.Kept.{IsInside, IsMade, IsSame, Goes, ShowsInside};
-ghost use Rattle.sql_rows.specs.TypedTables.{stations, rows_of};
+ghost use Rattle.sql_rows.specs.Kept.{AsksInside, Makes, ShowsInside};
+ghost use Rattle.sql_rows.specs.TypedTables.{stations};
 ghost use Rattle.hub_rows.specs.Changes.{edit};
 ghost use Rattle.hub_rows.specs.declared.change.Edit.TheVariants.{Stations};
 ghost use Rattle.hub_rows.specs.declared.change.StationEdit.TheVariants.{StationAdded, BootSeen, PolicySet};
@@ -23,8 +22,7 @@ fn put_unbooted<S: Alter>(
     station: &str,
     registered: Registration,
 ) -> Result<(), StoreFault>
-    ensures same_reference { tx.new.conn.ghost_name ≡ tx.old.conn.ghost_name }
-    ensures goes { IsInside (state S.Store tx.old.conn.now) → Goes (IsMade (λ rows. record rows { stations = put (by_key station_key) (record { op = op.now; station = station.now; policy = registered.policy; interval = registered.interval; state = registered.state; boot = None }) rows.stations })) (state S.Store tx.old.conn.now) (state S.Store tx.new.conn.now) result }
+    ensures makes { Makes S.Store (λ rows. record rows { stations = put (by_key station_key) (record { op = op.now; station = station.now; policy = registered.policy; interval = registered.interval; state = registered.state; boot = None }) rows.stations }) tx.old tx.new result }
 {
     let null: Option<i64> = None;
     done(tx.execute(
@@ -57,8 +55,7 @@ fn put_booted<S: Alter>(
     registered: Registration,
     boot: &Boot,
 ) -> Result<(), StoreFault>
-    ensures same_reference { tx.new.conn.ghost_name ≡ tx.old.conn.ghost_name }
-    ensures goes { IsInside (state S.Store tx.old.conn.now) → Goes (IsMade (λ rows. record rows { stations = put (by_key station_key) (record { op = op.now; station = station.now; policy = registered.policy; interval = registered.interval; state = registered.state; boot = Some boot.now }) rows.stations })) (state S.Store tx.old.conn.now) (state S.Store tx.new.conn.now) result }
+    ensures makes { Makes S.Store (λ rows. record rows { stations = put (by_key station_key) (record { op = op.now; station = station.now; policy = registered.policy; interval = registered.interval; state = registered.state; boot = Some boot.now }) rows.stations }) tx.old tx.new result }
 {
     let texts = boot.texts.as_ref();
     done(tx.execute(
@@ -88,8 +85,7 @@ fn find_inside<S: Alter>(
     op: &str,
     station: &str,
 ) -> Result<Vec<Row>, Error>
-    ensures same_reference { tx.new.conn.ghost_name ≡ tx.old.conn.ghost_name }
-    ensures shows { IsInside (state S.Store tx.old.conn.now) → ShowsInside (λ v. v.items) stations (λ r. bytes_eq r.op op.now && bytes_eq r.station station.now) (state S.Store tx.old.conn.now) (state S.Store tx.new.conn.now) result }
+    ensures shows { ShowsInside S.Store (λ v. v.items) stations (λ r. bytes_eq r.op op.now && bytes_eq r.station station.now) tx.old tx.new result }
 {
     tx.query_all(sql_tables::stations::FIND, params![op, station, station])
 }
@@ -100,9 +96,7 @@ fn station_inside<S: Alter>(
     op: &str,
     station: &str,
 ) -> Result<Option<StationRow>, StoreFault>
-    ensures same_reference { tx.new.conn.ghost_name ≡ tx.old.conn.ghost_name }
-    ensures found { IsInside (state S.Store tx.old.conn.now) → IsTrue (state S.Store tx.new.conn.now).is_open → IfOk result (λ r. r ≡ station_in op.now station.now (rows_of (state S.Store tx.old.conn.now).now.trees).stations) }
-    ensures goes { IsInside (state S.Store tx.old.conn.now) → Goes IsSame (state S.Store tx.old.conn.now) (state S.Store tx.new.conn.now) result }
+    ensures asks { AsksInside S.Store tx.old tx.new result (λ rows r. r ≡ station_in op.now station.now rows.stations) }
 {
     first_row(find_inside(tx, op, station))
 }
@@ -115,8 +109,7 @@ pub(crate) fn add_station<S: Alter>(
     policy: Policy,
     interval: u32,
 ) -> Result<(), StoreFault>
-    ensures same_reference { tx.new.conn.ghost_name ≡ tx.old.conn.ghost_name }
-    ensures goes { IsInside (state S.Store tx.old.conn.now) → Goes (IsMade (edit op.now (Stations (StationAdded station.now policy interval)))) (state S.Store tx.old.conn.now) (state S.Store tx.new.conn.now) result }
+    ensures makes { Makes S.Store (edit op.now (Stations (StationAdded station.now policy interval))) tx.old tx.new result }
 {
     let registered = Registration {
         policy,
@@ -128,8 +121,7 @@ pub(crate) fn add_station<S: Alter>(
 
 /// Puts a station.
 fn put_station<S: Alter>(tx: &mut Transaction<'_, S>, row: &StationRow) -> Result<(), StoreFault>
-    ensures same_reference { tx.new.conn.ghost_name ≡ tx.old.conn.ghost_name }
-    ensures goes { IsInside (state S.Store tx.old.conn.now) → Goes (IsMade (λ rows. record rows { stations = put (by_key station_key) (row.now) rows.stations })) (state S.Store tx.old.conn.now) (state S.Store tx.new.conn.now) result }
+    ensures makes { Makes S.Store (λ rows. record rows { stations = put (by_key station_key) (row.now) rows.stations }) tx.old tx.new result }
 {
     let op = row.op.as_str();
     let station = row.station.as_str();
@@ -149,8 +141,7 @@ pub(crate) fn see_boot<S: Alter>(
     boot: &Boot,
     answered: State,
 ) -> Result<(), StoreFault>
-    ensures same_reference { tx.new.conn.ghost_name ≡ tx.old.conn.ghost_name }
-    ensures goes { IsInside (state S.Store tx.old.conn.now) → Goes (IsMade (edit op.now (Stations (BootSeen station.now boot.now answered)))) (state S.Store tx.old.conn.now) (state S.Store tx.new.conn.now) result }
+    ensures makes { Makes S.Store (edit op.now (Stations (BootSeen station.now boot.now answered))) tx.old tx.new result }
 {
     match station_inside(tx, op, station)? {
         Some(row) => {
@@ -176,8 +167,7 @@ pub(crate) fn set_policy<S: Alter>(
     policy: Policy,
     interval: u32,
 ) -> Result<(), StoreFault>
-    ensures same_reference { tx.new.conn.ghost_name ≡ tx.old.conn.ghost_name }
-    ensures goes { IsInside (state S.Store tx.old.conn.now) → Goes (IsMade (edit op.now (Stations (PolicySet station.now policy interval)))) (state S.Store tx.old.conn.now) (state S.Store tx.new.conn.now) result }
+    ensures makes { Makes S.Store (edit op.now (Stations (PolicySet station.now policy interval))) tx.old tx.new result }
 {
     match station_inside(tx, op, station)? {
         Some(row) => put_station(

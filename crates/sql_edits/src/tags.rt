@@ -1,8 +1,6 @@
 //! Edits of id tags.
 ghost use Rattle.std.specs.Prelude.{◌≡◌, option_map};
-ghost use Rattle.sqlite.specs.Held.{state};
-ghost use Rattle.sql_rows.specs.Kept.{IsInside, IsMade, Goes};
-ghost use Rattle.sql_rows.specs.TypedTables.{tags};
+ghost use Rattle.sql_rows.specs.Kept.{Makes};
 ghost use Rattle.hub_rows.specs.Changes.{edit};
 ghost use Rattle.hub_rows.specs.declared.change.Edit.TheVariants.{Tags};
 ghost use Rattle.hub_rows.specs.declared.change.TagEdit.TheVariants.{TagPut, TagDropped};
@@ -22,8 +20,7 @@ fn put_row<S: Alter>(
     parent_key: Option<&str>,
 ) -> Result<(), StoreFault>
     requires { option_map (λ k. k.now) parent_key ≡ option_map key_of tag.now.parent }
-    ensures same_reference { tx.new.conn.ghost_name ≡ tx.old.conn.ghost_name }
-    ensures goes { IsInside (state S.Store tx.old.conn.now) → Goes (IsMade (edit op.now (Tags (TagPut key.now tag.now)))) (state S.Store tx.old.conn.now) (state S.Store tx.new.conn.now) result }
+    ensures makes { Makes S.Store (edit op.now (Tags (TagPut key.now tag.now))) tx.old tx.new result }
 {
     done(tx.execute(
         sql_tables::tags::PUT,
@@ -45,8 +42,7 @@ pub(crate) fn drop_tag<S: Alter>(
     op: &str,
     key: &str,
 ) -> Result<(), StoreFault>
-    ensures same_reference { tx.new.conn.ghost_name ≡ tx.old.conn.ghost_name }
-    ensures goes { IsInside (state S.Store tx.old.conn.now) → Goes (IsMade (edit op.now (Tags (TagDropped key.now)))) (state S.Store tx.old.conn.now) (state S.Store tx.new.conn.now) result }
+    ensures makes { Makes S.Store (edit op.now (Tags (TagDropped key.now))) tx.old tx.new result }
 {
     done(tx.execute(sql_tables::tags::DROP, params![op, key]))
 }
@@ -59,8 +55,7 @@ pub(crate) fn put_tag<S: Alter>(
     key: &str,
     tag: &Tag,
 ) -> Result<(), StoreFault>
-    ensures same_reference { tx.new.conn.ghost_name ≡ tx.old.conn.ghost_name }
-    ensures goes { IsInside (state S.Store tx.old.conn.now) → Goes (IsMade (edit op.now (Tags (TagPut key.now tag.now)))) (state S.Store tx.old.conn.now) (state S.Store tx.new.conn.now) result }
+    ensures makes { Makes S.Store (edit op.now (Tags (TagPut key.now tag.now))) tx.old tx.new result }
 {
     let parent_key = key_if_any(alloc, &tag.parent)?;
     put_row(tx, op, key, tag, lent_key(&parent_key))

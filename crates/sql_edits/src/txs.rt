@@ -1,11 +1,10 @@
 //! Edits of transactions.
-ghost use Rattle.std.specs.Prelude.{◌≡◌, ◌&&◌, IfOk, IsTrue, None};
+ghost use Rattle.std.specs.Prelude.{◌≡◌, ◌&&◌, None};
 ghost use Rattle.std.specs.Str.{bytes_eq};
-ghost use Rattle.sqlite.specs.Held.{state};
 ghost use Rattle.hub_rows.specs.Keyed.{found, by_key, changed, put};
 ghost use Rattle.hub_rows.specs.Transactions.{is_tx, is_accepted};
-ghost use Rattle.sql_rows.specs.Kept.{IsInside, IsMade, IsSame, Goes, ShowsInside};
-ghost use Rattle.sql_rows.specs.TypedTables.{txs, rows_of};
+ghost use Rattle.sql_rows.specs.Kept.{AsksInside, Makes, ShowsInside};
+ghost use Rattle.sql_rows.specs.TypedTables.{txs};
 ghost use Rattle.hub_rows.specs.Changes.{edit, tx_row, with_stop};
 ghost use Rattle.hub_rows.specs.declared.change.Edit.TheVariants.{Transactions};
 ghost use Rattle.hub_rows.specs.declared.change.TransactionEdit.TheVariants.{TxStarted};
@@ -34,8 +33,7 @@ fn put_started<S: Alter>(
     number: u32,
     start: &Start,
 ) -> Result<(), StoreFault>
-    ensures same_reference { tx.new.conn.ghost_name ≡ tx.old.conn.ghost_name }
-    ensures goes { IsInside (state S.Store tx.old.conn.now) → Goes (IsMade (λ rows. record rows { transactions = put (by_key tx_key) (tx_row op.now station.now number start.now) rows.transactions })) (state S.Store tx.old.conn.now) (state S.Store tx.new.conn.now) result }
+    ensures makes { Makes S.Store (λ rows. record rows { transactions = put (by_key tx_key) (tx_row op.now station.now number start.now) rows.transactions }) tx.old tx.new result }
 {
     let null: Option<i64> = None;
     done(tx.execute(
@@ -69,8 +67,7 @@ fn put_ended<S: Alter>(
     row: &TxRow,
     stop: &Stop,
 ) -> Result<(), StoreFault>
-    ensures same_reference { tx.new.conn.ghost_name ≡ tx.old.conn.ghost_name }
-    ensures goes { IsInside (state S.Store tx.old.conn.now) → Goes (IsMade (λ rows. record rows { transactions = put (by_key tx_key) (with_stop stop.now row.now) rows.transactions })) (state S.Store tx.old.conn.now) (state S.Store tx.new.conn.now) result }
+    ensures makes { Makes S.Store (λ rows. record rows { transactions = put (by_key tx_key) (with_stop stop.now row.now) rows.transactions }) tx.old tx.new result }
 {
     let start = &row.start;
     done(tx.execute(
@@ -104,8 +101,7 @@ fn find_inside<S: Alter>(
     station: &str,
     number: u32,
 ) -> Result<Vec<Row>, Error>
-    ensures same_reference { tx.new.conn.ghost_name ≡ tx.old.conn.ghost_name }
-    ensures shows { IsInside (state S.Store tx.old.conn.now) → ShowsInside (λ v. v.items) txs (λ r. bytes_eq r.op op.now && is_tx station.now number r) (state S.Store tx.old.conn.now) (state S.Store tx.new.conn.now) result }
+    ensures shows { ShowsInside S.Store (λ v. v.items) txs (λ r. bytes_eq r.op op.now && is_tx station.now number r) tx.old tx.new result }
 {
     tx.query_all(sql_tables::txs::FIND, params![op, station, number, number])
 }
@@ -117,9 +113,7 @@ fn tx_inside<S: Alter>(
     station: &str,
     number: u32,
 ) -> Result<Option<TxRow>, StoreFault>
-    ensures same_reference { tx.new.conn.ghost_name ≡ tx.old.conn.ghost_name }
-    ensures found { IsInside (state S.Store tx.old.conn.now) → IsTrue (state S.Store tx.new.conn.now).is_open → IfOk result (λ r. r ≡ found (λ r. r.op) op.now (is_tx station.now number) (rows_of (state S.Store tx.old.conn.now).now.trees).transactions) }
-    ensures goes { IsInside (state S.Store tx.old.conn.now) → Goes IsSame (state S.Store tx.old.conn.now) (state S.Store tx.new.conn.now) result }
+    ensures asks { AsksInside S.Store tx.old tx.new result (λ rows r. r ≡ found (λ r. r.op) op.now (is_tx station.now number) rows.transactions) }
 {
     first_row(find_inside(tx, op, station, number))
 }
@@ -132,8 +126,7 @@ pub(crate) fn start_tx<S: Alter>(
     number: u32,
     start: &Start,
 ) -> Result<(), StoreFault>
-    ensures same_reference { tx.new.conn.ghost_name ≡ tx.old.conn.ghost_name }
-    ensures goes { IsInside (state S.Store tx.old.conn.now) → Goes (IsMade (edit op.now (Transactions (TxStarted station.now number start.now None)))) (state S.Store tx.old.conn.now) (state S.Store tx.new.conn.now) result }
+    ensures makes { Makes S.Store (edit op.now (Transactions (TxStarted station.now number start.now None))) tx.old tx.new result }
 {
     put_started(tx, op, station, number, start)?;
     drop_named(tx, op, station, start.reservation)
@@ -147,8 +140,7 @@ pub(crate) fn stop_tx<S: Alter>(
     number: u32,
     stop: &Stop,
 ) -> Result<(), StoreFault>
-    ensures same_reference { tx.new.conn.ghost_name ≡ tx.old.conn.ghost_name }
-    ensures goes { IsInside (state S.Store tx.old.conn.now) → Goes (IsMade (λ rows. record rows { transactions = changed (λ r. r.op) op.now (is_tx station.now number) (with_stop stop.now) rows.transactions; uses = with_use (settled_use op.now station.now number stop.now rows) rows.uses })) (state S.Store tx.old.conn.now) (state S.Store tx.new.conn.now) result }
+    ensures makes { Makes S.Store (λ rows. record rows { transactions = changed (λ r. r.op) op.now (is_tx station.now number) (with_stop stop.now) rows.transactions; uses = with_use (settled_use op.now station.now number stop.now rows) rows.uses }) tx.old tx.new result }
 {
     match tx_inside(tx, op, station, number)? {
         Some(row) => {

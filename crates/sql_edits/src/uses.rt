@@ -1,12 +1,11 @@
 //! Edits of settled uses, and of the owners of the id tags with which transactions began.
-ghost use Rattle.std.specs.Prelude.{◌≡◌, ◌&&◌, true, IfOk, IsTrue, Some};
+ghost use Rattle.std.specs.Prelude.{◌≡◌, ◌&&◌, true, Some};
 ghost use Rattle.std.specs.Str.{bytes_eq};
-ghost use Rattle.sqlite.specs.Held.{state};
 ghost use Rattle.hub_rows.specs.Keyed.{by_key, found, put};
 ghost use Rattle.hub_rows.specs.Rows.{tx_owner_key, use_key};
 ghost use Rattle.hub_rows.specs.Uses.{energy_of, is_owner_of, last_use_in, next_use, owner_in, use_by, use_row, with_owner, with_use};
-ghost use Rattle.sql_rows.specs.Kept.{ShowsInside, ShowsLastInside, IsInside, IsMade, IsSame, Goes};
-ghost use Rattle.sql_rows.specs.TypedTables.{tx_owners, uses, rows_of};
+ghost use Rattle.sql_rows.specs.Kept.{AsksInside, Makes, ShowsInside, ShowsLastInside};
+ghost use Rattle.sql_rows.specs.TypedTables.{tx_owners, uses};
 
 use crate::binds::{done, seconds};
 use hub_rows::{LAST_NUMBER, Stop, StoreFault, TxOwnerRow, TxRow};
@@ -22,8 +21,7 @@ fn add_owner<S: Alter>(
     number: u32,
     owner: &str,
 ) -> Result<(), StoreFault>
-    ensures same_reference { tx.new.conn.ghost_name ≡ tx.old.conn.ghost_name }
-    ensures goes { IsInside (state S.Store tx.old.conn.now) → Goes (IsMade (λ rows. record rows { tx_owners = put (by_key tx_owner_key) (record { op = op.now; station = station.now; number = number; owner = owner.now }) rows.tx_owners })) (state S.Store tx.old.conn.now) (state S.Store tx.new.conn.now) result }
+    ensures makes { Makes S.Store (λ rows. record rows { tx_owners = put (by_key tx_owner_key) (record { op = op.now; station = station.now; number = number; owner = owner.now }) rows.tx_owners }) tx.old tx.new result }
 {
     done(tx.execute(
         sql_tables::tx_owners::ADD,
@@ -39,8 +37,7 @@ pub(crate) fn put_owner<S: Alter>(
     number: u32,
     owner: &Option<Text>,
 ) -> Result<(), StoreFault>
-    ensures same_reference { tx.new.conn.ghost_name ≡ tx.old.conn.ghost_name }
-    ensures goes { IsInside (state S.Store tx.old.conn.now) → Goes (IsMade (λ rows. record rows { tx_owners = with_owner op.now station.now number owner.now rows.tx_owners })) (state S.Store tx.old.conn.now) (state S.Store tx.new.conn.now) result }
+    ensures makes { Makes S.Store (λ rows. record rows { tx_owners = with_owner op.now station.now number owner.now rows.tx_owners }) tx.old tx.new result }
 {
     match owner {
         Some(owner) => add_owner(tx, op, station, number, owner.as_str()),
@@ -54,8 +51,7 @@ fn find_owner<S: Alter>(
     station: &str,
     number: u32,
 ) -> Result<Vec<Row>, Error>
-    ensures same_reference { tx.new.conn.ghost_name ≡ tx.old.conn.ghost_name }
-    ensures shows { IsInside (state S.Store tx.old.conn.now) → ShowsInside (λ v. v.items) tx_owners (λ r. bytes_eq r.op op.now && is_owner_of station.now number r) (state S.Store tx.old.conn.now) (state S.Store tx.new.conn.now) result }
+    ensures shows { ShowsInside S.Store (λ v. v.items) tx_owners (λ r. bytes_eq r.op op.now && is_owner_of station.now number r) tx.old tx.new result }
 {
     tx.query_all(sql_tables::tx_owners::FIND, params![op, station, number])
 }
@@ -67,25 +63,20 @@ fn owner_row<S: Alter>(
     station: &str,
     number: u32,
 ) -> Result<Option<TxOwnerRow>, StoreFault>
-    ensures same_reference { tx.new.conn.ghost_name ≡ tx.old.conn.ghost_name }
-    ensures found { IsInside (state S.Store tx.old.conn.now) → IsTrue (state S.Store tx.new.conn.now).is_open → IfOk result (λ r. r ≡ found (λ r. r.op) op.now (is_owner_of station.now number) (rows_of (state S.Store tx.old.conn.now).now.trees).tx_owners) }
-    ensures goes { IsInside (state S.Store tx.old.conn.now) → Goes IsSame (state S.Store tx.old.conn.now) (state S.Store tx.new.conn.now) result }
+    ensures asks { AsksInside S.Store tx.old tx.new result (λ rows r. r ≡ found (λ r. r.op) op.now (is_owner_of station.now number) rows.tx_owners) }
 {
     first_row(find_owner(tx, op, station, number))
 }
 
 fn find_last<S: Alter>(tx: &mut Transaction<'_, S>, owner: &str) -> Result<Vec<Row>, Error>
-    ensures same_reference { tx.new.conn.ghost_name ≡ tx.old.conn.ghost_name }
-    ensures shows { IsInside (state S.Store tx.old.conn.now) → ShowsLastInside (λ v. v.items) uses (λ r. r.number) (λ r. bytes_eq r.op owner.now && true) (state S.Store tx.old.conn.now) (state S.Store tx.new.conn.now) result }
+    ensures shows { ShowsLastInside S.Store (λ v. v.items) uses (λ r. r.number) (λ r. bytes_eq r.op owner.now && true) tx.old tx.new result }
 {
     tx.query_all(sql_tables::uses::FIND_LAST, params![owner])
 }
 
 /// The last number of an owner's uses, 0 where there is none.
 fn last_number<S: Alter>(tx: &mut Transaction<'_, S>, owner: &str) -> Result<u32, StoreFault>
-    ensures same_reference { tx.new.conn.ghost_name ≡ tx.old.conn.ghost_name }
-    ensures found { IsInside (state S.Store tx.old.conn.now) → IsTrue (state S.Store tx.new.conn.now).is_open → IfOk result (λ n. n ≡ last_use_in owner.now (rows_of (state S.Store tx.old.conn.now).now.trees).uses) }
-    ensures goes { IsInside (state S.Store tx.old.conn.now) → Goes IsSame (state S.Store tx.old.conn.now) (state S.Store tx.new.conn.now) result }
+    ensures asks { AsksInside S.Store tx.old tx.new result (λ rows n. n ≡ last_use_in owner.now rows.uses) }
 {
     only_number(find_last(tx, owner), 1)
 }
@@ -105,8 +96,7 @@ fn add_use<S: Alter>(
     row: &TxRow,
     stop: &Stop,
 ) -> Result<(), StoreFault>
-    ensures same_reference { tx.new.conn.ghost_name ≡ tx.old.conn.ghost_name }
-    ensures goes { IsInside (state S.Store tx.old.conn.now) → Goes (IsMade (λ rows. record rows { uses = put (by_key use_key) (use_row owner.now number row.now.op row.now stop.now) rows.uses })) (state S.Store tx.old.conn.now) (state S.Store tx.new.conn.now) result }
+    ensures makes { Makes S.Store (λ rows. record rows { uses = put (by_key use_key) (use_row owner.now number row.now.op row.now stop.now) rows.uses }) tx.old tx.new result }
 {
     done(tx.execute(
         sql_tables::uses::ADD,
@@ -128,8 +118,7 @@ fn add_next<S: Alter>(
     row: &TxRow,
     stop: &Stop,
 ) -> Result<(), StoreFault>
-    ensures same_reference { tx.new.conn.ghost_name ≡ tx.old.conn.ghost_name }
-    ensures goes { IsInside (state S.Store tx.old.conn.now) → Goes (IsMade (λ rows. record rows { uses = with_use (next_use owner.now (last_use_in owner.now rows.uses) row.now.op row.now stop.now) rows.uses })) (state S.Store tx.old.conn.now) (state S.Store tx.new.conn.now) result }
+    ensures makes { Makes S.Store (λ rows. record rows { uses = with_use (next_use owner.now (last_use_in owner.now rows.uses) row.now.op row.now stop.now) rows.uses }) tx.old tx.new result }
 {
     let last = last_number(tx, owner)?;
     if last >= LAST_NUMBER {
@@ -144,8 +133,7 @@ pub(crate) fn settle<S: Alter>(
     row: &TxRow,
     stop: &Stop,
 ) -> Result<(), StoreFault>
-    ensures same_reference { tx.new.conn.ghost_name ≡ tx.old.conn.ghost_name }
-    ensures goes { IsInside (state S.Store tx.old.conn.now) → Goes (IsMade (λ rows. record rows { uses = with_use (use_by row.now.op stop.now rows.uses (owner_in row.now.op row.now.station row.now.number rows.tx_owners) (Some row.now)) rows.uses })) (state S.Store tx.old.conn.now) (state S.Store tx.new.conn.now) result }
+    ensures makes { Makes S.Store (λ rows. record rows { uses = with_use (use_by row.now.op stop.now rows.uses (owner_in row.now.op row.now.station row.now.number rows.tx_owners) (Some row.now)) rows.uses }) tx.old tx.new result }
 {
     let op = row.op.as_str();
     let station = row.station.as_str();

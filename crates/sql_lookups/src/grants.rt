@@ -8,6 +8,7 @@ ghost use Rattle.sql_rows.specs.Kept.{IsServing, Shows};
 ghost use Rattle.sql_lookups.specs.Asks.{Asks};
 ghost use Rattle.sql_rows.specs.TypedTables.{grants};
 
+use crate::bounds::ABOVE_ALL;
 use hub_rows::{GrantRow, StoreFault};
 use ocpp_types::Listed;
 use sql_rows::{first_row, is_found, listed};
@@ -39,8 +40,10 @@ fn find_received<S: Alter>(conn: &mut Connection<S>, to: &str, key: &str) -> Res
 pub fn list_received<S: Alter>(conn: &mut Connection<S>, to: &str) -> Result<Vec<Row>, Error>
     ensures shows { IsServing (state S.Store conn.old) → Shows (λ v. v.items) grants (λ r. bytes_eq r.to to.now) (state S.Store conn.old) (state S.Store conn.new) result }
 {
-    let above: &[u8] = &[];
-    conn.query_all(sql_tables::grants::FIND_RECEIVED, params![to, "", above])
+    conn.query_all(
+        sql_tables::grants::FIND_RECEIVED,
+        params![to, "", ABOVE_ALL],
+    )
 }
 
 /// The grant of a tag to an operator.

@@ -1,6 +1,7 @@
 //! The look-ups of a store in SQLite, on a connection that serves.
 #![tactic(auto)]
 
+mod bounds;
 pub mod connectors;
 pub mod granted;
 pub mod grants;

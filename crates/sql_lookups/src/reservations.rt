@@ -8,6 +8,7 @@ ghost use Rattle.sql_rows.specs.Kept.{IsServing, Shows};
 ghost use Rattle.sql_lookups.specs.Asks.{Asks};
 ghost use Rattle.sql_rows.specs.TypedTables.{reservations};
 
+use crate::bounds::ABOVE_ALL;
 use hub_rows::{ReservationId, ReservationRow, StoreFault};
 use ocpp_types::{Listed, Moment};
 use sql_rows::{first_row, listed};
@@ -34,10 +35,9 @@ fn find_one<S: Alter>(
 fn find_all<S: Alter>(conn: &mut Connection<S>, op: &str, station: &str) -> Result<Vec<Row>, Error>
     ensures shows { IsServing (state S.Store conn.old) → Shows (λ v. v.items) reservations (λ r. bytes_eq r.op op.now && bytes_eq r.station station.now) (state S.Store conn.old) (state S.Store conn.new) result }
 {
-    let above: &[u8] = &[];
     conn.query_all(
         sql_tables::reservations::FIND,
-        params![op, station, LEAST, above],
+        params![op, station, LEAST, ABOVE_ALL],
     )
 }
 

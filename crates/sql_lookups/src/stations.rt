@@ -8,6 +8,7 @@ ghost use Rattle.sql_rows.specs.Kept.{IsServing, Shows};
 ghost use Rattle.sql_lookups.specs.Asks.{Asks};
 ghost use Rattle.sql_rows.specs.TypedTables.{stations};
 
+use crate::bounds::ABOVE_ALL;
 use hub_rows::{Registration, StationRow, StoreFault};
 use ocpp_types::Listed;
 use sql_rows::{first_row, listed};
@@ -22,8 +23,7 @@ fn find_one<S: Alter>(conn: &mut Connection<S>, op: &str, station: &str) -> Resu
 fn find_all<S: Alter>(conn: &mut Connection<S>, op: &str) -> Result<Vec<Row>, Error>
     ensures shows { IsServing (state S.Store conn.old) → Shows (λ v. v.items) stations (λ r. bytes_eq r.op op.now && true) (state S.Store conn.old) (state S.Store conn.new) result }
 {
-    let above: &[u8] = &[];
-    conn.query_all(sql_tables::stations::FIND, params![op, "", above])
+    conn.query_all(sql_tables::stations::FIND, params![op, "", ABOVE_ALL])
 }
 
 /// A station of an operator.

@@ -9,6 +9,7 @@ ghost use Rattle.sql_rows.specs.Kept.{IsServing, Shows, ShowsLast};
 ghost use Rattle.sql_lookups.specs.Asks.{Asks};
 ghost use Rattle.sql_rows.specs.TypedTables.{txs};
 
+use crate::bounds::ABOVE_ALL;
 use hub_rows::{StartKey, StoreFault, TxKey, TxRow, TxState};
 use ocpp_types::Listed;
 use sql_rows::{first_row, is_found, listed, only_number};
@@ -33,8 +34,10 @@ fn find_from<S: Alter>(
 ) -> Result<Vec<Row>, Error>
     ensures shows { IsServing (state S.Store conn.old) → Shows (λ v. v.items) txs (λ r. bytes_eq r.op op.now && (bytes_eq r.station station.now && nat_le first r.number)) (state S.Store conn.old) (state S.Store conn.new) result }
 {
-    let above: &[u8] = &[];
-    conn.query_all(sql_tables::txs::FIND, params![op, station, first, above])
+    conn.query_all(
+        sql_tables::txs::FIND,
+        params![op, station, first, ABOVE_ALL],
+    )
 }
 
 fn find_last<S: Alter>(conn: &mut Connection<S>, op: &str, station: &str) -> Result<Vec<Row>, Error>

@@ -2,7 +2,6 @@
 ghost use Rattle.std.specs.Prelude.{◌≡◌, ◌&&◌, true};
 ghost use Rattle.std.specs.Str.{bytes_eq};
 ghost use Rattle.sqlite.specs.Held.{state};
-ghost use Rattle.hub_rows.specs.Keyed.{found};
 ghost use Rattle.hub_rows.specs.Uses.{uses_in};
 ghost use Rattle.sql_rows.specs.Kept.{IsServing, Shows};
 ghost use Rattle.sql_lookups.specs.Asks.{Asks};

@@ -1,5 +1,5 @@
 -- The tables and indexes that CREATE makes, and the indexes that DROP takes.
-use Rattle.std.proofs.Common.{◌≡◌, ◌⊎◌, ℕ, List, [], ◌∷◌, ◌++◌, true, false, Some, None, slice_get, Ok, Err, Result, IsTrue, OnOk, sym, ap, ◌∙◌, subst, inl, inr}
+use Rattle.std.proofs.Common.{◌≡◌, ◌⊎◌, ℕ, List, [], ◌∷◌, ◌++◌, true, false, Some, None, slice_get, Ok, Err, Result, IsTrue, OnOk, refl, sym, ap, ◌∙◌, subst, inl, inr}
 use Rattle.std.proofs.lemmas.Bool.{cases_Bool}
 use Rattle.std.specs.List.{AllByRecursion}
 use Rattle.sqlite_value.specs.Order.{Row}
@@ -13,16 +13,19 @@ use Rattle.sqlite_catalog.specs.Calls.{RefusesToDropIndex}
 use Rattle.sqlite.specs.declared.error.Error.{Error}
 use Rattle.sqlite.specs.declared.error.Error.TheVariants.{SqliteFailure}
 use Rattle.sqlite.specs.declared.error.ErrorCode.TheVariants.{TransactionState}
+use Rattle.sqlite.specs.declared.transaction.Transaction.{Transaction}
 use Rattle.sqlite.specs.Effect.{Database, RefusesToAlter}
 use Rattle.sqlite.specs.Does.{Tally, AtPlace, MakesIndex, Leaves as IsLeft, no_rows as no_tally}
+use Rattle.sqlite.specs.Held.{state}
 use Rattle.sqlite.specs.Rows.{Then, Gives}
 use Rattle.sqlite.specs.State.{State, HasCleanDisk, Survives, ExecutesInside, Writes}
+use Rattle.sqlite.specs.Store.{Ghosts}
 use Rattle.sqlite.proofs.Callers.{runs_as}
 use Rattle.sql_tables.specs.Opening.{IsCreate, IsIndexCreate, IsIndexDrop}
 use Rattle.sql_rows.specs.Kept.{Leaves}
-use Rattle.sql_rows.specs.Opening.{WithinAs, IsInsideAs}
+use Rattle.sql_rows.specs.Opening.{WithinAs, IsInsideAs, IsPart, Alters}
 use Rattle.sql_rows.proofs.PutLemmas.{went, same_value}
-use Rattle.sql_rows.proofs.TxLemmas.{leaves_self}
+use Rattle.sql_rows.proofs.TxLemmas.{leaves_self, leaves_then}
 
 pub more_tables : (P : Table → Type 0) (ts : List Table) (t : Table) → AllByRecursion P ts → P t → AllByRecursion P (ts ++ t ∷ [])
 more_tables P [] t all last = (last, tt)
@@ -145,26 +148,56 @@ module _ {H : Type 0} (state : H → State) (a b : H) (sql : List ℕ) (r : Resu
   here : RanHere r
   here = ran_or state a b sql [] r ran ended survives clean
 
-  pub made_table : OnOk r ((rows : Trees) (from : Schema) (table : Table) → IsCreate sql from table → rows (next_tree from) ≡ [] → IsInsideAs rows from (state a) → IsInsideAs rows (created from table) (state b))
-  made_table = go r here
+  table_made : (rows : Trees) (from : Schema) (table : Table) → IsCreate sql from table → rows (next_tree from) ≡ [] → IsInsideAs rows from (state a) → OnOk r (IsInsideAs rows (created from table) (state b))
+  table_made rows from table is none inside = go r here
     where
-      go : (r : Result ℕ Error) → RanHere r → OnOk r ((rows : Trees) (from : Schema) (table : Table) → IsCreate sql from table → rows (next_tree from) ≡ [] → IsInsideAs rows from (state a) → IsInsideAs rows (created from table) (state b))
-      go (Ok n) (inl ran) = λ rows from table is none inside up. creates rows sql from table is none (state a) (state b) n (ran (clean up)) survives.limit inside
+      go : (r : Result ℕ Error) → RanHere r → OnOk r (IsInsideAs rows (created from table) (state b))
+      go (Ok n) (inl ran) = λ up. creates rows sql from table is none (state a) (state b) n (ran (clean up)) survives.limit inside
       go (Ok n) (inr e) = absurd (let f = e.0 in cc)
       go (Err x) h = tt
 
-  pub made_index : OnOk r ((rows : Trees) (from : Schema) (at : ℕ) (table : Table) (index : Index) → IsIndexCreate sql from at table index → IsInsideAs rows from (state a) → IsInsideAs rows (indexed from table index) (state b))
-  made_index = go r here
+  index_made : (rows : Trees) (from : Schema) (at : ℕ) (table : Table) (index : Index) → IsIndexCreate sql from at table index → IsInsideAs rows from (state a) → OnOk r (IsInsideAs rows (indexed from table index) (state b))
+  index_made rows from at table index is inside = go r here
     where
-      go : (r : Result ℕ Error) → RanHere r → OnOk r ((rows : Trees) (from : Schema) (at : ℕ) (table : Table) (index : Index) → IsIndexCreate sql from at table index → IsInsideAs rows from (state a) → IsInsideAs rows (indexed from table index) (state b))
-      go (Ok n) (inl ran) = λ rows from at table index is inside up. creates_index rows sql from at table index is (state a) (state b) n (ran (clean up)) survives.limit inside
+      go : (r : Result ℕ Error) → RanHere r → OnOk r (IsInsideAs rows (indexed from table index) (state b))
+      go (Ok n) (inl ran) = λ up. creates_index rows sql from at table index is (state a) (state b) n (ran (clean up)) survives.limit inside
       go (Ok n) (inr e) = absurd (let f = e.0 in cc)
       go (Err x) h = tt
 
-  pub dropped_index : OnOk r ((rows : Trees) (from : Schema) (index : Index) → IsIndexDrop sql from index → IsInsideAs rows from (state a) → IsInsideAs rows (without_index from index.tree) (state b))
-  dropped_index = go r here
+  index_dropped : (rows : Trees) (from : Schema) (index : Index) → IsIndexDrop sql from index → IsInsideAs rows from (state a) → OnOk r (IsInsideAs rows (without_index from index.tree) (state b))
+  index_dropped rows from index is inside = go r here
     where
-      go : (r : Result ℕ Error) → RanHere r → OnOk r ((rows : Trees) (from : Schema) (index : Index) → IsIndexDrop sql from index → IsInsideAs rows from (state a) → IsInsideAs rows (without_index from index.tree) (state b))
-      go (Ok n) (inl ran) = λ rows from index is inside up. drops_index rows sql from index is (state a) (state b) n (ran (clean up)) survives.limit inside
+      go : (r : Result ℕ Error) → RanHere r → OnOk r (IsInsideAs rows (without_index from index.tree) (state b))
+      go (Ok n) (inl ran) = λ up. drops_index rows sql from index is (state a) (state b) n (ran (clean up)) survives.limit inside
       go (Ok n) (inr e) = absurd (let f = e.0 in cc)
       go (Err x) h = tt
+
+-- ---- what a part says of itself
+
+module _ {S : Type 0} {g : Ghosts S} where
+  -- nothing was done
+  pub part_self : {tx : Transaction S} → IsPart g tx tx
+  part_self {tx} = record { same_reference = refl; leaves = leaves_self (state g tx.conn.now) }
+
+  -- one part after the other
+  pub part_then : {a b c : Transaction S} → IsPart g a b → IsPart g b c → IsPart g a c
+  part_then {a} {b} {c} p q = record { same_reference = q.same_reference ∙ p.same_reference; leaves = leaves_then (state g a.conn.now) (state g b.conn.now) (state g c.conn.now) p.leaves q.leaves }
+
+  pub part_ran : {old new : Transaction S} (sql : List ℕ) (params : Row) {r : Result ℕ Error} → new.conn.ghost_name ≡ old.conn.ghost_name
+      → (HasCleanDisk (state g new.conn.now) → IsTrue (state g old.conn.now).in_transaction → ExecutesInside 0 sql params (state g old.conn.now) (state g new.conn.now) r)
+      → ((state g old.conn.now).in_transaction ≡ false → (r ≡ Err (SqliteFailure TransactionState)) × (new.conn.now ≡ old.conn.now)) → Survives (state g old.conn.now) (state g new.conn.now) (λ _. ⊥) → (IsTrue (state g new.conn.now).is_open → HasCleanDisk (state g new.conn.now))
+      → IsPart g old new
+  part_ran {old} {new} sql params {r} same ran ended survives clean = record { same_reference = same; leaves = made_leaves (state g) old.conn.now new.conn.now sql params r ran ended survives clean }
+
+  -- a text was run
+  pub alters : {old new : Transaction S} {sql : List ℕ} {r : Result ℕ Error} → new.conn.ghost_name ≡ old.conn.ghost_name
+      → (HasCleanDisk (state g new.conn.now) → IsTrue (state g old.conn.now).in_transaction → ExecutesInside 0 sql [] (state g old.conn.now) (state g new.conn.now) r)
+      → ((state g old.conn.now).in_transaction ≡ false → (r ≡ Err (SqliteFailure TransactionState)) × (new.conn.now ≡ old.conn.now)) → Survives (state g old.conn.now) (state g new.conn.now) (λ _. ⊥) → (IsTrue (state g new.conn.now).is_open → HasCleanDisk (state g new.conn.now))
+      → Alters g (λ P. P) sql old new r
+  alters {old} {new} {sql} {r} same ran ended survives clean = record {
+    part = part_ran sql [] same ran ended survives clean;
+    table = table_made (state g) old.conn.now new.conn.now sql r ran ended survives clean;
+    index = index_made (state g) old.conn.now new.conn.now sql r ran ended survives clean;
+    dropped = index_dropped (state g) old.conn.now new.conn.now sql r ran ended survives clean;
+    up = made_up (state g) old.conn.now new.conn.now sql [] r ran ended survives clean;
+  }

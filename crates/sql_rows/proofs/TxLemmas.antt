@@ -8,6 +8,7 @@ use Rattle.sqlite_schema.specs.Rules.{Obeys}
 use Rattle.sqlite.specs.declared.error.Error.{Error}
 use Rattle.sqlite.specs.declared.error.Error.TheVariants.{SqliteFailure}
 use Rattle.sqlite.specs.declared.error.ErrorCode.TheVariants.{TransactionState}
+use Rattle.sqlite.specs.declared.transaction.Transaction.{Transaction}
 use Rattle.sqlite.specs.Effect.{Database, IsDatabase}
 use Rattle.sqlite.specs.State.{State, HasCleanDisk, Survives, ExecutesInside, IsRolledBack, Shows, KeepsCounts}
 use Rattle.sqlite.proofs.Callers.{runs_as}
@@ -18,7 +19,7 @@ use Rattle.sqlite.specs.Store.{Ghosts}
 use Rattle.sql_tables.specs.Tables.{hub_schema}
 use Rattle.sql_rows.specs.TypedTables.{hub_good}
 use Rattle.sql_rows.specs.TypedTable.{AreTyped}
-use Rattle.sql_rows.specs.Kept.{IsServing, IsAsBefore, Made, Changes, Within, IsInside, Leaves, Inside, Goes}
+use Rattle.sql_rows.specs.Kept.{IsServing, IsAsBefore, Made, Changes, Within, IsInside, Leaves, Inside, Goes, MakesIn}
 use Rattle.sql_rows.proofs.StoreLemmas.{Means, serves_as, written_runs}
 
 pub leaves_then : (a b c : State) → Leaves a b → Leaves b c → Leaves a c
@@ -97,6 +98,16 @@ goes_as Edit a b (Ok x) (Ok y) ok err g = record { ok = g.ok; err = tt }
 goes_as Edit a b (Err x) (Err y) ok err g = record { ok = tt; err = g.err }
 goes_as Edit a b (Ok x) (Err y) ok err g = absurd cc
 goes_as Edit a b (Err x) (Ok y) ok err g = absurd cc
+
+-- a statement of a transaction, whose answer is told as another type
+pub makes_step : {sql : List ℕ} {params : Row} {Edit : Trees → Trees → Type 0} → Means sql params Edit → {S B F : Type 0} {g : Ghosts S} {old new : Transaction S} {values : Row} {r : Result ℕ Error} {q : Result B F} → new.conn.ghost_name ≡ old.conn.ghost_name
+    → (HasCleanDisk (state g new.conn.now) → IsTrue (state g old.conn.now).in_transaction → ExecutesInside 0 sql values (state g old.conn.now) (state g new.conn.now) r)
+    → ((state g old.conn.now).in_transaction ≡ false → (r ≡ Err (SqliteFailure TransactionState)) × (new.conn.now ≡ old.conn.now)) → Survives (state g old.conn.now) (state g new.conn.now) (λ _. ⊥) → values ≡ params → (IsTrue (state g new.conn.now).is_open → HasCleanDisk (state g new.conn.now))
+    → OnOk q (IsOk r) → OnErr q (IsErr r) → MakesIn g Edit old new q
+makes_step {sql} {params} {Edit} means {S} {B} {F} {g} {old} {new} {values} {r} {q} same ran ended survives given clean ok err = record {
+  same_reference = same;
+  goes = λ inside. goes_as Edit (state g old.conn.now) (state g new.conn.now) r q ok err (step means (state g) old.conn.now new.conn.now values r ran ended survives given clean inside);
+}
 
 -- what follows of a part
 pub inside_as : (F G : Trees → Trees → Type 0) (a b : State) → (F a.now.trees b.now.trees → G a.now.trees b.now.trees) → Inside F a b → Inside G a b

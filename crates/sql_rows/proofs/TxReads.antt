@@ -9,10 +9,13 @@ use Rattle.sqlite_schema.specs.declared.command.Returning.{Returning}
 use Rattle.sqlite_schema.specs.declared.command.Command.TheVariants.{Select}
 use Rattle.sqlite_schema.specs.Rules.{Obeys}
 use Rattle.sqlite.specs.declared.error.Error.{Error}
+use Rattle.sqlite.specs.declared.transaction.Transaction.{Transaction}
 use Rattle.sqlite.specs.Clock.{timed}
 use Rattle.sqlite.specs.Effect.{Database, IsDatabase}
+use Rattle.sqlite.specs.Held.{state}
 use Rattle.sqlite.specs.Listing.{understood}
 use Rattle.sqlite.specs.State.{State, HasCleanDisk, Survives, Shown, ShowsRows, FailsToQuery, FailsToShow, IsNotRun, IsTooLate, IsUnchanged}
+use Rattle.sqlite.specs.Store.{Ghosts}
 use Rattle.sqlite.proofs.Callers.{IsPlain, reads_as}
 use Rattle.hub_rows.specs.Keyed.{put_all, greatest}
 use Rattle.sql_tables.specs.Tables.{hub_schema}
@@ -110,21 +113,23 @@ module _ (sql : List ℕ) (body : Query) (names : List (List ℕ)) (text : IsRea
       record { ok = tt; err = record { was_open = λ up. (nothing up).0; committed = λ up. (nothing up).1; survives = survives } }
 
 pub shows_inside : {T : Type 0} {sql : List ℕ} {params : Row} {s : TypedTable T} {p : T → Bool} → ReadsRows sql params s p
-    → {V : Type 0} (items : V → List Row) (old new : State) (values : Row) (r : Result V Error) → (HasCleanDisk new → IfOk r (λ v. Shown sql values old new (items v)))
-    → (HasCleanDisk new → IfErr r (λ e. FailsToQuery sql values old new e ⊎ IsTooLate sql values old new e)) → Survives old new (λ _. ⊥) → values ≡ params → (IsTrue new.is_open → HasCleanDisk new) → IsInside old
-    → ShowsInside items s p old new r
-shows_inside {T} {sql} {params} {s} {p} f items old new values r ok err survives given clean h = record {
-  ok = answers sql (plain_query (inner s.table.tree end) f.wanted f.project f.order) f.names f.text params items old new values survives given clean h (λ db rows. put_all (cmp s) (map s.read rows) [] ≡ filter p (rows_in s db))
+    → {V S : Type 0} {g : Ghosts S} {items : V → List Row} {old new : Transaction S} {values : Row} {r : Result V Error} → new.conn.ghost_name ≡ old.conn.ghost_name → (HasCleanDisk (state g new.conn.now) → IfOk r (λ v. Shown sql values (state g old.conn.now) (state g new.conn.now) (items v)))
+    → (HasCleanDisk (state g new.conn.now) → IfErr r (λ e. FailsToQuery sql values (state g old.conn.now) (state g new.conn.now) e ⊎ IsTooLate sql values (state g old.conn.now) (state g new.conn.now) e)) → Survives (state g old.conn.now) (state g new.conn.now) (λ _. ⊥) → values ≡ params
+    → (IsTrue (state g new.conn.now).is_open → HasCleanDisk (state g new.conn.now)) → ShowsInside g items s p old new r
+shows_inside {T} {sql} {params} {s} {p} f {V} {S} {g} {items} {old} {new} {values} {r} same ok err survives given clean = record {
+  same_reference = same;
+  ok = λ h. answers sql (plain_query (inner s.table.tree end) f.wanted f.project f.order) f.names f.text params items (state g old.conn.now) (state g new.conn.now) values survives given clean h (λ db rows. put_all (cmp s) (map s.read rows) [] ≡ filter p (rows_in s db))
       (λ db kept obeys rows answer. lists_those hub_schema hub_good f.at s f.is f.wanted params p f.test db kept f.project f.whole f.order obeys rows answer) r ok;
-  goes = goes_still sql (plain_query (inner s.table.tree end) f.wanted f.project f.order) f.names f.text params items old new values survives given clean h r ok err;
+  goes = λ h. goes_still sql (plain_query (inner s.table.tree end) f.wanted f.project f.order) f.names f.text params items (state g old.conn.now) (state g new.conn.now) values survives given clean h r ok err;
 }
 
 pub shows_last_inside : {T : Type 0} {sql : List ℕ} {params : Row} {s : TypedTable T} {number : T → ℕ} {p : T → Bool} → ReadsLast sql params s number p
-    → {V : Type 0} (items : V → List Row) (old new : State) (values : Row) (r : Result V Error) → (HasCleanDisk new → IfOk r (λ v. Shown sql values old new (items v)))
-    → (HasCleanDisk new → IfErr r (λ e. FailsToQuery sql values old new e ⊎ IsTooLate sql values old new e)) → Survives old new (λ _. ⊥) → values ≡ params → (IsTrue new.is_open → HasCleanDisk new) → IsInside old
-    → ShowsLastInside items s number p old new r
-shows_last_inside {T} {sql} {params} {s} {number} {p} f items old new values r ok err survives given clean h = record {
-  ok = answers sql (last_query s.table.tree f.wanted f.project f.place) f.names f.text params items old new values survives given clean h (λ db rows. greatest (map number (map s.read rows)) ≡ greatest (map number (filter p (rows_in s db))))
+    → {V S : Type 0} {g : Ghosts S} {items : V → List Row} {old new : Transaction S} {values : Row} {r : Result V Error} → new.conn.ghost_name ≡ old.conn.ghost_name → (HasCleanDisk (state g new.conn.now) → IfOk r (λ v. Shown sql values (state g old.conn.now) (state g new.conn.now) (items v)))
+    → (HasCleanDisk (state g new.conn.now) → IfErr r (λ e. FailsToQuery sql values (state g old.conn.now) (state g new.conn.now) e ⊎ IsTooLate sql values (state g old.conn.now) (state g new.conn.now) e)) → Survives (state g old.conn.now) (state g new.conn.now) (λ _. ⊥) → values ≡ params
+    → (IsTrue (state g new.conn.now).is_open → HasCleanDisk (state g new.conn.now)) → ShowsLastInside g items s number p old new r
+shows_last_inside {T} {sql} {params} {s} {number} {p} f {V} {S} {g} {items} {old} {new} {values} {r} same ok err survives given clean = record {
+  same_reference = same;
+  ok = λ h. answers sql (last_query s.table.tree f.wanted f.project f.place) f.names f.text params items (state g old.conn.now) (state g new.conn.now) values survives given clean h (λ db rows. greatest (map number (map s.read rows)) ≡ greatest (map number (filter p (rows_in s db))))
       (λ db kept obeys rows answer. last_is f.at s f.is f.wanted f.project f.whole params p f.test f.place number f.numbered db kept obeys rows answer) r ok;
-  goes = goes_still sql (last_query s.table.tree f.wanted f.project f.place) f.names f.text params items old new values survives given clean h r ok err;
+  goes = λ h. goes_still sql (last_query s.table.tree f.wanted f.project f.place) f.names f.text params items (state g old.conn.now) (state g new.conn.now) values survives given clean h r ok err;
 }

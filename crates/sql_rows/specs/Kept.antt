@@ -6,8 +6,11 @@ use Rattle.sqlite_value.specs.Order.{Row}
 use Rattle.sqlite_trees.specs.Tree.{Trees}
 use Rattle.sqlite_trees.specs.View.{doubt}
 use Rattle.sqlite.specs.declared.error.Error.{Error}
+use Rattle.sqlite.specs.declared.transaction.Transaction.{Transaction}
 use Rattle.sqlite.specs.Effect.{IsDatabase}
+use Rattle.sqlite.specs.Held.{state}
 use Rattle.sqlite.specs.State.{State, HasCleanDisk, Survives}
+use Rattle.sqlite.specs.Store.{Ghosts}
 use Rattle.hub_rows.specs.Keyed.{greatest, put, put_all}
 use Rattle.hub_rows.specs.Rows.{Rows}
 use Rattle.sql_tables.specs.Tables.{hub_schema}
@@ -55,10 +58,6 @@ CommitsNothing old new (Err e) = IsServing old → IsUncommitted old new
 -- what a call answers, of the tables
 abbrev pub FindsIn : {A E : Type 0} → State → State → Result A E → (Trees → A → Type 0) → Type 0
 FindsIn old new r P = IsServing old → IsTrue new.is_open → IfOk r (P old.now.trees)
-
--- what a call answers, of the rows of the hub
-abbrev pub Finds : {A E : Type 0} → State → State → Result A E → (Rows → A → Type 0) → Type 0
-Finds old new r P = IsServing old → IsTrue new.is_open → IfOk r (P (rows_of old.now.trees))
 
 -- the rows of an answer are those that pass, and nothing changes
 pub record Shows {V T : Type 0} (items : V → List Row) (s : TypedTable T) (p : T → Bool) (old new : State) (r : Result V Error) : Type 0 where
@@ -144,16 +143,40 @@ pub record Goes {A E : Type 0} (Edit : Trees → Trees → Type 0) (old new : St
   pub ok : OnOk r (Inside Edit old new)
   pub err : OnErr r (Leaves old new)
 
+-- a part of a transaction makes an edit of the tables, if this holds where it begins; the connection is the one that was
+-- lent
+pub record MakesIf {S A E : Type 0} (g : Ghosts S) (Begins : State → Type 0) (Edit : Trees → Trees → Type 0) (old new : Transaction S) (r : Result A E) : Type 0 where
+  pub same_reference : new.conn.ghost_name ≡ old.conn.ghost_name
+  pub goes : Begins (state g old.conn.now) → Goes Edit (state g old.conn.now) (state g new.conn.now) r
+
+-- a part of a transaction makes an edit of the tables
+abbrev pub MakesIn : {S A E : Type 0} → Ghosts S → (Trees → Trees → Type 0) → Transaction S → Transaction S → Result A E → Type 0
+MakesIn g Edit old new r = MakesIf g IsInside Edit old new r
+
+-- a part of a transaction makes this of the rows of the hub
+abbrev pub Makes : {S A E : Type 0} → Ghosts S → (Rows → Rows) → Transaction S → Transaction S → Result A E → Type 0
+Makes g f old new r = MakesIn g (IsMade f) old new r
+
 -- nothing is changed
 abbrev pub IsSame : Trees → Trees → Type 0
 IsSame old new = new ≡ old
 
+-- what a look-up inside a transaction says, of the rows of the hub
+pub record AsksInside {S A E : Type 0} (g : Ghosts S) (old new : Transaction S) (r : Result A E) (P : Rows → A → Type 0) : Type 0 where
+  pub same_reference : new.conn.ghost_name ≡ old.conn.ghost_name
+  -- what it answers
+  pub found : IsInside (state g old.conn.now) → IsTrue (state g new.conn.now).is_open → IfOk r (P (rows_of (state g old.conn.now).now.trees))
+  -- nothing changes
+  pub goes : IsInside (state g old.conn.now) → Goes IsSame (state g old.conn.now) (state g new.conn.now) r
+
 -- the rows of an answer inside a transaction are those that pass, and nothing changes
-pub record ShowsInside {V T : Type 0} (items : V → List Row) (s : TypedTable T) (p : T → Bool) (old new : State) (r : Result V Error) : Type 0 where
-  pub ok : IsTrue new.is_open → IfOk r (λ v. put_all (cmp s) (map s.read (items v)) [] ≡ filter p (rows_in s old.now.trees))
-  pub goes : Goes IsSame old new r
+pub record ShowsInside {V T S : Type 0} (g : Ghosts S) (items : V → List Row) (s : TypedTable T) (p : T → Bool) (old new : Transaction S) (r : Result V Error) : Type 0 where
+  pub same_reference : new.conn.ghost_name ≡ old.conn.ghost_name
+  pub ok : IsInside (state g old.conn.now) → IsTrue (state g new.conn.now).is_open → IfOk r (λ v. put_all (cmp s) (map s.read (items v)) [] ≡ filter p (rows_in s (state g old.conn.now).now.trees))
+  pub goes : IsInside (state g old.conn.now) → Goes IsSame (state g old.conn.now) (state g new.conn.now) r
 
 -- the greatest number that is shown inside a transaction is that of the rows that pass, and nothing changes
-pub record ShowsLastInside {V T : Type 0} (items : V → List Row) (s : TypedTable T) (number : T → ℕ) (p : T → Bool) (old new : State) (r : Result V Error) : Type 0 where
-  pub ok : IsTrue new.is_open → IfOk r (λ v. greatest (map number (map s.read (items v))) ≡ greatest (map number (filter p (rows_in s old.now.trees))))
-  pub goes : Goes IsSame old new r
+pub record ShowsLastInside {V T S : Type 0} (g : Ghosts S) (items : V → List Row) (s : TypedTable T) (number : T → ℕ) (p : T → Bool) (old new : Transaction S) (r : Result V Error) : Type 0 where
+  pub same_reference : new.conn.ghost_name ≡ old.conn.ghost_name
+  pub ok : IsInside (state g old.conn.now) → IsTrue (state g new.conn.now).is_open → IfOk r (λ v. greatest (map number (map s.read (items v))) ≡ greatest (map number (filter p (rows_in s (state g old.conn.now).now.trees))))
+  pub goes : IsInside (state g old.conn.now) → Goes IsSame (state g old.conn.now) (state g new.conn.now) r

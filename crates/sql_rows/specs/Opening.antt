@@ -1,19 +1,24 @@
 -- How a connection is taken over.
-use Rattle.std.specs.Prelude.{◌≡◌, ◌⊎◌, ℕ, zero, suc, ◌<◌, ◌≤◌, nat_lt, if◌then◌else◌, codes, true, false, None, [], IsTrue, Result, OnOk, OnErr}
+use Rattle.std.specs.Prelude.{◌≡◌, ◌⊎◌, ℕ, zero, suc, ◌<◌, ◌≤◌, nat_lt, if◌then◌else◌, codes, true, false, None, List, [], IsTrue, Result, OnOk, OnErr}
 use Rattle.sqlite_rules.specs.Lists.{Has}
 use Rattle.sqlite_trees.specs.Tree.{Trees}
 use Rattle.sqlite_trees.specs.View.{doubt}
 use Rattle.sqlite_schema.specs.declared.schema.Schema.{Schema}
-use Rattle.sqlite_catalog.specs.Change.{next_tree, KeepsRows}
+use Rattle.sqlite_schema.specs.declared.schema.Table.{Table}
+use Rattle.sqlite_schema.specs.declared.schema.Index.{Index}
+use Rattle.sqlite_catalog.specs.Change.{created, indexed, without_index, next_tree, KeepsRows}
+use Rattle.sqlite.specs.declared.transaction.Transaction.{Transaction}
 use Rattle.sqlite.specs.Effect.{Database, IsDatabase}
+use Rattle.sqlite.specs.Held.{state}
 use Rattle.sqlite.specs.State.{State, HasCleanDisk, Survives}
+use Rattle.sqlite.specs.Store.{Ghosts}
 use Rattle.hub_rows.specs.Rows.{Rows, no_rows}
 use Rattle.hub_rows.specs.WellFormed.{WellFormedRows}
 use Rattle.sql_tables.specs.Tables.{hub_schema}
-use Rattle.sql_tables.specs.Opening.{our_number, tables_at, schema_at}
+use Rattle.sql_tables.specs.Opening.{our_number, tables_at, schema_at, IsCreate, IsIndexCreate, IsIndexDrop}
 use Rattle.sql_rows.specs.TypedTable.{AreTyped, rows_in}
 use Rattle.sql_rows.specs.TypedTables.{MetaRow, metas, hub_good, rows_of}
-use Rattle.sql_rows.specs.Kept.{Serves}
+use Rattle.sql_rows.specs.Kept.{Serves, Leaves}
 
 -- the row of hub_meta that has the number of our schema
 abbrev pub our_meta : MetaRow
@@ -65,12 +70,41 @@ pub record WithinAs (rows : Trees) (schema : Schema) (s : State) : Type 0 where
 abbrev pub IsInsideAs : Trees → Schema → State → Type 0
 IsInsideAs rows schema s = IsTrue s.is_open → WithinAs rows schema s
 
+-- the same, with no row of a table of a schema later than that of this number
+abbrev pub IsCutAs : ℕ → Schema → Trees → State → Type 0
+IsCutAs n schema rows s = IsCut n rows × IsInsideAs rows schema s
+
 -- with all tables
 pub record HasTables (rows : Rows) (s : State) : Type 0 where
   pub schema_is : s.now.schema ≡ hub_schema
   pub holds : Holds rows s.now.trees
   pub mode : s.in_transaction ≡ true
   pub limit : s.step_limit ≡ None
+
+-- a part of the transaction commits nothing; the connection is the one that was lent
+pub record IsPart {S : Type 0} (g : Ghosts S) (old new : Transaction S) : Type 0 where
+  pub same_reference : new.conn.ghost_name ≡ old.conn.ghost_name
+  pub leaves : Leaves (state g old.conn.now) (state g new.conn.now)
+
+-- a part of the transaction makes a table or an index, or drops an index
+pub record Alters {S A E : Type 0} (g : Ghosts S) (If : Type 0 → Type 0) (sql : List ℕ) (old new : Transaction S) (r : Result A E) : Type 0 where
+  pub part : IsPart g old new
+  pub table : (rows : Trees) (from : Schema) (table : Table) → IsCreate sql from table → rows (next_tree from) ≡ [] → If (IsInsideAs rows from (state g old.conn.now)) → OnOk r (IsInsideAs rows (created from table) (state g new.conn.now))
+  pub index : (rows : Trees) (from : Schema) (at : ℕ) (table : Table) (index : Index) → IsIndexCreate sql from at table index → If (IsInsideAs rows from (state g old.conn.now)) → OnOk r (IsInsideAs rows (indexed from table index) (state g new.conn.now))
+  pub dropped : (rows : Trees) (from : Schema) (index : Index) → IsIndexDrop sql from index → If (IsInsideAs rows from (state g old.conn.now)) → OnOk r (IsInsideAs rows (without_index from index.tree) (state g new.conn.now))
+  pub up : HasCleanDisk (state g new.conn.now) → OnOk r (IsTrue (state g new.conn.now).is_open)
+
+-- a part of the transaction makes a schema, if this holds where it begins
+pub record MakesSchema {S A E : Type 0} (g : Ghosts S) (Begins : Trees → State → Type 0) (to : Schema) (old new : Transaction S) (r : Result A E) : Type 0 where
+  pub part : IsPart g old new
+  pub makes : (rows : Trees) → Begins rows (state g old.conn.now) → OnOk r (IsInsideAs rows to (state g new.conn.now))
+
+-- a part of the transaction makes our schema with its number, if this holds where it begins
+pub record MakesOurs {S A E : Type 0} (g : Ghosts S) (Begins : Trees → State → Type 0) (old new : Transaction S) (r : Result A E) : Type 0 where
+  pub part : IsPart g old new
+  pub has : (rows : Trees) → AreTyped hub_schema hub_good rows → Begins rows (state g old.conn.now) → OnOk r (IsTrue (state g new.conn.now).is_open → HasTables (rows_of rows) (state g new.conn.now))
+  pub mode : OnOk r (IsTrue (state g new.conn.now).is_open → (state g new.conn.now).in_transaction ≡ true)
+  pub up : HasCleanDisk (state g new.conn.now) → OnOk r (IsTrue (state g new.conn.now).is_open)
 
 -- ---- the call
 

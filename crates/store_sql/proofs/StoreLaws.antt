@@ -16,7 +16,7 @@ use Rattle.hub_rows.specs.declared.change.Edit.{Edit}
 use Rattle.hub_rows.specs.declared.store.StoreFault.{StoreFault}
 use Rattle.hub_rows.specs.declared.store.StoreFault.TheVariants.{Failed}
 use Rattle.hub_rows.proofs.WellFormedLaws.{well_formed-edit}
-use Rattle.sql_rows.specs.Kept.{Serves, IsServing, IsAsBefore, Rests, CommitsNothing, Finds, Changes, IsMade, Made}
+use Rattle.sql_rows.specs.Kept.{Serves, IsServing, IsAsBefore, Rests, CommitsNothing, FindsIn, Changes, IsMade, Made}
 use Rattle.sql_rows.specs.Opening.{IsOurs}
 use Rattle.sql_rows.specs.TypedTables.{rows_of}
 use Rattle.sql_lookups.specs.Asks.{Asks, AsksIn}
@@ -67,7 +67,7 @@ module _ {S : Type 0} (g : Ghosts S) (inside old new : SqlView S) (view_is : ins
       })
 
   -- what the call answers of the rows of the connection, it answers of the rows of the store
-  pub found_in : {T : Type 0} (done result : Result T StoreFault) → result ≡ done → (P : Rows → T → Type 0) → Finds (state g inside.conn) (state g conn) done P
+  pub found_in : {T : Type 0} (done result : Result T StoreFault) → result ≡ done → (P : Rows → T → Type 0) → FindsIn (state g inside.conn) (state g conn) done (λ db. P (rows_of db))
       → IsCleanSql g new → IfOk result (P (sql_rows g old))
   found_in done result same P found clean =
       subst (λ o. IfOk result (P (sql_rows g o))) view_is

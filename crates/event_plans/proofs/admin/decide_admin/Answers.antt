@@ -9,5 +9,5 @@ pub returns-in-StationPolicy-clause-decision : goal.returns-in-StationPolicy-cla
 returns-in-StationPolicy-clause-decision g c =
     let l : Lookups = lookups_at c.args.op.now (g.S.Store.view c.args.store.now).rows in
     let asked = c.in-StationPolicy in
-    λ clean. subst (λ a. IfOk c.plan_policy.result (λ p. p ≡ admin_rule (is_hosted c.args.hosted.now) a l)) (sym asked.is)
+    λ clean. subst (λ a. IfOk c.plan_policy.result (λ p. p ≡ admin_rule (is_hosted c.args.hosted.now) a c.args.moment l)) (sym asked.is)
     (subst (λ st. IfOk c.plan_policy.result (λ p. p ≡ policy_rule st asked.policy asked.interval l)) c.as_str-in-StationPolicy.ensures (c.plan_policy.ensures.plan clean))

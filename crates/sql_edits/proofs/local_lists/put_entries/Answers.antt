@@ -1,27 +1,30 @@
-use Rattle.std.proofs.Common.{rules, ◌≡◌, ◌+◌, ◌++◌, [], ◌∷◌, map, take, ◌∙◌}
-use Rattle.std.proofs.lemmas.List.{take_more}
+use Rattle.std.proofs.Common.{rules, ◌≡◌, ◌+◌, ◌++◌, [], ◌∷◌, map, subst, take}
+use Rattle.std.proofs.lemmas.List.{take_all, take_more}
 use Rattle.sqlite.specs.Held.{state}
-use Rattle.sql_rows.specs.Kept.{ArePutIn, IsPutIn}
+use Rattle.sql_rows.specs.Kept.{ArePutIn}
 use Rattle.sql_rows.specs.TypedTables.{entries, entry_row}
 use Rattle.sql_rows.proofs.ListEdits.{entries_more}
-use Rattle.sql_rows.proofs.TxLemmas.{inside_then}
+use Rattle.sql_edits.proofs.Making.{makes_also, makes_fails, makes_then}
 use Rattle.sql_edits.proofs.local_lists.put_entries.Goals as goal
 
 pub entries-preserved : goal.entries-preserved
 entries-preserved g c =
-    let op = c.args.op.now in
-    let station = c.args.station.now in
     let all = c.args.list.now in
     let k = c.entries.entry-index in
     let x = c.entry-item.result in
-    let old = state g.S.Store c.args.tx.now.conn.now in
-    let mid = state g.S.Store c.entries.tx.conn.now in
-    let new = state g.S.Store c.put_entry.new.tx.conn.now in
-    let more : take (k + 1) all ≡ take k all ++ x ∷ [] = search (rules, take_more) in (
-      c.put_entry.ensures.same_reference ∙ c.entries.invariant.0,
-      λ inside.
-          let before = c.entries.invariant.1 inside in
-          inside_then (ArePutIn entries (map (entry_row op station) (take k all))) (IsPutIn entries (entry_row op station x)) (ArePutIn entries (map (entry_row op station) (take (k + 1) all))) old mid new
-          (λ up so_far one. entries_more op station (take k all) (take (k + 1) all) x more old.now.trees mid.now.trees new.now.trees so_far one)
-          before (c.in_ok-put_entry.ensures.goes before.within).ok,
-    )
+    let old = (state g.S.Store c.args.tx.now.conn.now).now.trees in
+    let mid = (state g.S.Store c.entries.tx.conn.now).now.trees in
+    let new = (state g.S.Store c.put_entry.new.tx.conn.now).now.trees in
+    let more : take (k + 1) all ≡ take k all ++ x ∷ [] = search (rules, take_more) in
+    makes_then c.entries.invariant c.in_ok-put_entry.ensures.makes (λ inside up so_far one. entries_more c.args.op.now c.args.station.now (take k all) (take (k + 1) all) x more old mid new so_far one)
+
+pub returns : goal.returns
+returns g c =
+    let whole : take c.entries.entry-index c.args.list.now ≡ c.args.list.now = search (rules, take_all) in
+    record {
+      makes = makes_also c.entries.invariant
+          (λ inside up put. subst (λ es. ArePutIn entries (map (entry_row c.args.op.now c.args.station.now) es) (state g.S.Store c.args.tx.now.conn.now).now.trees (state g.S.Store c.entries.tx.conn.now).now.trees) whole put);
+    }
+
+pub returns-in_err-put_entry : goal.returns-in_err-put_entry
+returns-in_err-put_entry g c = record { makes = makes_fails c.entries.invariant c.in_err-put_entry.ensures.makes c.from_residual.ensures.0 }

@@ -1,4 +1,4 @@
 use Rattle.sql_edits.proofs.stations.add_station.Goals as goal
 
-pub returns-clause-goes : goal.returns-clause-goes
-returns-clause-goes g c = c.put_unbooted.ensures.goes
+pub returns : goal.returns
+returns g c = record { makes = c.put_unbooted.ensures.makes }

@@ -1,15 +1,13 @@
 use Rattle.std.proofs.Common.{refl}
-use Rattle.sqlite.specs.Held.{state}
 use Rattle.sql_rows.proofs.TagTables.{puts_tag}
 use Rattle.sql_rows.proofs.StoreLemmas.{open_is_clean}
-use Rattle.sql_rows.proofs.TxLemmas.{goes_as, step}
+use Rattle.sql_rows.proofs.TxLemmas.{makes_step}
 use Rattle.hub_rows.specs.Changes.{tag_row}
 use Rattle.sql_rows.proofs.ValueLaws.{optional}
 use Rattle.sql_edits.proofs.tags.put_row.Goals as goal
 
-pub returns-clause-goes : goal.returns-clause-goes
-returns-clause-goes g c = λ inside.
-    let new = c.execute.new.self.conn.now in
-    goes_as _ _ _ _ _ c.done.ensures.ok c.done.ensures.err
-    (step (puts_tag (tag_row c.args.op.now c.args.key.now c.args.tag.now)) (state g.S.Store) c.args.tx.now.conn.now new _ c.execute.result c.execute.ensures.runs c.execute.ensures.ended c.execute.ensures.survives
-    (rw (c.params-to_sql.ensures, c.params-to_sql-2.ensures, c.params-to_sql-3.ensures, c.params-to_sql-4.ensures, c.params-to_sql-5.ensures, c.params-to_sql-6.ensures, c.params-to_sql-7.ensures, c.seconds_if_any.ensures, c.as_str.ensures, optional (λ t. t.now) c.args.parent_key, c.requires, optional (λ t. t.now) c.lent.result, c.lent.ensures) refl) (open_is_clean _ _ (g.met.S.Store.shut_if_dirty new.store)) inside)
+pub returns : goal.returns
+returns g c = record {
+  makes = makes_step (puts_tag (tag_row c.args.op.now c.args.key.now c.args.tag.now)) c.execute.ensures.same_reference c.execute.ensures.runs c.execute.ensures.ended c.execute.ensures.survives
+      (rw (c.params-to_sql.ensures, c.params-to_sql-2.ensures, c.params-to_sql-3.ensures, c.params-to_sql-4.ensures, c.params-to_sql-5.ensures, c.params-to_sql-6.ensures, c.params-to_sql-7.ensures, c.seconds_if_any.ensures, c.as_str.ensures, optional (λ t. t.now) c.args.parent_key, c.requires, optional (λ t. t.now) c.lent.result, c.lent.ensures) refl) (open_is_clean _ _ (g.met.S.Store.shut_if_dirty c.execute.new.self.conn.now.store)) c.done.ensures.ok c.done.ensures.err;
+}

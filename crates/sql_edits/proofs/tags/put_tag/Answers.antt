@@ -1,4 +1,4 @@
 use Rattle.sql_edits.proofs.tags.put_tag.Goals as goal
 
-pub returns-clause-goes : goal.returns-clause-goes
-returns-clause-goes g c = c.put_row.ensures.goes
+pub returns : goal.returns
+returns g c = record { makes = c.put_row.ensures.makes }

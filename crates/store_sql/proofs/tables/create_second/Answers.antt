@@ -7,6 +7,11 @@ use Rattle.store_sql.proofs.tables.create_second.Goals as goal
 itself : (t : ℕ) → t ≤ t
 itself t = omega arith
 
-pub returns-clause-makes : goal.returns-clause-makes
-returns-clause-makes g c = λ rows cut begun.
-    subst (λ s. OnOk c.then_alter.result (IsInsideAs rows s (state g.S.Store c.then_alter.new.tx.conn.now))) second_made (c.then_alter.ensures.table rows _ _ report_made (cut _ (itself _)) begun)
+pub returns : goal.returns
+returns g c = record {
+  makes = record {
+    part = c.then_alter.ensures.alters.part;
+    makes = λ rows begins.
+        subst (λ s. OnOk c.then_alter.result (IsInsideAs rows s (state g.S.Store c.then_alter.new.tx.conn.now))) second_made (c.then_alter.ensures.alters.table rows _ _ report_made (begins.0 _ (itself _)) begins.1);
+  };
+}

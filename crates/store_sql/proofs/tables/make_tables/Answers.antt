@@ -18,6 +18,6 @@ returns g c =
     record {
       made = subst (λ h. IsTrue (state g.S.Store h).is_open → OnOk c.commit.result ((state g.S.Store h).now.schema ≡ schema_at c.args.number)) same
           (made_as rows (schema_at c.args.number) (state g.S.Store mid) (state g.S.Store end) c.commit.result
-          (c.in_ok-make_schema.ensures.makes rows (cut_at 0 (state g.S.Store old).now.trees) (begun_as g.S.Store old tx 0 first c.transaction-tx.ensures.begun c.requires.rested (λ up. c.requires.blank)))
+          (c.in_ok-make_schema.ensures.makes.makes rows (cut_at 0 (state g.S.Store old).now.trees, begun_as g.S.Store old tx 0 first c.transaction-tx.ensures.begun c.requires.rested (λ up. c.requires.blank)))
           (open_is_clean _ _ (g.met.S.Store.shut_if_dirty end.store)) c.commit.ensures.ok);
     }

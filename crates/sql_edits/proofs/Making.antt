@@ -1,0 +1,94 @@
+-- What a part of a transaction makes, and what a look-up inside it says, by the parts of which they consist.
+use Rattle.std.proofs.Common.{◌≡◌, ◌∙◌, ℕ, List, [], Bool, Option, Result, Ok, Err, IfOk, IsErr, IsOk, IsTrue, OnOk, filter, find, map, refl}
+use Rattle.sqlite_trees.specs.Tree.{Trees}
+use Rattle.sqlite_value.specs.Order.{Row, column}
+use Rattle.sqlite.specs.declared.error.Error.{Error}
+use Rattle.sqlite.specs.declared.transaction.Transaction.{Transaction}
+use Rattle.sqlite.specs.Held.{state}
+use Rattle.sqlite.specs.State.{State}
+use Rattle.sqlite.specs.Store.{Ghosts}
+use Rattle.hub_rows.specs.Keyed.{first, greatest, put_all}
+use Rattle.hub_rows.specs.Rows.{Rows}
+use Rattle.sql_rows.specs.Kept.{AsksInside, Goes, IsInside, IsSame, Leaves, MakesIf, MakesIn, ShowsInside, ShowsLastInside}
+use Rattle.sql_rows.specs.TypedTable.{TypedTable, cmp, rows_in}
+use Rattle.sql_rows.specs.TypedTables.{rows_of}
+use Rattle.sql_rows.specs.Values.{count_in}
+use Rattle.sql_rows.proofs.Calls.{first_finds, last_finds}
+use Rattle.sql_rows.proofs.RowEdits.{goes_if}
+use Rattle.sql_rows.proofs.TxLemmas.{goes_then, inside_self, leaves_then}
+
+if_ok : {A E : Type 0} {P Q : A → Type 0} (r : Result A E) → ((a : A) → P a → Q a) → IfOk r P → IfOk r Q
+if_ok (Ok a) turn is = turn a is
+if_ok (Err e) turn is = tt
+
+goes_err : {A E : Type 0} (Edit : Trees → Trees → Type 0) (a b : State) (q : Result A E) → IsErr q → Leaves a b → Goes Edit a b q
+goes_err Edit a b (Ok x) failed left = absurd cc
+goes_err Edit a b (Err e) failed left = record { ok = tt; err = left }
+
+module _ {S : Type 0} {g : Ghosts S} where
+  -- no part
+  pub makes_none : {A E : Type 0} {Edit : Trees → Trees → Type 0} {tx : Transaction S} {x : A} → Edit (state g tx.conn.now).now.trees (state g tx.conn.now).now.trees → MakesIn {E = E} g Edit tx tx (Ok x)
+  makes_none {A} {E} {Edit} {tx} {x} none = record {
+    same_reference = refl;
+    goes = λ inside. record { ok = inside_self Edit (state g tx.conn.now) inside none; err = tt };
+  }
+
+  -- the same, if more holds where it begins
+  pub makes_if : {A E : Type 0} {Begins : State → Type 0} {Edit : Trees → Trees → Type 0} {old new : Transaction S} {r : Result A E} → MakesIn g Edit old new r → ((s : State) → Begins s → IsInside s) → MakesIf g Begins Edit old new r
+  makes_if {A} {E} {Begins} {Edit} {old} {new} {r} part inside = record { same_reference = part.same_reference; goes = λ begins. part.goes (inside (state g old.conn.now) begins) }
+
+  -- a look-up, by the first of the rows that are shown
+  pub asks_first : {V T F : Type 0} {items : V → List Row} {s : TypedTable T} {p : T → Bool} {old new : Transaction S} {r : Result V Error} {q : Result (Option T) F} {P : Rows → Option T → Type 0} → ShowsInside g items s p old new r → OnOk q (IsOk r)
+      → IfOk r (λ v. IfOk q (λ o. o ≡ first (put_all (cmp s) (map s.read (items v)) []))) → ((db : Trees) (o : Option T) → o ≡ find p (rows_in s db) → P (rows_of db) o) → AsksInside g old new q P
+  asks_first {V} {T} {F} {items} {s} {p} {old} {new} {r} {q} {P} shows ok row means =
+      let before = state g old.conn.now in
+      record {
+        same_reference = shows.same_reference;
+        found = λ inside up. if_ok q (means before.now.trees) (first_finds items s p before.now.trees r q ok row (shows.ok inside up));
+        goes = λ inside. goes_if IsSame before (state g new.conn.now) r q ok (shows.goes inside);
+      }
+
+  -- by the number of the last row, which stands at that place
+  pub asks_last : {V T F : Type 0} {items : V → List Row} {s : TypedTable T} {number : T → ℕ} {p : T → Bool} {old new : Transaction S} {r : Result V Error} {q : Result ℕ F} {P : Rows → ℕ → Type 0} (at : ℕ) → ((x : Row) → count_in (column x at) ≡ number (s.read x)) → ShowsLastInside g items s number p old new r → OnOk q (IsOk r)
+      → IfOk r (λ v. IfOk q (λ n. n ≡ greatest (map (λ x. count_in (column x at)) (items v)))) → ((db : Trees) (n : ℕ) → n ≡ greatest (map number (filter p (rows_in s db))) → P (rows_of db) n) → AsksInside g old new q P
+  asks_last {V} {T} {F} {items} {s} {number} {p} {old} {new} {r} {q} {P} at same shows ok last means =
+      let before = state g old.conn.now in
+      record {
+        same_reference = shows.same_reference;
+        found = λ inside up. if_ok q (means before.now.trees) (last_finds items s number at p before.now.trees r q same ok last (shows.ok inside up));
+        goes = λ inside. goes_if IsSame before (state g new.conn.now) r q ok (shows.goes inside);
+      }
+
+  -- a look-up changes nothing
+  pub makes_same : {A E : Type 0} {old new : Transaction S} {r : Result A E} {P : Rows → A → Type 0} → AsksInside g old new r P → MakesIn g IsSame old new r
+  makes_same asks = record { same_reference = asks.same_reference; goes = asks.goes }
+
+  -- what follows of what is made
+  pub makes_also : {A B E F : Type 0} {Begins : State → Type 0} {One Two : Trees → Trees → Type 0} {old new : Transaction S} {x : A} {y : B} → MakesIf {E = E} g Begins One old new (Ok x)
+      → (Begins (state g old.conn.now) → IsTrue (state g new.conn.now).is_open → One (state g old.conn.now).now.trees (state g new.conn.now).now.trees → Two (state g old.conn.now).now.trees (state g new.conn.now).now.trees) → MakesIf {E = F} g Begins Two old new (Ok y)
+  makes_also {A} {B} {E} {F} {Begins} {One} {Two} {old} {new} one means = record {
+    same_reference = one.same_reference;
+    goes = λ begins.
+        let first = (one.goes begins).ok in
+        record { ok = record { leaves = first.leaves; within = first.within; edit = λ up. means begins up (first.edit up); still = first.still }; err = tt };
+  }
+
+  -- one part after the other
+  pub makes_then : {A B E F : Type 0} {Begins : State → Type 0} {One Two Both : Trees → Trees → Type 0} {a b c : Transaction S} {x : A} {r : Result B F} → MakesIf {E = E} g Begins One a b (Ok x) → MakesIn g Two b c r
+      → (Begins (state g a.conn.now) → IsTrue (state g b.conn.now).is_open → One (state g a.conn.now).now.trees (state g b.conn.now).now.trees → Two (state g b.conn.now).now.trees (state g c.conn.now).now.trees → Both (state g a.conn.now).now.trees (state g c.conn.now).now.trees)
+      → MakesIf g Begins Both a c r
+  makes_then {A} {B} {E} {F} {Begins} {One} {Two} {Both} {a} {b} {c} {x} {r} one two joined = record {
+    same_reference = two.same_reference ∙ one.same_reference;
+    goes = λ begins.
+        let first = (one.goes begins).ok in
+        goes_then One Two Both (state g a.conn.now) (state g b.conn.now) (state g c.conn.now) r (joined begins) first (two.goes first.within);
+  }
+
+  -- a part that fails after another
+  pub makes_fails : {A B C E F G : Type 0} {Begins : State → Type 0} {One Two Both : Trees → Trees → Type 0} {a b c : Transaction S} {x : A} {e : F} {q : Result C G} → MakesIf {E = E} g Begins One a b (Ok x) → MakesIn {A = B} g Two b c (Err e) → IsErr q → MakesIf g Begins Both a c q
+  makes_fails {A} {B} {C} {E} {F} {G} {Begins} {One} {Two} {Both} {a} {b} {c} {x} {e} {q} one two failed = record {
+    same_reference = two.same_reference ∙ one.same_reference;
+    goes = λ begins.
+        let first = (one.goes begins).ok in
+        goes_err Both (state g a.conn.now) (state g c.conn.now) q failed (leaves_then (state g a.conn.now) (state g b.conn.now) (state g c.conn.now) first.leaves (two.goes first.within).err);
+  }
