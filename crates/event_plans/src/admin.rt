@@ -27,6 +27,7 @@ pub fn decide_admin<S: Store>(
     ensures decision { (S.view store.new).clean → IfOk result (λ p. p
         ≡ admin_rule (is_hosted hosted.now) admin.now moment (lookups_at op.now (S.view store.old).rows)) }
 {
+    let name = op.as_str();
     match admin {
         Admin::StationAdd {
             station,
@@ -37,7 +38,7 @@ pub fn decide_admin<S: Store>(
                 policy: *policy,
                 interval: *interval,
             };
-            plan_add(alloc, store, op.as_str(), station.as_str(), terms)
+            plan_add(alloc, store, name, station.as_str(), terms)
         }
         Admin::StationPolicy {
             station,
@@ -48,12 +49,12 @@ pub fn decide_admin<S: Store>(
                 policy: *policy,
                 interval: *interval,
             };
-            plan_policy(alloc, store, op.as_str(), station.as_str(), terms)
+            plan_policy(alloc, store, name, station.as_str(), terms)
         }
         Admin::TagPut { tag } => Ok(plan_put(alloc, tag.as_ref())?),
-        Admin::TagDrop { tag } => plan_drop(alloc, store, op.as_str(), tag.as_str()),
-        Admin::Grant(grant) => plan_grant(alloc, store, op.as_str(), grant, hosted),
-        Admin::Revoke { tag, to } => plan_revoke(alloc, store, op.as_str(), tag.as_str(), to),
+        Admin::TagDrop { tag } => plan_drop(alloc, store, name, tag.as_str()),
+        Admin::Grant(grant) => plan_grant(alloc, store, name, grant, hosted),
+        Admin::Revoke { tag, to } => plan_revoke(alloc, store, name, tag.as_str(), to),
         Admin::TransactionClose {
             station,
             number,
