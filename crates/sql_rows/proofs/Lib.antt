@@ -26,6 +26,7 @@ pub mod TagWrites
 pub mod ChangedLaws
 pub mod TxReads
 pub mod RowEdits
+pub mod MeterValueLaws
 pub mod ListEdits
 pub mod OrderedLaws
 pub mod CreateLemmas
