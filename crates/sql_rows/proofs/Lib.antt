@@ -28,6 +28,7 @@ pub mod TxReads
 pub mod RowEdits
 pub mod MeterValueLaws
 pub mod ListEdits
+pub mod ValueEdits
 pub mod OrderedLaws
 pub mod CreateLemmas
 pub mod RaisingLemmas

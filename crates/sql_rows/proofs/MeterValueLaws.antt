@@ -1,8 +1,9 @@
 -- Readings that are kept as meter values: which of them pass a test, what it makes of them to put more, and their last number.
-use Rattle.std.proofs.Common.{◌≡◌, ◌≢◌, ◌⊎◌, ℕ, zero, suc, ◌+◌, ◌-◌, ◌<◌, ◌≤◌, List, [], ◌∷◌, ◌++◌, length, map, filter, flat_map, Bool, true, false, cond, ◌&&◌, Option, Some, None, Ordering, Less, Equal, Greater, refl, sym, ap, ap₂, ◌∙◌, subst, inl, inr, arith, true≢false}
+use Rattle.std.proofs.Common.{◌≡◌, ◌≢◌, ◌⊎◌, ℕ, zero, suc, ◌+◌, ◌-◌, ◌<◌, ◌≤◌, List, [], ◌∷◌, ◌++◌, length, map, filter, flat_map, Bool, true, false, cond, ◌&&◌, Option, Some, None, Ordering, Less, Equal, Greater, refl, sym, ap, ap₂, ◌∙◌, append-nil, append_assoc, subst, inl, inr, arith}
 use Rattle.std.specs.Str.{bytes_eq}
 use Rattle.std.specs.Cmp.{IsTotalOrder, nat_cmp_is}
 use Rattle.std.specs.FinMap.{slice_cmp-IsAntisymmetric}
+use Rattle.std.specs.List.{AllByRecursion}
 use Rattle.std.specs.List.Sorted.{IsStrictlySortedBy}
 use Rattle.std.specs.Ordering.{match_ordering, ordering_then, ordering_reverse}
 use Rattle.std.proofs.lemmas.Bool.{and_parts, cases_Bool, cases_lt}
@@ -19,7 +20,7 @@ use Rattle.hub_rows.specs.Changes.{with_readings}
 use Rattle.hub_rows.specs.Keyed.{by_key, first, greatest, key_cmp, put, put_all, text_cmp}
 use Rattle.hub_rows.specs.Rows.{reading_key}
 use Rattle.hub_rows.specs.Transactions.{is_reading, is_sent_with, last_reading_in, reading_rows, AreNext, Follow}
-use Rattle.hub_rows.proofs.ListLaws.{by_key_total, keys_total, number_after, put-front, same_key, same_text, sorted-put, text_itself, under_greatest}
+use Rattle.hub_rows.proofs.ListLaws.{by_key_total, keys_total, number_after, put-front, same_key, same_text, sorted-put, sorted-put_all, text_itself, under_greatest}
 use Rattle.hub_rows.proofs.PlaceLaws.{put-passed}
 use Rattle.meter_values.specs.declared.meter_value.MeterValue.{MeterValue}
 use Rattle.meter_values.specs.declared.meter_value.Sampled.{Sampled}
@@ -470,3 +471,61 @@ module _ (op station : List ℕ) (ms : List MeterValueRow) (up : IsStrictlySorte
   last_of_top [] n none last =
       ap (λ l. greatest (map (λ (x : ReadingRow). x.number) l)) (filter-unfolded op station None ms ∙ ap (flat_map unfolded) none) ∙ sym last
   last_of_top (m ∷ ts) n top last = last_number m n top.1 last.0 last.1 top.2
+
+-- ---- readings are moved
+
+-- some readings of a station that follow one another
+pub record Run : Type 0 where
+  pub op : List ℕ
+  pub station : List ℕ
+  pub first : ℕ
+  pub values : List MeterValue
+
+abbrev pub run_values : Run → List MeterValueRow
+run_values r = value_rows r.op r.station r.first r.values
+
+abbrev pub run_readings : Run → List ReadingRow
+run_readings r = reading_rows r.op r.station r.first (all_readings r.values)
+
+number_rises : (op station : List ℕ) (m n : ℕ) → key_cmp (key_at op station m) (key_at op station n) ≡ Less → m < n
+number_rises op station m n e = elim (apart_or_rising op station m op station n e) [
+  | inl apart ↦ (let clash = sym (apart m m) ∙ tied_itself keys_total (key_at op station m) in absurd (cc))
+  | inr one ↦ one.2
+]
+
+-- the readings of a run that come after all others
+module _ (r : Run) (groups : AreGroups r.values) (ms : List MeterValueRow) (up : IsStrictlySortedBy (cmp meter_values) ms)
+    (after : (x : ReadingRow) → Has (flat_map unfolded ms) x → (y : ReadingRow) → Has (run_readings r) y → by_key reading_key x y ≡ Less) where
+  behind : put_all (by_key reading_key) (run_readings r) (flat_map unfolded ms) ≡ flat_map unfolded ms ++ run_readings r
+  behind =
+      ap (put_all (by_key reading_key) (run_readings r)) (sym (append-nil (flat_map unfolded ms)))
+      ∙ put_all-past (by_key reading_key) (run_readings r) (flat_map unfolded ms) [] (λ y h x k. turned (by_key reading_key) (by_key_total reading_key) x y Less (after x k y h))
+      ∙ ap (λ l. flat_map unfolded ms ++ l) (put_all-front (by_key reading_key) (by_key_total reading_key) (run_readings r) [] (rising r.op r.station r.first (all_readings r.values)) (λ x h y none. absurd none) ∙ append-nil (run_readings r))
+
+  below : 0 < length (all_readings r.values) → AreBelow r.op r.station r.first (flat_map unfolded ms)
+  below some x h p q =
+      let y = rows_have r.op r.station r.first (all_readings r.values) 0 some in
+      let less : key_cmp (key_at r.op r.station x.number) (key_at r.op r.station y.0.number) ≡ Less = ap₂ key_cmp (sym (key_of x r.op r.station p q)) (sym (key_of y.0 r.op r.station y.2 y.3)) ∙ after x h y.0 y.1 in
+      let rises = number_rises r.op r.station x.number y.0.number less in
+      let here = y.4 in
+      omega (arith, rises, here)
+
+  run_moved : flat_map unfolded (put_all (cmp meter_values) (run_values r) ms) ≡ flat_map unfolded ms ++ run_readings r
+  run_moved = elim (cases_lt 0 (length (all_readings r.values))) [
+    | inl some ↦ put_all-unfolded r.op r.station r.first r.values ms up (below some) ∙ behind
+    | inr none ↦
+        let empty : r.values ≡ [] = no_groups r.values groups (omega (arith, none)) in
+        subst (λ vs. flat_map unfolded (put_all (cmp meter_values) (value_rows r.op r.station r.first vs) ms) ≡ flat_map unfolded ms ++ reading_rows r.op r.station r.first (all_readings vs)) (sym empty) (sym (append-nil (flat_map unfolded ms)))
+  ]
+
+-- runs of readings in order are moved one after the other, and no reading is lost
+pub runs_moved : (runs : List Run) (ms : List MeterValueRow) → AllByRecursion (λ (r : Run). AreGroups r.values) runs → IsStrictlySortedBy (cmp meter_values) ms → IsStrictlySortedBy (by_key reading_key) (flat_map unfolded ms ++ flat_map run_readings runs)
+    → flat_map unfolded (put_all (cmp meter_values) (flat_map run_values runs) ms) ≡ flat_map unfolded ms ++ flat_map run_readings runs
+runs_moved [] ms groups up order = sym (append-nil (flat_map unfolded ms))
+runs_moved (r ∷ runs) ms groups up order =
+    let more : List MeterValueRow = put_all (cmp meter_values) (run_values r) ms in
+    let one : flat_map unfolded more ≡ flat_map unfolded ms ++ run_readings r = run_moved r groups.0 ms up (λ x h y k. across (by_key reading_key) (by_key_total reading_key) (flat_map unfolded ms) (run_readings r ++ flat_map run_readings runs) order x y h (has_front (run_readings r) (flat_map run_readings runs) y k)) in
+    let whole : flat_map unfolded more ++ flat_map run_readings runs ≡ flat_map unfolded ms ++ (run_readings r ++ flat_map run_readings runs) = ap (λ l. l ++ flat_map run_readings runs) one ∙ append_assoc (flat_map unfolded ms) (run_readings r) (flat_map run_readings runs) in
+    ap (flat_map unfolded) (put_all-append (cmp meter_values) (run_values r) (flat_map run_values runs) ms)
+    ∙ runs_moved runs more groups.1 (sorted-put_all (cmp meter_values) (by_key_total meter_values.key) (run_values r) ms up) (subst (IsStrictlySortedBy (by_key reading_key)) (sym whole) order)
+    ∙ whole

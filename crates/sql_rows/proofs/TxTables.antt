@@ -193,12 +193,6 @@ put_readings = record { source = λ s. refl; filter = λ s v i r. refl; project 
 pub whole_readings : IsWhole readings (cols 1 1 13)
 whole_readings s v params = refl
 
-pub readings_made : (old new : Trees) (made : List ReadingRow) → rows_in readings new ≡ made → Spares hub_schema 12 old new → rows_of new ≡ record (rows_of old) { readings = made }
-readings_made old new made rows frame = λ i. record (rows_of (rest_is (12 ∷ []) old new (spared 12 old new frame) i)) { readings = rows i }
-
-pub adds_reading : (r : ReadingRow) → Means sql_readings.ADD.now (readings.row r) (IsMade (λ rows. record rows { readings = put (by_key reading_key) r rows.readings }))
-adds_reading r = means_as (adds 6 readings on_readings sql_readings.ADD.now 10 put_readings texts.add_reading_is r) (λ old new h. readings_made old new _ h.rows h.frame)
-
 pub reads_readings : (op station : List ℕ) → ReadsRows sql_readings.LIST.now (Text op ∷ Text station ∷ []) readings (λ r. bytes_eq r.op op && is_reading station None r)
 reads_readings op station = record { at = 6; is = on_readings; wanted = where_is 0 (1 ∷ 2 ∷ []); project = cols 1 1 13; whole = whole_readings; order = by_column 3 ∷ []; names = names_of hub_reading; text = texts.list_readings_is; test = tests.of_readings op station }
 

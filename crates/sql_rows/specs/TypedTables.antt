@@ -1,5 +1,5 @@
 -- The rows of the hub, and how each is kept.
-use Rattle.std.specs.Prelude.{◌≡◌, ◌≤◌, ◌+◌, ℕ, zero, suc, pos, Bool, ◌&&◌, if◌then◌else◌, List, [], ◌∷◌, Option, Some, None, option_map, unwrap_or, map, filter, length, codes, ⊤}
+use Rattle.std.specs.Prelude.{◌≡◌, ◌≤◌, ◌+◌, ℕ, ℤ, zero, suc, pos, Bool, ◌&&◌, if◌then◌else◌, List, [], ◌∷◌, Option, Some, None, option_map, unwrap_or, map, filter, flat_map, length, codes, ⊤}
 use Rattle.std.specs.Str.{bytes_eq}
 use Rattle.sqlite_value.specs.declared.value.Value.{Value}
 use Rattle.sqlite_value.specs.declared.value.Value.TheVariants.{Int, Text}
@@ -53,7 +53,7 @@ use Rattle.hub_rows.specs.declared.report_row.ReportedStatus.TheVariants.{Diagno
 use Rattle.meter_values.specs.declared.meter_value.MeterValue.{MeterValue}
 use Rattle.meter_values.specs.declared.meter_value.Sampled.{Sampled}
 use Rattle.meter_values.specs.Read.{sampled_in}
-use Rattle.meter_values.specs.Readings.{readings_of}
+use Rattle.meter_values.specs.Readings.{reading_of, readings_of}
 use Rattle.meter_values.specs.Written.{text_of}
 use Rattle.sql_rows.specs.declared.list_rows.ListHead.{ListHead}
 use Rattle.sql_rows.specs.declared.list_rows.EntryRow.{EntryRow}
@@ -186,6 +186,7 @@ txs = record {
   };
 }
 
+-- readings as they are kept up to schema 3
 abbrev pub readings : TypedTable ReadingRow
 readings = record {
   table = hub_reading;
@@ -237,6 +238,13 @@ meter_values = record {
 -- the readings that a meter value stands for: that of its i-th sampled value has the i-th number from `first` on
 abbrev pub unfolded : MeterValueRow → List ReadingRow
 unfolded m = reading_rows m.op m.station m.first (readings_of m.value)
+
+-- the same, by the parts of the row
+abbrev pub sampled_row : List ℕ → List ℕ → ℕ → ℕ → Option ℤ → ℤ → Sampled → ReadingRow
+sampled_row op station number connector transaction at s = record { op = op; station = station; number = number; reading = reading_of (record { connector = connector; transaction = transaction; at = at; sampled = [] }) s }
+
+abbrev pub sampled_rows : List ℕ → List ℕ → ℕ → ℕ → Option ℤ → ℤ → List Sampled → List ReadingRow
+sampled_rows op station first connector transaction at sampled = unfolded (record { op = op; station = station; first = first; value = record { connector = connector; transaction = transaction; at = at; sampled = sampled } })
 
 -- a meter value of a station, of all or of those that were sent with the number of a transaction
 abbrev pub is_meter_value : List ℕ → Option ℕ → MeterValueRow → Bool
@@ -361,7 +369,7 @@ rows_of db = record {
   tags = rows_in tags db;
   grants = rows_in grants db;
   transactions = rows_in txs db;
-  readings = rows_in readings db;
+  readings = flat_map unfolded (rows_in meter_values db);
   reservations = rows_in reservations db;
   local_lists = map (list_of (rows_in entries db)) (rows_in lists db);
   reports = rows_in reports db;
