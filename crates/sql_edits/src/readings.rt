@@ -105,6 +105,7 @@ pub(crate) fn add_readings<S: Alter>(
 ) -> Result<(), StoreFault>
     ensures makes { MakesIf S.Store (λ s. IsTrue s.is_open → Within s × AreNext (last_reading_in op.now station.now (rows_of s.now.trees).readings) first (length readings.now)) (IsMade (λ rows. record rows { readings = with_readings op.now station.now first readings.now rows.readings })) tx.old tx.new result }
 {
-    let values = group(alloc, copied(alloc, readings)?)?;
+    let list = copied(alloc, readings)?;
+    let values = group(alloc, list)?;
     put_values(tx, alloc, op, station, first, values.as_slice())
 }

@@ -3,10 +3,10 @@ ghost use Rattle.std.specs.Prelude.{◌≡◌, ◌&&◌, ◌++◌, ◌<◌, ◌^
 ghost use Rattle.std.specs.List.Sorted.{IsStrictlySortedBy};
 ghost use Rattle.std.specs.Str.{bytes_eq};
 ghost use Rattle.sqlite.specs.Held.{state};
-ghost use Rattle.hub_rows.specs.Keyed.{by_key, first};
+ghost use Rattle.hub_rows.specs.Keyed.{by_key};
 ghost use Rattle.hub_rows.specs.Rows.{reading_key};
 ghost use Rattle.hub_rows.specs.Transactions.{is_sent_with, readings_in, last_reading_in};
-ghost use Rattle.sql_rows.specs.Kept.{IsServing, IsTop, Shows, ShowsTop};
+ghost use Rattle.sql_rows.specs.Kept.{IsServing, Shows, ShowsTop};
 ghost use Rattle.sql_rows.specs.TypedTable.{rows_in};
 ghost use Rattle.sql_rows.specs.TypedTables.{meter_values, is_meter_value, sampled_row, unfolded, IsLastOf};
 ghost use Rattle.sql_lookups.specs.Asks.{Asks, AsksIn, IsTopRow};
@@ -103,6 +103,7 @@ fn row_of(
 
 /// Adds the readings of a meter value. The number after the last is within 32 bits, or else this
 /// answers Failed.
+#[tactic(auto, using(crate::proofs::ValueLaws::value_laws))]
 fn add_each(
     alloc: Global,
     readings: &mut Vec<ReadingRow>,
