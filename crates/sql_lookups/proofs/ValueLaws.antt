@@ -63,5 +63,3 @@ asks_top {V} {T} {F} {items} {s} {number} {p} {old} {new} {r} {q} shows ok row =
   same = λ serves up. (shows serves).same up;
   stops = commits_as old new r q ok (λ serves. (shows serves).stops);
 }
-
-pub ruleset value_laws = (sampled_more)

@@ -8,11 +8,11 @@ ghost use Rattle.hub_rows.specs.Rows.{reading_key};
 ghost use Rattle.hub_rows.specs.Transactions.{is_sent_with, readings_in, last_reading_in};
 ghost use Rattle.sql_rows.specs.Kept.{IsServing, Shows, ShowsTop};
 ghost use Rattle.sql_rows.specs.TypedTable.{rows_in};
-ghost use Rattle.sql_rows.specs.TypedTables.{meter_values, is_meter_value, sampled_row, unfolded, IsLastOf};
+ghost use Rattle.sql_rows.specs.TypedTables.{meter_values, is_meter_value, sampled_row, sampled_rows, unfolded, IsLastOf};
 ghost use Rattle.sql_lookups.specs.Asks.{Asks, AsksIn, IsTopRow};
 
 use hub_rows::{Reading, ReadingRow, StoreFault};
-use meter_values::{MeterValue, Sampled};
+use meter_values::Sampled;
 use ocpp_types::{Listed, Text};
 use sql_rows::{MeterValueRow, first_row, listed};
 use sqlite::{Alter, Connection, Error, Row, params};
@@ -101,9 +101,31 @@ fn row_of(
     })
 }
 
-/// Adds the readings of a meter value. The number after the last is within 32 bits, or else this
+/// Adds the readings of sampled values. The number after the last is within 32 bits, or else this
 /// answers Failed.
-#[tactic(auto, using(crate::proofs::ValueLaws::value_laws))]
+fn add_sampled(
+    alloc: Global,
+    readings: &mut Vec<ReadingRow>,
+    op: &str,
+    station: &str,
+    first: u32,
+    connector: u8,
+    transaction: Option<i32>,
+    at: i64,
+    sampled: Listed<Sampled>,
+) -> Result<(), StoreFault>
+    ensures { OnOk result (readings.new.items ≡ readings.old.items ++ sampled_rows op.now station.now first connector transaction at sampled) }
+{
+    let mut number = first;
+    for one in sampled.into_vec() {
+        let reading = row_of(alloc, op, station, number, connector, transaction, at, one)?;
+        readings.push(reading)?;
+        number = number.checked_add(1).ok_or(StoreFault::Failed)?;
+    }
+    Ok(())
+}
+
+/// Adds the readings of a meter value.
 fn add_each(
     alloc: Global,
     readings: &mut Vec<ReadingRow>,
@@ -111,34 +133,18 @@ fn add_each(
 ) -> Result<(), StoreFault>
     ensures { OnOk result (readings.new.items ≡ readings.old.items ++ unfolded row) }
 {
-    let MeterValueRow {
-        op,
-        station,
-        first,
-        value,
-    } = row;
-    let MeterValue {
-        connector,
-        transaction,
-        at,
-        sampled,
-    } = value;
-    let mut number = first;
-    for one in sampled.into_vec() {
-        let reading = row_of(
-            alloc,
-            op.as_str(),
-            station.as_str(),
-            number,
-            connector,
-            transaction,
-            at,
-            one,
-        )?;
-        readings.push(reading)?;
-        number = number.checked_add(1).ok_or(StoreFault::Failed)?;
-    }
-    Ok(())
+    let value = row.value;
+    add_sampled(
+        alloc,
+        readings,
+        row.op.as_str(),
+        row.station.as_str(),
+        row.first,
+        value.connector,
+        value.transaction,
+        value.at,
+        value.sampled,
+    )
 }
 
 /// The readings that meter values stand for.

@@ -1,6 +1,6 @@
 use Rattle.std.proofs.Common.{◌≡◌, ◌+◌, ◌++◌, length}
 use Rattle.sql_rows.specs.TypedTables.{sampled_rows}
-use Rattle.sql_lookups.proofs.readings.add_each.Given as goal
+use Rattle.sql_lookups.proofs.readings.add_sampled.Given as goal
 
 abbrev pub invariant-loop-one : goal.invariant-loop-one
 invariant-loop-one l = record {
