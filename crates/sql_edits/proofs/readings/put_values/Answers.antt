@@ -1,4 +1,4 @@
-use Rattle.std.proofs.Common.{rules, ◌≡◌, ◌+◌, ◌++◌, [], ◌∷◌, arith, length, subst, take}
+use Rattle.std.proofs.Common.{rules, ◌≡◌, ◌+◌, ◌++◌, [], ◌∷◌, ap, arith, length, subst, take}
 use Rattle.std.proofs.lemmas.List.{take_all, take_more}
 use Rattle.sqlite.specs.Held.{state}
 use Rattle.sql_rows.specs.Kept.{ArePutIn}
@@ -16,8 +16,9 @@ values-preserved g c =
     let mid = (state g.S.Store c.values.tx.conn.now).now.trees in
     let new = (state g.S.Store c.put_value.new.tx.conn.now).now.trees in
     let more : take (k + 1) all ≡ take k all ++ x ∷ [] = search (rules, take_more) in
-    let longer = count_more (take k all) (take (k + 1) all) x more in (
-      omega (arith, c.values.invariant.0, longer),
+    let longer = count_more (take k all) (take (k + 1) all) x more in
+    let lent = ap length c.as_slice-count.ensures in (
+      omega (arith, c.values.invariant.0, longer, lent),
       makes_then c.values.invariant.1 c.in_ok-put_value.ensures.makes
           (λ inside up so_far one. values_more c.args.op.now c.args.station.now c.args.first (take k all) (take (k + 1) all) x c.values.number c.values.invariant.0 more old mid new so_far one),
     )
