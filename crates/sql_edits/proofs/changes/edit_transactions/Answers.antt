@@ -54,12 +54,12 @@ pub returns-in-ReadingsAdded : goal.returns-in-ReadingsAdded
 returns-in-ReadingsAdded g c =
     let op = c.args.op.now in
     let old = c.args.tx.now in
-    let new = c.add_readings-2.new.tx in
+    let new = c.add_readings-in-ReadingsAdded.new.tx in
     let added = c.in-ReadingsAdded in
     let station = c.as_str.result.now in
-    let readings = c.as_slice-2.result.now in
-    let fitting : MakesFitting g.S.Store op (Transactions (ReadingsAdded station added.first readings)) old new c.add_readings-2.result = makes_when c.add_readings-2.ensures.makes (λ s may up. ((may up).0, rest (rest (may up)))) in
+    let readings = c.as_slice-in-ReadingsAdded.result.now in
+    let fitting : MakesFitting g.S.Store op (Transactions (ReadingsAdded station added.first readings)) old new c.add_readings-in-ReadingsAdded.result = makes_when c.add_readings-in-ReadingsAdded.ensures.makes (λ s may up. ((may up).0, rest (rest (may up)))) in
     record {
-      makes = subst (λ (e : TransactionEdit). MakesFitting g.S.Store op (Transactions e) old new c.add_readings-2.result) (sym added.is)
-          (subst₂ (λ s r. MakesFitting g.S.Store op (Transactions (ReadingsAdded s added.first r)) old new c.add_readings-2.result) c.as_str.ensures c.as_slice-2.ensures fitting);
+      makes = subst (λ (e : TransactionEdit). MakesFitting g.S.Store op (Transactions e) old new c.add_readings-in-ReadingsAdded.result) (sym added.is)
+          (subst₂ (λ s r. MakesFitting g.S.Store op (Transactions (ReadingsAdded s added.first r)) old new c.add_readings-in-ReadingsAdded.result) c.as_str.ensures c.as_slice-in-ReadingsAdded.ensures fitting);
     }
