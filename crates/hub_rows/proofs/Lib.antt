@@ -7,4 +7,3 @@ pub mod GrantLaws
 pub mod OwnLaws
 pub mod WellFormedLaws
 pub mod NameLaws
-pub mod ForgetLaws

@@ -15,9 +15,5 @@ pub mod OpenTxLaws
 pub mod StartLaws
 pub mod NewRows
 pub mod TxOwnerLaws
-pub mod NumberLaws
-pub mod FirstLaws
-pub mod ForgettableLaws
-pub mod ForgottenLaws
 pub mod UseLaws
 pub mod Named
