@@ -23,7 +23,7 @@ abbrev pub meter_at_close : Option ℕ → ℤ → List ReadingRow → ℤ
 meter_at_close (Some meter) meter_start readings = pos meter
 meter_at_close None meter_start readings = shown_or meter_start (last_watt_hours readings)
 
--- the stop as it is kept: at the moment, for another reason than OCPP names, without a tag
+-- the stop as it is kept: at the moment, for the reason Other, without a tag
 abbrev pub closed_at : ℕ → ℤ → Stop
 closed_at m meter = record { meter_stop = meter; at = pos (m * 1000); reason = Other; tag = None; moment = m }
 

@@ -10,9 +10,11 @@ use ocpp_types::{FieldName, Listed, Moment, Reason, Refusal};
 use registry::StationAt;
 use std::alloc::Global;
 
-/// The edit that stops an open transaction of a station, or the first refusal that applies: NoSuchStation, and
-/// NoSuchTransaction where it isn't on record or has stopped, BadField `meterStop` past 999,999,999,999 Wh. It stops at the moment, without a tag and without readings.
-/// Without a meter it is that of the transaction's last reading that shows energy, or the meter at the start.
+/// The edit that stops an open transaction of a station, or the first refusal that applies: NoSuchStation,
+/// NoSuchTransaction where it isn't on record or has stopped, BadField `meterStop` past 999,999,999,999 Wh.
+///
+/// It stops at the moment, for the reason Other (OCPP 1.6, type Reason), without a tag and without readings. Without a
+/// meter in Wh it is that of the transaction's last reading that shows energy, or the meter at the start.
 pub fn plan_close<S: Store>(
     alloc: Global,
     store: &mut S,
