@@ -7,3 +7,4 @@ pub mod GrantLaws
 pub mod OwnLaws
 pub mod WellFormedLaws
 pub mod NameLaws
+pub mod ForgetLaws

@@ -9,6 +9,7 @@ pub mod Tags
 pub mod Grants
 pub mod Transactions
 pub mod Reservations
+pub mod Forgetting
 pub mod LocalLists
 pub mod WellFormed
 pub mod Uses

@@ -3,6 +3,8 @@
 
 mod change;
 mod connector_row;
+mod forgettable;
+mod forgotten;
 mod grant_row;
 mod info;
 mod list_row;
@@ -20,6 +22,8 @@ mod use_row;
 
 pub use change::{Change, Edit, HoldingEdit, StationEdit, TagEdit, TransactionEdit};
 pub use connector_row::{ConnectorReport, ConnectorRow};
+pub use forgettable::{Forgettable, MAX_FORGOTTEN};
+pub use forgotten::{goes_with, has_number};
 pub use grant_row::GrantRow;
 pub use info::{GrantedTag, Info};
 pub use list_row::{ListRow, LocalList, LocalTag};

@@ -26,7 +26,9 @@ pub mod TagWrites
 pub mod ChangedLaws
 pub mod TxReads
 pub mod RowEdits
+pub mod MeterValueLaws
 pub mod ListEdits
+pub mod ValueEdits
 pub mod OrderedLaws
 pub mod CreateLemmas
 pub mod RaisingLemmas

@@ -121,7 +121,7 @@ module _ (b : List ℕ) where
       ] refl
 
   -- a transaction of the operator is found by its station and number
-  found_itself : (txs : List TxRow) → IsStrictlySortedBy (by_key tx_key) txs → AllByRecursion (λ r. r.op ≡ b → tx_of b txs (open_of r) ≡ Some r) txs
+  pub found_itself : (txs : List TxRow) → IsStrictlySortedBy (by_key tx_key) txs → AllByRecursion (λ r. r.op ≡ b → tx_of b txs (open_of r) ≡ Some r) txs
   unfolding IsStrictlySortedBy
   found_itself [] sorted = tt
   found_itself (x ∷ txs) sorted = (
