@@ -75,14 +75,13 @@ fn edit_tags<S: Alter>(
     }
 }
 
-/// Makes an edit of a transaction or of readings, that fits.
+/// Makes an edit of a transaction or of readings.
 fn edit_transactions<S: Alter>(
     tx: &mut Transaction<'_, S>,
-    alloc: Global,
     op: &str,
     change: &TransactionEdit,
 ) -> Result<(), StoreFault>
-    ensures makes { MakesFitting S.Store op.now (Transactions change.now) tx.old tx.new result }
+    ensures makes { Makes S.Store (edit op.now (Transactions change.now)) tx.old tx.new result }
 {
     match change {
         TransactionEdit::TxStarted {
@@ -104,13 +103,13 @@ fn edit_transactions<S: Alter>(
         } => {
             let station = station.as_str();
             stop_tx(tx, op, station, *number, stop)?;
-            add_readings(tx, alloc, op, station, *first, readings.as_slice())
+            add_readings(tx, op, station, *first, readings.as_slice())
         }
         TransactionEdit::ReadingsAdded {
             station,
             first,
             readings,
-        } => add_readings(tx, alloc, op, station.as_str(), *first, readings.as_slice()),
+        } => add_readings(tx, op, station.as_str(), *first, readings.as_slice()),
     }
 }
 
@@ -148,7 +147,7 @@ fn make<S: Alter>(
     match change {
         Edit::Stations(change) => edit_stations(tx, op, change),
         Edit::Tags(change) => edit_tags(tx, alloc, op, change),
-        Edit::Transactions(change) => edit_transactions(tx, alloc, op, change),
+        Edit::Transactions(change) => edit_transactions(tx, op, change),
         Edit::Holdings(change) => edit_holdings(tx, alloc, op, change),
     }
 }

@@ -26,9 +26,7 @@ pub mod TagWrites
 pub mod ChangedLaws
 pub mod TxReads
 pub mod RowEdits
-pub mod MeterValueLaws
 pub mod ListEdits
-pub mod ValueEdits
 pub mod OrderedLaws
 pub mod CreateLemmas
 pub mod RaisingLemmas

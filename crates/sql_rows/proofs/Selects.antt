@@ -20,10 +20,10 @@ use Rattle.sql_tables.specs.Forms.{plain_query, last_query}
 use Rattle.sql_tables.specs.Meanings.{IsRead}
 use Rattle.sql_rows.specs.TypedTable.{TypedTable, cmp, rows_in, AreTyped}
 use Rattle.sql_rows.specs.TypedTables.{hub_good}
-use Rattle.sql_rows.specs.Kept.{IsServing, IsAsBefore, IsUncommitted, CommitsNothing, IsTop, Shows, ShowsLast, ShowsTop}
+use Rattle.sql_rows.specs.Kept.{IsServing, IsAsBefore, IsUncommitted, CommitsNothing, Shows, ShowsLast}
 use Rattle.sql_rows.proofs.TypedTableLemmas.{IsTypedTable}
 use Rattle.sql_rows.proofs.ReadLaws.{IsTest, IsWhole, lists_those, once}
-use Rattle.sql_rows.proofs.DownLaws.{last_is, top_is}
+use Rattle.sql_rows.proofs.DownLaws.{last_is}
 use Rattle.sql_rows.proofs.StoreLemmas.{obeys_in, serves_still, shown_was, shown_up, shown_unchanged, commits_none, failed_was, fails_before}
 
 -- what its answers are, and that it changes nothing
@@ -106,16 +106,6 @@ pub shows_last : {T : Type 0} {sql : List ℕ} {params : Row} {s : TypedTable T}
 shows_last {T} {sql} {params} {s} {number} {p} f items old new values r ok err survives given h clean = record {
   ok = λ up. answers sql (last_query s.table.tree f.wanted f.project f.place) f.names f.text params (λ db rows. greatest (map number (map s.read rows)) ≡ greatest (map number (filter p (rows_in s db))))
       (λ db kept obeys rows answer. last_is f.at s f.is f.wanted f.project f.whole params p f.test f.place number f.numbered db kept obeys rows answer) items old new values r given h (ok (clean up));
-  same = λ up. stays sql (last_query s.table.tree f.wanted f.project f.place) f.names f.text params items old new values r survives.limit h up (ok (clean up)) (err (clean up));
-  stops = stops sql (last_query s.table.tree f.wanted f.project f.place) f.names f.text params items old new values r survives ok;
-}
-
-pub shows_top : {T : Type 0} {sql : List ℕ} {params : Row} {s : TypedTable T} {number : T → ℕ} {p : T → Bool} → ReadsLast sql params s number p
-    → {V : Type 0} (items : V → List Row) (old new : State) (values : Row) (r : Result V Error) → (HasCleanDisk new → IfOk r (λ v. Shown sql values old new (items v))) → (HasCleanDisk new → IfErr r (FailsToQuery sql values old new))
-    → Survives old new (CommitsShowing sql values old) → values ≡ params → IsServing old → (IsTrue new.is_open → HasCleanDisk new) → ShowsTop items s number p old new r
-shows_top {T} {sql} {params} {s} {number} {p} f items old new values r ok err survives given h clean = record {
-  ok = λ up. answers sql (last_query s.table.tree f.wanted f.project f.place) f.names f.text params (λ db rows. IsTop number (filter p (rows_in s db)) (map s.read rows))
-      (λ db kept obeys rows answer. top_is f.at s f.is f.wanted f.project f.whole params p f.test f.place number f.numbered db kept obeys rows answer) items old new values r given h (ok (clean up));
   same = λ up. stays sql (last_query s.table.tree f.wanted f.project f.place) f.names f.text params items old new values r survives.limit h up (ok (clean up)) (err (clean up));
   stops = stops sql (last_query s.table.tree f.wanted f.project f.place) f.names f.text params items old new values r survives ok;
 }

@@ -1,5 +1,5 @@
 -- What a connection keeps, and what a call makes of it.
-use Rattle.std.specs.Prelude.{◌≡◌, ◌⊎◌, ℕ, ◌≤◌, false, true, not, None, List, [], ◌∷◌, map, filter, Bool, IsTrue, Result, Ok, Err, OnOk, OnErr, IfOk}
+use Rattle.std.specs.Prelude.{◌≡◌, ◌⊎◌, ℕ, ◌≤◌, false, true, not, None, List, [], map, filter, Bool, IsTrue, Result, Ok, Err, OnOk, OnErr, IfOk}
 use Rattle.std.specs.declared.cmp.Ordering.TheVariants.{Equal}
 use Rattle.sqlite_rules.specs.Lists.{Has}
 use Rattle.sqlite_value.specs.Order.{Row}
@@ -70,17 +70,6 @@ pub record Shows {V T : Type 0} (items : V → List Row) (s : TypedTable T) (p :
 -- the greatest number that is shown is that of the rows that pass, and nothing changes
 pub record ShowsLast {V T : Type 0} (items : V → List Row) (s : TypedTable T) (number : T → ℕ) (p : T → Bool) (old new : State) (r : Result V Error) : Type 0 where
   pub ok : IsTrue new.is_open → IfOk r (λ v. greatest (map number (map s.read (items v))) ≡ greatest (map number (filter p (rows_in s old.now.trees))))
-  pub same : IsTrue new.is_open → IsAsBefore old new
-  pub stops : CommitsNothing old new r
-
--- none of none, or one of some with the greatest number
-abbrev pub IsTop : {T : Type 0} → (T → ℕ) → List T → List T → Type 0
-IsTop {T} number all [] = all ≡ []
-IsTop {T} number all (t ∷ ts) = (ts ≡ []) × Has all t × ((u : T) → Has all u → number u ≤ number t)
-
--- the row that is shown has the greatest number of those that pass, and nothing changes
-pub record ShowsTop {V T : Type 0} (items : V → List Row) (s : TypedTable T) (number : T → ℕ) (p : T → Bool) (old new : State) (r : Result V Error) : Type 0 where
-  pub ok : IsTrue new.is_open → IfOk r (λ v. IsTop number (filter p (rows_in s old.now.trees)) (map s.read (items v)))
   pub same : IsTrue new.is_open → IsAsBefore old new
   pub stops : CommitsNothing old new r
 

@@ -10,7 +10,6 @@ use Rattle.sql_tables.specs.declared.grants.TheConstants as grants
 use Rattle.sql_tables.specs.declared.list_entries.TheConstants as list_entries
 use Rattle.sql_tables.specs.declared.lists.TheConstants as lists
 use Rattle.sql_tables.specs.declared.meta.TheConstants as meta
-use Rattle.sql_tables.specs.declared.meter_values.TheConstants as meter_values
 use Rattle.sql_tables.specs.declared.readings.TheConstants as readings
 use Rattle.sql_tables.specs.declared.reports.TheConstants as reports
 use Rattle.sql_tables.specs.declared.reservations.TheConstants as reservations
@@ -19,7 +18,7 @@ use Rattle.sql_tables.specs.declared.tags.TheConstants as tags
 use Rattle.sql_tables.specs.declared.tx_owners.TheConstants as tx_owners
 use Rattle.sql_tables.specs.declared.txs.TheConstants as txs
 use Rattle.sql_tables.specs.declared.uses.TheConstants as uses
-use Rattle.sql_tables.specs.Tables.{names_of, hub_station, hub_connector, hub_tag, hub_grant, hub_tx, hub_reading, hub_reservation, hub_list, hub_list_entry, hub_report, hub_tx_owner, hub_use, hub_meter_value}
+use Rattle.sql_tables.specs.Tables.{names_of, hub_station, hub_connector, hub_tag, hub_grant, hub_tx, hub_reading, hub_reservation, hub_list, hub_list_entry, hub_report, hub_tx_owner, hub_use}
 
 pub put_meta_is : IsWrite meta.PUT.now (put_command 0 0 1 1)
 unfolding understood everything
@@ -52,10 +51,6 @@ add_tx_is = (refl, (refl, refl))
 pub add_reading_is : IsWrite readings.ADD.now (add_command 6 13)
 unfolding understood everything
 add_reading_is = (refl, (refl, refl))
-
-pub add_meter_value_is : IsWrite meter_values.ADD.now (add_command 13 8)
-unfolding understood everything
-add_meter_value_is = (refl, (refl, refl))
 
 pub put_reservation_is : IsWrite reservations.PUT.now (put_command 7 14 3 4)
 unfolding understood everything
@@ -156,18 +151,6 @@ list_tx_readings_is = (refl, (refl, refl), refl)
 pub find_last_reading_is : IsRead readings.FIND_LAST.now (last_query 12 (where_is 0 (1 ∷ 2 ∷ [])) (cols 1 1 13) 3) (names_of hub_reading)
 unfolding understood everything
 find_last_reading_is = (refl, (refl, refl), refl)
-
-pub list_meter_values_is : IsRead meter_values.LIST.now (plain_query (inner 26 end) (where_is 0 (1 ∷ 2 ∷ [])) (cols 1 1 8) (by_column 3 ∷ [])) (names_of hub_meter_value)
-unfolding understood everything
-list_meter_values_is = (refl, (refl, refl), refl)
-
-pub list_tx_meter_values_is : IsRead meter_values.LIST_OF_TX.now (plain_query (inner 26 end) (where_is 0 (1 ∷ 2 ∷ 5 ∷ [])) (cols 1 1 8) (by_column 3 ∷ [])) (names_of hub_meter_value)
-unfolding understood everything
-list_tx_meter_values_is = (refl, (refl, refl), refl)
-
-pub find_last_meter_value_is : IsRead meter_values.FIND_LAST.now (last_query 26 (where_is 0 (1 ∷ 2 ∷ [])) (cols 1 1 8) 3) (names_of hub_meter_value)
-unfolding understood everything
-find_last_meter_value_is = (refl, (refl, refl), refl)
 
 pub find_reservations_is : IsRead reservations.FIND.now (plain_query (inner 14 end) (where_is 0 (1 ∷ 2 ∷ []) ++ range_is 2 3) (cols 1 1 7) (by_column 3 ∷ [])) (names_of hub_reservation)
 unfolding understood everything

@@ -11,7 +11,6 @@ mod commands;
 mod enumerations;
 mod frames;
 mod paths;
-mod readings;
 mod requests;
 mod tables;
 mod values;
