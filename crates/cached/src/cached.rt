@@ -13,7 +13,7 @@ use crate::station_answer::StationAnswer;
 use crate::tag_answer::{LookUp, TagAnswer};
 use crate::{station_answer, tag_answer};
 use hub_rows::{
-    Change, ConnectorRow, Forgettable, GrantRow, GrantedTag, Info, LocalList, ReadingRow,
+    Change, ConnectorRow, GrantRow, GrantedTag, History, Info, LocalList, ReadingRow,
     Registration, ReportRow, ReservationId, ReservationRow, StartKey, StationRow, Store,
     StoreFault, TagRow, TxKey, TxRow, TxState, UseRow,
 };
@@ -239,7 +239,7 @@ impl<S: Store> Store for Cached<S> {
         op: &str,
         station: &str,
         until: Moment,
-    ) -> Result<Forgettable, StoreFault> {
+    ) -> Result<History, StoreFault> {
         self.store.forgettable(op, station, until)
     }
 

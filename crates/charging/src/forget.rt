@@ -4,7 +4,7 @@ ghost use Rattle.hub_rows.specs.Reads.{OnlyReads};
 ghost use Rattle.hub_rows.specs.Lookups.{lookups_at};
 ghost use Rattle.charging.specs.Forget.{forget_rule};
 
-use hub_rows::{Forgettable, Store, StoreFault};
+use hub_rows::{History, Store, StoreFault};
 use ocpp_types::{FieldName, Moment, Refusal};
 use registry::StationAt;
 
@@ -14,7 +14,7 @@ pub fn plan_forget<S: Store>(
     store: &mut S,
     at: &StationAt<'_>,
     until: Moment,
-) -> Result<Result<Forgettable, Refusal>, StoreFault>
+) -> Result<Result<History, Refusal>, StoreFault>
     ensures reads { OnlyReads S.view store.old store.new result }
     ensures plan { (S.view store.new).clean → IfOk result (λ p. p
         ≡ forget_rule at.now.station.now until at.now.moment (lookups_at at.now.op.now (S.view store.old).rows)) }

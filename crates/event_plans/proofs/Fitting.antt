@@ -37,6 +37,7 @@ use Rattle.ocpp_types.specs.declared.authorization_status.AuthorizationStatus.Th
 use Rattle.std.specs.List.{AllByRecursion, is_nil}
 use Rattle.hub_rows.proofs.ForgetLaws.{forgettable-stopped}
 use Rattle.hub_rows.specs.declared.forgettable.Forgettable.{Forgettable}
+use Rattle.hub_rows.specs.Forgetting.{numbers_of}
 use Rattle.hub_rows.specs.Changes.{EditFits, IsAnother, IsOpen, IsStopped}
 use Rattle.hub_rows.specs.Grants.{granted_tag_in}
 use Rattle.hub_rows.specs.Tags.{own_tag_in}
@@ -118,7 +119,7 @@ FitsLookups l (Tags (GrantDropped key to)) = Unit {0}
 FitsLookups l (Transactions (TxStarted station number start owner)) = IsSome (l.registration station) × AreNext (l.last_tx station) number 1 × (start.id.key ≡ key_of start.tag) × IfSome owner (IsOwner l start.id.key)
 FitsLookups l (Transactions (TxStopped station number stop first readings)) = IsOpen (l.tx station number) × AreNext (l.last_reading station) first (length readings)
 FitsLookups l (Transactions (ReadingsAdded station first readings)) = IsSome (l.registration station) × AreNext (l.last_reading station) first (length readings)
-FitsLookups l (Transactions (Forgotten station gone)) = Σ ℕ (λ until. gone ≡ l.forgettable station until)
+FitsLookups l (Transactions (Forgotten station gone)) = Σ ℕ (λ until. gone ≡ numbers_of (l.forgettable station until))
 FitsLookups l (Holdings (ReservationPut station id reservation)) = IsSome (l.registration station)
 FitsLookups l (Holdings (ReservationDropped station id)) = Unit {0}
 FitsLookups l (Holdings (ListSet station list)) = IsSome (l.registration station) × AreEntries list.entries
@@ -370,7 +371,7 @@ forget_fits station until m f =
     let gone = f.lookups.forgettable station until in
     elim (is_some (f.lookups.registration station)) as (λ b. PlanFits f (forget_plan station (cond b (cond (nat_le until m) (Ok gone) (Err (BadField (codes "until")))) (Err NoSuchStation)))) [
       | true ↦ elim (nat_le until m) as (λ b. PlanFits f (forget_plan station (cond b (Ok gone) (Err (BadField (codes "until")))))) [
-        | true ↦ elim (is_nil gone.readings && is_nil gone.transactions) as (λ b. EffectFits f (cond b effect.Nothing (effect.Edit (Transactions (Forgotten station gone))))) [ true ↦ tt | false ↦ (until, refl) ]
+        | true ↦ elim (is_nil gone.readings && is_nil gone.transactions) as (λ b. EffectFits f (cond b effect.Nothing (effect.Edit (Transactions (Forgotten station (numbers_of gone)))))) [ true ↦ tt | false ↦ (until, refl) ]
         | false ↦ tt
       ]
       | false ↦ tt

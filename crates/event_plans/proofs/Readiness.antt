@@ -5,7 +5,8 @@ use Rattle.ocpp_types.specs.declared.refusal.Refusal.{Refusal}
 use Rattle.hub_rows.specs.declared.change.Edit.{Edit}
 use Rattle.hub_rows.specs.declared.change.Edit.TheVariants.{Transactions}
 use Rattle.hub_rows.specs.declared.change.TransactionEdit.TheVariants.{Forgotten}
-use Rattle.hub_rows.specs.declared.forgettable.Forgettable.{Forgettable}
+use Rattle.hub_rows.specs.Forgetting.{numbers_of}
+use Rattle.hub_rows.specs.declared.forgettable.History.{History}
 use Rattle.event_plans.specs.declared.plan.Effect.TheVariants as effect
 use Rattle.hub_rows.specs.declared.store.StoreFault.{StoreFault}
 use Rattle.hub_rows.specs.declared.station_row.Registration.{Registration}
@@ -28,11 +29,11 @@ pub edit_ready : (slot : List ℕ → StationSlot) (answer : Result Edit Refusal
 edit_ready slot (Ok e) p is = rw is tt
 edit_ready slot (Err refusal) p is = rw is tt
 
-forgetting_ready : (slot : List ℕ → StationSlot) (station : List ℕ) (gone : Forgettable) → IsReady slot (forgetting station gone)
+forgetting_ready : (slot : List ℕ → StationSlot) (station : List ℕ) (gone : History) → IsReady slot (forgetting station gone)
 forgetting_ready slot station gone =
-    elim (is_nil gone.readings && is_nil gone.transactions) as (λ b. IsReady slot (cond b effect.Nothing (effect.Edit (Transactions (Forgotten station gone))))) [ true ↦ tt | false ↦ tt ]
+    elim (is_nil gone.readings && is_nil gone.transactions) as (λ b. IsReady slot (cond b effect.Nothing (effect.Edit (Transactions (Forgotten station (numbers_of gone)))))) [ true ↦ tt | false ↦ tt ]
 
-pub forget_ready : (slot : List ℕ → StationSlot) (station : List ℕ) (answer : Result Forgettable Refusal) (p : Plan) → p ≡ forget_plan station answer → IsReady slot p.effect
+pub forget_ready : (slot : List ℕ → StationSlot) (station : List ℕ) (answer : Result History Refusal) (p : Plan) → p ≡ forget_plan station answer → IsReady slot p.effect
 forget_ready slot station (Ok gone) p is = rw is (forgetting_ready slot station gone)
 forget_ready slot station (Err refusal) p is = rw is tt
 

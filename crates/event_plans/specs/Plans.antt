@@ -11,7 +11,8 @@ use Rattle.ocpp_payload.specs.Conf.{conf_data}
 use Rattle.hub_rows.specs.declared.change.Edit.{Edit}
 use Rattle.hub_rows.specs.declared.change.Edit.TheVariants.{Transactions}
 use Rattle.hub_rows.specs.declared.change.TransactionEdit.TheVariants.{Forgotten}
-use Rattle.hub_rows.specs.declared.forgettable.Forgettable.{Forgettable}
+use Rattle.hub_rows.specs.declared.forgettable.History.{History}
+use Rattle.hub_rows.specs.Forgetting.{numbers_of}
 use Rattle.hub_rows.specs.declared.station_row.Registration.{Registration}
 use Rattle.registry.specs.declared.decision.Decision.{Decision}
 use Rattle.registry.specs.declared.decision.Reply.{Reply}
@@ -87,11 +88,11 @@ edit_plan (Ok edit) = record { said = said.Accepted None ∷ []; effect = effect
 edit_plan (Err refusal) = only (said.Refused refusal)
 
 -- rows of a station go, if there are any
-abbrev pub forgetting : List ℕ → Forgettable → Effect
-forgetting station gone = if is_nil gone.readings && is_nil gone.transactions then effect.Nothing else effect.Edit (Transactions (Forgotten station gone))
+abbrev pub forgetting : List ℕ → History → Effect
+forgetting station gone = if is_nil gone.readings && is_nil gone.transactions then effect.Nothing else effect.Edit (Transactions (Forgotten station (numbers_of gone)))
 
 -- how many go is told
-abbrev pub forget_plan : List ℕ → Result Forgettable Refusal → Plan
+abbrev pub forget_plan : List ℕ → Result History Refusal → Plan
 forget_plan station (Ok gone) = record { said = said.Row (row.Forgotten station (length gone.transactions) (length gone.readings)) ∷ said.Accepted None ∷ []; effect = forgetting station gone }
 forget_plan station (Err refusal) = only (said.Refused refusal)
 

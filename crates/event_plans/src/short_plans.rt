@@ -4,7 +4,7 @@ ghost use Rattle.event_plans.specs.Plans.{turned_plan, connect_plan, disconnect_
 
 use crate::plan::{Effect, Plan, one};
 use hub_events::{Row, Said};
-use hub_rows::{Edit, Forgettable, Registration, TransactionEdit};
+use hub_rows::{Edit, History, Registration, TransactionEdit};
 use ocpp_frame::{write_error, write_result};
 use ocpp_payload::{Conf, write_conf};
 use ocpp_types::{Boxed, ErrorCode, Mem, Named, Refusal, Text};
@@ -123,7 +123,7 @@ pub fn edit_plan(alloc: Global, answer: Result<Edit, Refusal>) -> Mem<Plan>
 }
 
 /// Rows of a station are forgotten, which is told, or the request is refused.
-pub fn forget_plan(alloc: Global, station: &Text, answer: Result<Forgettable, Refusal>) -> Mem<Plan>
+pub fn forget_plan(alloc: Global, station: &Text, answer: Result<History, Refusal>) -> Mem<Plan>
     ensures { IfOk result (λ p. p ≡ forget_plan station.now answer) }
 {
     match answer {
@@ -137,7 +137,7 @@ pub fn forget_plan(alloc: Global, station: &Text, answer: Result<Forgettable, Re
             said.push(Said::Accepted { number: None })?;
             Ok(Plan {
                 said,
-                effect: forgetting(alloc, station, gone)?,
+                effect: forgetting(alloc, station, &gone)?,
             })
         }
         Err(refusal) => Plan::only(alloc, Said::Refused(refusal)),
@@ -145,15 +145,15 @@ pub fn forget_plan(alloc: Global, station: &Text, answer: Result<Forgettable, Re
 }
 
 /// The effect that rows of a station go, if there are any.
-fn forgetting(alloc: Global, station: &Text, gone: Forgettable) -> Mem<Effect>
-    ensures { IfOk result (λ e. e ≡ forgetting station.now gone) }
+fn forgetting(alloc: Global, station: &Text, gone: &History) -> Mem<Effect>
+    ensures { IfOk result (λ e. e ≡ forgetting station.now gone.now) }
 {
     if gone.readings.as_slice().is_empty() && gone.transactions.as_slice().is_empty() {
         return Ok(Effect::Nothing);
     }
     let edit = Edit::Transactions(TransactionEdit::Forgotten {
         station: station.clone()?,
-        rows: gone,
+        rows: gone.numbers(alloc)?,
     });
     Ok(Effect::Edit(Boxed::new(alloc, edit)?))
 }

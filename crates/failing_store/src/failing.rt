@@ -2,7 +2,7 @@
 ghost use Rattle.std.specs.Prelude.{◌≡◌, ◌+◌, Some, OnOk, OnErr};
 
 use hub_rows::{
-    Change, ConnectorRow, Forgettable, GrantRow, GrantedTag, Info, LocalList, ReadingRow,
+    Change, ConnectorRow, GrantRow, GrantedTag, History, Info, LocalList, ReadingRow,
     Registration, ReportRow, ReservationId, ReservationRow, StartKey, StationRow, Store,
     StoreFault, TagRow, TxKey, TxRow, TxState, UseRow,
 };
@@ -170,7 +170,7 @@ impl<S: Store> Store for Failing<S> {
         op: &str,
         station: &str,
         until: Moment,
-    ) -> Result<Forgettable, StoreFault> {
+    ) -> Result<History, StoreFault> {
         self.count_call()?;
         self.store.forgettable(op, station, until)
     }

@@ -7,7 +7,7 @@ use hub_rows::{
     ConnectorRow, GrantRow, GrantedTag, LocalTag, ReadingRow, ReportRow, ReservationRow,
     StationRow, TagRow, TxRow, UseRow,
 };
-use ocpp_types::Text;
+use ocpp_types::{Moment, Text};
 
 /// A list of an operator's records.
 #[derive(Drop)]
@@ -49,6 +49,11 @@ pub enum Listing {
     /// The last reports of a station on an upload and on an update.
     Reports {
         station: Text,
+    },
+    /// What an order to forget the history of a station before a moment would take.
+    Forgettable {
+        station: Text,
+        until: Moment,
     },
 }
 

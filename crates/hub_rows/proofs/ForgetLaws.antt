@@ -12,7 +12,7 @@ use Rattle.std.specs.declared.cmp.Ordering.TheVariants.{Less}
 use Rattle.hub_rows.specs.declared.tx_row.Stop.{Stop}
 use Rattle.hub_rows.specs.declared.tx_row.TxRow.{TxRow}
 use Rattle.hub_rows.specs.Changes.{IsStopped}
-use Rattle.hub_rows.specs.Forgetting.{but_last, forgettable, is_before, is_left, is_over}
+use Rattle.hub_rows.specs.Forgetting.{but_last, forgettable, is_before, is_left, is_over, numbers_of}
 use Rattle.hub_rows.specs.Keyed.{by_key, found, key_cmp}
 use Rattle.hub_rows.specs.Lookups.{forgettable_in}
 use Rattle.hub_rows.specs.Rows.{Rows, tx_key}
@@ -66,10 +66,10 @@ has_stop until None is = absurd (true≢false (sym is))
 has_stop until (Some stop) is = refl
 
 -- the transactions that may go are stopped
-pub forgettable-stopped : (b station : List ℕ) (until : ℕ) (rows : Rows) → WellFormedRows rows → AllByRecursion (λ n. IsStopped (tx_in b station n rows.transactions)) (forgettable_in b station until rows).transactions
+pub forgettable-stopped : (b station : List ℕ) (until : ℕ) (rows : Rows) → WellFormedRows rows → AllByRecursion (λ n. IsStopped (tx_in b station n rows.transactions)) (numbers_of (forgettable_in b station until rows)).transactions
 forgettable-stopped b station until rows good =
     let txs = rows.transactions in
-    let gone = (forgettable_in b station until rows).readings in
+    let gone = map (λ r. r.number) (forgettable_in b station until rows).readings in
     let left : TxRow → Bool = λ t. is_over until t && not (is_left (readings_in b station None rows.readings) gone t) in
     let Here : TxRow → Type 0 = λ t. (find (has_key_of t) txs ≡ Some t) × (bytes_eq t.op b && bytes_eq t.station station ≡ true) in
     let here : AllByRecursion Here (txs_in b station txs) = all-passed (λ t. find (has_key_of t) txs ≡ Some t) (λ t. bytes_eq t.op b && bytes_eq t.station station) txs (each-found txs good.transactions.sorted) in

@@ -4,6 +4,7 @@ use Rattle.std.specs.List.{list_any}
 use Rattle.std.specs.Ordering.{int_eq}
 use Rattle.std.specs.Str.{bytes_eq}
 use Rattle.hub_rows.specs.declared.forgettable.Forgettable.{Forgettable}
+use Rattle.hub_rows.specs.declared.forgettable.History.{History}
 use Rattle.hub_rows.specs.declared.forgettable.TheConstants.{MAX_FORGOTTEN}
 use Rattle.hub_rows.specs.declared.reading_row.ReadingRow.{ReadingRow}
 use Rattle.hub_rows.specs.declared.tx_row.Stop.{Stop}
@@ -51,11 +52,15 @@ abbrev pub old_txs : ℕ → ℕ → List TxRow → List ReadingRow → List ℕ
 old_txs most until txs readings gone = take most (filter (λ t. is_over until t && not (is_left readings gone t)) (but_last txs))
 
 -- readings go first, and with them at most 1,000 rows
-abbrev pub old_rows : ℕ → List TxRow → List ReadingRow → List ℕ → Forgettable
-old_rows until txs readings gone = record { readings = gone; transactions = map (λ t. t.number) (old_txs (MAX_FORGOTTEN - length gone) until txs readings gone) }
+abbrev pub old_rows : ℕ → List TxRow → List ReadingRow → List ReadingRow → History
+old_rows until txs readings gone = record { readings = gone; transactions = old_txs (MAX_FORGOTTEN - length gone) until txs readings (map (λ r. r.number) gone) }
 
-abbrev pub forgettable : ℕ → List TxRow → List ReadingRow → Forgettable
-forgettable until txs readings = old_rows until txs readings (map (λ r. r.number) (old_readings MAX_FORGOTTEN until txs readings))
+abbrev pub forgettable : ℕ → List TxRow → List ReadingRow → History
+forgettable until txs readings = old_rows until txs readings (old_readings MAX_FORGOTTEN until txs readings)
+
+-- by their numbers
+abbrev pub numbers_of : History → Forgettable
+numbers_of h = record { readings = map (λ r. r.number) h.readings; transactions = map (λ t. t.number) h.transactions }
 
 -- ---- what goes
 

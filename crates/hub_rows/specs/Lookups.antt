@@ -31,7 +31,7 @@ use Rattle.hub_rows.specs.Reservations.{reservations_in, reserved_until_in}
 use Rattle.hub_rows.specs.Rows.{Rows, registration_at}
 use Rattle.hub_rows.specs.Tags.{own_tag_in}
 use Rattle.hub_rows.specs.Forgetting.{forgettable}
-use Rattle.hub_rows.specs.declared.forgettable.Forgettable.{Forgettable}
+use Rattle.hub_rows.specs.declared.forgettable.History.{History}
 use Rattle.hub_rows.specs.Transactions.{is_used_in, same_start_in, tx_in, txs_in, has_open_in, open_txs_in, txs_from_in, readings_in, last_tx_in, last_reading_in}
 use Rattle.hub_rows.specs.Uses.{uses_in}
 
@@ -76,7 +76,7 @@ pub record Lookups : Type 0 where
   pub readings : List ℕ → Option ℕ → List ReadingRow
   pub reservations : List ℕ → List ReservationRow
   -- what of a station's history may go before a moment
-  pub forgettable : List ℕ → ℕ → Forgettable
+  pub forgettable : List ℕ → ℕ → History
   pub reports : List ℕ → List ReportRow
   pub uses : List UseRow
 
@@ -103,7 +103,7 @@ abbrev pub reports_in : List ℕ → List ℕ → List ReportRow → List Report
 reports_in b station rows = those (λ r. r.op) b (λ r. bytes_eq r.station station) rows
 
 -- what of the history of a station of operator b may go, among the rows of all
-abbrev pub forgettable_in : List ℕ → List ℕ → ℕ → Rows → Forgettable
+abbrev pub forgettable_in : List ℕ → List ℕ → ℕ → Rows → History
 forgettable_in b station until rows = forgettable until (txs_in b station rows.transactions) (readings_in b station None rows.readings)
 
 -- over the rows of all operators, with the operator in each condition

@@ -22,7 +22,7 @@ mod use_row;
 
 pub use change::{Change, Edit, HoldingEdit, StationEdit, TagEdit, TransactionEdit};
 pub use connector_row::{ConnectorReport, ConnectorRow};
-pub use forgettable::{Forgettable, MAX_FORGOTTEN};
+pub use forgettable::{Forgettable, History, MAX_FORGOTTEN, reading_numbers};
 pub use forgotten::{goes_with, has_number};
 pub use grant_row::GrantRow;
 pub use info::{GrantedTag, Info};

@@ -15,7 +15,7 @@ ghost use Rattle.hub_rows.specs.declared.store.StoreFault.TheVariants as store_f
 
 use crate::change::Change;
 use crate::connector_row::ConnectorRow;
-use crate::forgettable::Forgettable;
+use crate::forgettable::History;
 use crate::grant_row::GrantRow;
 use crate::info::{GrantedTag, Info};
 use crate::list_row::LocalList;
@@ -219,7 +219,7 @@ pub trait Store {
         op: &str,
         station: &str,
         until: Moment,
-    ) -> Result<Forgettable, StoreFault>
+    ) -> Result<History, StoreFault>
         ensures reads { OnlyReads view self.old self.new result }
         ensures found { (view self.new).clean
             → IfOk result (λ r. r ≡ forgettable_in op.now station.now until (view self.old).rows) };

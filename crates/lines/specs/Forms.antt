@@ -181,9 +181,16 @@ reports_form rest = do
   station ← only_word rest
   Some (what.List (listing.Reports station))
 
+-- `forgettable ST UNTIL`
+abbrev pub forgettable_form : List ℕ → Option What
+forgettable_form rest = do
+  station ← first_word rest
+  until ← moment_at station.1
+  Some (what.List (listing.Forgettable station.0 until))
+
 -- the listings of a station
 abbrev pub station_list_form : List ℕ → Option What
-station_list_form = by_word ((codes "connectors", connectors_form) ∷ (codes "transactions", transactions_form) ∷ (codes "readings", readings_form) ∷ (codes "reservations", reservations_form) ∷ (codes "locallist", local_list_form) ∷ (codes "reports", reports_form) ∷ [])
+station_list_form = by_word ((codes "connectors", connectors_form) ∷ (codes "transactions", transactions_form) ∷ (codes "readings", readings_form) ∷ (codes "reservations", reservations_form) ∷ (codes "locallist", local_list_form) ∷ (codes "reports", reports_form) ∷ (codes "forgettable", forgettable_form) ∷ [])
 
 -- the listings of an operator
 abbrev pub plain_list : List ℕ → Option What

@@ -138,13 +138,10 @@ module _ (until most : ℕ) (txs : List TxRow) (sorted : IsStrictlySortedBy (by_
         | false ↦ λ over. refl
       ] refl
 
-  by-room : (m : ℕ) → m ≡ most - length gone → (k : ℕ) → take m (filter (tx_goes until back gone) (take k txs)) ≡ take m (filter (tx_goes until (front ++ back) gone) (take k txs))
+  pub by-room : (m : ℕ) → m ≡ most - length gone → (k : ℕ) → take m (filter (tx_goes until back gone) (take k txs)) ≡ take m (filter (tx_goes until (front ++ back) gone) (take k txs))
   by-room zero room k = refl
   by-room (suc m) room k =
       let few : length gone < most = omega (arith, room) in
       ap (take (suc m)) (filter-alike (tx_goes until back gone) (tx_goes until (front ++ back) gone) (take k txs)
       (all-weaker (Names txs) (λ t. tx_goes until back gone t ≡ tx_goes until (front ++ back) gone t) (left-behind few) (take k txs)
       (all-front (Names txs) (take k txs) (drop k txs) (subst (AllByRecursion (Names txs)) (sym (take-append-drop k txs)) (names-each txs sorted)))))
-
-  pub by-last : (k : ℕ) → map (λ t. t.number) (take (most - length gone) (filter (tx_goes until back gone) (take k txs))) ≡ map (λ t. t.number) (take (most - length gone) (filter (tx_goes until (front ++ back) gone) (take k txs)))
-  by-last k = ap (map (λ t. t.number)) (by-room (most - length gone) refl k)

@@ -1,5 +1,5 @@
 //! What may go of a station's history, by its rows in the order of their numbers.
-ghost use Rattle.std.specs.Prelude.{◌≡◌, ◌≤◌, length, map, filter, take, option_map, IfOk};
+ghost use Rattle.std.specs.Prelude.{◌≡◌, ◌≤◌, length, filter, take, option_map, IfOk};
 ghost use Rattle.std.specs.List.Sorted.{IsStrictlySortedBy};
 ghost use Rattle.hub_rows.specs.Forgetting.{forgettable, is_left, may_go, named_tx};
 ghost use Rattle.hub_rows.specs.Keyed.{by_key};
@@ -8,7 +8,9 @@ ghost use Rattle.store_mem.specs.NamedGroups.{number_key};
 
 use crate::readings::is_sent_with;
 use crate::station_rows::row_in;
-use hub_rows::{Forgettable, MAX_FORGOTTEN, ReadingRow, TxRow, goes_with, has_number};
+use hub_rows::{
+    History, MAX_FORGOTTEN, ReadingRow, TxRow, goes_with, has_number, reading_numbers,
+};
 use ocpp_types::{Listed, Mem, Moment};
 use std::alloc::Global;
 
@@ -19,31 +21,32 @@ pub fn forgettable(
     until: Moment,
     txs: &[TxRow],
     readings: &[ReadingRow],
-) -> Mem<Forgettable>
+) -> Mem<History>
     requires { IsStrictlySortedBy (by_key (number_key (λ t. t.number))) txs.now }
     ensures { IfOk result (λ f. f ≡ forgettable until txs.now readings.now) }
 {
     let (front, last) = readings.split_at(readings.len().saturating_sub(1));
     let gone = old_readings(alloc, MAX_FORGOTTEN, until, txs, front)?;
+    let numbers = reading_numbers(alloc, gone.as_slice())?;
     let most = MAX_FORGOTTEN - gone.as_slice().len();
     let (front_txs, _) = txs.split_at(txs.len().saturating_sub(1));
-    let transactions = old_txs(alloc, most, until, front_txs, last, gone.as_slice())?;
-    Ok(Forgettable {
+    let transactions = old_txs(alloc, most, until, front_txs, last, numbers.as_slice())?;
+    Ok(History {
         readings: gone,
         transactions,
     })
 }
 
-/// The numbers of the first readings that may go, at most so many.
+/// The first readings that may go, at most so many.
 fn old_readings(
     alloc: Global,
     most: usize,
     until: Moment,
     txs: &[TxRow],
     readings: &[ReadingRow],
-) -> Mem<Listed<u32>>
+) -> Mem<Listed<ReadingRow>>
     requires { IsStrictlySortedBy (by_key (number_key (λ t. t.number))) txs.now }
-    ensures numbers { IfOk result (λ l. l ≡ map (λ r. r.number) (take most (filter (may_go until txs.now) readings.now))) }
+    ensures rows { IfOk result (λ l. l ≡ take most (filter (may_go until txs.now) readings.now)) }
     ensures most { IfOk result (λ l. length l ≤ most) }
 {
     let mut gone = Listed::new(alloc);
@@ -52,7 +55,7 @@ fn old_readings(
             return Ok(gone);
         }
         if may_go(until, txs, row) {
-            gone.push(row.number)?;
+            gone.push(row.clone()?)?;
         }
     }
     Ok(gone)
@@ -81,7 +84,7 @@ fn named_tx<'a>(txs: &'a [TxRow], transaction: Option<i32>) -> Option<&'a TxRow>
     }
 }
 
-/// The numbers of the first transactions that may go once those readings are gone, at most so many.
+/// The first transactions that may go once the readings of those numbers are gone, at most so many.
 fn old_txs(
     alloc: Global,
     most: usize,
@@ -89,8 +92,8 @@ fn old_txs(
     txs: &[TxRow],
     readings: &[ReadingRow],
     gone: &[u32],
-) -> Mem<Listed<u32>>
-    ensures { IfOk result (λ l. l ≡ map (λ t. t.number) (take most (filter (tx_goes until readings.now gone.now) txs.now))) }
+) -> Mem<Listed<TxRow>>
+    ensures { IfOk result (λ l. l ≡ take most (filter (tx_goes until readings.now gone.now) txs.now)) }
 {
     let mut ended = Listed::new(alloc);
     for tx in txs {
@@ -98,7 +101,7 @@ fn old_txs(
             return Ok(ended);
         }
         if tx_goes(until, readings, gone, tx) {
-            ended.push(tx.number)?;
+            ended.push(tx.clone()?)?;
         }
     }
     Ok(ended)

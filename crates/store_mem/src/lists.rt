@@ -13,7 +13,7 @@ use crate::transactions::Transactions;
 use crate::tx_owners::TxOwners;
 use crate::uses::{Uses, next_use};
 use hub_rows::{
-    ConnectorRow, Forgettable, ListRow, ReportRow, ReservationRow, StationRow, Stop, UseRow,
+    ConnectorRow, History, ListRow, ReportRow, ReservationRow, StationRow, Stop, UseRow,
 };
 use ocpp_types::{Mem, Moment, Text};
 use std::alloc::Global;
@@ -57,7 +57,7 @@ impl Lists {
     }
 
     /// What of a station's history may go before a moment.
-    pub fn forgettable(&self, op: &str, station: &str, until: Moment) -> Mem<Forgettable>
+    pub fn forgettable(&self, op: &str, station: &str, until: Moment) -> Mem<History>
         ensures { IfOk result (λ f. f ≡ forgettable_in op.now station.now until (rows_in self.now)) }
     {
         let txs = self.transactions.rows_of(op, station);

@@ -13,7 +13,7 @@ use crate::reservations::reserved_until;
 use crate::station_copies::{copies_of_station, local_list_of};
 use crate::stations::registration_of;
 use hub_rows::{
-    Change, ConnectorRow, Forgettable, GrantRow, GrantedTag, Info, LocalList, ReadingRow,
+    Change, ConnectorRow, GrantRow, GrantedTag, History, Info, LocalList, ReadingRow,
     Registration, ReportRow, ReservationId, ReservationRow, StartKey, StationRow, Store,
     StoreFault, TagRow, TxKey, TxRow, TxState, UseRow,
 };
@@ -144,7 +144,7 @@ impl Store for MemStore {
         op: &str,
         station: &str,
         until: Moment,
-    ) -> Result<Forgettable, StoreFault> {
+    ) -> Result<History, StoreFault> {
         Ok(self.lists.forgettable(op, station, until)?)
     }
 

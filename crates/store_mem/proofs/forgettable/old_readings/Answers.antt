@@ -12,9 +12,9 @@ loop-row-preserved c =
       | then-may_go+in_ok-push w ↦
           let same : length c.as_slice.result.now ≡ length l.gone = ap length c.as_slice.ensures in
           let room : length l.gone < c.args.most = omega (arith, c.if-as_slice-most.false, same, l.invariant.bound) in
-          one-found p (λ r. r.number) c.args.most c.args.readings.now l.gone c.if-may_go.gone l.row-index c.row-item.result l.invariant c.loop-row-test.true c.row-item.is (sym c.may_go.ensures ∙ w.if-may_go.true) room
+          one-found p c.args.most c.args.readings.now l.gone c.if-may_go.gone l.row-index c.row-item.result l.invariant c.loop-row-test.true c.row-item.is (sym c.may_go.ensures ∙ w.if-may_go.true) room
           (w.gone-is ∙ w.in_ok-push.ensures.ok)
       | else-may_go w ↦
-          subst (λ f. AreFirst p (λ r. r.number) c.args.most c.args.readings.now f (l.row-index + 1)) (sym w.gone-is)
-          (none-here p (λ r. r.number) c.args.most c.args.readings.now l.gone l.row-index c.row-item.result l.invariant c.loop-row-test.true c.row-item.is (sym c.may_go.ensures ∙ w.if-may_go.false))
+          subst (λ f. AreFirst p c.args.most c.args.readings.now f (l.row-index + 1)) (sym w.gone-is)
+          (none-here p c.args.most c.args.readings.now l.gone l.row-index c.row-item.result l.invariant c.loop-row-test.true c.row-item.is (sym c.may_go.ensures ∙ w.if-may_go.false))
     ]

@@ -12,9 +12,9 @@ loop-tx-preserved c =
       | then-tx_goes+in_ok-push w ↦
           let same : length c.as_slice.result.now ≡ length l.ended = ap length c.as_slice.ensures in
           let room : length l.ended < c.args.most = omega (arith, c.if-as_slice-most.false, same, l.invariant.bound) in
-          one-found p (λ t. t.number) c.args.most c.args.txs.now l.ended c.if-tx_goes.ended l.tx-index c.tx-item.result l.invariant c.loop-tx-test.true c.tx-item.is (sym c.tx_goes.ensures ∙ w.if-tx_goes.true) room
+          one-found p c.args.most c.args.txs.now l.ended c.if-tx_goes.ended l.tx-index c.tx-item.result l.invariant c.loop-tx-test.true c.tx-item.is (sym c.tx_goes.ensures ∙ w.if-tx_goes.true) room
           (w.ended-is ∙ w.in_ok-push.ensures.ok)
       | else-tx_goes w ↦
-          subst (λ f. AreFirst p (λ t. t.number) c.args.most c.args.txs.now f (l.tx-index + 1)) (sym w.ended-is)
-          (none-here p (λ t. t.number) c.args.most c.args.txs.now l.ended l.tx-index c.tx-item.result l.invariant c.loop-tx-test.true c.tx-item.is (sym c.tx_goes.ensures ∙ w.if-tx_goes.false))
+          subst (λ f. AreFirst p c.args.most c.args.txs.now f (l.tx-index + 1)) (sym w.ended-is)
+          (none-here p c.args.most c.args.txs.now l.ended l.tx-index c.tx-item.result l.invariant c.loop-tx-test.true c.tx-item.is (sym c.tx_goes.ensures ∙ w.if-tx_goes.false))
     ]

@@ -3,4 +3,4 @@ use Rattle.store_mem.proofs.FirstLaws.{AreFirst}
 use Rattle.store_mem.proofs.forgettable.old_txs.Given as goal
 
 abbrev pub invariant-loop-tx : goal.invariant-loop-tx
-invariant-loop-tx l = AreFirst (tx_goes l.until l.readings l.gone) (λ t. t.number) l.most l.txs l.ended l.tx-index
+invariant-loop-tx l = AreFirst (tx_goes l.until l.readings l.gone) l.most l.txs l.ended l.tx-index
