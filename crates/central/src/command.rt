@@ -131,6 +131,7 @@ fn forget_options(alloc: Global, found: &ArgMatches) -> Result<ForgetOptions, Er
         port: port_of(found),
         operator: Text::from(found.get_str("operator").unwrap_or("").to_string(alloc)?),
         days: before_of(alloc, found)?,
+        export: text_if_any(alloc, found.get_str("export"))?,
     })
 }
 
@@ -262,12 +263,18 @@ fn forget_command<'a>(alloc: Global) -> Result<Command<'a>, AllocError> {
         .value_name("DAYS")
         .help("What is older than so many days goes, as 90d")
         .required(true);
+    let export = Arg::new(alloc, "export")
+        .long("export")
+        .value_name("NAME")
+        .help("Writes what goes to NAME-transactions.csv and NAME-readings.csv before it goes, after what is there")
+        .allow_hyphen_values(true);
     Command::new(alloc, "forget")
         .about("Forgets the history of an operator's stations, and prints how many rows went")
         .after_help(help::FORGET)
         .arg(port_arg(alloc, "The port of the server on 127.0.0.1"))?
         .arg(operator_arg(alloc, "The operator whose history goes"))?
-        .arg(before)
+        .arg(before)?
+        .arg(export)
 }
 
 /// An operator's name, which is taken as it is given.

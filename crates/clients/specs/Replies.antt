@@ -101,11 +101,16 @@ station_of op text = do
   parts ← at_space row
   Some parts.0
 
+-- what follows `OP row KIND ST `
+abbrev pub row_of_station : List ℕ → List ℕ → List ℕ → List ℕ → Option (List ℕ)
+row_of_station op kind station text = do
+  row ← row_of op kind text
+  after_word station row
+
 -- what went of a station, by `OP row forgotten ST TRANSACTIONS READINGS`
 abbrev pub forgotten_of : List ℕ → List ℕ → List ℕ → Option Forgotten
 forgotten_of op station text = do
-  row ← row_of op (codes "forgotten") text
-  counts ← after_word station row
+  counts ← row_of_station op (codes "forgotten") station text
   parts ← at_space counts
   transactions ← number_of parts.0
   readings ← number_of parts.1

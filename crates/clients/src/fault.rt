@@ -49,6 +49,9 @@ pub enum ClientFault {
     /// Standard input or output fails.
     #[error("Stream")]
     Console(io::Error),
+    /// The files of an export can't be opened or written.
+    #[error("Export")]
+    Export(io::Error),
     /// The script of a station is out of its bounds.
     #[error("Script")]
     Script,
@@ -71,6 +74,7 @@ impl ClientFault {
         match self {
             ClientFault::Stream(address, lost) => eprintln!(rt; "{address}: {lost}"),
             ClientFault::Console(error) => eprintln!(rt; "standard input or output: {error}"),
+            ClientFault::Export(error) => eprintln!(rt; "--export: {error}"),
             ClientFault::NoMemory | ClientFault::Script | ClientFault::Clock => Ok(()),
         }
     }

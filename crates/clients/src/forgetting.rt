@@ -3,6 +3,7 @@ ghost use Rattle.std.specs.Prelude.{◌≡◌};
 ghost use Rattle.clients.specs.Days.{days_of};
 
 use crate::clock::now;
+use crate::export::Export;
 use crate::fault::ClientFault;
 use crate::orders::Orders;
 use crate::reply::{Forgotten, Reply, forgotten_of, reply_of, station_of};
@@ -20,6 +21,8 @@ pub struct ForgetOptions {
     pub operator: Text,
     /// What is older than so many days goes.
     pub days: u64,
+    /// The name of two files to which what goes is written before.
+    pub export: Option<Text>,
 }
 
 /// The days of a text such as `90d`: one to five digits and a `d`.
@@ -40,6 +43,7 @@ struct Forgetting<'a> {
     rt: &'a HostRuntime,
     operator: &'a Text,
     orders: Orders<'a>,
+    export: Option<Export>,
     /// The history before that moment, in seconds since 1970.
     until: u64,
     /// What went so far.
@@ -48,7 +52,7 @@ struct Forgetting<'a> {
 
 /// Forgets what is so old, at each station of the operator, and prints how many rows went of each and of all. Whether
 /// all orders were taken. Errors: no connection, one that ends, an answer that doesn't come, a clock that gives no
-/// moment.
+/// moment, an export that can't be written.
 pub fn forget(rt: &HostRuntime, options: &ForgetOptions) -> Result<bool, ClientFault> {
     let moment = now(rt).ok_or(ClientFault::Clock)?;
     let age = options.days.saturating_mul(SECONDS_A_DAY);
@@ -56,6 +60,7 @@ pub fn forget(rt: &HostRuntime, options: &ForgetOptions) -> Result<bool, ClientF
         rt,
         operator: &options.operator,
         orders: Orders::to(rt, options.port, options.operator.as_str())?,
+        export: export_of(rt, &options.export)?,
         until: moment.seconds().saturating_sub(age),
         gone: Forgotten {
             transactions: 0,
@@ -64,6 +69,13 @@ pub fn forget(rt: &HostRuntime, options: &ForgetOptions) -> Result<bool, ClientF
     };
     let stations = forgetting.stations()?;
     forgetting.all(stations.as_slice())
+}
+
+fn export_of(rt: &HostRuntime, name: &Option<Text>) -> Result<Option<Export>, ClientFault> {
+    match name {
+        Some(name) => Ok(Some(Export::to(rt, name.as_str())?)),
+        None => Ok(None),
+    }
 }
 
 impl Forgetting<'_> {
@@ -104,6 +116,7 @@ impl Forgetting<'_> {
         let until = self.until;
         let line = format!(in self.rt.alloc(); "forget {station} {until}")?;
         for _ in 0..u64::MAX {
+            self.write(station)?;
             let Some(gone) = self.order(station, line.as_str())? else {
                 return Ok(false);
             };
@@ -111,6 +124,24 @@ impl Forgetting<'_> {
                 return Ok(true);
             }
             self.add(station, gone)?;
+        }
+        Err(self.orders.silent())
+    }
+
+    /// Writes what the next order takes to the files of the export, if there are any, and on the disk.
+    fn write(&mut self, station: &str) -> Result<(), ClientFault> {
+        let Some(export) = &mut self.export else {
+            return Ok(());
+        };
+        let alloc = self.rt.alloc();
+        let until = self.until;
+        let line = format!(in alloc; "list forgettable {station} {until}")?;
+        self.orders.send(line.as_str())?;
+        for _ in 0..u64::MAX {
+            let Some(text) = self.orders.answer()? else {
+                return export.sync();
+            };
+            export.add(alloc, self.operator.as_str(), station, text.as_str())?;
         }
         Err(self.orders.silent())
     }

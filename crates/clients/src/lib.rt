@@ -4,6 +4,7 @@
 mod asking;
 mod clock;
 mod connection;
+mod export;
 mod fault;
 mod forgetting;
 mod orders;

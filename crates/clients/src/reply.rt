@@ -1,6 +1,6 @@
 //! What a text says that an operator is sent.
 ghost use Rattle.std.specs.Prelude.{◌≡◌, option_map};
-ghost use Rattle.clients.specs.Replies.{at_space, after_word, after_sign, number_of, leading_number, call_reply, refused_reply, told_reply, reply_of, ended_call, marked, begun, ended, row_of, station_of, forgotten_of};
+ghost use Rattle.clients.specs.Replies.{at_space, after_word, after_sign, number_of, leading_number, call_reply, refused_reply, told_reply, reply_of, ended_call, marked, begun, ended, row_of, row_of_station, station_of, forgotten_of};
 
 use ocpp_types::number_of_digits;
 
@@ -119,12 +119,24 @@ pub fn station_of<'a>(operator: &str, text: &'a str) -> Option<&'a str>
     Some(station)
 }
 
+/// What follows `OP row KIND ST `.
+pub fn row_of_station<'a>(
+    operator: &str,
+    kind: &str,
+    station: &str,
+    text: &'a str,
+) -> Option<&'a str>
+    ensures { option_map (λ t. t.now) result ≡ row_of_station operator.now kind.now station.now text.now }
+{
+    let row = row_of(operator, kind, text)?;
+    after_word(station, row)
+}
+
 /// What went of that station, by a text `OP row forgotten ST TRANSACTIONS READINGS`.
 pub fn forgotten_of(operator: &str, station: &str, text: &str) -> Option<Forgotten>
     ensures { result ≡ forgotten_of operator.now station.now text.now }
 {
-    let row = row_of(operator, "forgotten", text)?;
-    let counts = after_word(station, row)?;
+    let counts = row_of_station(operator, "forgotten", station, text)?;
     let (transactions, readings) = at_space(counts)?;
     Some(Forgotten {
         transactions: number_of(transactions)?,
