@@ -60,21 +60,24 @@ impl Export {
         })
     }
 
-    /// Writes the row of a text `OP row transaction ST ..` or `OP row reading ST ..`. Other texts are passed over.
+    /// Writes the row of a text `OP row transaction ST ..` or `OP row reading ST ..`. Other texts are passed over. How
+    /// many rows were written.
     pub fn add(
         &mut self,
         alloc: Global,
         operator: &str,
         station: &str,
         text: &str,
-    ) -> Result<(), ClientFault> {
+    ) -> Result<u64, ClientFault> {
         if let Some(row) = row_of_station(operator, "transaction", station, text) {
-            return write_row(alloc, &mut self.transactions, station, row);
+            write_row(alloc, &mut self.transactions, station, row)?;
+            return Ok(1);
         }
         if let Some(row) = row_of_station(operator, "reading", station, text) {
-            return write_row(alloc, &mut self.readings, station, row);
+            write_row(alloc, &mut self.readings, station, row)?;
+            return Ok(1);
         }
-        Ok(())
+        Ok(0)
     }
 
     /// Ends once what was written is on the disk.

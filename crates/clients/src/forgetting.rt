@@ -116,10 +116,11 @@ impl Forgetting<'_> {
         let until = self.until;
         let line = format!(in self.rt.alloc(); "forget {station} {until}")?;
         for _ in 0..u64::MAX {
-            self.write(station)?;
+            let written = self.write(station)?;
             let Some(gone) = self.order(station, line.as_str())? else {
                 return Ok(false);
             };
+            self.compare(written, gone)?;
             if gone.transactions == 0 && gone.readings == 0 {
                 return Ok(true);
             }
@@ -128,22 +129,34 @@ impl Forgetting<'_> {
         Err(self.orders.silent())
     }
 
-    /// Writes what the next order takes to the files of the export, if there are any, and on the disk.
-    fn write(&mut self, station: &str) -> Result<(), ClientFault> {
+    /// Writes what the next order takes to the files of the export, if there are any, and on the disk. How many rows.
+    fn write(&mut self, station: &str) -> Result<u64, ClientFault> {
         let Some(export) = &mut self.export else {
-            return Ok(());
+            return Ok(0);
         };
         let alloc = self.rt.alloc();
         let until = self.until;
         let line = format!(in alloc; "list forgettable {station} {until}")?;
+        let mut written = 0u64;
         self.orders.send(line.as_str())?;
         for _ in 0..u64::MAX {
             let Some(text) = self.orders.answer()? else {
-                return export.sync();
+                export.sync()?;
+                return Ok(written);
             };
-            export.add(alloc, self.operator.as_str(), station, text.as_str())?;
+            let rows = export.add(alloc, self.operator.as_str(), station, text.as_str())?;
+            written = written.saturating_add(rows);
         }
         Err(self.orders.silent())
+    }
+
+    /// A row that the station sent after the listing, and that is old by its own time, went unwritten.
+    fn compare(&self, written: u64, gone: Forgotten) -> Result<(), ClientFault> {
+        let rows = gone.transactions.saturating_add(gone.readings);
+        if self.export.is_some() && rows > written {
+            return Err(ClientFault::Unwritten(rows - written));
+        }
+        Ok(())
     }
 
     /// Gives the order once. What went; `None` where it was refused, which is printed.
