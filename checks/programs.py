@@ -5,6 +5,7 @@ simulated station that an operator watches, restarts and hostile peers. Prints `
 """
 
 import contextlib
+import csv
 import os
 import re
 import resource
@@ -446,21 +447,30 @@ def check_forget(checks):
     values = ",".join(['{"value":"1"}'] * 300)
     texts = [
         BOOT,
-        f'[2,"s","StartTransaction",{{"connectorId":1,"idTag":"K1","meterStart":0,{at}}}]',
+        f'[2,"s","StartTransaction",{{"connectorId":1,"idTag":"=K1","meterStart":0,{at}}}]',
         *[f'[2,"m{n}","MeterValues",{{"connectorId":1,"transactionId":1,"meterValue":[{{{at},"sampledValue":[{values}]}}]}}]' for n in range(7)],
         f'[2,"e","StopTransaction",{{"meterStop":1,"transactionId":1,{at}}}]',
         f'[2,"t","StartTransaction",{{"connectorId":1,"idTag":"K1","meterStart":1,{at}}}]',
         f'[2,"v","MeterValues",{{"connectorId":1,"transactionId":2,"meterValue":[{{{at},"sampledValue":[{{"value":"1"}}]}}]}}]',
     ]
-    lines = ["station add CP01 Accepted 300", "station add CP02 Accepted 300", "connect CP01", *(f"frame CP01 {text}" for text in texts)]
+    lines = ["tag put =K1 - 0 -", "station add CP01 Accepted 300", "station add CP02 Accepted 300", "connect CP01", *(f"frame CP01 {text}" for text in texts)]
     filled = checks.run("replay", "--operators", "ACME,BETA", "--db", db, lines="".join(f"{begin} ACME {line}\n" for line in lines).encode())
     checks.check("a history of 2024", (filled[0], filled[2]), (0, ""))
     with checks.serve("--operators", "ACME,BETA", db=db):
         checks.check("before it", checks.run(*forget, "99999d"), (0, "all 0 0\n", ""))
+        acme, export = Peer(PORT, "/operator/ACME"), os.path.join(checks.folder, "gone")
+        old = acme.lines("old", f"list forgettable CP01 {begin + 1}")
+        checks.check("what the next order takes", (len(old), old[0].split(" ")[2:5], old[-1]), (1001, ["reading", "CP01", "1"], "ACME ok"))
         gone = "CP01 0 1000\nCP01 0 1000\nCP01 1 100\nall 1 2100\n"
-        checks.check("what is older than 90 days", checks.run(*forget, "90d"), (0, gone, ""))
+        checks.check("what is older than 90 days", checks.run(*forget, "90d", "--export", export), (0, gone, ""))
+        written = [f"{export}-{name}.csv" for name in ("transactions", "readings")]
+        transactions, readings = (list(csv.reader(Path(path).read_text(newline="").splitlines())) for path in written)
+        checks.check("the transactions that went", (len(transactions), transactions[0][:3]), (2, ["station", "number", "connector"]))
+        row = ["CP01", "1", "1", "=K1", "Accepted", "0", str(begin * 1000), "", "1", str(begin * 1000), "Local", ""]
+        checks.check("one of them", transactions[1], ["'=K1" if word == "=K1" else word for word in row])
+        checks.check("the readings that went", [int(row[1]) for row in readings[1:]], list(range(1, 2101)))
+        checks.check("no file for it", checks.run(*forget, "90d", "--export", "/none/gone")[:2], (2, ""))
         checks.check("nothing is left", checks.run(*forget, "90d"), (0, "all 0 0\n", ""))
-        acme = Peer(PORT, "/operator/ACME")
         rows = [acme.ask("list transactions CP01"), acme.next(), acme.ask("list readings CP01"), acme.next()]
         checks.check("the last stay", [row.split(" ")[2:5] for row in rows], [["transaction", "CP01", "2"], [], ["reading", "CP01", "2101"], []])
         checks.check("no stations", checks.run(*forget[:4], "BETA", "--before", "0d"), (0, "all 0 0\n", ""))
