@@ -18,16 +18,10 @@ use Rattle.hub_rows.specs.Lookups.{forgettable_in}
 use Rattle.hub_rows.specs.Rows.{Rows, tx_key}
 use Rattle.hub_rows.specs.Transactions.{is_tx, readings_in, state_of, tx_in, txs_in}
 use Rattle.hub_rows.specs.WellFormed.{WellFormedRows}
+use Rattle.hub_rows.proofs.FilterLaws.{all-passed}
 use Rattle.hub_rows.proofs.ListLaws.{all-weaker, keys_total, same_text, three_parts}
 
 -- ---- lists
-all-passed : {R : Type 0} (P : R → Type 0) (q : R → Bool) (rs : List R) → AllByRecursion P rs → AllByRecursion (λ r. P r × (q r ≡ true)) (filter q rs)
-all-passed P q [] all = tt
-all-passed P q (x ∷ xs) all =
-    elim (q x) as (λ c. q x ≡ c → AllByRecursion (λ r. P r × (q r ≡ true)) (cond c (x ∷ filter q xs) (filter q xs))) [
-      | true ↦ λ is. ((all.0, is), all-passed P q xs all.1)
-      | false ↦ λ no. all-passed P q xs all.1
-    ] refl
 
 all-take : {R : Type 0} (P : R → Type 0) (n : ℕ) (rs : List R) → AllByRecursion P rs → AllByRecursion P (take n rs)
 all-take P zero rs all = tt

@@ -1,5 +1,6 @@
 pub mod Steps
 pub mod ListLaws
+pub mod FilterLaws
 pub mod PlaceLaws
 pub mod OrderLaws
 pub mod TagLaws
@@ -8,3 +9,5 @@ pub mod OwnLaws
 pub mod WellFormedLaws
 pub mod NameLaws
 pub mod ForgetLaws
+pub mod NumberLaws
+pub mod LastReadingLaws

@@ -1,7 +1,9 @@
 //! Whether a row of a station's history may go.
 ghost use Rattle.std.specs.Prelude.{◌≡◌, option_map};
-ghost use Rattle.hub_rows.specs.Forgetting.{goes_with, has_number, is_over};
+ghost use Rattle.hub_rows.specs.Forgetting.{goes_with, has_number, is_left, is_over};
+ghost use Rattle.hub_rows.specs.LastReading.{is_one_left, tx_goes};
 
+use crate::reading_row::{ReadingRow, is_sent_with};
 use crate::tx_row::TxRow;
 use ocpp_types::Moment;
 
@@ -32,4 +34,25 @@ pub fn has_number(numbers: &[u32], number: u32) -> bool
     ensures { result ≡ has_number numbers.now number }
 {
     numbers.iter().any(|one| *one == number)
+}
+
+/// Whether a transaction may go once the readings with those numbers are gone.
+pub fn tx_goes(until: Moment, readings: &[ReadingRow], gone: &[u32], tx: &TxRow) -> bool
+    ensures { result ≡ tx_goes until readings.now gone.now tx.now }
+{
+    tx.is_over(until) && !is_left(readings, gone, tx)
+}
+
+/// Whether a reading that was sent with the number of the transaction is left.
+fn is_left(readings: &[ReadingRow], gone: &[u32], tx: &TxRow) -> bool
+    ensures { result ≡ is_left readings.now gone.now tx.now }
+{
+    readings.iter().any(|row| is_one_left(row, gone, tx))
+}
+
+fn is_one_left(row: &ReadingRow, gone: &[u32], tx: &TxRow) -> bool
+    ensures { result ≡ is_one_left gone.now tx.now row.now }
+{
+    let number = tx.number as u64;
+    is_sent_with(Some(number), row.reading.transaction) && !has_number(gone, row.number)
 }

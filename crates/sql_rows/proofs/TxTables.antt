@@ -1,6 +1,8 @@
 -- Transactions, the owners of their tags, readings and uses: their typed tables, and what the texts that write and show them
 -- mean.
-use Rattle.std.proofs.Common.{◌&&◌, ◌++◌, ◌∷◌, ◌≡◌, ℕ, nat_le, pos, List, [], Option, Some, None, option_map, refl, inl, inr, true}
+use Rattle.std.proofs.Common.{◌&&◌, ◌++◌, ◌∷◌, ◌≡◌, ◌∙◌, ℕ, nat_le, pos, List, [], Bool, Option, Some, None, option_map, refl, sym, ap, arith, inl, inr, true, Equal}
+use Rattle.std.proofs.lemmas.Bool.{and_parts}
+use Rattle.std.proofs.lemmas.Cmp.{tied_itself}
 use Rattle.sql_tables.specs.Tables.{hub_schema, hub_tx, names_of, hub_reading, hub_tx_owner, hub_use}
 use Rattle.sql_tables.specs.Forms.{cols, where_is, range_is, by_column}
 use Rattle.sql_rows.specs.TypedTables.{hub_good, txs, tx_owners, readings, uses, stop_tag, rows_of}
@@ -23,7 +25,8 @@ use Rattle.sqlite_value.specs.declared.value.Value.TheVariants.{Int, Text, Blob}
 use Rattle.sqlite_trees.specs.Tree.{Trees}
 use Rattle.hub_rows.specs.declared.reading_row.ReadingRow.{ReadingRow}
 use Rattle.hub_rows.specs.declared.use_row.UseRow.{UseRow}
-use Rattle.hub_rows.specs.Keyed.{by_key, put}
+use Rattle.hub_rows.specs.Keyed.{by_key, key_cmp, numbered_key, put}
+use Rattle.hub_rows.proofs.ListLaws.{keys_total, same_text}
 use Rattle.hub_rows.specs.Rows.{tx_key, tx_owner_key, reading_key, use_key}
 use Rattle.hub_rows.specs.Uses.{is_owner_of}
 use Rattle.sql_tables.specs.declared.readings.TheConstants as sql_readings
@@ -36,7 +39,7 @@ use Rattle.sql_rows.specs.Kept.{IsMade}
 use Rattle.sql_rows.proofs.StoreLemmas.{Means, means_as}
 use Rattle.sql_rows.proofs.Writes.{adds, puts}
 use Rattle.hub_rows.specs.declared.tx_row.StartKey.{StartKey}
-use Rattle.sql_rows.proofs.Selects.{ReadsRows, ReadsLast}
+use Rattle.sql_rows.proofs.Selects.{ReadsRows, ReadsLast, ReadsPage}
 use Rattle.sql_rows.proofs.Tests as tests
 use Rattle.sql_rows.proofs.HubTables.{all_plain, rest_is, spared}
 
@@ -110,6 +113,35 @@ reads_txs op station n = record { at = 5; is = on_txs; wanted = where_is 0 (1 �
 
 pub reads_last_tx : (op station : List ℕ) → ReadsLast sql_txs.FIND_LAST.now (Text op ∷ Text station ∷ []) txs (λ r. r.number) (λ r. bytes_eq r.op op && bytes_eq r.station station)
 reads_last_tx op station = record { at = 5; is = on_txs; wanted = where_is 0 (1 ∷ 2 ∷ []); project = cols 1 1 18; whole = whole_txs; place = 3; numbered = λ id r. refl; names = names_of hub_tx; text = texts.find_last_tx_is; test = tests.of_txs op station }
+
+-- rows of one station with one number have one key
+same_numbered : {R : Type 0} (op station : R → List ℕ) (number : R → ℕ) (b st : List ℕ) (within : R → Bool) → (x y : R)
+    → bytes_eq (op x) b && (bytes_eq (station x) st && within x) ≡ true → bytes_eq (op y) b && (bytes_eq (station y) st && within y) ≡ true → number x ≡ number y → by_key (numbered_key op station number) x y ≡ Equal
+same_numbered op station number b st within x y p q same =
+    let px = and_parts (bytes_eq (op x) b) _ p in
+    let py = and_parts (bytes_eq (op y) b) _ q in
+    let sx = and_parts (bytes_eq (station x) st) (within x) px.1 in
+    let sy = and_parts (bytes_eq (station y) st) (within y) py.1 in
+    let its_op : op x ≡ op y = same_text (op x) b px.0 ∙ sym (same_text (op y) b py.0) in
+    let its_station : station x ≡ station y = same_text (station x) st sx.0 ∙ sym (same_text (station y) st sy.0) in
+    ap (key_cmp (numbered_key op station number x)) (λ i. sym its_op i ∷ sym its_station i ∷ (sym same i ∷ []) ∷ []) ∙ tied_itself keys_total (numbered_key op station number x)
+
+pub pages_of_txs : (op station : List ℕ) (low high : ℕ) → ReadsPage sql_txs.PAGE.now (Text op ∷ Text station ∷ Int (pos low) ∷ Int (pos high) ∷ []) txs (λ r. r.number) (λ r. bytes_eq r.op op && (bytes_eq r.station station && (nat_le low r.number && nat_le r.number high)))
+pages_of_txs op station low high = record {
+  at = 5;
+  is = on_txs;
+  wanted = where_is 0 (1 ∷ 2 ∷ []) ++ range_is 2 3;
+  project = cols 1 1 18;
+  whole = whole_txs;
+  place = 3;
+  most = 256;
+  some = omega arith;
+  numbered = λ id r. refl;
+  apart = λ a b. same_numbered (λ r. r.op) (λ r. r.station) (λ r. r.number) op station (λ r. nat_le low r.number && nat_le r.number high) a b;
+  names = names_of hub_tx;
+  text = texts.page_of_txs_is;
+  test = tests.txs_between op station low high;
+}
 
 pub reads_txs_in_use : (op key : List ℕ) → ReadsRows sql_txs.LIST_IN_USE.now (Text op ∷ Text key ∷ Int (pos 1) ∷ []) txs (λ r. bytes_eq r.op op && (bytes_eq r.start.id.key key && counts r))
 reads_txs_in_use op key = record { at = 5; is = on_txs; wanted = where_is 0 (1 ∷ 5 ∷ 13 ∷ []); project = cols 1 1 18; whole = whole_txs; order = []; names = names_of hub_tx; text = texts.list_txs_in_use_is; test = tests.used_txs op key }
@@ -204,6 +236,23 @@ reads_tx_readings op station n = record { at = 6; is = on_readings; wanted = whe
 
 pub reads_last_reading : (op station : List ℕ) → ReadsLast sql_readings.FIND_LAST.now (Text op ∷ Text station ∷ []) readings (λ r. r.number) (λ r. bytes_eq r.op op && is_reading station None r)
 reads_last_reading op station = record { at = 6; is = on_readings; wanted = where_is 0 (1 ∷ 2 ∷ []); project = cols 1 1 13; whole = whole_readings; place = 3; numbered = λ id r. refl; names = names_of hub_reading; text = texts.find_last_reading_is; test = tests.of_readings op station }
+
+pub pages_of_readings : (op station : List ℕ) (low high : ℕ) → ReadsPage sql_readings.PAGE.now (Text op ∷ Text station ∷ Int (pos low) ∷ Int (pos high) ∷ []) readings (λ r. r.number) (λ r. bytes_eq r.op op && (bytes_eq r.station station && (nat_le low r.number && nat_le r.number high)))
+pages_of_readings op station low high = record {
+  at = 6;
+  is = on_readings;
+  wanted = where_is 0 (1 ∷ 2 ∷ []) ++ range_is 2 3;
+  project = cols 1 1 13;
+  whole = whole_readings;
+  place = 3;
+  most = 256;
+  some = omega arith;
+  numbered = λ id r. refl;
+  apart = λ a b. same_numbered (λ r. r.op) (λ r. r.station) (λ r. r.number) op station (λ r. nat_le low r.number && nat_le r.number high) a b;
+  names = names_of hub_reading;
+  text = texts.page_of_readings_is;
+  test = tests.readings_between op station low high;
+}
 
 -- ---- uses
 

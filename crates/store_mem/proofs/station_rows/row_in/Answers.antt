@@ -1,8 +1,8 @@
 use Rattle.std.proofs.Common.{[], ◌∷◌, ◌==◌, Some, ap, sym, ◌∙◌}
 use Rattle.hub_rows.proofs.ListLaws.{one_part}
 use Rattle.hub_rows.proofs.PlaceLaws.{find-found, find-gap}
-use Rattle.store_mem.specs.NamedGroups.{number_key}
 use Rattle.store_mem.proofs.station_rows.row_in.Goals as goal
+use Rattle.hub_rows.specs.Keyed.{number_key}
 
 pub returns-in-Ok : goal.returns-in-Ok
 returns-in-Ok g c =

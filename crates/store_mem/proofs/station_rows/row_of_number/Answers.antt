@@ -1,8 +1,8 @@
 use Rattle.std.proofs.Common.{◌==◌, find, ap, sym, ◌∙◌}
 use Rattle.std.specs.Str.{bytes_eq}
 use Rattle.store_mem.specs.NamedGroups.{all_rows}
-use Rattle.store_mem.proofs.StationRowsLaws.{found-those}
 use Rattle.store_mem.proofs.station_rows.row_of_number.Goals as goal
+use Rattle.hub_rows.proofs.NumberLaws.{found-those}
 
 pub returns : goal.returns
 returns g c =
