@@ -1,6 +1,5 @@
 use Rattle.std.proofs.Common.{ℕ, List, ap, subst₂, ◌∙◌}
 use Rattle.hub_rows.specs.Forgetting.{has_number}
-use Rattle.hub_rows.specs.Rows.{Rows}
 use Rattle.sql_rows.specs.Kept.{IsMade, Makes}
 use Rattle.sql_edits.specs.Forget.{dropped}
 use Rattle.sql_edits.specs.declared.forget.History.TheVariants.{Readings, Transactions, Owners}
