@@ -16,12 +16,12 @@ use Rattle.sql_rows.specs.TypedTables.{rows_of}
 use Rattle.sql_rows.proofs.StoreLemmas.{Means}
 use Rattle.sql_rows.proofs.TxTables.{drops_readings, drops_tx_owners, drops_txs}
 use Rattle.sql_edits.specs.Forget.{drop_text, dropped, is_in}
-use Rattle.sql_edits.specs.declared.forget.History.{History}
-use Rattle.sql_edits.specs.declared.forget.History.TheVariants.{Readings, Transactions, Owners}
+use Rattle.sql_edits.specs.declared.forget.HistoryTable.{HistoryTable}
+use Rattle.sql_edits.specs.declared.forget.HistoryTable.TheVariants.{Readings, Transactions, Owners}
 use Rattle.sql_edits.specs.declared.forget.Run.{Run}
 
 -- what the statement of a table means
-pub drops_run : (history : History) (op station : List ℕ) (run : Run) → Means (drop_text history) (Text op ∷ Text station ∷ Int (pos run.first) ∷ Int (pos run.last) ∷ []) (IsMade (dropped history op station (is_in run)))
+pub drops_run : (history : HistoryTable) (op station : List ℕ) (run : Run) → Means (drop_text history) (Text op ∷ Text station ∷ Int (pos run.first) ∷ Int (pos run.last) ∷ []) (IsMade (dropped history op station (is_in run)))
 drops_run Readings op station run = drops_readings op station run.first run.last
 drops_run Transactions op station run = drops_txs op station run.first run.last
 drops_run Owners op station run = drops_tx_owners op station run.first run.last
@@ -48,12 +48,12 @@ without_twice op station number b s p q rows =
     filter_twice (λ r. not (bytes_eq (op r) b && (bytes_eq (station r) s && q (number r)))) (λ r. not (bytes_eq (op r) b && (bytes_eq (station r) s && p (number r)))) rows
     ∙ ap (λ test. filter test rows) (λ i r. neither (bytes_eq (op r) b) (bytes_eq (station r) s) (p (number r)) (q (number r)) i)
 
-dropped_twice : (history : History) (op station : List ℕ) (p q : ℕ → Bool) (rows : Rows) → dropped history op station q (dropped history op station p rows) ≡ dropped history op station (λ n. p n || q n) rows
+dropped_twice : (history : HistoryTable) (op station : List ℕ) (p q : ℕ → Bool) (rows : Rows) → dropped history op station q (dropped history op station p rows) ≡ dropped history op station (λ n. p n || q n) rows
 dropped_twice Readings op station p q rows = λ i. record rows { readings = without_twice {R = ReadingRow} (λ r. r.op) (λ r. r.station) (λ r. r.number) op station p q rows.readings i }
 dropped_twice Transactions op station p q rows = λ i. record rows { transactions = without_twice {R = TxRow} (λ r. r.op) (λ r. r.station) (λ r. r.number) op station p q rows.transactions i }
 dropped_twice Owners op station p q rows = λ i. record rows { tx_owners = without_twice {R = TxOwnerRow} (λ r. r.op) (λ r. r.station) (λ r. r.number) op station p q rows.tx_owners i }
 
-dropped_as : (history : History) (op station : List ℕ) (p q : ℕ → Bool) (rows : Rows) → ((n : ℕ) → p n ≡ q n) → dropped history op station p rows ≡ dropped history op station q rows
+dropped_as : (history : HistoryTable) (op station : List ℕ) (p q : ℕ → Bool) (rows : Rows) → ((n : ℕ) → p n ≡ q n) → dropped history op station p rows ≡ dropped history op station q rows
 dropped_as history op station p q rows same = ap (λ test. dropped history op station test rows) (λ i n. same n i)
 
 -- no number, no row
@@ -66,7 +66,7 @@ filter_all : {X : Type 0} (f : X → Bool) (xs : List X) → ((x : X) → f x �
 filter_all f [] all = refl
 filter_all f (x ∷ xs) all = ap₂ (λ b l. cond b (x ∷ l) l) (all x) (filter_all f xs all)
 
-pub dropped_none : (history : History) (op station : List ℕ) (rows : Rows) → dropped history op station (has_number []) rows ≡ rows
+pub dropped_none : (history : HistoryTable) (op station : List ℕ) (rows : Rows) → dropped history op station (has_number []) rows ≡ rows
 dropped_none Readings op station rows = λ i. record rows { readings = filter_all _ rows.readings (λ r. none_passes (bytes_eq r.op op) (bytes_eq r.station station)) i }
 dropped_none Transactions op station rows = λ i. record rows { transactions = filter_all _ rows.transactions (λ r. none_passes (bytes_eq r.op op) (bytes_eq r.station station)) i }
 dropped_none Owners op station rows = λ i. record rows { tx_owners = filter_all _ rows.tx_owners (λ r. none_passes (bytes_eq r.op op) (bytes_eq r.station station)) i }
@@ -91,10 +91,10 @@ one_more : (numbers : List ℕ) (x n : ℕ) → has_number (numbers ++ x ∷ [])
 one_more numbers x n = list_any-append (λ m. m == n) numbers (x ∷ []) ∙ ap (λ b. has_number numbers n || b) (or_false (x == n) ∙ sym (is_alone x n))
 
 -- once the rows of the run are gone too, those of the numbers are
-abbrev pub AreButRun : History → List ℕ → List ℕ → Run → List ℕ → Trees → Trees → Type 0
+abbrev pub AreButRun : HistoryTable → List ℕ → List ℕ → Run → List ℕ → Trees → Trees → Type 0
 AreButRun history op station run numbers old new = dropped history op station (is_in run) (rows_of new) ≡ dropped history op station (has_number numbers) (rows_of old)
 
-module _ (history : History) (op station : List ℕ) where
+module _ (history : HistoryTable) (op station : List ℕ) where
   pub begins : (x : ℕ) (db : Trees) → AreButRun history op station (alone x) (x ∷ []) db db
   begins x db = dropped_as history op station (is_in (alone x)) (has_number (x ∷ [])) (rows_of db) (λ n. is_alone x n ∙ sym (or_false (x == n)))
 

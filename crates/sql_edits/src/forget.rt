@@ -13,7 +13,7 @@ use sqlite::{Alter, Transaction, params};
 
 /// A table of a station's history.
 #[derive(Clone, Copy, Drop)]
-enum History {
+enum HistoryTable {
     Readings,
     Transactions,
     Owners,
@@ -35,20 +35,20 @@ impl Run {
     }
 }
 
-fn drop_text(history: History) -> &'static str
+fn drop_text(history: HistoryTable) -> &'static str
     ensures { result.now ≡ drop_text history }
 {
     match history {
-        History::Readings => sql_tables::readings::DROP,
-        History::Transactions => sql_tables::txs::DROP,
-        History::Owners => sql_tables::tx_owners::DROP,
+        HistoryTable::Readings => sql_tables::readings::DROP,
+        HistoryTable::Transactions => sql_tables::txs::DROP,
+        HistoryTable::Owners => sql_tables::tx_owners::DROP,
     }
 }
 
 /// Drops the rows of a station with a number of the run.
 fn drop_run<S: Alter>(
     tx: &mut Transaction<'_, S>,
-    history: History,
+    history: HistoryTable,
     op: &str,
     station: &str,
     run: Run,
@@ -64,7 +64,7 @@ fn drop_run<S: Alter>(
 /// Drops the rows of a station with the first number or one of the others, run by run.
 fn drop_runs<S: Alter>(
     tx: &mut Transaction<'_, S>,
-    history: History,
+    history: HistoryTable,
     op: &str,
     station: &str,
     first: u32,
@@ -90,7 +90,7 @@ fn drop_runs<S: Alter>(
 /// Drops the rows of a station with these numbers.
 fn drop_rows<S: Alter>(
     tx: &mut Transaction<'_, S>,
-    history: History,
+    history: HistoryTable,
     op: &str,
     station: &str,
     numbers: &[u32],
@@ -113,7 +113,7 @@ pub(crate) fn forget<S: Alter>(
     ensures makes { Makes S.Store (edit op.now (Transactions (Forgotten station.now rows.now))) tx.old tx.new result }
 {
     let gone = rows.transactions.as_slice();
-    drop_rows(tx, History::Transactions, op, station, gone)?;
-    drop_rows(tx, History::Readings, op, station, rows.readings.as_slice())?;
-    drop_rows(tx, History::Owners, op, station, gone)
+    drop_rows(tx, HistoryTable::Transactions, op, station, gone)?;
+    drop_rows(tx, HistoryTable::Readings, op, station, rows.readings.as_slice())?;
+    drop_rows(tx, HistoryTable::Owners, op, station, gone)
 }

@@ -2,7 +2,7 @@ use Rattle.std.proofs.Common.{ℕ, List, ap, subst₂, ◌∙◌}
 use Rattle.hub_rows.specs.Forgetting.{has_number}
 use Rattle.sql_rows.specs.Kept.{IsMade, Makes}
 use Rattle.sql_edits.specs.Forget.{dropped}
-use Rattle.sql_edits.specs.declared.forget.History.TheVariants.{Readings, Transactions, Owners}
+use Rattle.sql_edits.specs.declared.forget.HistoryTable.TheVariants.{Readings, Transactions, Owners}
 use Rattle.sql_edits.proofs.Making.{makes_fails, makes_then}
 use Rattle.sql_edits.proofs.forget.forget.Goals as goal
 
