@@ -5,10 +5,9 @@ ghost use Rattle.hub_rows.specs.Forgetting.{forgettable, may_go, named_tx};
 ghost use Rattle.hub_rows.specs.Keyed.{by_key, number_key};
 ghost use Rattle.hub_rows.specs.LastReading.{tx_goes};
 
+use crate::copies::copy;
 use crate::station_rows::row_in;
-use hub_rows::{
-    History, MAX_FORGOTTEN, ReadingRow, TxRow, goes_with, reading_numbers, tx_goes,
-};
+use hub_rows::{History, MAX_FORGOTTEN, ReadingRow, TxRow, goes_with, reading_numbers, tx_goes};
 use ocpp_types::{Listed, Mem, Moment};
 use std::alloc::Global;
 
@@ -53,7 +52,7 @@ fn old_readings(
             return Ok(gone);
         }
         if may_go(until, txs, row) {
-            gone.push(row.clone()?)?;
+            gone.push(copy(row)?)?;
         }
     }
     Ok(gone)
@@ -99,7 +98,7 @@ fn old_txs(
             return Ok(ended);
         }
         if tx_goes(until, readings, gone, tx) {
-            ended.push(tx.clone()?)?;
+            ended.push(copy(tx)?)?;
         }
     }
     Ok(ended)
