@@ -24,7 +24,8 @@ use Rattle.store_mem.specs.Open.{open_of, tx_of, AreOpens}
 use Rattle.store_mem.specs.Starts.{start_key, start_of, starts_of, AreStarts}
 use Rattle.store_mem.proofs.OpenTxLaws.{found_itself}
 use Rattle.store_mem.proofs.ReceivedLaws.{map-filter}
-use Rattle.store_mem.proofs.RowLaws.{all-these, filter-kept, filter-swap}
+use Rattle.hub_rows.proofs.FilterLaws.{all-these}
+use Rattle.store_mem.proofs.RowLaws.{filter-kept, filter-swap}
 
 -- a transaction of the station with one of the numbers
 abbrev pub goes : List ℕ → List ℕ → List ℕ → TxRow → Bool

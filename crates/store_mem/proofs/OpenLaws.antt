@@ -28,7 +28,7 @@ use Rattle.store_mem.specs.NamedGroups.{rows_at, AreInPlace}
 use Rattle.store_mem.specs.Open.{open_key, open_of, is_open_tx, is_excepted, has_other, opens_of, AreOpens}
 use Rattle.store_mem.proofs.DroppedLaws.{all-passed}
 use Rattle.store_mem.proofs.ReceivedLaws.{map-filter, map-put}
-use Rattle.store_mem.proofs.RowLaws.{all-both, filter-all, filter-alike}
+use Rattle.hub_rows.proofs.FilterLaws.{all-both, filter-all, filter-alike}
 use Rattle.store_mem.proofs.StationRowsLaws.{second}
 
 -- ---- whether one is not left out

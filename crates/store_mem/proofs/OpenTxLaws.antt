@@ -21,7 +21,7 @@ use Rattle.store_mem.specs.declared.open.OpenRow.{OpenRow}
 use Rattle.store_mem.specs.Open.{open_key, open_of, opens_of, has_at, tx_of, txs_of}
 use Rattle.store_mem.proofs.DroppedLaws.{all-passed}
 use Rattle.store_mem.proofs.OpenLaws.{and_false}
-use Rattle.store_mem.proofs.RowLaws.{all-both}
+use Rattle.hub_rows.proofs.FilterLaws.{all-both}
 
 -- ---- a search for a station
 

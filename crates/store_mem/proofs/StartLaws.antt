@@ -33,8 +33,8 @@ use Rattle.store_mem.specs.Starts.{sign, code, start_key, start_of, starts_of, A
 use Rattle.std.proofs.lemmas.Map.Text.{is_eq-slice_cmp}
 use Rattle.store_mem.proofs.DroppedLaws.{all-passed}
 use Rattle.store_mem.proofs.ReceivedLaws.{map-filter, map-put}
-use Rattle.store_mem.proofs.RowLaws.{all-both}
-use Rattle.store_mem.proofs.StationRowsLaws.{all-above, found-those, number-greater, those-those}
+use Rattle.hub_rows.proofs.FilterLaws.{all-both}
+use Rattle.hub_rows.proofs.NumberLaws.{all-above, found-those, number-greater, those-those}
 
 -- ---- equal starts have one code
 

@@ -1,39 +1,34 @@
 -- Rows kept station by station: what is found of them, and what more rows of one station make.
-use Rattle.std.specs.Prelude.{◌≡◌, ℕ, ◌+◌, ◌-◌, Some, ◌<◌, ◌≤◌, max, List, [], ◌∷◌, ◌++◌, length, take, drop, Bool, true, false, cond, ◌&&◌, ◌||◌, ◌==◌, not, filter, map, find}
-use Rattle.std.specs.List.{AllByRecursion, list_any, slice_get}
+use Rattle.std.specs.Prelude.{◌≡◌, ℕ, ◌+◌, ◌-◌, Some, ◌<◌, List, [], ◌∷◌, ◌++◌, take, drop, Bool, true, false, cond, ◌&&◌, ◌||◌, ◌==◌, not, filter, map, find}
+use Rattle.std.specs.List.{AllByRecursion, list_any}
 use Rattle.std.specs.List.Sorted.{IsStrictlySortedBy}
-use Rattle.std.specs.Ordering.{nat_cmp, ordering_then, ordering_reverse, is_eq, MatchOrdering}
-use Rattle.std.specs.Cmp.{nat_cmp_is, ranked}
+use Rattle.std.specs.Ordering.{ordering_then, ordering_reverse, is_eq}
 use Rattle.std.specs.Str.{bytes_eq}
 use Rattle.std.specs.declared.cmp.Ordering.{Ordering}
 use Rattle.std.specs.declared.cmp.Ordering.TheVariants.{Less, Equal, Greater}
-use Rattle.std.proofs.Common.{refl, sym, ◌∙◌, ap, subst, arith, append_assoc, append-nil}
+use Rattle.std.proofs.Common.{refl, sym, ◌∙◌, ap, subst, append_assoc, append-nil}
 use Rattle.std.proofs.Math.ListN.{set}
 use Rattle.std.proofs.lemmas.Bool.{and_parts}
 use Rattle.std.proofs.lemmas.List.{take-append-drop}
 use Rattle.std.proofs.lemmas.List.Elements.{filter-append}
 use Rattle.std.proofs.lemmas.List.Kept.{IsStrictlySortedBy-filter}
-use Rattle.std.proofs.Math.Nat.{le-max_left, le-max_right, max-zero, max-eq_right}
-use Rattle.std.proofs.lemmas.Cmp.{tied_itself, nat_list_cmp_total}
+use Rattle.std.proofs.lemmas.Cmp.{tied_itself}
 use Rattle.hub_rows.specs.Forgetting.{has_number, is_one_of}
-use Rattle.hub_rows.specs.Keyed.{text_cmp, key_cmp, by_key, put_all, found, those, any_of, numbered_key, greatest}
+use Rattle.hub_rows.specs.Keyed.{text_cmp, key_cmp, by_key, put_all, those, any_of, numbered_key, greatest, number_key}
 use Rattle.hub_rows.specs.Places.{AllBelow, AllAbove, IsFoundAt, IsGapAt}
 use Rattle.hub_rows.proofs.ListLaws.{keys_total, by_key_total, all-filter, all-weaker, put-front, sorted-put, set_here, two_parts, head, same_text}
 use Rattle.hub_rows.proofs.PlaceLaws.{all-back, map-append, map-none, put-passed, put-gap}
 use Rattle.store_mem.specs.declared.named_groups.NamedGroup.{NamedGroup}
-use Rattle.store_mem.specs.NamedGroups.{number_key, group_key, is_at, rows_or_none, rows_at, all_rows, AreOf, AreGrouped}
-use Rattle.store_mem.proofs.RowLaws.{all-append, all-front, all-both, filter-all, filter-alike, filter-no, sorted-kept, sorted-swap}
+use Rattle.store_mem.specs.NamedGroups.{group_key, is_at, rows_or_none, rows_at, all_rows, AreOf, AreGrouped}
+use Rattle.hub_rows.proofs.NumberLaws.{all-above, number-greater, number-less, same_station}
+use Rattle.hub_rows.proofs.FilterLaws.{all-append, all-front, all-both, filter-all, filter-alike, filter-no}
+use Rattle.store_mem.proofs.RowLaws.{sorted-kept, sorted-swap}
 
 -- ---- lists
 
 pub map-same : {R : Type 0} (t u : R → Bool) (f : R → R) (xs : List R) → AllByRecursion (λ r. t r ≡ u r) xs → map (λ r. cond (t r) (f r) r) xs ≡ map (λ r. cond (u r) (f r) r) xs
 map-same t u f [] all = refl
 map-same t u f (x ∷ xs) all = λ i. cond (all.0 i) (f x) x ∷ map-same t u f xs all.1 i
-
--- what one looks for is found among the rows of one station
-pub found-those : {R : Type 0} (op : R → List ℕ) (b : List ℕ) (p q : R → Bool) (xs : List R) → found op b (λ r. p r && q r) xs ≡ find q (those op b p xs)
-found-those op b p q [] = refl
-found-those op b p q (x ∷ xs) = grind (arith, found-those op b p q xs)
 
 pub any-those : {R : Type 0} (op : R → List ℕ) (b : List ℕ) (p q : R → Bool) (xs : List R) → any_of op b (λ r. p r && q r) xs ≡ list_any q (those op b p xs)
 any-those op b p q [] = refl
@@ -45,10 +40,6 @@ any-those op b p q (x ∷ xs) =
       ]
       | false ↦ any-those op b p q xs
     ]
-
-pub those-those : {R : Type 0} (op : R → List ℕ) (b : List ℕ) (p q : R → Bool) (xs : List R) → those op b (λ r. p r && q r) xs ≡ filter q (those op b p xs)
-those-those op b p q [] = refl
-those-those op b p q (x ∷ xs) = grind (arith, those-those op b p q xs)
 
 -- ---- the order
 
@@ -74,26 +65,6 @@ then-greater Equal Equal q e = absurd (cc)
 then-greater Equal Greater q e = refl
 then-greater Greater p q e = refl
 
--- the order of numbers, as parts of keys
-pub number_order : (m n : ℕ) → key_cmp ((m ∷ []) ∷ []) ((n ∷ []) ∷ []) ≡ nat_cmp m n
-number_order m n = elim (nat_cmp m n) as (λ o. ordering_then (ordering_then o Equal) Equal ≡ o) [ Less ↦ refl | Equal ↦ refl | Greater ↦ refl ]
-
-pub number-less : (m n : ℕ) → m < n → key_cmp ((m ∷ []) ∷ []) ((n ∷ []) ∷ []) ≡ Less
-number-less m n below = number_order m n ∙ sym (nat_cmp_is m n Less below)
-
-some_same : {R : Type 0} (r x : R) → Some r ≡ Some x → r ≡ x
-some_same r x e = cc
-
-pub less-number : (m n : ℕ) → key_cmp ((m ∷ []) ∷ []) ((n ∷ []) ∷ []) ≡ Less → m < n
-less-number m n e = subst (λ o. MatchOrdering o (m < n) (m ≡ n) (n < m)) (sym (number_order m n) ∙ e) (ranked m n (nat_cmp m n) refl)
-
-pub number-greater : (m n : ℕ) → n < m → key_cmp ((m ∷ []) ∷ []) ((n ∷ []) ∷ []) ≡ Greater
-number-greater m n above = number_order m n ∙ sym (nat_cmp_is m n Greater above)
-
--- keys of one station compare by their numbers
-same_station : (a b : List ℕ) (k l : List (List ℕ)) → key_cmp (a ∷ b ∷ k) (a ∷ b ∷ l) ≡ key_cmp k l
-same_station a b k l = λ i. ordering_then (tied_itself nat_list_cmp_total a i) (ordering_then (tied_itself nat_list_cmp_total b i) (key_cmp k l))
-
 and-false : (p q n : Bool) → p && q ≡ false → p && (q && n) ≡ false
 and-false true true n e = absurd (cc)
 and-false true false n e = refl
@@ -106,27 +77,6 @@ and-true false q n e = absurd (cc)
 
 -- ---- numbers
 
-pub all-above : {R : Type 0} (number : R → ℕ) (n : ℕ) (xs : List R) → greatest (map number xs) < n → AllByRecursion (λ x. number x < n) xs
-all-above number n [] below = tt
-all-above number n (x ∷ xs) below =
-    let here : number x ≤ max (number x) (greatest (map number xs)) = le-max_left (number x) (greatest (map number xs)) in
-    let there : greatest (map number xs) ≤ max (number x) (greatest (map number xs)) = le-max_right (number x) (greatest (map number xs)) in
-    (omega (arith, here, there), all-above number n xs (omega (arith, here, there)))
-
--- the greatest is the last, in the order of the numbers
-last_from : {R : Type 0} (number : R → ℕ) (x : R) (xs : List R) (r : R) → IsStrictlySortedBy (by_key (number_key number)) (x ∷ xs) → Some r ≡ slice_get (x ∷ xs) (length xs) → number r ≡ greatest (map number (x ∷ xs))
-unfolding IsStrictlySortedBy
-last_from number x [] r sorted is = ap number (some_same r x is) ∙ sym (max-zero (number x))
-last_from number x (y ∷ xs) r sorted is =
-    let low : number x < number y = less-number (number x) (number y) sorted.0.0 in
-    let high : number y ≤ greatest (map number (y ∷ xs)) = le-max_left (number y) (greatest (map number xs)) in
-    last_from number y xs r sorted.1 is ∙ sym (max-eq_right (omega (arith, low, high)))
-
-pub last_greatest : {R : Type 0} (number : R → ℕ) (xs : List R) (r : R) → IsStrictlySortedBy (by_key (number_key number)) xs → Some r ≡ slice_get xs (length xs - 1) → number r ≡ greatest (map number xs)
-last_greatest number [] r sorted is = absurd (cc)
-last_greatest number (x ∷ xs) r sorted is =
-    let here : length (x ∷ xs) - 1 ≡ length xs = omega arith in
-    last_from number x xs r sorted (is ∙ ap (slice_get (x ∷ xs)) here)
 
 -- ---- the rows of all stations
 

@@ -1,7 +1,6 @@
 pub mod Stations
 pub mod NamedGroups
 pub mod Groups
-pub mod Forgettable
 pub mod Lists
 pub mod Open
 pub mod Received

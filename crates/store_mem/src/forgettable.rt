@@ -1,14 +1,12 @@
 //! What may go of a station's history, by its rows in the order of their numbers.
 ghost use Rattle.std.specs.Prelude.{◌≡◌, ◌≤◌, length, map, filter, take, option_map, IfOk};
 ghost use Rattle.std.specs.List.Sorted.{IsStrictlySortedBy};
-ghost use Rattle.hub_rows.specs.Forgetting.{forgettable, is_left, may_go, named_tx};
-ghost use Rattle.hub_rows.specs.Keyed.{by_key};
-ghost use Rattle.store_mem.specs.Forgettable.{is_one_left, tx_goes};
-ghost use Rattle.store_mem.specs.NamedGroups.{number_key};
+ghost use Rattle.hub_rows.specs.Forgetting.{forgettable, may_go, named_tx};
+ghost use Rattle.hub_rows.specs.Keyed.{by_key, number_key};
+ghost use Rattle.hub_rows.specs.LastReading.{tx_goes};
 
-use crate::readings::is_sent_with;
 use crate::station_rows::row_in;
-use hub_rows::{Forgettable, MAX_FORGOTTEN, ReadingRow, TxRow, goes_with, has_number};
+use hub_rows::{Forgettable, MAX_FORGOTTEN, ReadingRow, TxRow, goes_with, tx_goes};
 use ocpp_types::{Listed, Mem, Moment};
 use std::alloc::Global;
 
@@ -102,24 +100,4 @@ fn old_txs(
         }
     }
     Ok(ended)
-}
-
-fn tx_goes(until: Moment, readings: &[ReadingRow], gone: &[u32], tx: &TxRow) -> bool
-    ensures { result ≡ tx_goes until readings.now gone.now tx.now }
-{
-    tx.is_over(until) && !is_left(readings, gone, tx)
-}
-
-/// Whether a reading that was sent with the number of the transaction is left.
-fn is_left(readings: &[ReadingRow], gone: &[u32], tx: &TxRow) -> bool
-    ensures { result ≡ is_left readings.now gone.now tx.now }
-{
-    readings.iter().any(|row| is_one_left(row, gone, tx))
-}
-
-fn is_one_left(row: &ReadingRow, gone: &[u32], tx: &TxRow) -> bool
-    ensures { result ≡ is_one_left gone.now tx.now row.now }
-{
-    let number = tx.number as u64;
-    is_sent_with(Some(number), row.reading.transaction) && !has_number(gone, row.number)
 }

@@ -10,7 +10,7 @@ ghost use Rattle.store_mem.specs.NamedGroups.{all_rows, AreGrouped};
 use crate::copies::copy;
 use crate::named_groups::NamedGroup;
 use crate::station_rows::{append_rows, drop_numbers, last_number, rows_of};
-use hub_rows::{Reading, ReadingRow};
+use hub_rows::{Reading, ReadingRow, is_sent_with};
 use ocpp_types::{Listed, Mem, Text};
 use std::alloc::Global;
 
@@ -128,15 +128,4 @@ fn sent_with(
         }
     }
     Ok(chosen)
-}
-
-/// Whether a reading was sent with that number of a transaction, or with any.
-pub fn is_sent_with(wanted: Option<u64>, transaction: Option<i32>) -> bool
-    ensures { result ≡ is_sent_with wanted transaction }
-{
-    match (wanted, transaction) {
-        (None, _) => true,
-        (Some(_), None) => false,
-        (Some(wanted), Some(transaction)) => transaction as i128 == wanted as i128,
-    }
 }

@@ -4,9 +4,9 @@ ghost use Rattle.std.specs.List.{AllByRecursion};
 ghost use Rattle.std.specs.List.Sorted.{IsStrictlySortedBy};
 ghost use Rattle.std.specs.Str.{bytes_eq};
 ghost use Rattle.hub_rows.specs.Forgetting.{has_number, is_one_of};
-ghost use Rattle.hub_rows.specs.Keyed.{by_key, found, greatest, numbered_key, put, put_all, those, without};
+ghost use Rattle.hub_rows.specs.Keyed.{by_key, found, greatest, numbered_key, put, put_all, those, without, number_key};
 ghost use Rattle.hub_rows.specs.Places.{IsPlace};
-ghost use Rattle.store_mem.specs.NamedGroups.{number_key, all_rows, AreOf, AreGrouped, HasRoomAt};
+ghost use Rattle.store_mem.specs.NamedGroups.{all_rows, AreOf, AreGrouped, HasRoomAt};
 
 use crate::named_groups::{NamedGroup, rows_at};
 use crate::numbers::{greatest, is_none_of};

@@ -5,10 +5,10 @@ ghost use Rattle.std.specs.List.Sorted.{IsStrictlySortedBy};
 ghost use Rattle.std.proofs.Props.{props};
 ghost use Rattle.hub_rows.specs.Changes.{tx_row, with_stop, IsStopped};
 ghost use Rattle.hub_rows.specs.Forgetting.{is_one_of};
-ghost use Rattle.hub_rows.specs.Keyed.{by_key, changed, found, put, without};
+ghost use Rattle.hub_rows.specs.Keyed.{by_key, changed, found, put, without, number_key};
 ghost use Rattle.hub_rows.specs.Rows.{tx_key};
 ghost use Rattle.hub_rows.specs.Transactions.{counts, is_open, is_tx, is_used_in, same_start_in, tx_in, has_open_in, open_txs_in, last_tx_in, txs_in, txs_from_in, AreNext};
-ghost use Rattle.store_mem.specs.NamedGroups.{all_rows, number_key, AreGrouped};
+ghost use Rattle.store_mem.specs.NamedGroups.{all_rows, AreGrouped};
 ghost use Rattle.store_mem.specs.Open.{AreOpens};
 ghost use Rattle.store_mem.specs.Starts.{AreStarts};
 

@@ -2,8 +2,8 @@ use Rattle.std.proofs.Common.{◌≡◌, ◌-◌, List, ℕ, length, map, filter
 use Rattle.std.proofs.lemmas.List.{take-append-drop}
 use Rattle.hub_rows.specs.declared.forgettable.TheConstants.{MAX_FORGOTTEN}
 use Rattle.hub_rows.specs.Forgetting.{may_go}
-use Rattle.store_mem.specs.Forgettable.{tx_goes}
-use Rattle.store_mem.proofs.ForgettableLaws.{gone, by-last}
+use Rattle.hub_rows.specs.LastReading.{tx_goes}
+use Rattle.hub_rows.proofs.LastReadingLaws.{gone, by-last}
 use Rattle.store_mem.proofs.forgettable.forgettable.Goals as goal
 
 pub returns : goal.returns

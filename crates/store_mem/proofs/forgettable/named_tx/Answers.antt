@@ -1,7 +1,7 @@
 use Rattle.std.proofs.Common.{◌≡◌, ◌==◌, true, false, find, unsigned_abs, rules, sym, ap, ◌∙◌}
 use Rattle.std.specs.Int.{is_negative}
 use Rattle.hub_rows.specs.Forgetting.{named_tx}
-use Rattle.store_mem.proofs.ForgettableLaws.{named-none, named-some}
+use Rattle.hub_rows.proofs.LastReadingLaws.{named-none, named-some}
 use Rattle.store_mem.proofs.forgettable.named_tx.Goals as goal
 
 pub returns-in-Some : goal.returns-in-Some

@@ -1,5 +1,5 @@
 use Rattle.std.proofs.Common.{◌≡◌, ◌<◌, ◌+◌, length, arith, ap, sym, subst, ◌∙◌}
-use Rattle.store_mem.specs.Forgettable.{tx_goes}
+use Rattle.hub_rows.specs.LastReading.{tx_goes}
 use Rattle.store_mem.proofs.FirstLaws.{AreFirst, one-found, none-here}
 use Rattle.store_mem.proofs.forgettable.old_txs.Goals as goal
 use Rattle.store_mem.proofs.forgettable.old_txs.Goals.{then-tx_goes+in_ok-push, else-tx_goes}

@@ -1,4 +1,4 @@
-use Rattle.store_mem.specs.Forgettable.{tx_goes}
+use Rattle.hub_rows.specs.LastReading.{tx_goes}
 use Rattle.store_mem.proofs.FirstLaws.{AreFirst}
 use Rattle.store_mem.proofs.forgettable.old_txs.Given as goal
 

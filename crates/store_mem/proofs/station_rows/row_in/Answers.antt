@@ -1,7 +1,7 @@
 use Rattle.std.proofs.Common.{[], ◌∷◌, ◌==◌, Some, ap, sym, ◌∙◌}
 use Rattle.hub_rows.proofs.ListLaws.{one_part}
 use Rattle.hub_rows.proofs.PlaceLaws.{find-found, find-gap}
-use Rattle.store_mem.specs.NamedGroups.{number_key}
+use Rattle.hub_rows.specs.Keyed.{number_key}
 use Rattle.store_mem.proofs.station_rows.row_in.Goals as goal
 
 pub returns-in-Ok : goal.returns-in-Ok

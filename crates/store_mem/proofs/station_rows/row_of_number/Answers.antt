@@ -1,7 +1,7 @@
 use Rattle.std.proofs.Common.{◌==◌, find, ap, sym, ◌∙◌}
 use Rattle.std.specs.Str.{bytes_eq}
 use Rattle.store_mem.specs.NamedGroups.{all_rows}
-use Rattle.store_mem.proofs.StationRowsLaws.{found-those}
+use Rattle.hub_rows.proofs.NumberLaws.{found-those}
 use Rattle.store_mem.proofs.station_rows.row_of_number.Goals as goal
 
 pub returns : goal.returns

@@ -3,7 +3,7 @@ use Rattle.std.specs.Str.{bytes_eq}
 use Rattle.std.proofs.Math.Seq.{take-length}
 use Rattle.std.proofs.lemmas.List.{length-drop}
 use Rattle.store_mem.specs.NamedGroups.{all_rows}
-use Rattle.store_mem.proofs.StationRowsLaws.{those-those}
+use Rattle.hub_rows.proofs.NumberLaws.{those-those}
 use Rattle.store_mem.proofs.station_rows.rows_from.Goals as goal
 
 pub returns : goal.returns
