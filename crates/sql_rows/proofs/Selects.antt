@@ -1,6 +1,6 @@
 -- What a SELECT answers, in any state of a connection.
 use Rattle.sqlite_rules.specs.Lists.{Has}
-use Rattle.std.proofs.Common.{◌≡◌, ◌<◌, Equal, ℕ, List, [], ◌∷◌, Bool, Ok, Err, Result, IsTrue, IfOk, IfErr, map, filter, sym, subst, inl, inr}
+use Rattle.std.proofs.Common.{◌≡◌, ◌<◌, Equal, ℕ, List, [], Bool, Ok, Err, Result, IsTrue, IfOk, IfErr, map, filter, sym, subst, inl, inr}
 use Rattle.sqlite_value.specs.declared.value.Value.TheVariants.{Null}
 use Rattle.sqlite_value.specs.declared.keys.Key as sort
 use Rattle.sqlite_value.specs.Order.{Row}
