@@ -2,6 +2,7 @@
 use Rattle.std.proofs.Common.{◌≡◌, ◌∙◌, ◌&&◌, ◌++◌, ◌+◌, ◌-◌, ℕ, ◌<◌, ◌≤◌, List, [], None, length, map, filter, take, refl, sym, ap, arith}
 use Rattle.std.specs.List.Sorted.{IsStrictlySortedBy}
 use Rattle.std.specs.Str.{bytes_eq}
+use Rattle.std.proofs.lemmas.List.{length-map}
 use Rattle.sqlite_trees.specs.Tree.{Trees}
 use Rattle.hub_rows.specs.declared.forgettable.TheConstants.{MAX_FORGOTTEN}
 use Rattle.hub_rows.specs.declared.reading_row.ReadingRow.{ReadingRow}
@@ -12,7 +13,7 @@ use Rattle.hub_rows.specs.LastReading.{tx_goes}
 use Rattle.hub_rows.specs.Lookups.{forgettable_in}
 use Rattle.hub_rows.specs.Rows.{Rows, reading_key, tx_key}
 use Rattle.hub_rows.specs.Transactions.{last_reading_in, last_tx_in, readings_in, txs_in}
-use Rattle.hub_rows.proofs.LastReadingLaws.{by-last}
+use Rattle.hub_rows.proofs.LastReadingLaws.{by-room}
 use Rattle.hub_rows.proofs.ListLaws.{and-true, by_key_total}
 use Rattle.sql_rows.specs.Kept.{IsPage}
 use Rattle.sql_rows.specs.TypedTable.{cmp, typed}
@@ -41,10 +42,13 @@ module _ (b station : List ℕ) (until : ℕ) (rows : Rows) (tx_order : IsStrict
   own_order : IsStrictlySortedBy (by_key (number_key (λ r. r.number))) own
   own_order = own_in_order (λ r. r.op) (λ r. r.station) (λ r. r.number) b station rows.readings reading_order
 
-  abbrev gone_of : List ReadingRow → List ℕ
-  gone_of front = map (λ r. r.number) (take MAX_FORGOTTEN (filter (may_go until its_txs) front))
+  abbrev gone_of : List ReadingRow → List ReadingRow
+  gone_of front = take MAX_FORGOTTEN (filter (may_go until its_txs) front)
 
-  module _ (last : ℕ) (is_last : last ≡ last_reading_in b station rows.readings) (gone : List ℕ) (is_gone : gone ≡ map (λ r. r.number) (take MAX_FORGOTTEN (old_readings_below b station until last rows))) where
+  abbrev numbers : List ReadingRow → List ℕ
+  numbers rows = map (λ r. r.number) rows
+
+  module _ (last : ℕ) (is_last : last ≡ last_reading_in b station rows.readings) (gone : List ReadingRow) (is_gone : gone ≡ take MAX_FORGOTTEN (old_readings_below b station until last rows)) where
     is_greatest : last ≡ greatest (map (λ r. r.number) own)
     is_greatest = is_last ∙ ap (λ l. greatest (map (λ r. r.number) l)) (sym (readings_are b station rows))
 
@@ -54,8 +58,8 @@ module _ (b station : List ℕ) (until : ℕ) (rows : Rows) (tx_order : IsStrict
     same : gone_of (below (λ r. r.number) last own) ≡ gone_of (but_last (readings_in b station None rows.readings))
     same = ap gone_of front
 
-    abbrev tx_numbers : ℕ → List ReadingRow → List ℕ → List ℕ
-    tx_numbers most readings numbers = map (λ t. t.number) (take most (filter (tx_goes until readings numbers) (but_last its_txs)))
+    abbrev txs_left : ℕ → List ReadingRow → List ℕ → List TxRow
+    txs_left most readings gone = take most (filter (tx_goes until readings gone) (but_last its_txs))
 
     -- where as many readings go as may, no transaction does
     pub full_is : MAX_FORGOTTEN - length gone ≡ 0 → record { readings = gone; transactions = [] } ≡ forgettable_in b station until rows
@@ -63,7 +67,7 @@ module _ (b station : List ℕ) (until : ℕ) (rows : Rows) (tx_order : IsStrict
         let all : List ReadingRow = readings_in b station None rows.readings in
         λ i. record {
           readings = (is_gone ∙ same) i;
-          transactions = (ap (λ most. tx_numbers most all gone) (sym full) ∙ ap (λ numbers. tx_numbers (MAX_FORGOTTEN - length numbers) all numbers) (is_gone ∙ same)) i;
+          transactions = (ap (λ most. txs_left most all (numbers gone)) (sym full) ∙ ap (λ front. txs_left (MAX_FORGOTTEN - length front) all (numbers front)) (is_gone ∙ same)) i;
         }
 
     -- the last reading is all that follows those before it
@@ -77,13 +81,16 @@ module _ (b station : List ℕ) (until : ℕ) (rows : Rows) (tx_order : IsStrict
           let next_is : next ≡ last + 1 = omega (arith, forward, within) in
           f.rows_are ∙ ap (λ n. below (λ r. r.number) n own) (next_is ∙ ap (λ n. n + 1) is_greatest) ∙ all_below (λ r. r.number) own ∙ readings_are b station rows
 
-      pub forgettable_is : (end : ℕ) → end ≡ last_tx_in b station rows.transactions → (ended : List ℕ) → ended ≡ map (λ t. t.number) (take (MAX_FORGOTTEN - length gone) (old_txs_below b station until end left gone rows))
+      pub forgettable_is : (end : ℕ) → end ≡ last_tx_in b station rows.transactions → (old : List ℕ) → old ≡ numbers gone → (ended : List TxRow) → ended ≡ take (MAX_FORGOTTEN - length old) (old_txs_below b station until end left old rows)
           → record { readings = gone; transactions = ended } ≡ forgettable_in b station until rows
-      forgettable_is end is_end ended is_ended =
+      forgettable_is end is_end old is_old ended is_ended =
+          let all : List ReadingRow = readings_in b station None rows.readings in
           let tx_up : IsStrictlySortedBy (by_key (number_key (λ t. t.number))) its_txs = own_in_order (λ t. t.op) (λ t. t.station) (λ t. t.number) b station rows.transactions tx_order in
           let front_txs : below (λ t. t.number) end its_txs ≡ but_last its_txs = ap (λ n. below (λ t. t.number) n its_txs) is_end ∙ sym (but_last_is (λ t. t.number) its_txs tx_up) in
-          let numbers = is_ended
-          ∙ (λ i. map (λ t. t.number) (take (MAX_FORGOTTEN - length (is_gone i)) (filter (tx_goes until left (is_gone i)) (front_txs i))))
-          ∙ by-last until MAX_FORGOTTEN its_txs tx_up (below (λ r. r.number) last own) left (length its_txs - 1)
-          ∙ (λ i. tx_numbers (MAX_FORGOTTEN - length (same i)) (whole i) (same i)) in
-          λ i. record { readings = (is_gone ∙ same) i; transactions = numbers i }
+          let is_numbers : old ≡ numbers (gone_of (below (λ r. r.number) last own)) = is_old ∙ ap numbers is_gone in
+          let transactions = is_ended
+          ∙ (λ i. take (MAX_FORGOTTEN - length (is_numbers i)) (filter (tx_goes until left (is_numbers i)) (front_txs i)))
+          ∙ by-room until MAX_FORGOTTEN its_txs tx_up (below (λ r. r.number) last own) left (MAX_FORGOTTEN - length (numbers (gone_of (below (λ r. r.number) last own)))) refl (length its_txs - 1)
+          ∙ (λ i. txs_left (MAX_FORGOTTEN - length (numbers (same i))) (whole i) (numbers (same i)))
+          ∙ ap (λ n. txs_left (MAX_FORGOTTEN - n) all (numbers (gone_of (but_last all)))) (length-map (gone_of (but_last all)) (λ r. r.number)) in
+          λ i. record { readings = (is_gone ∙ same) i; transactions = transactions i }

@@ -5,7 +5,7 @@ use Rattle.std.specs.List.Sorted.{IsStrictlySortedBy}
 use Rattle.std.specs.Str.{bytes_eq}
 use Rattle.std.proofs.lemmas.Bool.{and_parts, cases_Bool, le-leb, le-ltb, leb-true, lt-leb, lt-ltb, ltb-false, ltb-true}
 use Rattle.std.proofs.lemmas.Bool.Decides.{nat_tests}
-use Rattle.std.proofs.lemmas.List.{map-append, take-append-le, take-map}
+use Rattle.std.proofs.lemmas.List.{take-append-le}
 use Rattle.std.proofs.lemmas.List.Elements.{filter-append}
 use Rattle.std.proofs.lemmas.List.Kept.{IsStrictlySortedBy-filter}
 use Rattle.hub_rows.specs.Forgetting.{but_last}
@@ -91,33 +91,27 @@ module _ {R : Type 0} (number : R → ℕ) where
       filter-all (λ r. nat_lt (number r) (top + 1)) rows (all-weaker (λ r. number r ≤ top) (λ r. nat_lt (number r) (top + 1) ≡ true) (λ r low. lt-ltb (number r) (top + 1) (omega (arith, low))) rows (under_greatest number rows))
 
   -- what is found among the rows below a number is all that is wanted, where it is enough or no more rows are wanted
-  pub first_found : (most : ℕ) (p : R → Bool) (first end : ℕ) (rows : List R) → IsInOrder rows → first ≤ end → (first ≡ end) ⊎ (most ≤ length (map number (filter p (below number first rows))))
-      → take most (map number (filter p (below number first rows))) ≡ map number (take most (filter p (below number end rows)))
-  first_found most p first end rows sorted up (inl same) = take-map number most (filter p (below number first rows)) ∙ ap (λ n. map number (take most (filter p (below number n rows)))) same
+  pub first_found : (most : ℕ) (p : R → Bool) (first end : ℕ) (rows : List R) → IsInOrder rows → first ≤ end → (first ≡ end) ⊎ (most ≤ length (filter p (below number first rows)))
+      → take most (filter p (below number first rows)) ≡ take most (filter p (below number end rows))
+  first_found most p first end rows sorted up (inl same) = ap (λ n. take most (filter p (below number n rows))) same
   first_found most p first end rows sorted up (inr enough) =
       let more : List R = filter (λ r. nat_le first (number r) && nat_lt (number r) end) rows in
-      sym (take-append-le most (map number (filter p (below number first rows))) (map number (filter p more)) enough)
-      ∙ ap (take most) (sym (ap (λ l. map number (filter p l)) (sym (joined first end up rows sorted)) ∙ ap (map number) (filter-append p (below number first rows) more) ∙ map-append number (filter p (below number first rows)) (filter p more)))
-      ∙ take-map number most (filter p (below number end rows))
+      sym (take-append-le most (filter p (below number first rows)) (filter p more) enough)
+      ∙ ap (take most) (sym (filter-append p (below number first rows) more) ∙ ap (filter p) (joined first end up rows sorted))
 
   -- what is found on the page that follows
-  pub more_found : (p : R → Bool) (first next : ℕ) (rows page : List R) → below number first rows ++ page ≡ below number next rows → (found more : List ℕ) → found ≡ map number (filter p (below number first rows)) → more ≡ found ++ map number (filter p page)
-      → more ≡ map number (filter p (below number next rows))
+  pub more_found : (p : R → Bool) (first next : ℕ) (rows page : List R) → below number first rows ++ page ≡ below number next rows → (found more : List R) → found ≡ filter p (below number first rows) → more ≡ found ++ filter p page
+      → more ≡ filter p (below number next rows)
   more_found p first next rows page follow found more so_far new =
-      new ∙ ap (λ l. l ++ map number (filter p page)) so_far ∙ sym (map-append number (filter p (below number first rows)) (filter p page))
-      ∙ ap (map number) (sym (filter-append p (below number first rows) page)) ∙ ap (λ l. map number (filter p l)) follow
+      new ∙ ap (λ l. l ++ filter p page) so_far ∙ sym (filter-append p (below number first rows) page) ∙ ap (filter p) follow
 
   -- one more row of a list
-  pub one_found : (p : R → Bool) (front next : List R) (x : R) (start found more : List ℕ) (goes : Bool) → next ≡ front ++ x ∷ [] → found ≡ start ++ map number (filter p front) → goes ≡ p x → more ≡ found ++ cond goes (number x ∷ []) []
-      → more ≡ start ++ map number (filter p next)
+  pub one_found : (p : R → Bool) (front next : List R) (x : R) (start found more : List R) (goes : Bool) → next ≡ front ++ x ∷ [] → found ≡ start ++ filter p front → goes ≡ p x → more ≡ found ++ cond goes (x ∷ []) []
+      → more ≡ start ++ filter p next
   one_found p front next x start found more goes is so_far tested new =
-      new ∙ (λ i. so_far i ++ cond (tested i) (number x ∷ []) [])
-      ∙ append_assoc start (map number (filter p front)) (cond (p x) (number x ∷ []) [])
-      ∙ ap (λ l. start ++ l) (ap (λ l. map number (filter p front) ++ l) (sym (numbered (p x))) ∙ sym (map-append number (filter p front) (filter p (x ∷ []))) ∙ ap (map number) (sym (filter-append p front (x ∷ []))) ∙ ap (λ l. map number (filter p l)) (sym is))
-    where
-      numbered : (b : Bool) → map number (cond b (x ∷ []) []) ≡ cond b (number x ∷ []) []
-      numbered true = refl
-      numbered false = refl
+      new ∙ (λ i. so_far i ++ cond (tested i) (x ∷ []) [])
+      ∙ append_assoc start (filter p front) (cond (p x) (x ∷ []) [])
+      ∙ ap (λ l. start ++ l) (sym (filter-append p front (x ∷ [])) ∙ ap (filter p) (sym is))
 
   all_greatest : (n : ℕ) (rows : List R) → AllByRecursion (λ r. number r ≤ n) rows → greatest (map number rows) ≤ n
   all_greatest n [] all = omega arith
@@ -231,9 +225,9 @@ module _ {R : Type 0} (op station : R → List ℕ) (number : R → ℕ) (b st :
 
     -- what is found on a page that is shown after those before it, where the next page begins
     pub next_found : (p : R → Bool) (first end : ℕ) → first < end → (page : List R) → IsPage number (is_between op station number b st first (end - 1)) rows page
-        → (found more : List ℕ) → found ≡ map number (filter p (below number first own_rows)) → more ≡ found ++ map number (filter p page)
+        → (found more : List R) → found ≡ filter p (below number first own_rows) → more ≡ found ++ filter p page
         → (next : ℕ) → (IsStrictlySortedBy (by_key (number_key number)) page → first < after_page end (map number page) → after_page end (map number page) ≤ end → next ≡ after_page end (map number page))
-        → (next ≤ end) × (more ≡ map number (filter p (below number next own_rows)))
+        → (next ≤ end) × (more ≡ filter p (below number next own_rows))
     next_found p first end under page is found more so_far new next goes_on =
         let up : first ≤ end - 1 = omega (arith, under) in
         let last : end - 1 + 1 ≡ end = omega (arith, under) in

@@ -13,7 +13,9 @@ ghost use Rattle.sql_lookups.specs.Pages.{after_page};
 
 use crate::readings::{last_reading, readings_page};
 use crate::txs::{find_tx, last_tx, txs_page};
-use hub_rows::{Forgettable, MAX_FORGOTTEN, ReadingRow, StoreFault, TxRow, goes_with, tx_goes};
+use hub_rows::{
+    History, MAX_FORGOTTEN, ReadingRow, StoreFault, TxRow, goes_with, reading_numbers, tx_goes,
+};
 use ocpp_types::{Listed, Mem, Moment};
 use sqlite::{Alter, Connection};
 use std::alloc::Global;
@@ -64,20 +66,25 @@ fn goes(until: Moment, row: &ReadingRow, named: &Named) -> bool
     goes_with(until, row.reading.at, named.tx.as_ref())
 }
 
-/// Adds a number, if its row goes.
-fn add_if(numbers: &mut Listed<u32>, goes: bool, number: u32) -> Mem<()>
-    ensures { OnOk result (numbers.new ≡ numbers.old ++ cond goes (number ∷ []) []) }
+/// Adds a row, if it goes.
+fn add_if<R: Clone + Drop>(rows: &mut Listed<R>, goes: bool, row: &R) -> Mem<()>
+    requires { (row copy : R) → R.is_clone row copy → copy ≡ row }
+    ensures { OnOk result (rows.new ≡ rows.old ++ cond goes (row.now ∷ []) []) }
 {
-    if goes { numbers.push(number) } else { Ok(()) }
+    if goes {
+        rows.push(row.clone()?)
+    } else {
+        Ok(())
+    }
 }
 
-/// The first of some numbers.
-fn first_of(numbers: Listed<u32>, most: usize) -> Listed<u32>
-    ensures { result ≡ take most numbers }
+/// The first of some rows.
+fn first_of<R: Drop>(rows: Listed<R>, most: usize) -> Listed<R>
+    ensures { result ≡ take most rows }
 {
-    let mut numbers = numbers.into_vec();
-    numbers.truncate(most);
-    Listed::from(numbers)
+    let mut rows = rows.into_vec();
+    rows.truncate(most);
+    Listed::from(rows)
 }
 
 // ---- pages
@@ -108,16 +115,16 @@ fn after_txs(first: u32, end: u32, page: &[TxRow]) -> u32
 
 // ---- readings
 
-/// Adds the numbers of those of some readings that may go.
+/// Adds those of some readings that may go.
 fn add_old_readings<S: Alter>(
     conn: &mut Connection<S>,
     op: &str,
     station: &str,
     until: Moment,
     readings: &[ReadingRow],
-    gone: &mut Listed<u32>,
+    gone: &mut Listed<ReadingRow>,
 ) -> Result<(), StoreFault>
-    ensures asks { Asks (state S.Store conn.old) (state S.Store conn.new) result (λ rows done. gone.new ≡ gone.old ++ map (λ r. r.number) (filter (may_go until (txs_in op.now station.now rows.transactions)) readings.now)) }
+    ensures asks { Asks (state S.Store conn.old) (state S.Store conn.new) result (λ rows done. gone.new ≡ gone.old ++ filter (may_go until (txs_in op.now station.now rows.transactions)) readings.now) }
 {
     let mut last = Named {
         transaction: None,
@@ -125,12 +132,12 @@ fn add_old_readings<S: Alter>(
     };
     'readings: for row in readings {
         last = named_now(conn, op, station, last, row.reading.transaction)?;
-        add_if(gone, goes(until, row, &last), row.number)?;
+        add_if(gone, goes(until, row, &last), row)?;
     }
     Ok(())
 }
 
-/// The numbers of the first readings of a station below the end that may go, as many as go at once.
+/// The first readings of a station below the end that may go, as many as go at once.
 fn old_readings<S: Alter>(
     conn: &mut Connection<S>,
     alloc: Global,
@@ -138,8 +145,8 @@ fn old_readings<S: Alter>(
     station: &str,
     until: Moment,
     end: u32,
-) -> Result<Listed<u32>, StoreFault>
-    ensures asks { Asks (state S.Store conn.old) (state S.Store conn.new) result (λ rows gone. gone ≡ map (λ r. r.number) (take MAX_FORGOTTEN (old_readings_below op.now station.now until end rows))) }
+) -> Result<Listed<ReadingRow>, StoreFault>
+    ensures asks { Asks (state S.Store conn.old) (state S.Store conn.new) result (λ rows gone. gone ≡ take MAX_FORGOTTEN (old_readings_below op.now station.now until end rows)) }
 {
     let mut gone = Listed::new(alloc);
     let mut next = 0;
@@ -153,24 +160,23 @@ fn old_readings<S: Alter>(
 
 // ---- transactions
 
-/// Adds the numbers of those of some transactions that may go, once those readings are gone and these are left.
+/// Adds those of some transactions that may go, once the readings with those numbers are gone and these are left.
 fn add_old_txs(
     until: Moment,
     left: &[ReadingRow],
     gone: &[u32],
     txs: &[TxRow],
-    ended: &mut Listed<u32>,
+    ended: &mut Listed<TxRow>,
 ) -> Mem<()>
-    ensures { OnOk result (ended.new ≡ ended.old ++ map (λ t. t.number) (filter (tx_goes until left.now gone.now) txs.now)) }
+    ensures { OnOk result (ended.new ≡ ended.old ++ filter (tx_goes until left.now gone.now) txs.now) }
 {
     'txs: for tx in txs {
-        add_if(ended, tx_goes(until, left, gone, tx), tx.number)?;
+        add_if(ended, tx_goes(until, left, gone, tx), tx)?;
     }
     Ok(())
 }
 
-/// The numbers of the first transactions of a station below the end that may go then, as many as go at once with the
-/// readings.
+/// The first transactions of a station below the end that may go then, as many as go at once with the readings.
 fn old_txs<S: Alter>(
     conn: &mut Connection<S>,
     alloc: Global,
@@ -180,8 +186,8 @@ fn old_txs<S: Alter>(
     end: u32,
     left: &[ReadingRow],
     gone: &[u32],
-) -> Result<Listed<u32>, StoreFault>
-    ensures asks { Asks (state S.Store conn.old) (state S.Store conn.new) result (λ rows ended. ended ≡ map (λ t. t.number) (take (MAX_FORGOTTEN - length gone.now) (old_txs_below op.now station.now until end left.now gone.now rows))) }
+) -> Result<Listed<TxRow>, StoreFault>
+    ensures asks { Asks (state S.Store conn.old) (state S.Store conn.new) result (λ rows ended. ended ≡ take (MAX_FORGOTTEN - length gone.now) (old_txs_below op.now station.now until end left.now gone.now rows)) }
 {
     let most = MAX_FORGOTTEN.saturating_sub(gone.len());
     let mut ended = Listed::new(alloc);
@@ -203,22 +209,23 @@ pub fn forgettable<S: Alter>(
     op: &str,
     station: &str,
     until: Moment,
-) -> Result<Forgettable, StoreFault>
+) -> Result<History, StoreFault>
     ensures asks { Asks (state S.Store conn.old) (state S.Store conn.new) result (λ rows f. f ≡ forgettable_in op.now station.now until rows) }
 {
     let last = last_reading(conn, op, station)?;
     let readings = old_readings(conn, alloc, op, station, until, last)?;
     if readings.as_slice().len() == MAX_FORGOTTEN {
-        return Ok(Forgettable {
+        return Ok(History {
             readings,
             transactions: Listed::new(alloc),
         });
     }
     let left = readings_page(conn, op, station, last, last)?;
     let end = last_tx(conn, op, station)?;
-    let gone = readings.as_slice();
-    let transactions = old_txs(conn, alloc, op, station, until, end, left.as_slice(), gone)?;
-    Ok(Forgettable {
+    let gone = reading_numbers(alloc, readings.as_slice())?;
+    let (left, gone) = (left.as_slice(), gone.as_slice());
+    let transactions = old_txs(conn, alloc, op, station, until, end, left, gone)?;
+    Ok(History {
         readings,
         transactions,
     })

@@ -1,4 +1,4 @@
-use Rattle.std.proofs.Common.{◌≡◌, ◌∙◌, ◌+◌, ◌++◌, [], ◌∷◌, ap, filter, map, rules, take}
+use Rattle.std.proofs.Common.{◌≡◌, ◌∙◌, ◌+◌, ◌++◌, [], ◌∷◌, ap, filter, rules, take}
 use Rattle.std.proofs.lemmas.List.{take_all, take_more}
 use Rattle.hub_rows.specs.Forgetting.{goes_with, may_go, named_tx}
 use Rattle.hub_rows.specs.Transactions.{txs_in}
@@ -29,7 +29,7 @@ returns g c =
     let whole : take c.readings.row-index c.args.readings.now ≡ c.args.readings.now = search (rules, take_all) in
     record {
       asks = asks_of c.readings.invariant (λ db is.
-          is.1 ∙ ap (λ l. c.args.gone.now ++ map (λ r. r.number) (filter (may_go c.args.until (txs_in c.args.op.now c.args.station.now (rows_of db).transactions)) l)) whole);
+          is.1 ∙ ap (λ l. c.args.gone.now ++ filter (may_go c.args.until (txs_in c.args.op.now c.args.station.now (rows_of db).transactions)) l) whole);
     }
 
 pub returns-in_err-last : goal.returns-in_err-last

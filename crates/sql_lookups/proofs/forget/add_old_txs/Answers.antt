@@ -1,4 +1,4 @@
-use Rattle.std.proofs.Common.{◌≡◌, ◌∙◌, ◌+◌, ◌++◌, [], ◌∷◌, ap, filter, map, rules, take}
+use Rattle.std.proofs.Common.{◌≡◌, ◌∙◌, ◌+◌, ◌++◌, [], ◌∷◌, ap, filter, rules, take}
 use Rattle.std.proofs.lemmas.List.{take_all, take_more}
 use Rattle.hub_rows.specs.LastReading.{tx_goes}
 use Rattle.sql_lookups.proofs.PageLaws.{one_found}
@@ -15,4 +15,4 @@ txs-preserved c =
 pub returns : goal.returns
 returns c =
     let whole : take c.txs.tx-index c.args.txs.now ≡ c.args.txs.now = search (rules, take_all) in
-    c.txs.invariant ∙ ap (λ l. c.args.ended.now ++ map (λ t. t.number) (filter (tx_goes c.args.until c.args.left.now c.args.gone.now) l)) whole
+    c.txs.invariant ∙ ap (λ l. c.args.ended.now ++ filter (tx_goes c.args.until c.args.left.now c.args.gone.now) l) whole
