@@ -266,7 +266,9 @@ fn forget_command<'a>(alloc: Global) -> Result<Command<'a>, AllocError> {
     let export = Arg::new(alloc, "export")
         .long("export")
         .value_name("NAME")
-        .help("Writes what goes to NAME-transactions.csv and NAME-readings.csv before it goes, after what is there")
+        .help(
+            "Writes what goes to NAME-transactions.csv and NAME-readings.csv before it goes, after what is there",
+        )
         .allow_hyphen_values(true);
     Command::new(alloc, "forget")
         .about("Forgets the history of an operator's stations, and prints how many rows went")

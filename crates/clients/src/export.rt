@@ -90,11 +90,7 @@ impl Export {
     }
 }
 
-fn writer_to(
-    rt: &HostRuntime,
-    path: &str,
-    columns: &[&str],
-) -> Result<Writer<File>, ClientFault> {
+fn writer_to(rt: &HostRuntime, path: &str, columns: &[&str]) -> Result<Writer<File>, ClientFault> {
     let file = OpenOptions::new().append(true).create(true).open(rt, path)?;
     let is_new = fs::metadata(rt, path)?.len() == 0;
     let mut writer = WriterBuilder::new()

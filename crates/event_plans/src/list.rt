@@ -7,9 +7,9 @@ ghost use Rattle.event_plans.specs.Plans.{list_plan};
 ghost use Rattle.hub_events.specs.declared.listing.Row.TheVariants as row;
 
 use crate::plan::{Effect, Plan};
+use charging::plan_forget;
 use holdings::is_current;
 use hub_events::{Listing, Row, Said, Shown};
-use charging::plan_forget;
 use hub_rows::{History, LocalList, LocalTag, ReservationRow, Store, StoreFault};
 use ocpp_types::{Boxed, Listed, Mem, Moment, Refusal, Text};
 use registry::StationAt;

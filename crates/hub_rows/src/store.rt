@@ -214,12 +214,7 @@ pub trait Store {
 
     /// What of a station's history may go before a moment: its first readings and transactions that may, at most
     /// `MAX_FORGOTTEN`.
-    fn forgettable(
-        &mut self,
-        op: &str,
-        station: &str,
-        until: Moment,
-    ) -> Result<History, StoreFault>
+    fn forgettable(&mut self, op: &str, station: &str, until: Moment) -> Result<History, StoreFault>
         ensures reads { OnlyReads view self.old self.new result }
         ensures found { (view self.new).clean
             → IfOk result (λ r. r ≡ forgettable_in op.now station.now until (view self.old).rows) };

@@ -114,6 +114,12 @@ pub(crate) fn forget<S: Alter>(
 {
     let gone = rows.transactions.as_slice();
     drop_rows(tx, HistoryTable::Transactions, op, station, gone)?;
-    drop_rows(tx, HistoryTable::Readings, op, station, rows.readings.as_slice())?;
+    drop_rows(
+        tx,
+        HistoryTable::Readings,
+        op,
+        station,
+        rows.readings.as_slice(),
+    )?;
     drop_rows(tx, HistoryTable::Owners, op, station, gone)
 }
