@@ -34,7 +34,7 @@ use Rattle.hub_rows.specs.declared.tx_row.TxState.{TxState}
 use Rattle.hub_rows.specs.Lookups.{Lookups, lookups_at}
 use Rattle.ocpp_types.specs.declared.authorization_status.AuthorizationStatus.{AuthorizationStatus}
 use Rattle.ocpp_types.specs.declared.authorization_status.AuthorizationStatus.TheVariants.{Accepted, Blocked, Expired, Invalid, ConcurrentTx}
-use Rattle.std.specs.List.{AllByRecursion, is_nil}
+use Rattle.std.specs.List.{AllByRecursion}
 use Rattle.hub_rows.proofs.ForgetLaws.{forgettable-stopped}
 use Rattle.hub_rows.specs.declared.forgettable.Forgettable.{Forgettable}
 use Rattle.hub_rows.specs.Forgetting.{numbers_of}
@@ -98,7 +98,7 @@ use Rattle.event_plans.specs.declared.plan.Plan.{Plan}
 use Rattle.pending_calls.specs.Slot.{answered_command}
 use Rattle.event_plans.specs.Commands.{command_plan, command_rule, edit_by, end_plan, result_edit, result_outcome}
 use Rattle.event_plans.specs.Effects.{edit_effect}
-use Rattle.event_plans.specs.Plans.{connect_plan, error_plan, edit_plan, forget_plan, list_plan, turned_plan}
+use Rattle.event_plans.specs.Plans.{connect_plan, error_plan, edit_plan, forget_plan, has_no_rows, list_plan, turned_plan}
 use Rattle.event_plans.specs.Table.{Facts, plan, frame_plan, call_plan, state_plan, payload_plan, admin_rule}
 use Rattle.event_plans.specs.Listing.{rows_rule}
 
@@ -371,7 +371,7 @@ forget_fits station until m f =
     let gone = f.lookups.forgettable station until in
     elim (is_some (f.lookups.registration station)) as (λ b. PlanFits f (forget_plan station (cond b (cond (nat_le until m) (Ok gone) (Err (BadField (codes "until")))) (Err NoSuchStation)))) [
       | true ↦ elim (nat_le until m) as (λ b. PlanFits f (forget_plan station (cond b (Ok gone) (Err (BadField (codes "until")))))) [
-        | true ↦ elim (is_nil gone.readings && is_nil gone.transactions) as (λ b. EffectFits f (cond b effect.Nothing (effect.Edit (Transactions (Forgotten station (numbers_of gone)))))) [ true ↦ tt | false ↦ (until, refl) ]
+        | true ↦ elim (has_no_rows gone) as (λ b. EffectFits f (cond b effect.Nothing (effect.Edit (Transactions (Forgotten station (numbers_of gone)))))) [ true ↦ tt | false ↦ (until, refl) ]
         | false ↦ tt
       ]
       | false ↦ tt

@@ -1,6 +1,5 @@
 -- A plan that submits no command is ready whatever the slots are.
 use Rattle.std.specs.Prelude.{◌≡◌, ◌&&◌, true, false, cond, ℕ, List, Option, Some, None, Result, Ok, Err, IfOk}
-use Rattle.std.specs.List.{is_nil}
 use Rattle.ocpp_types.specs.declared.refusal.Refusal.{Refusal}
 use Rattle.hub_rows.specs.declared.change.Edit.{Edit}
 use Rattle.hub_rows.specs.declared.change.Edit.TheVariants.{Transactions}
@@ -19,7 +18,7 @@ use Rattle.event_plans.specs.declared.plan.Plan.{Plan}
 use Rattle.pending_calls.specs.Slot.{answered_command}
 use Rattle.event_plans.specs.Commands.{end_plan, failure_plan}
 use Rattle.event_plans.specs.Effects.{StationSlot, IsReady, edit_effect}
-use Rattle.event_plans.specs.Plans.{connect_plan, decided_plan, edit_plan, forget_plan, forgetting, list_plan}
+use Rattle.event_plans.specs.Plans.{connect_plan, decided_plan, edit_plan, forget_plan, forgetting, has_no_rows, list_plan}
 
 pub connect_ready : (slot : List ℕ → StationSlot) (station : List ℕ) (o : Option Registration) (p : Plan) → p ≡ connect_plan station o → IsReady slot p.effect
 connect_ready slot station None p is = rw is tt
@@ -31,7 +30,7 @@ edit_ready slot (Err refusal) p is = rw is tt
 
 forgetting_ready : (slot : List ℕ → StationSlot) (station : List ℕ) (gone : History) → IsReady slot (forgetting station gone)
 forgetting_ready slot station gone =
-    elim (is_nil gone.readings && is_nil gone.transactions) as (λ b. IsReady slot (cond b effect.Nothing (effect.Edit (Transactions (Forgotten station (numbers_of gone)))))) [ true ↦ tt | false ↦ tt ]
+    elim (has_no_rows gone) as (λ b. IsReady slot (cond b effect.Nothing (effect.Edit (Transactions (Forgotten station (numbers_of gone)))))) [ true ↦ tt | false ↦ tt ]
 
 pub forget_ready : (slot : List ℕ → StationSlot) (station : List ℕ) (answer : Result History Refusal) (p : Plan) → p ≡ forget_plan station answer → IsReady slot p.effect
 forget_ready slot station (Ok gone) p is = rw is (forgetting_ready slot station gone)

@@ -1,6 +1,5 @@
 -- What is said, and what changes, as each event's answer is known.
-use Rattle.std.specs.Prelude.{ℕ, List, [], ◌∷◌, ◌++◌, ◌&&◌, if◌then◌else◌, length, map, Option, Some, None, Result, Ok, Err}
-use Rattle.std.specs.List.{is_nil}
+use Rattle.std.specs.Prelude.{ℕ, ◌==◌, Bool, List, [], ◌∷◌, ◌++◌, ◌&&◌, if◌then◌else◌, length, map, Option, Some, None, Result, Ok, Err}
 use Rattle.serde_json.specs.Written.{compact_text}
 use Rattle.ocpp_types.specs.ErrorCode.{error_code_name}
 use Rattle.ocpp_types.specs.declared.error_code.ErrorCode.{ErrorCode}
@@ -87,9 +86,13 @@ abbrev pub edit_plan : Result Edit Refusal → Plan
 edit_plan (Ok edit) = record { said = said.Accepted None ∷ []; effect = effect.Edit edit }
 edit_plan (Err refusal) = only (said.Refused refusal)
 
+-- nothing of a station's history
+abbrev pub has_no_rows : History → Bool
+has_no_rows gone = (length gone.readings == 0) && (length gone.transactions == 0)
+
 -- rows of a station go, if there are any
 abbrev pub forgetting : List ℕ → History → Effect
-forgetting station gone = if is_nil gone.readings && is_nil gone.transactions then effect.Nothing else effect.Edit (Transactions (Forgotten station (numbers_of gone)))
+forgetting station gone = if has_no_rows gone then effect.Nothing else effect.Edit (Transactions (Forgotten station (numbers_of gone)))
 
 -- how many go is told
 abbrev pub forget_plan : List ℕ → Result History Refusal → Plan
