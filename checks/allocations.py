@@ -36,6 +36,7 @@ REPLAYED = (
     "reports/reports_of_a_station",
     "uses/use_of_a_granted_tag",
     "uses/use_of_a_closed_transaction",
+    "history/uses_outlive_what_is_forgotten",
 )
 NEVER, ALWAYS = 0, (1 << 64) - 1
 ANSWER = re.compile(r'(.* frame \S+ \[3,")(\d+)(".*)', re.DOTALL)

@@ -83,7 +83,8 @@ class Script:
         self.frame(operator, "S4", "Heartbeat", "{}")
 
     def session(self, operator, station, turn):
-        """A transaction with readings; each tenth stays open, each tenth is closed by its operator, and one of five begins with a tag of the other operator."""
+        """A transaction with readings; each tenth stays open, each tenth is closed by its operator, and one of five begins with
+        a tag of the other operator. After each twelfth what is old is forgotten."""
         number = self.begun[operator, station] = self.begun.get((operator, station), 0) + 1
         other = "BETA" if operator == "ACME" else "ACME"
         values = f'[{{"timestamp":"{WHEN}","sampledValue":[{{"value":"{turn}.5","unit":"kWh"}},{{"value":"é"}}]}}]'
@@ -108,6 +109,8 @@ class Script:
             self.frame(operator, station, "StopTransaction", f"{{{stop}}}")
         elif turn % 2:
             self.group(f"{operator} transaction close {station} {number} {'-' if turn % 4 == 1 else turn}")
+        if turn % 12 == 11:
+            self.group(f"{operator} forget {station} {self.moment - 100}")
 
     def commands(self, operator, station, turn):
         entry = f'{{"idTag":"L{turn % 7}","idTagInfo":{{"status":"Accepted","parentIdTag":"K0"}}}}'

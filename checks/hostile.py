@@ -48,6 +48,7 @@ ROWS = [
     r"localtag \S+ \{.*\}",
     r"report \S+ (Diagnostics|Firmware) [A-Za-z]+ \d+",
     r"connection \S+ \d+",
+    r"forgotten \S+ \d+ \d+",
 ]
 OUTCOME = rf"(Answer \{{.*\}}|BadAnswer [A-Za-z]+ [A-Za-z]+|Error \[{TEXT},{TEXT}\]|Timeout|Disconnected)"
 FORMS = [

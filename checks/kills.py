@@ -73,8 +73,18 @@ class Load:
         return 1 if self.flight and all(listed[name] == rows for name, rows in made.items()) else None
 
 
+def number_of(row):
+    """The number of a transaction or of a reading."""
+    return int(row.split(" ")[4])
+
+
+def last_number(rows):
+    return number_of(rows[-1]) if rows else 0
+
+
 class Station(Load):
-    """Starts and stops transactions, and sends readings and reports. A stop has a reading too. Some are closed instead."""
+    """Starts and stops transactions, and sends readings and reports. A stop has a reading too. Some are closed instead.
+    Its operator forgets its history, now and then."""
 
     def __init__(self, op, name, seed):
         lists = [f"{what} {name}" for what in ("transactions", "readings", "connectors", "reports")]
@@ -82,8 +92,16 @@ class Station(Load):
         self.op, self.name, self.path = op, name, f"/ocpp/{op}/{name}"
         self.transactions, self.readings, self.connectors, self.reports = self.rows
         self.granted = granted_tag(OPERATORS[op], name)
+        # of each transaction that was stopped: the second before which its stop wasn't sent, and that in which it was answered
+        self.stops = {}
+        # the Wh of each that began with the granted tag, and is stopped
+        self.energy = {}
+        # how many rows were forgotten
+        self.forgotten = 0
 
     def begin(self):
+        now = int(time.time())
+        self.stops = {number: (sent, now if seen is None else seen) for number, (sent, seen) in self.stops.items()}
         self.desk = Peer(PORT, f"/operator/{self.op}", patience=10)
         self.ask(BOOT)
 
@@ -92,6 +110,51 @@ class Station(Load):
         answer = self.desk.order(self.name, f"transaction close {self.name} {number} {meter}")
         if answer != [self.op, "ok"]:
             raise AssertionError(f"{self.name}: transaction {number}: {answer}")
+
+    def stopping(self, number):
+        """A stop is about to be sent. The moment of its turn may be of the second before."""
+        self.stops[number] = (int(time.time()) - 1, None)
+
+    def stopped(self, number):
+        self.stops[number] = (self.stops[number][0], int(time.time()))
+
+    def old(self, until):
+        """The transactions and the readings that are forgotten up to a second. None where a stop may have come in it or
+        not."""
+        rows, readings = self.rows[self.transactions], self.rows[self.readings]
+        over = set()
+        for number in (number_of(row) for row in rows if not row.endswith(" - - - -")):
+            sent, seen = self.stops[number]
+            if seen < until:
+                over.add(number)
+            elif sent < until:
+                return None
+        stays = {str(number) for number in map(number_of, rows) if number not in over}
+        old = [row for row in readings[:-1] if row.split(" ")[6] not in stays][:1000]
+        left = {row.split(" ")[6] for row in set(readings).difference(old)}
+        gone = [row for row in rows[:-1] if number_of(row) in over and str(number_of(row)) not in left]
+        return gone[: 1000 - len(old)], old
+
+    def forget(self):
+        """Its operator forgets what is so old as can be told. What is on record then."""
+        self.note()
+        now = int(time.time())
+        for until in range(now - 1, now - 9, -1):
+            if (old := self.old(until)) is not None:
+                break
+        else:
+            return {}
+        gone, readings = map(set, old)
+        self.flight = {
+            self.transactions: [row for row in self.rows[self.transactions] if row not in gone],
+            self.readings: [row for row in self.rows[self.readings] if row not in readings],
+        }
+        answer = self.desk.lines(self.name, f"forget {self.name} {until}")
+        counts = f"{self.op} row forgotten {self.name} {len(gone)} {len(readings)}"
+        if answer != [counts, f"{self.op} ok"]:
+            raise AssertionError(f"{self.name}: forget: {answer}, not {counts}")
+        self.forgotten += len(gone) + len(readings)
+        return self.flight
 
     def ask(self, text):
         """The answer to a text. Calls of the server that come before it are accepted."""
@@ -103,22 +166,29 @@ class Station(Load):
             self.peer.send(f'[3,"{message[1]}",{{"status":"Accepted"}}]')
 
     def reading(self, value, transaction, after=0):
-        number = len(self.rows[self.readings]) + 1 + after
+        number = last_number(self.rows[self.readings]) + 1 + after
         return (
             f"{self.op} row reading {self.name} {number} 1 {transaction} {MS} Sample.Periodic Raw "
             f'Energy.Active.Import.Register - Outlet - {value * 1_000_000} "{value}"'
         )
 
-    def energies(self):
-        """The Wh of its transactions that are stopped and began with the granted tag."""
+    def note(self):
+        """Keeps the Wh of its transactions on record that are stopped and began with the granted tag."""
         words = [row.split(" ") for row in self.rows[self.transactions] if f' "{self.granted}" ' in row]
-        return [int(row[11]) - int(row[8]) for row in words if row[11] != "-"]
+        self.energy.update({int(row[4]): int(row[11]) - int(row[8]) for row in words if row[11] != "-"})
+
+    def energies(self):
+        """The Wh of its transactions that are stopped and began with the granted tag, of those that are forgotten too."""
+        self.note()
+        return [self.energy[number] for number in sorted(self.energy)]
 
     def step(self):
         rows = self.rows[self.transactions]
-        number = len(rows)
+        number = last_number(rows)
         is_open = bool(rows) and rows[-1].endswith(" - - - -")
-        what = self.random.choice(("turn", "turn", "meter", "status", "report"))
+        what = self.random.choice(("turn", "turn", "meter", "status", "report", "forget"))
+        if what == "forget":
+            return self.forget()
         if what == "report":
             kind = self.random.choice(list(STATUSES))
             status = self.random.choice(STATUSES[kind])
@@ -141,7 +211,9 @@ class Station(Load):
         elif is_open and self.random.random() < 0.3:
             value = self.steps
             self.flight = {self.transactions: rows[:-1] + [f"{rows[-1].removesuffix(' - - - -')} {value} T Other -"]}
+            self.stopping(number)
             self.close(number, value)
+            self.stopped(number)
             return self.flight
         elif is_open:
             head = rows[-1].removesuffix(" - - - -")
@@ -159,9 +231,14 @@ class Station(Load):
             flight = {self.transactions: rows + [row]}
             text = f'[2,"s","StartTransaction",{{"connectorId":1,"idTag":"{tag}","meterStart":{meter},{AT}}}]'
         self.flight = flight
+        is_stop = "StopTransaction" in text
+        if is_stop:
+            self.stopping(number)
         answer = self.ask(text)
         if answer[0] != 3:
             raise AssertionError(f"{self.name}: {answer}")
+        if is_stop:
+            self.stopped(number)
         return flight
 
 
@@ -411,7 +488,8 @@ def main():
             checks.one_kill(number)
         steps = sum(load.steps for load in checks.loads)
         print(f"{kills} kills, {steps} changes acknowledged, {checks.made} of {checks.in_flight} in flight found made")
-        print(f"{sum(checks.uses.values())} uses on record")
+        forgotten = sum(load.forgotten for load in checks.loads if isinstance(load, Station))
+        print(f"{sum(checks.uses.values())} uses on record, {forgotten} rows forgotten")
         records = {number: records_of(name) for number, name in EARLIER.items()}
         earlier = [(number, number % 2 + 1) for number in range(1, kills + 1)]
         migrated = sum(checks.kill_as_it_opens(number, old, records[old]) for number, old in earlier)

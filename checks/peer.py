@@ -64,13 +64,16 @@ class Peer:
         text, self.data = self.data[start : start + size], self.data[start + size :]
         return text.decode()
 
-    def order(self, word, text):
-        """The words of the last line that an order of an operator is answered, which has a word of its own."""
+    def lines(self, word, text):
+        """The lines that an order of an operator is answered, which has a word of its own."""
         self.send(f"#{word} {text}")
         while self.next() != f"#{word} begin":
             pass
-        *_, line = iter(self.next, f"#{word} end")
-        return line.split(" ")
+        return list(iter(self.next, f"#{word} end"))
+
+    def order(self, word, text):
+        """The words of the last of these lines."""
+        return self.lines(word, text)[-1].split(" ")
 
     def next(self):
         """The next text, as soon as it is there."""

@@ -5,6 +5,7 @@ simulated station that an operator watches, restarts and hostile peers. Prints `
 """
 
 import contextlib
+import csv
 import os
 import re
 import resource
@@ -151,9 +152,9 @@ def check_statuses(checks):
 def check_help(checks):
     """The help of each command has an example, its statuses, and where more is written."""
     code, text, errors = checks.run("--help")
-    commands = ("replay", "serve", "sim", "ask")
+    commands = ("replay", "serve", "sim", "ask", "forget")
     checks.check("--help", (code, errors, all(f"  {word} " in text for word in commands)), (0, "", True))
-    for word, statuses in zip(commands, (3, 3, 3, 4)):
+    for word, statuses in zip(commands, (3, 3, 3, 4, 4)):
         code, text, errors = checks.run(word, "--help")
         checks.check(f"{word} --help", (code, errors, text[-2:].count("\n")), (0, "", 1))
         for part in (f"  central {word} --", "docs/OPERATIONS.md", *(f"\n  {status}  " for status in range(statuses))):
@@ -437,6 +438,46 @@ def check_ask(checks):
         checks.check("a command to its end", told, ["ACME ok 1", 'ACME CP01 done 1 Answer {"status":"Accepted"}'])
         checks.check("its status", waiting.returncode, 0)
         checks.check("another path", checks.run(*ask[:-1], "BETA", "list tags"), (2, "", NOT_FOUND))
+
+
+def check_forget(checks):
+    """The history of an operator's stations goes in orders of 1,000 rows, and what was recorded of late stays."""
+    forget = ["forget", "--port", str(PORT), "--operator", "ACME", "--before"]
+    db, begin, at = checks.new_file(), 1704067200, '"timestamp":"2024-01-01T00:00:00Z"'
+    values = ",".join(['{"value":"1"}'] * 300)
+    texts = [
+        BOOT,
+        f'[2,"s","StartTransaction",{{"connectorId":1,"idTag":"=K1","meterStart":0,{at}}}]',
+        *[f'[2,"m{n}","MeterValues",{{"connectorId":1,"transactionId":1,"meterValue":[{{{at},"sampledValue":[{values}]}}]}}]' for n in range(7)],
+        f'[2,"e","StopTransaction",{{"meterStop":1,"transactionId":1,{at}}}]',
+        f'[2,"t","StartTransaction",{{"connectorId":1,"idTag":"K1","meterStart":1,{at}}}]',
+        f'[2,"v","MeterValues",{{"connectorId":1,"transactionId":2,"meterValue":[{{{at},"sampledValue":[{{"value":"1"}}]}}]}}]',
+    ]
+    lines = ["tag put =K1 - 0 -", "station add CP01 Accepted 300", "station add CP02 Accepted 300", "connect CP01", *(f"frame CP01 {text}" for text in texts)]
+    filled = checks.run("replay", "--operators", "ACME,BETA", "--db", db, lines="".join(f"{begin} ACME {line}\n" for line in lines).encode())
+    checks.check("a history of 2024", (filled[0], filled[2]), (0, ""))
+    with checks.serve("--operators", "ACME,BETA", db=db):
+        checks.check("before it", checks.run(*forget, "99999d"), (0, "all 0 0\n", ""))
+        acme, export = Peer(PORT, "/operator/ACME"), os.path.join(checks.folder, "gone")
+        old = acme.lines("old", f"list forgettable CP01 {begin + 1}")
+        checks.check("what the next order takes", (len(old), old[0].split(" ")[2:5], old[-1]), (1001, ["reading", "CP01", "1"], "ACME ok"))
+        gone = "CP01 0 1000\nCP01 0 1000\nCP01 1 100\nall 1 2100\n"
+        checks.check("what is older than 90 days", checks.run(*forget, "90d", "--export", export), (0, gone, ""))
+        written = [f"{export}-{name}.csv" for name in ("transactions", "readings")]
+        transactions, readings = (list(csv.reader(Path(path).read_bytes().decode().splitlines())) for path in written)
+        checks.check("the transactions that went", (len(transactions), transactions[0][:3]), (2, ["station", "number", "connector"]))
+        row = ["CP01", "1", "1", "=K1", "Accepted", "0", str(begin * 1000), "", "1", str(begin * 1000), "Local", ""]
+        checks.check("one of them", transactions[1], ["'=K1" if word == "=K1" else word for word in row])
+        checks.check("the readings that went", [int(row[1]) for row in readings[1:]], list(range(1, 2101)))
+        checks.check("no file for it", checks.run(*forget, "90d", "--export", "/none/gone")[:2], (2, ""))
+        checks.check("nothing is left", checks.run(*forget, "90d"), (0, "all 0 0\n", ""))
+        rows = acme.lines("a", "list transactions CP01")[:-1] + acme.lines("b", "list readings CP01")[:-1]
+        checks.check("the last stay", [row.split(" ")[2:5] for row in rows], [["transaction", "CP01", "2"], ["reading", "CP01", "2101"]])
+        checks.check("no stations", checks.run(*forget[:4], "BETA", "--before", "0d"), (0, "all 0 0\n", ""))
+        checks.check("no such operator", checks.run(*forget[:4], "GAMMA", "--before", "90d"), (2, "", NOT_FOUND))
+    for days in ("90", "d", "-1d", "1.5d", "90days", "100000d"):
+        checks.ends(f"--before {days}", f"{' '.join(forget)}={days}", 1, f"invalid value '{days}' for '--before <DAYS>'")
+    checks.ends("no --before", " ".join(forget[:-1]), 1, "--before")
 
 
 def check_ask_beside(checks):
@@ -796,6 +837,7 @@ def check_all(checks):
     check_pages(checks)
     check_vacuum(checks)
     check_ask(checks)
+    check_forget(checks)
     check_ask_beside(checks)
     check_words(checks)
     check_log(checks)

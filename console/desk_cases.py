@@ -352,7 +352,7 @@ def check_windows(cases):
     cases.go("stations")
     inside = browser.run("[...document.querySelectorAll('#view-stations .scroll')].map(one => one.scrollWidth > one.clientWidth)")
     cases.check("tables scroll inside their box", inside == [True, True], inside)
-    for name in ("SendLocalList", "ReserveNow", "Reset", "GetConfiguration"):
+    for name in ("SendLocalList", "ReserveNow", "Reset", "GetConfiguration", "forget"):
         for width in (1280, 420):
             browser.size(width, 900)
             browser.run(f"openForm({quoted(name)}, {{ fixed: {{ station: 'NORTH-01' }} }})")

@@ -1,6 +1,7 @@
 """Cases of the forms: the lines that they send, what they say, and what changes on the page."""
 
 import json
+import socket
 import time
 
 from desk_cases import opened
@@ -178,4 +179,138 @@ def check_ends(cases, mock):
     cases.check("a line of no form", said == "Refused, bad line: the server does not read this as an order.", said)
 
 
-CASES = (check_orders, check_commands)
+def forgotten(cases, values, stays=False):
+    """Sends the form that forgets. Gives what it says once it sends no more."""
+    browser = cases.browser
+    cases.click("others", "Forget its history")
+    cases.fill(values)
+    browser.run("document.getElementById('send').click()")
+    browser.wait("!/^(Sent\\.|Forgotten so far.*)?$/.test(document.getElementById('answer').textContent)")
+    said = cases.text("answer")
+    if not stays:
+        browser.run("document.getElementById('form').close()")
+    cases.is_at_rest()
+    return said
+
+
+def check_forget(cases):
+    """A press forgets all that is old: it is sent as often as rows go, and what is left is listed from the start."""
+    browser, mock = opened(cases)
+    browser.run("{ const pace = document.getElementById('pace'); pace.value = '0'; pace.dispatchEvent(new Event('change')); }")
+    for minute in range(2340):
+        mock.records.reading("NORTH-01", 1, START - 7000000 + minute, "SoC", "-", "Percent", 5000000, "5")
+    mock.records.reading("NORTH-01", 2, NOW, "SoC", "-", "Percent", 6000000, "6")
+    cases.go("station/NORTH-01/1")
+    cases.check("what is old is shown", len(cases.rows("history")) == 2 and "1–15 of 2,340." in cases.text("readings"), cases.text("readings")[-200:])
+    check_question(cases, mock)
+    asked = len(mock.heard)
+    mock.before = ["row forgotten NORTH-01 700 800", "ok", "row forgotten NORTH-01 0 0", "ok", "refused 12 BadField until"]
+    browser.run("window.told = []; new MutationObserver(() => told.push(document.getElementById('answer').textContent))"
+                ".observe(document.getElementById('answer'), { childList: true })")
+    said = forgotten(cases, dict(until="2024-01-01T01:00:00"))
+    mock.before = []
+    cases.check("forget: what the form says", said == "1 session and 2,340 readings are forgotten.", said)
+    wanted = [f"forget NORTH-01 {START // 1000}"] * 4 + ["list readings NORTH-01 1", "list transactions NORTH-01 1"]
+    cases.check("forget: the lines, and what is listed anew", mock.heard[asked:] == wanted, mock.heard[asked:])
+    told = [f"Forgotten so far: {text}. Closing this form stops it." for text in (
+        "0 sessions and 1,000 readings", "0 sessions and 2,000 readings", "1 session and 2,340 readings")]
+    cases.check("forget: what it tells in between", browser.run("told") == ["Sent.", *told, said], browser.run("told"))
+    cases.check("forget: the sessions that are left", [row[0] for row in cases.rows("history")] == ["2"], cases.rows("history"))
+    cases.check("forget: the readings are gone", cases.rows("readings") == [] and "No readings." in cases.text("readings"), cases.rows("readings"))
+    cases.go("station/NORTH-01/2")
+    cases.check("forget: those of the running session stay", "1–15 of 248." in cases.text("readings"), cases.text("readings")[-200:])
+    said = forgotten(cases, dict(until="2024-01-01T01:00:01"))
+    cases.check("forget: nothing is left", said == "Nothing was so old.", said)
+    cases.check("forget: which is asked once", mock.heard.count(f"forget NORTH-01 {START // 1000 + 1}") == 1, mock.heard[-3:])
+    check_forget_ends(cases, mock)
+    mock.stop()
+
+
+def check_question(cases, mock):
+    """It isn't sent by the press that opens its form, and a second Enter closes the form."""
+    browser = cases.browser
+    cases.click("others", "Forget its history")
+    note = cases.text("note")
+    cases.check("forget: it asks first", note.startswith("Is all saved that is still needed? This can't be undone: export"), note)
+    words = cases.text("preview").split(" ")
+    cases.check("forget: 90 days at first", words[:2] == ["forget", "NORTH-01"] and abs(int(words[2]) - time.time() + 90 * 86400) < 60, words)
+    cases.check("forget: what does harm isn't at hand", browser.run("document.activeElement.id") == "cancel", browser.run("document.activeElement.id"))
+    browser.shot("form-forget", whole=False)
+    browser.press("Enter", text="\r")
+    cases.check("forget: Enter closes the form", browser.wait("!document.getElementById('form').open"))
+    cases.click("others", "Forget its history")
+    cases.fill(dict(until=""))
+    browser.run("document.getElementById('send').click()")
+    cases.check("forget: the time is required", browser.run("document.querySelector('#fields [name=until]').validity.valueMissing"))
+    browser.run("document.getElementById('form').close()")
+    cases.is_at_rest()
+    cases.check("forget: nothing was sent", not any(line.startswith("forget") for line in mock.heard), mock.heard[-3:])
+
+
+def check_forget_ends(cases, mock):
+    """Refusals, at first and after rows that went; a form that is closed; a connection that is lost."""
+    browser, records = cases.browser, mock.records
+    late = dict(until="2099-01-01T01:00:00")
+    said = forgotten(cases, late, stays=True)
+    cases.check("forget: a time to come is refused", said == 'Refused, BadField: the field "Before" is out of its limits (until).', said)
+    cases.check("forget: and marked", browser.run("document.querySelector('#fields [aria-invalid]').name") == "until")
+    cases.check("forget: and not sent again", mock.heard.count("forget NORTH-01 4070908800") == 1, mock.heard[-3:])
+    browser.run("document.getElementById('form').close()")
+    said = cases.free("forget NORTH-99 5")
+    cases.check("forget: a station that isn't there", said == "Refused, NoSuchStation: this operator has no station of that name.", said)
+    before = len(mock.heard)
+    cases.check("forget: a line by hand", cases.free(f"forget NORTH-01 {START // 1000}") == "Rows: 1", cases.text("said"))
+    cases.is_at_rest()
+    cases.check("forget: after which all is listed too", "list transactions NORTH-01 1" in mock.heard[before:], mock.heard[before:])
+    taken = ["row forgotten NORTH-01 1 999", "ok"]
+
+    def answers(*kept):
+        """Answers of the server, the last one as often as it is asked."""
+        rest = list(kept)
+        records.forget = lambda *_: rest.pop(0) if len(rest) > 1 else rest[0]
+
+    answers(taken, taken, ["refused 1 NoSuchStation"])
+    said = forgotten(cases, {})
+    cases.check("forget: a refusal after rows that went", said == "Refused, NoSuchStation: this operator has no station of that name."
+                "2 sessions and 1,998 readings are forgotten.", said)
+    answers(["refused 1 NoSuchStation"])
+    before = len(mock.heard)
+    said = forgotten(cases, {})
+    cases.check("forget: no such station", said == "Refused, NoSuchStation: this operator has no station of that name.", said)
+    cases.check("forget: it is sent once", len(mock.heard) == before + 1, mock.heard[before:])
+    check_broken_off(cases, mock, taken, answers)
+
+
+def check_broken_off(cases, mock, taken, answers):
+    browser = cases.browser
+    answers(taken)
+    cases.click("others", "Forget its history")
+    browser.run("document.getElementById('send').click()")
+    cases.check("forget: it goes on while rows go", browser.wait("/^Forgotten so far: [0-9,]{2,} sessions/.test(document.getElementById('answer').textContent)"))
+    browser.run("document.getElementById('form').close()")
+    cases.is_at_rest()
+    sent = [line for line in mock.heard if line.startswith("forget")]
+    time.sleep(0.3)
+    cases.check("forget: a form that is closed stops it", [line for line in mock.heard if line.startswith("forget")] == sent, len(sent))
+    cases.check("forget: what is left is listed then", sorted(mock.heard[-2:]) == ["list readings NORTH-01 2", "list transactions NORTH-01 1"], mock.heard[-3:])
+    loss = [taken, taken]
+
+    def lose(*_):
+        if not loss:
+            for peer in mock.peers:
+                peer.request.shutdown(socket.SHUT_RDWR)
+        return loss.pop() if loss else ["ok"]
+
+    mock.records.forget = lose
+    said = forgotten(cases, {})
+    cases.check("forget: a loss is told", said == "The connection was lost before the answer. The order may have been taken."
+                "2 sessions and 1,998 readings are forgotten.", said)
+    mock.heard.clear()
+    cases.check("connects again by itself", cases.is_connected())
+    cases.is_at_rest()
+    asked = [line for line in mock.heard if "transactions" in line]
+    cases.check("forget: after a loss the sessions are listed from the start", asked == ["list transactions NORTH-01 1"], asked)
+    cases.check("forget: and not taken up again", not any(line.startswith("forget") for line in mock.heard), mock.heard)
+
+
+CASES = (check_orders, check_commands, check_forget)

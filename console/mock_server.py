@@ -60,7 +60,8 @@ class Records:
 
     def reading(self, name, transaction, at, measurand, phase, unit, micro, text):
         rows = self.rows[f"readings {name}"]
-        rows.append(f"reading {name} {len(rows) + 1} 1 {transaction} {at} Sample.Periodic Raw {measurand} "
+        number = int(rows[-1].split(" ")[2]) + 1 if rows else 1
+        rows.append(f"reading {name} {number} 1 {transaction} {at} Sample.Periodic Raw {measurand} "
                     f"{phase} Outlet {unit} {micro} {quoted(text)}")
 
     def reservation(self, name, number, connector, tag, parent, expiry):
@@ -101,7 +102,7 @@ class Records:
         if words[0] == "call":
             return self.call(words[1])
         known = {"station add": self.add, "station policy": self.policy, "tag put": self.put, "tag drop": self.unput,
-                 "grant": self.give, "revoke": self.take, "transaction close": self.close}
+                 "grant": self.give, "revoke": self.take, "transaction close": self.close, "forget": self.forget}
         name = words[0] if words[0] in known else " ".join(words[:2])
         return known[name](*words[len(name.split(" ")):]) if name in known else ["bad line"]
 
@@ -152,6 +153,33 @@ class Records:
         stop = f"{row[6] if meter == '-' else meter} {NOW} Other -"
         self.replace(f"transactions {name}", f"transaction {name} {number} ", f"{' '.join(row[3:9])} {stop}")
         return ["ok"]
+
+    def forget(self, name, until):
+        """Takes at most 1,000 rows. When a stop came isn't kept here, so its own time stands for that."""
+        if f"connectors {name}" not in self.rows:
+            return ["refused 1 NoSuchStation"]
+        if int(until) > time.time():
+            return ["refused 12 BadField until"]
+        readings = [row.split(" ") for row in self.rows[f"readings {name}"]]
+        transactions = [row.split(" ") for row in self.rows[f"transactions {name}"]]
+        stops = {words[2]: words[10] for words in transactions}
+
+        def is_before(at):
+            return at != "-" and int(at) < int(until) * 1000
+
+        gone = [words[2] for words in readings[:-1] if is_before(stops.get(words[4], words[5]))][:1000]
+        left = self.without(f"readings {name}", gone)
+        named = {row.split(" ")[4] for row in left}
+        over = [words[2] for words in transactions[:-1] if is_before(words[10]) and words[2] not in named]
+        del over[1000 - len(gone):]
+        self.without(f"transactions {name}", over)
+        return [f"row forgotten {name} {len(over)} {len(gone)}", "ok"]
+
+    def without(self, listing, numbers):
+        """Drops the rows with these numbers, and gives the others."""
+        dropped = set(numbers)
+        self.rows[listing] = [row for row in self.rows[listing] if row.split(" ")[2] not in dropped]
+        return self.rows[listing]
 
     def listing(self, words):
         if words == ["connections"]:

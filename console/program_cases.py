@@ -10,6 +10,7 @@ import time
 from pathlib import Path
 
 import desk_cases
+import form_cases
 
 sys.path.insert(0, str(Path(__file__).resolve().parent.parent / "checks"))
 from peer import BOOT, Peer  # noqa: E402
@@ -108,6 +109,18 @@ def check_session(cases):
     desk_cases.take_pictures(cases, "program", ("stations", "station/CP01", "station/CP01/1", "records", "tags", "uses", "calls"))
 
 
+def check_forget(cases):
+    """Of three readings two go. The last one stays, and so does the session, which is the last one too."""
+    time.sleep(1)
+    for seconds, wanted in ((-86400, "Nothing was so old."), (0, "0 sessions and 2 readings are forgotten."), (0, "Nothing was so old."),
+                            (86400, 'Refused, BadField: the field "Before" is out of its limits (until).')):
+        said = form_cases.forgotten(cases, dict(until=time_text(seconds)[:19]))
+        cases.check(f"forget before {seconds} s from now", said == wanted, said)
+    cases.go("station/CP01/1")
+    seen = [len(cases.rows(table)) for table in ("history", "readings")]
+    cases.check("a session and a reading are left", seen == [1, 1], seen)
+
+
 def ended(cases):
     """What the open form says of the end of its call, which the station's answer brings. Closes it."""
     cases.send()
@@ -138,6 +151,7 @@ def check_commands(cases, station):
     said = ended(cases)
     cases.check("a local list", said == "Call 3: Done: Accepted.", said)
     cases.check("is on record", [row[:2] for row in cases.rows("ownList")] == [["K1", "Accepted"]], cases.rows("ownList"))
+    check_forget(cases)
     station.peer.stream.shutdown(socket.SHUT_RDWR)
     time.sleep(1)
     cases.poll()

@@ -13,7 +13,7 @@ use crate::station_answer::StationAnswer;
 use crate::tag_answer::{LookUp, TagAnswer};
 use crate::{station_answer, tag_answer};
 use hub_rows::{
-    Change, ConnectorRow, GrantRow, GrantedTag, Info, LocalList, ReadingRow, Registration,
+    Change, ConnectorRow, GrantRow, GrantedTag, History, Info, LocalList, ReadingRow, Registration,
     ReportRow, ReservationId, ReservationRow, StartKey, StationRow, Store, StoreFault, TagRow,
     TxKey, TxRow, TxState, UseRow,
 };
@@ -232,6 +232,15 @@ impl<S: Store> Store for Cached<S> {
 
     fn open_txs(&mut self, op: &str) -> Result<Listed<TxRow>, StoreFault> {
         self.store.open_txs(op)
+    }
+
+    fn forgettable(
+        &mut self,
+        op: &str,
+        station: &str,
+        until: Moment,
+    ) -> Result<History, StoreFault> {
+        self.store.forgettable(op, station, until)
     }
 
     fn readings(

@@ -4,7 +4,7 @@ use crate::help;
 use crate::journal::level_of;
 use clap::error::ErrorKind;
 use clap::{Arg, ArgAction, ArgMatches, Command, Error, value_parser};
-use clients::{AskOptions, SimOptions};
+use clients::{AskOptions, ForgetOptions, SimOptions, days_of};
 use log::LevelFilter;
 use ocpp_types::Text;
 use std::alloc::{AllocError, Global};
@@ -30,6 +30,8 @@ pub enum Plan {
     Sim(SimOptions),
     /// Lines of an operator.
     Ask(AskOptions),
+    /// History of an operator that goes.
+    Forget(ForgetOptions),
 }
 
 /// What a replay is to do.
@@ -77,6 +79,9 @@ fn plan_of(alloc: Global, matches: &ArgMatches) -> Result<Option<Plan>, Error> {
     if let Some(found) = matches.subcommand_matches("ask") {
         return Ok(Some(Plan::Ask(ask_options(alloc, found)?)));
     }
+    if let Some(found) = matches.subcommand_matches("forget") {
+        return Ok(Some(Plan::Forget(forget_options(alloc, found)?)));
+    }
     Ok(None)
 }
 
@@ -121,6 +126,27 @@ fn ask_options(alloc: Global, found: &ArgMatches) -> Result<AskOptions, Error> {
     })
 }
 
+fn forget_options(alloc: Global, found: &ArgMatches) -> Result<ForgetOptions, Error> {
+    Ok(ForgetOptions {
+        port: port_of(found),
+        operator: Text::from(found.get_str("operator").unwrap_or("").to_string(alloc)?),
+        days: before_of(alloc, found)?,
+        export: text_if_any(alloc, found.get_str("export"))?,
+    })
+}
+
+/// How many days old is what goes.
+fn before_of(alloc: Global, found: &ArgMatches) -> Result<u64, Error> {
+    let given = found.get_str("before").unwrap_or("");
+    if let Some(days) = days_of(given) {
+        return Ok(days);
+    }
+    let reason = format!(in alloc;
+        "invalid value '{given}' for '--before <DAYS>': not a number of days such as 90d"
+    )?;
+    Err(central(alloc)?.error(ErrorKind::ValueValidation, reason.as_str())?)
+}
+
 /// The address to listen on.
 fn bind_of(alloc: Global, found: &ArgMatches) -> Result<IpAddr, Error> {
     if let Some(address) = found.get_one::<IpAddr>("bind") {
@@ -147,7 +173,8 @@ fn central<'a>(alloc: Global) -> Result<Command<'a>, AllocError> {
     let central = with(central, replay_command(alloc))?;
     let central = with(central, serve_command(alloc))?;
     let central = with(central, sim_command(alloc))?;
-    with(central, ask_command(alloc))
+    let central = with(central, ask_command(alloc))?;
+    with(central, forget_command(alloc))
 }
 
 fn with<'a>(
@@ -214,12 +241,6 @@ fn sim_command<'a>(alloc: Global) -> Result<Command<'a>, AllocError> {
 }
 
 fn ask_command<'a>(alloc: Global) -> Result<Command<'a>, AllocError> {
-    let operator = Arg::new(alloc, "operator")
-        .long("operator")
-        .value_name("OP")
-        .help("The operator that asks")
-        .allow_hyphen_values(true)
-        .required(true);
     let wait = Arg::new(alloc, "wait")
         .long("wait")
         .help("Follows the call of a command to its end")
@@ -231,9 +252,41 @@ fn ask_command<'a>(alloc: Global) -> Result<Command<'a>, AllocError> {
         .about("Sends lines as an operator, and prints what they are answered")
         .after_help(help::ASK)
         .arg(port_arg(alloc, "The port of the server on 127.0.0.1"))?
-        .arg(operator)?
+        .arg(operator_arg(alloc, "The operator that asks"))?
         .arg(wait)?
         .arg(line)
+}
+
+fn forget_command<'a>(alloc: Global) -> Result<Command<'a>, AllocError> {
+    let before = Arg::new(alloc, "before")
+        .long("before")
+        .value_name("DAYS")
+        .help("What is older than so many days goes, as 90d")
+        .required(true);
+    let export = Arg::new(alloc, "export")
+        .long("export")
+        .value_name("NAME")
+        .help(
+            "Writes what goes to NAME-transactions.csv and NAME-readings.csv before it goes, after what is there",
+        )
+        .allow_hyphen_values(true);
+    Command::new(alloc, "forget")
+        .about("Forgets the history of an operator's stations, and prints how many rows went")
+        .after_help(help::FORGET)
+        .arg(port_arg(alloc, "The port of the server on 127.0.0.1"))?
+        .arg(operator_arg(alloc, "The operator whose history goes"))?
+        .arg(before)?
+        .arg(export)
+}
+
+/// An operator's name, which is taken as it is given.
+fn operator_arg<'a>(alloc: Global, help: &'a str) -> Arg<'a> {
+    Arg::new(alloc, "operator")
+        .long("operator")
+        .value_name("OP")
+        .help(help)
+        .allow_hyphen_values(true)
+        .required(true)
 }
 
 fn port_arg<'a>(alloc: Global, help: &'a str) -> Arg<'a> {

@@ -57,3 +57,18 @@ Exit statuses:
   3  a line was refused or bad
 
 More: docs/OPERATIONS.md (An operator's commands), docs/TABLES.md\n";
+
+/// What follows the help of `forget`.
+pub const FORGET: &str = "\
+Example:
+  central forget --port 9180 --operator ACME --before 90d
+
+Each order is a line with the station, and how many transactions and readings went. The last line has those of all.
+
+Exit statuses:
+  0  nothing is left that is so old
+  1  the command line can't be read
+  2  a fault, which standard error names
+  3  an order was refused
+
+More: docs/OPERATIONS.md (Growth), docs/RULES.md (Forgetting)\n";

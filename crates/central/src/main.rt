@@ -13,7 +13,7 @@ mod server;
 mod status;
 
 use clap::error::ErrorKind;
-use clients::{ask, simulate};
+use clients::{ask, forget, simulate};
 use command::Plan;
 use fault::RunFault;
 use replaying::replay_lines;
@@ -56,6 +56,7 @@ fn carry_out(rt: &HostRuntime, plan: Plan) -> Result<u8, RunFault> {
         Plan::Serve(options) => serve(rt, options, vendors)?,
         Plan::Sim(options) => simulate(rt, &options)?,
         Plan::Ask(options) => all_taken = ask(rt, &options)?,
+        Plan::Forget(options) => all_taken = forget(rt, &options)?,
     }
     Ok(status::of_lines(all_taken))
 }

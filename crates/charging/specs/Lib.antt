@@ -1,6 +1,7 @@
 pub mod Numbers
 pub mod WattHours
 pub mod Close
+pub mod Forget
 pub mod Readings
 pub mod Start
 pub mod Stop

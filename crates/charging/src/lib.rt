@@ -2,6 +2,7 @@
 #![tactic(auto)]
 
 mod close;
+mod forget;
 mod meter_values;
 mod numbers;
 mod readings;
@@ -10,6 +11,7 @@ mod stop;
 mod watt_hours;
 
 pub use close::plan_close;
+pub use forget::plan_forget;
 pub use meter_values::on_meter_values;
 pub use readings::readings_of;
 pub use start::on_start;

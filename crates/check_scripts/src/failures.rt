@@ -16,6 +16,7 @@ const SCRIPTS: &[&str] = &[
     "stations/boot_and_heartbeat",
     "transactions/start_repeated",
     "uses/use_of_a_closed_transaction",
+    "history/uses_outlive_what_is_forgotten",
     "commands/calls_of_a_station",
     "reservations/reservations",
     "local_lists/local_list_of_a_station",

@@ -33,6 +33,7 @@ const SCRIPTS: &[&str] = &[
     "use_of_a_granted_tag",
     "use_of_a_closed_transaction",
     "reports_of_a_station",
+    "history_is_forgotten",
 ];
 
 /// The databases of earlier schemas, by their numbers.

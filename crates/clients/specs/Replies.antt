@@ -3,6 +3,7 @@ use Rattle.std.specs.Prelude.{ℕ, nat_lt, ◌==◌, Bool, is_some, List, [], �
 use Rattle.std.specs.List.{position_or_len, before_first, after_first}
 use Rattle.std.specs.Str.{bytes_eq}
 use Rattle.ocpp_types.specs.Digits.{number_of_digits}
+use Rattle.clients.specs.declared.reply.Forgotten.{Forgotten}
 use Rattle.clients.specs.declared.reply.Reply.{Reply}
 use Rattle.clients.specs.declared.reply.Reply.TheVariants.{Taken, Call, Refused, Other}
 
@@ -85,3 +86,32 @@ ended_call op station text = do
   said ← after_word station told
   outcome ← after_word (codes "done") said
   leading_number outcome
+
+-- what follows `OP row KIND `
+abbrev pub row_of : List ℕ → List ℕ → List ℕ → Option (List ℕ)
+row_of op kind text = do
+  told ← after_word op text
+  row ← after_word (codes "row") told
+  after_word kind row
+
+-- the station of `OP row station ST ..`
+abbrev pub station_of : List ℕ → List ℕ → Option (List ℕ)
+station_of op text = do
+  row ← row_of op (codes "station") text
+  parts ← at_space row
+  Some parts.0
+
+-- what follows `OP row KIND ST `
+abbrev pub row_of_station : List ℕ → List ℕ → List ℕ → List ℕ → Option (List ℕ)
+row_of_station op kind station text = do
+  row ← row_of op kind text
+  after_word station row
+
+-- what went of a station, by `OP row forgotten ST TRANSACTIONS READINGS`
+abbrev pub forgotten_of : List ℕ → List ℕ → List ℕ → Option Forgotten
+forgotten_of op station text = do
+  counts ← row_of_station op (codes "forgotten") station text
+  parts ← at_space counts
+  transactions ← number_of parts.0
+  readings ← number_of parts.1
+  Some (record { transactions = transactions; readings = readings })

@@ -1,14 +1,11 @@
 //! Lines that are sent as an operator, and what is said to them.
 
-use crate::connection::Connection;
 use crate::fault::ClientFault;
-use crate::reply::{Reply, begun, ended, ended_call, reply_of};
+use crate::orders::Orders;
+use crate::reply::{Reply, ended_call, reply_of};
 use ocpp_types::Text;
 use std::io;
 use std::io::Input;
-
-/// The most seconds of silence before a line is answered.
-const MAX_ANSWER: u64 = 60;
 
 /// The most seconds of silence before a call has ended.
 const MAX_CALL: u64 = 3600;
@@ -24,26 +21,21 @@ pub struct AskOptions {
     pub wait: bool,
 }
 
-/// An operator's connection.
+/// Lines of an operator that are sent.
 #[derive(Drop)]
 struct Asking<'a> {
     rt: &'a HostRuntime,
     options: &'a AskOptions,
-    connection: Connection<'a>,
-    /// How many lines were sent. The word of each is its number.
-    sent: u64,
+    orders: Orders<'a>,
 }
 
 /// Sends the line, or each line of standard input, and prints what each is answered. Whether all were taken. Errors: no
 /// connection, one that ends, an answer that doesn't come, standard input that can't be read.
 pub fn ask(rt: &HostRuntime, options: &AskOptions) -> Result<bool, ClientFault> {
-    let operator = options.operator.as_str();
-    let path = format!(in rt.alloc(); "/operator/{operator}")?;
     let mut asking = Asking {
         rt,
         options,
-        connection: Connection::to(rt, options.port, path.as_str())?,
-        sent: 0,
+        orders: Orders::to(rt, options.port, options.operator.as_str())?,
     };
     match &options.line {
         Some(line) => asking.line(line.as_str()),
@@ -74,9 +66,7 @@ impl Asking<'_> {
 
     /// Sends a line and prints what it is answered, and with `--wait` how its call has ended. Whether it was taken.
     fn line(&mut self, line: &str) -> Result<bool, ClientFault> {
-        self.sent = self.sent.saturating_add(1);
-        self.send(line)?;
-        self.begin()?;
+        self.orders.send(line)?;
         match self.answer()? {
             Reply::Call(call) if self.options.wait => {
                 let station = line.split(' ').nth(1).unwrap_or("");
@@ -87,49 +77,28 @@ impl Asking<'_> {
         }
     }
 
-    /// Sends a line with its word.
-    fn send(&mut self, line: &str) -> Result<(), ClientFault> {
-        let alloc = self.rt.alloc();
-        let word = self.sent;
-        let text = format!(in alloc; "#{word} {line}")?;
-        self.connection.send(alloc, text.as_str())
-    }
-
-    /// Reads up to the line with which the answer begins. What comes before it is said to all connections of the
-    /// operator, and isn't printed.
-    fn begin(&mut self) -> Result<(), ClientFault> {
-        for _ in 0..u64::MAX {
-            let text = self.connection.next_text(MAX_ANSWER)?;
-            if begun(text.as_str()) == Some(self.sent) {
-                return Ok(());
-            }
-        }
-        Err(self.connection.silent())
-    }
-
-    /// Prints what comes up to the line with which the answer ends. What its last line says.
+    /// Prints what a line is answered. What its last line says.
     fn answer(&mut self) -> Result<Reply, ClientFault> {
         let mut reply = Reply::Other;
         for _ in 0..u64::MAX {
-            let text = self.connection.next_text(MAX_ANSWER)?;
-            if ended(text.as_str()) == Some(self.sent) {
+            let Some(text) = self.orders.answer()? else {
                 return Ok(reply);
-            }
+            };
             self.print(text.as_str())?;
             reply = reply_of(self.options.operator.as_str(), text.as_str());
         }
-        Err(self.connection.silent())
+        Err(self.orders.silent())
     }
 
     /// Reads up to the line that says how a call has ended, and prints it.
     fn end_of(&mut self, station: &str, call: u64) -> Result<(), ClientFault> {
         for _ in 0..u64::MAX {
-            let text = self.connection.next_text(MAX_CALL)?;
+            let text = self.orders.told(MAX_CALL)?;
             if ended_call(self.options.operator.as_str(), station, text.as_str()) == Some(call) {
                 return self.print(text.as_str());
             }
         }
-        Err(self.connection.silent())
+        Err(self.orders.silent())
     }
 
     fn print(&self, text: &str) -> Result<(), ClientFault> {

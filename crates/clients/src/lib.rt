@@ -4,11 +4,15 @@
 mod asking;
 mod clock;
 mod connection;
+mod export;
 mod fault;
+mod forgetting;
+mod orders;
 mod reply;
 mod simulation;
 
 pub use asking::{AskOptions, ask};
 pub use clock::now;
 pub use fault::{ClientFault, Lost};
+pub use forgetting::{ForgetOptions, days_of, forget};
 pub use simulation::{SimOptions, simulate};

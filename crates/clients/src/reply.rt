@@ -1,6 +1,6 @@
 //! What a text says that an operator is sent.
 ghost use Rattle.std.specs.Prelude.{◌≡◌, option_map};
-ghost use Rattle.clients.specs.Replies.{at_space, after_word, after_sign, number_of, leading_number, call_reply, refused_reply, told_reply, reply_of, ended_call, marked, begun, ended};
+ghost use Rattle.clients.specs.Replies.{at_space, after_word, after_sign, number_of, leading_number, call_reply, refused_reply, told_reply, reply_of, ended_call, marked, begun, ended, row_of, row_of_station, station_of, forgotten_of};
 
 use ocpp_types::number_of_digits;
 
@@ -18,6 +18,13 @@ pub enum Reply {
     Refused,
     /// It isn't answered with this: a row, or something else that the operator is told.
     Other,
+}
+
+/// How many rows of a station went.
+#[derive(Clone, Copy, Debug, PartialEq, Eq, Drop)]
+pub struct Forgotten {
+    pub transactions: u64,
+    pub readings: u64,
 }
 
 /// The number of the line whose answer follows, by the text `#N begin`.
@@ -92,6 +99,49 @@ pub fn ended_call(operator: &str, station: &str, text: &str) -> Option<u64>
     let told = after_word(operator, text)?;
     let said = after_word(station, told)?;
     leading_number(after_word("done", said)?)
+}
+
+/// What follows `OP row KIND `.
+fn row_of<'a>(operator: &str, kind: &str, text: &'a str) -> Option<&'a str>
+    ensures { option_map (λ t. t.now) result ≡ row_of operator.now kind.now text.now }
+{
+    let told = after_word(operator, text)?;
+    let row = after_word("row", told)?;
+    after_word(kind, row)
+}
+
+/// The station of a text `OP row station ST ..`.
+pub fn station_of<'a>(operator: &str, text: &'a str) -> Option<&'a str>
+    ensures { option_map (λ t. t.now) result ≡ station_of operator.now text.now }
+{
+    let row = row_of(operator, "station", text)?;
+    let (station, _rest) = at_space(row)?;
+    Some(station)
+}
+
+/// What follows `OP row KIND ST `.
+pub fn row_of_station<'a>(
+    operator: &str,
+    kind: &str,
+    station: &str,
+    text: &'a str,
+) -> Option<&'a str>
+    ensures { option_map (λ t. t.now) result ≡ row_of_station operator.now kind.now station.now text.now }
+{
+    let row = row_of(operator, kind, text)?;
+    after_word(station, row)
+}
+
+/// What went of that station, by a text `OP row forgotten ST TRANSACTIONS READINGS`.
+pub fn forgotten_of(operator: &str, station: &str, text: &str) -> Option<Forgotten>
+    ensures { result ≡ forgotten_of operator.now station.now text.now }
+{
+    let counts = row_of_station(operator, "forgotten", station, text)?;
+    let (transactions, readings) = at_space(counts)?;
+    Some(Forgotten {
+        transactions: number_of(transactions)?,
+        readings: number_of(readings)?,
+    })
 }
 
 /// What follows the first word of a text, if that is `word`.

@@ -24,7 +24,7 @@ use Rattle.hub_rows.specs.declared.change.Edit.{Edit}
 use Rattle.hub_rows.specs.declared.change.Edit.TheVariants.{Stations, Tags, Transactions, Holdings}
 use Rattle.hub_rows.specs.declared.change.StationEdit.TheVariants.{StationAdded, BootSeen, PolicySet, ConnectorSeen, ReportSeen}
 use Rattle.hub_rows.specs.declared.change.TagEdit.TheVariants.{TagPut, TagDropped, GrantPut, GrantDropped}
-use Rattle.hub_rows.specs.declared.change.TransactionEdit.TheVariants.{TxStarted, TxStopped, ReadingsAdded}
+use Rattle.hub_rows.specs.declared.change.TransactionEdit.TheVariants.{TxStarted, TxStopped, ReadingsAdded, Forgotten}
 use Rattle.hub_rows.specs.declared.change.HoldingEdit.TheVariants.{ReservationPut, ReservationDropped, ListSet}
 use Rattle.hub_rows.specs.declared.change.StationEdit.TheVariants as station_edit
 use Rattle.hub_rows.specs.declared.change.TagEdit.TheVariants as tag_edit
@@ -34,13 +34,17 @@ use Rattle.hub_rows.specs.declared.tx_row.TxState.{TxState}
 use Rattle.hub_rows.specs.Lookups.{Lookups, lookups_at}
 use Rattle.ocpp_types.specs.declared.authorization_status.AuthorizationStatus.{AuthorizationStatus}
 use Rattle.ocpp_types.specs.declared.authorization_status.AuthorizationStatus.TheVariants.{Accepted, Blocked, Expired, Invalid, ConcurrentTx}
-use Rattle.hub_rows.specs.Changes.{EditFits, IsAnother, IsOpen}
+use Rattle.std.specs.List.{AllByRecursion}
+use Rattle.hub_rows.proofs.ForgetLaws.{forgettable-stopped}
+use Rattle.hub_rows.specs.declared.forgettable.Forgettable.{Forgettable}
+use Rattle.hub_rows.specs.Forgetting.{numbers_of}
+use Rattle.hub_rows.specs.Changes.{EditFits, IsAnother, IsOpen, IsStopped}
 use Rattle.hub_rows.specs.Grants.{granted_tag_in}
 use Rattle.hub_rows.specs.Tags.{own_tag_in}
 use Rattle.hub_rows.specs.WellFormed.{WellFormedRows}
 use Rattle.hub_rows.specs.declared.info.Info.{Info}
 use Rattle.hub_rows.proofs.GrantLaws.{granted_tag-owner, own_tag-owner}
-use Rattle.hub_rows.specs.Transactions.{AreNext, last_of_all}
+use Rattle.hub_rows.specs.Transactions.{AreNext, last_of_all, tx_in}
 use Rattle.hub_rows.specs.declared.reading_row.Reading.{Reading}
 use Rattle.hub_rows.specs.declared.tx_row.StartKey.{StartKey}
 use Rattle.ocpp_payload.specs.declared.conf.Conf.TheVariants as conf
@@ -53,6 +57,7 @@ use Rattle.id_tags.specs.declared.judgement.Purpose.TheVariants as purpose
 use Rattle.registry.specs.InternalError.{internal_error}
 use Rattle.registry.specs.declared.station_added.TheConstants.{MAX_INTERVAL}
 use Rattle.charging.specs.Close.{close_edit, close_rule, closed_at, is_meter, meter_at_close}
+use Rattle.charging.specs.Forget.{forget_rule}
 use Rattle.charging.specs.Numbers.{has_room}
 use Rattle.charging.specs.Readings.{readings_of}
 use Rattle.charging.specs.MeterValues.{meter_values_rule}
@@ -93,7 +98,7 @@ use Rattle.event_plans.specs.declared.plan.Plan.{Plan}
 use Rattle.pending_calls.specs.Slot.{answered_command}
 use Rattle.event_plans.specs.Commands.{command_plan, command_rule, edit_by, end_plan, result_edit, result_outcome}
 use Rattle.event_plans.specs.Effects.{edit_effect}
-use Rattle.event_plans.specs.Plans.{connect_plan, error_plan, edit_plan, list_plan, turned_plan}
+use Rattle.event_plans.specs.Plans.{connect_plan, error_plan, edit_plan, forget_plan, has_no_rows, list_plan, turned_plan}
 use Rattle.event_plans.specs.Table.{Facts, plan, frame_plan, call_plan, state_plan, payload_plan, admin_rule}
 use Rattle.event_plans.specs.Listing.{rows_rule}
 
@@ -114,6 +119,7 @@ FitsLookups l (Tags (GrantDropped key to)) = Unit {0}
 FitsLookups l (Transactions (TxStarted station number start owner)) = IsSome (l.registration station) × AreNext (l.last_tx station) number 1 × (start.id.key ≡ key_of start.tag) × IfSome owner (IsOwner l start.id.key)
 FitsLookups l (Transactions (TxStopped station number stop first readings)) = IsOpen (l.tx station number) × AreNext (l.last_reading station) first (length readings)
 FitsLookups l (Transactions (ReadingsAdded station first readings)) = IsSome (l.registration station) × AreNext (l.last_reading station) first (length readings)
+FitsLookups l (Transactions (Forgotten station gone)) = (until : ℕ) × (gone ≡ numbers_of (l.forgettable station until))
 FitsLookups l (Holdings (ReservationPut station id reservation)) = IsSome (l.registration station)
 FitsLookups l (Holdings (ReservationDropped station id)) = Unit {0}
 FitsLookups l (Holdings (ListSet station list)) = IsSome (l.registration station) × AreEntries list.entries
@@ -360,6 +366,17 @@ admin_fits is_hosted (admin.Grant grant) m f = grant_fits is_hosted grant f
 admin_fits is_hosted (admin.Revoke tag to) m f = revoke_fits tag to f
 admin_fits is_hosted (admin.TransactionClose station number meter_stop) m f = close_fits station number meter_stop m f
 
+forget_fits : (station : List ℕ) (until m : ℕ) (f : Facts) → PlanFits f (forget_plan station (forget_rule station until m f.lookups))
+forget_fits station until m f =
+    let gone = f.lookups.forgettable station until in
+    elim (is_some (f.lookups.registration station)) as (λ b. PlanFits f (forget_plan station (cond b (cond (nat_le until m) (Ok gone) (Err (BadField (codes "until")))) (Err NoSuchStation)))) [
+      | true ↦ elim (nat_le until m) as (λ b. PlanFits f (forget_plan station (cond b (Ok gone) (Err (BadField (codes "until")))))) [
+        | true ↦ elim (has_no_rows gone) as (λ b. EffectFits f (cond b effect.Nothing (effect.Edit (Transactions (Forgotten station (numbers_of gone)))))) [ true ↦ tt | false ↦ (until, refl) ]
+        | false ↦ tt
+      ]
+      | false ↦ tt
+    ]
+
 pub plan_fits : (is_hosted : List ℕ → Bool) (answers : Answers) (what : What) (m : ℕ) (f : Facts) → PlanFits f (plan is_hosted answers what m f)
 plan_fits is_hosted answers (what.Connect station) m f = elim (f.lookups.registration station) as (λ o. f.lookups.registration station ≡ o → PlanFits f (connect_plan station o)) [ None ↦ λ e. tt | Some r ↦ λ e. ap is_some e ] refl
 plan_fits is_hosted answers (what.Disconnect station) m f = tt
@@ -367,6 +384,7 @@ plan_fits is_hosted answers (what.Frame station text) m f = elim (f.slot station
 plan_fits is_hosted answers (what.Do station command) m f = command_fits station command (command_rule station command (f.lookups.registration station) (f.slot station) m f.lookups) f
 plan_fits is_hosted answers (what.Admin a) m f = admin_fits is_hosted a m f
 plan_fits is_hosted answers what.Connections m f = tt
+plan_fits is_hosted answers (what.Forget station until) m f = forget_fits station until m f
 plan_fits is_hosted answers (what.List listing) m f = elim (rows_rule listing m f.lookups) as (λ r. PlanFits f (list_plan r)) [ Ok rows ↦ tt | Err refusal ↦ tt ]
 
 -- the owner of a granted tag is another operator
@@ -398,6 +416,7 @@ edit_fits b rows good (Tags (GrantDropped key to)) fits = tt
 edit_fits b rows good (Transactions (TxStarted station number start owner)) fits = (fits.0, fits.1, fits.2, owner_apart b start.id.key rows good owner fits.3)
 edit_fits b rows good (Transactions (TxStopped station number stop first readings)) fits = fits
 edit_fits b rows good (Transactions (ReadingsAdded station first readings)) fits = fits
+edit_fits b rows good (Transactions (Forgotten station gone)) fits = subst (λ (g : Forgettable). AllByRecursion (λ n. IsStopped (tx_in b station n rows.transactions)) g.transactions) (sym fits.1) (forgettable-stopped b station fits.0 rows good)
 edit_fits b rows good (Holdings (ReservationPut station id reservation)) fits = fits
 edit_fits b rows good (Holdings (ReservationDropped station id)) fits = tt
 edit_fits b rows good (Holdings (ListSet station list)) fits = fits

@@ -1,7 +1,12 @@
 -- A plan that submits no command is ready whatever the slots are.
-use Rattle.std.specs.Prelude.{◌≡◌, ℕ, List, Option, Some, None, Result, Ok, Err, IfOk}
+use Rattle.std.specs.Prelude.{◌≡◌, ◌&&◌, true, false, cond, ℕ, List, Option, Some, None, Result, Ok, Err, IfOk}
 use Rattle.ocpp_types.specs.declared.refusal.Refusal.{Refusal}
 use Rattle.hub_rows.specs.declared.change.Edit.{Edit}
+use Rattle.hub_rows.specs.declared.change.Edit.TheVariants.{Transactions}
+use Rattle.hub_rows.specs.declared.change.TransactionEdit.TheVariants.{Forgotten}
+use Rattle.hub_rows.specs.Forgetting.{numbers_of}
+use Rattle.hub_rows.specs.declared.forgettable.History.{History}
+use Rattle.event_plans.specs.declared.plan.Effect.TheVariants as effect
 use Rattle.hub_rows.specs.declared.store.StoreFault.{StoreFault}
 use Rattle.hub_rows.specs.declared.station_row.Registration.{Registration}
 use Rattle.registry.specs.declared.decision.Decision.{Decision}
@@ -13,7 +18,7 @@ use Rattle.event_plans.specs.declared.plan.Plan.{Plan}
 use Rattle.pending_calls.specs.Slot.{answered_command}
 use Rattle.event_plans.specs.Commands.{end_plan, failure_plan}
 use Rattle.event_plans.specs.Effects.{StationSlot, IsReady, edit_effect}
-use Rattle.event_plans.specs.Plans.{connect_plan, decided_plan, edit_plan, list_plan}
+use Rattle.event_plans.specs.Plans.{connect_plan, decided_plan, edit_plan, forget_plan, forgetting, has_no_rows, list_plan}
 
 pub connect_ready : (slot : List ℕ → StationSlot) (station : List ℕ) (o : Option Registration) (p : Plan) → p ≡ connect_plan station o → IsReady slot p.effect
 connect_ready slot station None p is = rw is tt
@@ -22,6 +27,14 @@ connect_ready slot station (Some r) p is = rw is tt
 pub edit_ready : (slot : List ℕ → StationSlot) (answer : Result Edit Refusal) (p : Plan) → p ≡ edit_plan answer → IsReady slot p.effect
 edit_ready slot (Ok e) p is = rw is tt
 edit_ready slot (Err refusal) p is = rw is tt
+
+forgetting_ready : (slot : List ℕ → StationSlot) (station : List ℕ) (gone : History) → IsReady slot (forgetting station gone)
+forgetting_ready slot station gone =
+    elim (has_no_rows gone) as (λ b. IsReady slot (cond b effect.Nothing (effect.Edit (Transactions (Forgotten station (numbers_of gone)))))) [ true ↦ tt | false ↦ tt ]
+
+pub forget_ready : (slot : List ℕ → StationSlot) (station : List ℕ) (answer : Result History Refusal) (p : Plan) → p ≡ forget_plan station answer → IsReady slot p.effect
+forget_ready slot station (Ok gone) p is = rw is (forgetting_ready slot station gone)
+forget_ready slot station (Err refusal) p is = rw is tt
 
 pub list_ready : (slot : List ℕ → StationSlot) (rows : List Row) (p : Plan) → p ≡ list_plan (Ok rows) → IsReady slot p.effect
 list_ready slot rows p is = rw is tt

@@ -1,7 +1,9 @@
 -- The rows of each listing.
-use Rattle.std.specs.Prelude.{ℕ, List, [], ◌∷◌, map, filter, Option, Some, None, Result, Ok, Err, ◌≡◌, IfOk}
+use Rattle.std.specs.Prelude.{ℕ, List, [], ◌∷◌, ◌++◌, map, filter, Option, Some, None, Result, Ok, Err, ◌≡◌, IfOk}
 use Rattle.ocpp_types.specs.declared.refusal.Refusal.{Refusal}
 use Rattle.ocpp_types.specs.declared.refusal.Refusal.TheVariants.{NoSuchStation}
+use Rattle.charging.specs.Forget.{forget_rule}
+use Rattle.hub_rows.specs.declared.forgettable.History.{History}
 use Rattle.hub_rows.specs.declared.station_row.Registration.{Registration}
 use Rattle.hub_rows.specs.declared.list_row.LocalList.{LocalList}
 use Rattle.hub_rows.specs.declared.reservation_row.ReservationRow.{ReservationRow}
@@ -33,6 +35,11 @@ abbrev pub list_rows : List ℕ → Option LocalList → List Row
 list_rows station None = row.LocalList station 0 ∷ []
 list_rows station (Some list) = row.LocalList station list.version ∷ map (row.LocalTag station) list.entries
 
+-- those of a station's history
+abbrev pub history_rows : Result History Refusal → Result (List Row) Refusal
+history_rows (Ok h) = Ok (map row.Reading h.readings ++ map row.Transaction h.transactions)
+history_rows (Err refusal) = Err refusal
+
 -- the rows that a listing shows at a moment, or its refusal
 abbrev pub rows_rule : Listing → ℕ → Lookups → Result (List Row) Refusal
 rows_rule listing.Stations m l = Ok (map row.Station l.stations)
@@ -47,6 +54,7 @@ rows_rule (listing.Readings station n) m l = of_station (l.registration station)
 rows_rule (listing.Reservations station) m l = of_station (l.registration station) (map row.Reservation (current m (l.reservations station)))
 rows_rule (listing.LocalList station) m l = of_station (l.registration station) (list_rows station (l.local_list station))
 rows_rule (listing.Reports station) m l = of_station (l.registration station) (map row.Report (l.reports station))
+rows_rule (listing.Forgettable station until) m l = history_rows (forget_rule station until m l)
 
 -- a connected station, and how many calls are in flight and waiting there
 abbrev pub connection : StationSlot → Row

@@ -1,5 +1,5 @@
 -- What is said, and what changes, as each event's answer is known.
-use Rattle.std.specs.Prelude.{ℕ, List, [], ◌∷◌, ◌++◌, map, Option, Some, None, Result, Ok, Err}
+use Rattle.std.specs.Prelude.{ℕ, ◌==◌, Bool, List, [], ◌∷◌, ◌++◌, ◌&&◌, if◌then◌else◌, length, map, Option, Some, None, Result, Ok, Err}
 use Rattle.serde_json.specs.Written.{compact_text}
 use Rattle.ocpp_types.specs.ErrorCode.{error_code_name}
 use Rattle.ocpp_types.specs.declared.error_code.ErrorCode.{ErrorCode}
@@ -8,6 +8,10 @@ use Rattle.ocpp_frame.specs.Written.{result_data, error_data}
 use Rattle.ocpp_payload.specs.declared.conf.Conf.{Conf as Answer}
 use Rattle.ocpp_payload.specs.Conf.{conf_data}
 use Rattle.hub_rows.specs.declared.change.Edit.{Edit}
+use Rattle.hub_rows.specs.declared.change.Edit.TheVariants.{Transactions}
+use Rattle.hub_rows.specs.declared.change.TransactionEdit.TheVariants.{Forgotten}
+use Rattle.hub_rows.specs.declared.forgettable.History.{History}
+use Rattle.hub_rows.specs.Forgetting.{numbers_of}
 use Rattle.hub_rows.specs.declared.station_row.Registration.{Registration}
 use Rattle.registry.specs.declared.decision.Decision.{Decision}
 use Rattle.registry.specs.declared.decision.Reply.{Reply}
@@ -18,6 +22,7 @@ use Rattle.event_plans.specs.declared.plan.Effect.{Effect}
 use Rattle.event_plans.specs.declared.plan.Effect.TheVariants as effect
 use Rattle.event_plans.specs.declared.plan.Plan.{Plan}
 use Rattle.hub_events.specs.declared.listing.Row.{Row}
+use Rattle.hub_events.specs.declared.listing.Row.TheVariants as row
 use Rattle.event_plans.specs.Effects.{edit_effect}
 
 -- nothing is said and nothing changes
@@ -80,6 +85,19 @@ decided_plan station id d = record { said = said.Send station (reply_text id d.r
 abbrev pub edit_plan : Result Edit Refusal → Plan
 edit_plan (Ok edit) = record { said = said.Accepted None ∷ []; effect = effect.Edit edit }
 edit_plan (Err refusal) = only (said.Refused refusal)
+
+-- nothing of a station's history
+abbrev pub has_no_rows : History → Bool
+has_no_rows gone = (length gone.readings == 0) && (length gone.transactions == 0)
+
+-- rows of a station go, if there are any
+abbrev pub forgetting : List ℕ → History → Effect
+forgetting station gone = if has_no_rows gone then effect.Nothing else effect.Edit (Transactions (Forgotten station (numbers_of gone)))
+
+-- how many go is told
+abbrev pub forget_plan : List ℕ → Result History Refusal → Plan
+forget_plan station (Ok gone) = record { said = said.Row (row.Forgotten station (length gone.transactions) (length gone.readings)) ∷ said.Accepted None ∷ []; effect = forgetting station gone }
+forget_plan station (Err refusal) = only (said.Refused refusal)
 
 -- a listing shows its rows, and is then taken
 abbrev pub list_plan : Result (List Row) Refusal → Plan

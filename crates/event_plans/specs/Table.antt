@@ -18,6 +18,7 @@ use Rattle.hub_rows.specs.declared.station_row.Registration.{Registration}
 use Rattle.hub_rows.specs.Lookups.{Lookups, lookups_at}
 use Rattle.hub_rows.specs.Rows.{Rows}
 use Rattle.charging.specs.Close.{close_rule}
+use Rattle.charging.specs.Forget.{forget_rule}
 use Rattle.id_tags.specs.Plan.{put_rule, drop_rule, grant_rule, revoke_rule}
 use Rattle.registry.specs.Allowed.{is_allowed}
 use Rattle.registry.specs.PolicySet.{policy_rule}
@@ -36,7 +37,7 @@ use Rattle.event_plans.specs.declared.plan.Plan.{Plan}
 use Rattle.event_plans.specs.Listing.{connections, rows_rule}
 use Rattle.event_plans.specs.Commands.{command_plan, command_rule, failure_plan, result_plan}
 use Rattle.event_plans.specs.Effects.{StationSlot}
-use Rattle.event_plans.specs.Plans.{nothing, turned_plan, connect_plan, disconnect_plan, error_plan, decided_plan, edit_plan, list_plan}
+use Rattle.event_plans.specs.Plans.{nothing, turned_plan, connect_plan, disconnect_plan, error_plan, decided_plan, edit_plan, forget_plan, list_plan}
 
 -- what an operator's answers are made of: its own records and the tags that are granted to it, the slot of
 -- each of its stations, and the slots of those that were ever connected, in the order of their names
@@ -105,3 +106,4 @@ plan is_hosted answers (what.Do station command) m f = command_plan station comm
 plan is_hosted answers (what.Admin a) m f = edit_plan (admin_rule is_hosted a m f.lookups)
 plan is_hosted answers (what.List listing) m f = list_plan (rows_rule listing m f.lookups)
 plan is_hosted answers what.Connections m f = list_plan (Ok (connections f.slots))
+plan is_hosted answers (what.Forget station until) m f = forget_plan station (forget_rule station until m f.lookups)

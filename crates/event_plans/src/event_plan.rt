@@ -13,7 +13,8 @@ use crate::connections::plan_connections;
 use crate::frames::plan_text;
 use crate::list::plan_list;
 use crate::plan::Plan;
-use crate::short_plans::{connect_plan, disconnect_plan, edit_plan, turned_plan};
+use crate::short_plans::{connect_plan, disconnect_plan, edit_plan, forget_plan, turned_plan};
+use charging::plan_forget;
 use hub_events::{OperatorEvent, What};
 use hub_rows::{Store, StoreFault};
 use ocpp_types::{Boxed, Text};
@@ -24,7 +25,7 @@ use station_calls::{Book, VendorHandler};
 use std::alloc::Global;
 
 /// The plan for an event of an operator. `hosted` are the hosted operators.
-#[tactic(auto, using(crate::proofs::Readiness::connect_ready, crate::proofs::Readiness::edit_ready, crate::proofs::Readiness::list_ready))]
+#[tactic(auto, using(crate::proofs::Readiness::connect_ready, crate::proofs::Readiness::edit_ready, crate::proofs::Readiness::forget_ready, crate::proofs::Readiness::list_ready))]
 pub fn plan_event<S: Store, V: VendorHandler>(
     alloc: Global,
     book: &mut Book<S, V>,
@@ -70,5 +71,14 @@ pub fn plan_event<S: Store, V: VendorHandler>(
         }
         What::List(listing) => plan_list(alloc, &mut book.store, op, listing, moment),
         What::Connections => Ok(plan_connections(alloc, slots, op.as_str())?),
+        What::Forget { station, until } => {
+            let at = StationAt {
+                op,
+                station,
+                moment,
+            };
+            let answer = plan_forget(&mut book.store, &at, *until)?;
+            Ok(forget_plan(alloc, station, answer)?)
+        }
     }
 }

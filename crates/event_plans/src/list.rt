@@ -1,15 +1,18 @@
 //! Listings of an operator's records (docs/RULES.md, Requests of operators).
 ghost use Rattle.std.specs.Prelude.{◌≡◌, ◌++◌, map, Ok, Err, IfOk, OnOk};
+ghost use Rattle.charging.specs.Forget.{forget_rule};
 ghost use Rattle.holdings.specs.Reservation.{is_current};
-ghost use Rattle.event_plans.specs.Listing.{current, list_rows, of_station, rows_rule, Lists};
+ghost use Rattle.event_plans.specs.Listing.{current, history_rows, list_rows, of_station, rows_rule, Lists};
 ghost use Rattle.event_plans.specs.Plans.{list_plan};
 ghost use Rattle.hub_events.specs.declared.listing.Row.TheVariants as row;
 
 use crate::plan::{Effect, Plan};
+use charging::plan_forget;
 use holdings::is_current;
 use hub_events::{Listing, Row, Said, Shown};
-use hub_rows::{LocalList, LocalTag, ReservationRow, Store, StoreFault};
+use hub_rows::{History, LocalList, LocalTag, ReservationRow, Store, StoreFault};
 use ocpp_types::{Boxed, Listed, Mem, Moment, Refusal, Text};
+use registry::StationAt;
 use std::alloc::Global;
 
 /// The plan for a listing: its rows, in the order of their keys, and then that it is taken.
@@ -40,6 +43,14 @@ pub fn plan_list<S: Store>(
         Listing::Reservations { station } => reservations(alloc, store, op, station, moment),
         Listing::LocalList { station } => local_list(alloc, store, op, station),
         Listing::Reports { station } => reports(alloc, store, op, station),
+        Listing::Forgettable { station, until } => {
+            let at = StationAt {
+                op,
+                station,
+                moment,
+            };
+            forgettable(alloc, store, &at, *until)
+        }
     }
 }
 
@@ -237,6 +248,34 @@ fn reports<S: Store>(
     }
     let rows = store.reports(op.as_str(), station.as_str())?;
     Ok(show(alloc, rows)?)
+}
+
+fn forgettable<S: Store>(
+    alloc: Global,
+    store: &mut S,
+    at: &StationAt<'_>,
+    until: Moment,
+) -> Result<Plan, StoreFault>
+    ensures { Lists S.view at.now.op.now (λ l. history_rows (forget_rule at.now.station.now until at.now.moment l)) store.old store.new result }
+{
+    match plan_forget(store, at, until)? {
+        Ok(history) => Ok(show_history(alloc, history)?),
+        Err(refusal) => Ok(Plan::only(alloc, Said::Refused(refusal))?),
+    }
+}
+
+/// The plan that shows a station's history: its readings, then its transactions.
+fn show_history(alloc: Global, history: History) -> Mem<Plan>
+    ensures { IfOk result (λ p. p ≡ list_plan (history_rows (Ok history))) }
+{
+    let mut said = Listed::new(alloc);
+    add_rows(alloc, &mut said, history.readings)?;
+    add_rows(alloc, &mut said, history.transactions)?;
+    said.push(Said::Accepted { number: None })?;
+    Ok(Plan {
+        said,
+        effect: Effect::Nothing,
+    })
 }
 
 fn no_station(alloc: Global) -> Mem<Plan>

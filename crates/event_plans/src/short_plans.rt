@@ -1,10 +1,10 @@
 //! Plans from facts: one small function for each kind of event (docs/RULES.md).
 ghost use Rattle.std.specs.Prelude.{◌≡◌, IfOk};
-ghost use Rattle.event_plans.specs.Plans.{turned_plan, connect_plan, disconnect_plan, sent_plan, error_plan, error_text, conf_text, reply_text, decided_plan, edit_plan};
+ghost use Rattle.event_plans.specs.Plans.{turned_plan, connect_plan, disconnect_plan, sent_plan, error_plan, error_text, conf_text, reply_text, decided_plan, edit_plan, forget_plan, forgetting};
 
 use crate::plan::{Effect, Plan, one};
-use hub_events::Said;
-use hub_rows::{Edit, Registration};
+use hub_events::{Row, Said};
+use hub_rows::{Edit, History, Registration, TransactionEdit};
 use ocpp_frame::{write_error, write_result};
 use ocpp_payload::{Conf, write_conf};
 use ocpp_types::{Boxed, ErrorCode, Mem, Named, Refusal, Text};
@@ -120,4 +120,40 @@ pub fn edit_plan(alloc: Global, answer: Result<Edit, Refusal>) -> Mem<Plan>
         }
         Err(refusal) => Plan::only(alloc, Said::Refused(refusal)),
     }
+}
+
+/// Rows of a station are forgotten, which is told, or the request is refused.
+pub fn forget_plan(alloc: Global, station: &Text, answer: Result<History, Refusal>) -> Mem<Plan>
+    ensures { IfOk result (λ p. p ≡ forget_plan station.now answer) }
+{
+    match answer {
+        Ok(gone) => {
+            let row = Row::Forgotten {
+                station: station.clone()?,
+                transactions: gone.transactions.as_slice().len(),
+                readings: gone.readings.as_slice().len(),
+            };
+            let mut said = one(alloc, Said::Row(Boxed::new(alloc, row)?))?;
+            said.push(Said::Accepted { number: None })?;
+            Ok(Plan {
+                said,
+                effect: forgetting(alloc, station, &gone)?,
+            })
+        }
+        Err(refusal) => Plan::only(alloc, Said::Refused(refusal)),
+    }
+}
+
+/// The effect that rows of a station go, if there are any.
+fn forgetting(alloc: Global, station: &Text, gone: &History) -> Mem<Effect>
+    ensures { IfOk result (λ e. e ≡ forgetting station.now gone.now) }
+{
+    if gone.readings.as_slice().is_empty() && gone.transactions.as_slice().is_empty() {
+        return Ok(Effect::Nothing);
+    }
+    let edit = Edit::Transactions(TransactionEdit::Forgotten {
+        station: station.clone()?,
+        rows: gone.numbers(alloc)?,
+    });
+    Ok(Effect::Edit(Boxed::new(alloc, edit)?))
 }

@@ -2,7 +2,7 @@
 ghost use Rattle.std.specs.Prelude.{◌≡◌, ◌+◌, Some, OnOk, OnErr};
 
 use hub_rows::{
-    Change, ConnectorRow, GrantRow, GrantedTag, Info, LocalList, ReadingRow, Registration,
+    Change, ConnectorRow, GrantRow, GrantedTag, History, Info, LocalList, ReadingRow, Registration,
     ReportRow, ReservationId, ReservationRow, StartKey, StationRow, Store, StoreFault, TagRow,
     TxKey, TxRow, TxState, UseRow,
 };
@@ -163,6 +163,16 @@ impl<S: Store> Store for Failing<S> {
     fn open_txs(&mut self, op: &str) -> Result<Listed<TxRow>, StoreFault> {
         self.count_call()?;
         self.store.open_txs(op)
+    }
+
+    fn forgettable(
+        &mut self,
+        op: &str,
+        station: &str,
+        until: Moment,
+    ) -> Result<History, StoreFault> {
+        self.count_call()?;
+        self.store.forgettable(op, station, until)
     }
 
     fn readings(

@@ -59,6 +59,11 @@ pub enum What {
     List(Listing),
     /// The operator asks which of its stations are connected.
     Connections,
+    /// The operator forgets the history of a station before a moment.
+    Forget {
+        station: Text,
+        until: Moment,
+    },
 }
 
 /// An operator's edit of its records.

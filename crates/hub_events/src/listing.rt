@@ -7,7 +7,7 @@ use hub_rows::{
     ConnectorRow, GrantRow, GrantedTag, LocalTag, ReadingRow, ReportRow, ReservationRow,
     StationRow, TagRow, TxRow, UseRow,
 };
-use ocpp_types::Text;
+use ocpp_types::{Moment, Text};
 
 /// A list of an operator's records.
 #[derive(Drop)]
@@ -50,9 +50,14 @@ pub enum Listing {
     Reports {
         station: Text,
     },
+    /// What an order to forget the history of a station before a moment would take.
+    Forgettable {
+        station: Text,
+        until: Moment,
+    },
 }
 
-/// A row of a listing.
+/// A row that an operator is answered: of a listing, or what was forgotten.
 #[derive(Drop)]
 pub enum Row {
     Station(StationRow),
@@ -68,12 +73,27 @@ pub enum Row {
     Reading(ReadingRow),
     Reservation(ReservationRow),
     /// The version of a station's local list, 0 where it has none.
-    LocalList { station: Text, version: u32 },
+    LocalList {
+        station: Text,
+        version: u32,
+    },
     /// An entry of a station's local list.
-    LocalTag { station: Text, entry: LocalTag },
+    LocalTag {
+        station: Text,
+        entry: LocalTag,
+    },
     Report(ReportRow),
     /// A connected station, and how many calls are in flight and waiting there.
-    Connection { station: Text, calls: usize },
+    Connection {
+        station: Text,
+        calls: usize,
+    },
+    /// How many transactions and readings of a station were forgotten.
+    Forgotten {
+        station: Text,
+        transactions: usize,
+        readings: usize,
+    },
 }
 
 /// A record that listings show.

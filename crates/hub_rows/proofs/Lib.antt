@@ -1,5 +1,6 @@
 pub mod Steps
 pub mod ListLaws
+pub mod FilterLaws
 pub mod PlaceLaws
 pub mod OrderLaws
 pub mod TagLaws
@@ -7,3 +8,6 @@ pub mod GrantLaws
 pub mod OwnLaws
 pub mod WellFormedLaws
 pub mod NameLaws
+pub mod ForgetLaws
+pub mod NumberLaws
+pub mod LastReadingLaws

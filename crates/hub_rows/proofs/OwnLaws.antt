@@ -10,7 +10,7 @@ use Rattle.hub_rows.specs.declared.change.Edit.{Edit}
 use Rattle.hub_rows.specs.declared.change.Edit.TheVariants.{Stations, Tags, Transactions, Holdings}
 use Rattle.hub_rows.specs.declared.change.StationEdit.TheVariants.{StationAdded, BootSeen, PolicySet, ConnectorSeen, ReportSeen}
 use Rattle.hub_rows.specs.declared.change.TagEdit.TheVariants.{TagPut, TagDropped, GrantPut, GrantDropped}
-use Rattle.hub_rows.specs.declared.change.TransactionEdit.TheVariants.{TxStarted, TxStopped, ReadingsAdded}
+use Rattle.hub_rows.specs.declared.change.TransactionEdit.TheVariants.{TxStarted, TxStopped, ReadingsAdded, Forgotten}
 use Rattle.hub_rows.specs.declared.change.HoldingEdit.TheVariants.{ReservationPut, ReservationDropped, ListSet}
 use Rattle.hub_rows.specs.Rows.{Rows, station_rest, connector_rest, tag_rest, grant_rest, tx_rest, reading_rest, reservation_rest, list_rest, report_rest, tx_owner_rest, use_rest, use_key}
 use Rattle.hub_rows.specs.declared.tx_row.TxRow.{TxRow}
@@ -23,6 +23,7 @@ use Rattle.ocpp_types.specs.declared.authorization_status.AuthorizationStatus.Th
 use Rattle.hub_rows.specs.Keyed.{by_key, found, put_all, own, those, greatest}
 use Rattle.hub_rows.specs.WellFormed.{WellFormedRows}
 use Rattle.hub_rows.specs.Changes.{edit, new_station, with_boot, with_policy, connector_row, tag_row, grant_row, tx_row, with_stop, with_readings, reservation_row, list_row, report_row}
+use Rattle.hub_rows.specs.Forgetting.{forgettable, is_one_of}
 use Rattle.hub_rows.specs.Grants.{granted_in, is_grant}
 use Rattle.hub_rows.specs.Own.{own_rows, own_edit, own_named, own_readings, own_shifted, own_with_owner}
 use Rattle.hub_rows.specs.declared.use_row.UseRow.{UseRow}
@@ -107,6 +108,8 @@ own_rows-edit a (Transactions (TxStopped station number stop first readings)) ro
     λ i. record (own_rows a rows) { transactions = own-changed (λ r. r.op) a (is_tx station number) (with_stop stop) rows.transactions (λ r. refl) i; readings = own-readings a station first readings rows good i; uses = own-with_use a (settled_use a station number stop rows) rows.uses (is_settled a station number stop rows good) i }
 own_rows-edit a (Transactions (ReadingsAdded station first readings)) rows good =
     λ i. record (own_rows a rows) { readings = own-readings a station first readings rows good i }
+own_rows-edit a (Transactions (Forgotten station gone)) rows good =
+    λ i. record (own_rows a rows) { transactions = own-without (λ r. r.op) a (is_one_of (λ r. r.station) (λ r. r.number) station gone.transactions) rows.transactions i; readings = own-without (λ r. r.op) a (is_one_of (λ r. r.station) (λ r. r.number) station gone.readings) rows.readings i; tx_owners = own-without (λ r. r.op) a (is_one_of (λ r. r.station) (λ r. r.number) station gone.transactions) rows.tx_owners i }
 own_rows-edit a (Holdings (ReservationPut station id reservation)) rows good =
     λ i. record (own_rows a rows) { reservations = own-put (λ r. r.op) reservation_rest a (reservation_row a station id reservation) rows.reservations good.reservations.sorted refl i }
 own_rows-edit a (Holdings (ReservationDropped station id)) rows good =
@@ -140,6 +143,8 @@ own_rows-edit_other a b (Transactions (TxStopped station number stop first readi
     λ i. record (own_rows a rows) { transactions = own-changed_other (λ r. r.op) a b (is_tx station number) (with_stop stop) rows.transactions (λ r. refl) other i; readings = own-readings_other a b station first readings rows other i; uses = own (λ r. r.op) a (edit b (Transactions (TxStopped station number stop first readings)) rows).uses }
 own_rows-edit_other a b (Transactions (ReadingsAdded station first readings)) rows other =
     λ i. record (own_rows a rows) { readings = own-readings_other a b station first readings rows other i }
+own_rows-edit_other a b (Transactions (Forgotten station gone)) rows other =
+    λ i. record (own_rows a rows) { transactions = own-without_other (λ r. r.op) a b (is_one_of (λ r. r.station) (λ r. r.number) station gone.transactions) rows.transactions other i; readings = own-without_other (λ r. r.op) a b (is_one_of (λ r. r.station) (λ r. r.number) station gone.readings) rows.readings other i; tx_owners = own-without_other (λ r. r.op) a b (is_one_of (λ r. r.station) (λ r. r.number) station gone.transactions) rows.tx_owners other i }
 own_rows-edit_other a b (Holdings (ReservationPut station id reservation)) rows other =
     λ i. record (own_rows a rows) { reservations = own-put_other (λ r. r.op) reservation_rest a (reservation_row b station id reservation) rows.reservations other i }
 own_rows-edit_other a b (Holdings (ReservationDropped station id)) rows other =
@@ -259,6 +264,7 @@ same_lookups a rows good =
       open_txs = those-own (λ r. r.op) a (λ r. is_none r.stop) rows.transactions i;
       readings = λ station n. those_readings station n i;
       reservations = λ station. those-own (λ r. r.op) a (λ r. bytes_eq r.station station) rows.reservations i;
+      forgettable = λ station until. forgettable until (those-own (λ r. r.op) a (λ r. bytes_eq r.station station) rows.transactions i) (all_readings station i);
       reports = λ station. those-own (λ r. r.op) a (λ r. bytes_eq r.station station) rows.reports i;
       uses = own-those (λ r. r.op) a rows.uses i;
     }

@@ -1,5 +1,5 @@
 -- What a change leaves of well formed rows.
-use Rattle.std.specs.Prelude.{◌≡◌, ◌≢◌, nat_lt, ℕ, ◌+◌, ◌≤◌, List, [], ◌∷◌, length, Bool, ◌&&◌, ◌==◌, cond, not, true, false, filter, Option, None, Some, is_some, IsSome}
+use Rattle.std.specs.Prelude.{◌≡◌, ◌≢◌, nat_lt, ℕ, ◌+◌, ◌≤◌, List, [], ◌∷◌, length, Bool, ◌&&◌, ◌==◌, cond, not, true, false, filter, find, Option, None, Some, is_some, IsSome}
 use Rattle.std.proofs.Common.{refl, sym, ◌∙◌, ap, subst, arith, ⊎_elim}
 use Rattle.std.specs.List.{AllByRecursion}
 use Rattle.std.specs.List.Sorted.{IsStrictlySortedBy}
@@ -14,13 +14,15 @@ use Rattle.hub_rows.specs.declared.change.Edit.{Edit}
 use Rattle.hub_rows.specs.declared.change.Edit.TheVariants.{Stations, Tags, Transactions, Holdings}
 use Rattle.hub_rows.specs.declared.change.StationEdit.TheVariants.{StationAdded, BootSeen, PolicySet, ConnectorSeen, ReportSeen}
 use Rattle.hub_rows.specs.declared.change.TagEdit.TheVariants.{TagPut, TagDropped, GrantPut, GrantDropped}
-use Rattle.hub_rows.specs.declared.change.TransactionEdit.TheVariants.{TxStarted, TxStopped, ReadingsAdded}
+use Rattle.hub_rows.specs.declared.change.TransactionEdit.TheVariants.{TxStarted, TxStopped, ReadingsAdded, Forgotten}
 use Rattle.hub_rows.specs.declared.change.HoldingEdit.TheVariants.{ReservationPut, ReservationDropped, ListSet}
 use Rattle.hub_rows.specs.declared.station_row.StationRow.{StationRow}
 use Rattle.hub_rows.specs.declared.connector_row.ConnectorRow.{ConnectorRow}
 use Rattle.hub_rows.specs.declared.tag_row.TagRow.{TagRow}
 use Rattle.hub_rows.specs.declared.grant_row.GrantRow.{GrantRow}
 use Rattle.hub_rows.specs.declared.info.Info.{Info}
+use Rattle.hub_rows.specs.Forgetting.{has_number, is_one_of}
+use Rattle.hub_rows.specs.declared.forgettable.Forgettable.{Forgettable}
 use Rattle.hub_rows.specs.Grants.{is_grant}
 use Rattle.hub_rows.specs.Tags.{tag_in}
 use Rattle.hub_rows.specs.declared.tx_row.TxRow.{TxRow}
@@ -58,6 +60,30 @@ module _ {R : Type 0} (key : R → List (List ℕ)) (P : R → Type 0) where
 
   good-weaker : (Q : R → Type 0) → ((r : R) → P r → Q r) → (rs : List R) → AreGood key P rs → AreGood key Q rs
   good-weaker Q f rs good = record { sorted = good.sorted; each = all-weaker P Q f rs good.each }
+
+-- ---- rows that are left
+
+-- a row that is looked for is left where none of its kind is dropped
+kept_found : {R : Type 0} (t d : R → Bool) → ((r : R) → t r ≡ true → d r ≡ false) → (rs : List R) → IsSome (find t rs) → IsSome (find t (filter (λ r. not (d r)) rs))
+kept_found t d apart [] some = some
+kept_found t d apart (x ∷ xs) some =
+    let left = filter (λ r. not (d r)) xs in
+    elim (t x) as (λ b. t x ≡ b → IsSome (cond b (Some x) (find t xs)) → IsSome (find t (cond (not (d x)) (x ∷ left) left))) [
+      | true ↦ λ is some. subst (λ c. IsSome (find t (cond (not c) (x ∷ left) left))) (sym (apart x is)) (subst (λ b. IsSome (cond b (Some x) (find t left))) (sym is) refl)
+      | false ↦ λ no some.
+          let rest = kept_found t d apart xs some in
+          elim (d x) as (λ c. IsSome (find t (cond (not c) (x ∷ left) left))) [ true ↦ rest | false ↦ subst (λ b. IsSome (cond b (Some x) (find t left))) (sym no) rest ]
+    ] refl some
+
+-- what is so of each row that is left is so of all of them
+all-kept : {R : Type 0} (P Q : R → Type 0) (d : R → Bool) → ((r : R) → d r ≡ false → P r → Q r) → (rs : List R) → AllByRecursion P rs → AllByRecursion Q (filter (λ r. not (d r)) rs)
+all-kept P Q d stays [] all = tt
+all-kept P Q d stays (x ∷ xs) all =
+    let left = filter (λ r. not (d r)) xs in
+    elim (d x) as (λ c. d x ≡ c → AllByRecursion Q (cond (not c) (x ∷ left) left)) [
+      | true ↦ λ gone. all-kept P Q d stays xs all.1
+      | false ↦ λ is. (stays x is all.0, all-kept P Q d stays xs all.1)
+    ] refl
 
 -- ---- stations on record
 
@@ -112,31 +138,15 @@ some_tag-put r tags b key on =
 
 -- a tag that is not dropped is still there
 kept_tag : (c dropped : List ℕ) (tags : List TagRow) (b key : List ℕ) → bytes_eq b c && bytes_eq key dropped ≡ false → IsSome (tag_in b key tags) → IsSome (tag_in b key (without (λ r. r.op) c (λ r. bytes_eq r.key dropped) tags))
-kept_tag c dropped [] b key other on = on
-kept_tag c dropped (x ∷ xs) b key other on =
-    elim (bytes_eq x.op b && bytes_eq x.key key) as (λ t. (bytes_eq x.op b && bytes_eq x.key key) ≡ t → IsSome (cond t (Some x) (tag_in b key xs)) → IsSome (tag_in b key (without (λ r. r.op) c (λ r. bytes_eq r.key dropped) (x ∷ xs)))) [
-      | true ↦ λ e some.
-          let parts = and_parts (bytes_eq x.op b) (bytes_eq x.key key) e in
-          let stays : bytes_eq x.op c && bytes_eq x.key dropped ≡ false = (λ i. bytes_eq (same_text x.op b parts.0 i) c && bytes_eq (same_text x.key key parts.1 i) dropped) ∙ other in
-          subst (λ t. IsSome (tag_in b key (cond (not t) (x ∷ without (λ r. r.op) c (λ r. bytes_eq r.key dropped) xs) (without (λ r. r.op) c (λ r. bytes_eq r.key dropped) xs)))) (sym stays)
-          (subst (λ t. IsSome (cond t (Some x) (tag_in b key (without (λ r. r.op) c (λ r. bytes_eq r.key dropped) xs)))) (sym e) refl)
-      | false ↦ λ e some.
-          let rest = kept_tag c dropped xs b key other some in
-          elim (bytes_eq x.op c && bytes_eq x.key dropped) as (λ t. IsSome (tag_in b key (cond (not t) (x ∷ without (λ r. r.op) c (λ r. bytes_eq r.key dropped) xs) (without (λ r. r.op) c (λ r. bytes_eq r.key dropped) xs)))) [
-            | true ↦ rest
-            | false ↦ subst (λ t. IsSome (cond t (Some x) (tag_in b key (without (λ r. r.op) c (λ r. bytes_eq r.key dropped) xs)))) (sym e) rest
-          ]
-    ] refl on
+kept_tag c dropped tags b key other on =
+    kept_found (λ x. bytes_eq x.op b && bytes_eq x.key key) (λ x. bytes_eq x.op c && bytes_eq x.key dropped)
+    (λ x is. let parts = and_parts (bytes_eq x.op b) (bytes_eq x.key key) is in (λ i. bytes_eq (same_text x.op b parts.0 i) c && bytes_eq (same_text x.key key parts.1 i) dropped) ∙ other) tags on
 
 -- the grants that a dropped tag leaves are of tags that are still there
 kept_grants : (c dropped : List ℕ) (tags : List TagRow) (gs : List GrantRow) → AllByRecursion (IsGoodGrant tags) gs → AllByRecursion (IsGoodGrant (without (λ r. r.op) c (λ r. bytes_eq r.key dropped) tags)) (without (λ r. r.op) c (λ r. bytes_eq r.key dropped) gs)
-kept_grants c dropped tags [] all = tt
-kept_grants c dropped tags (g ∷ gs) all =
-    let left : List TagRow = without (λ r. r.op) c (λ r. bytes_eq r.key dropped) tags in
-    elim (bytes_eq g.op c && bytes_eq g.key dropped) as (λ t. (bytes_eq g.op c && bytes_eq g.key dropped) ≡ t → AllByRecursion (IsGoodGrant left) (cond (not t) (g ∷ without (λ r. r.op) c (λ r. bytes_eq r.key dropped) gs) (without (λ r. r.op) c (λ r. bytes_eq r.key dropped) gs))) [
-      | true ↦ λ e. kept_grants c dropped tags gs all.1
-      | false ↦ λ e. (record { tag = kept_tag c dropped tags g.op g.key e all.0.tag; receiver = all.0.receiver }, kept_grants c dropped tags gs all.1)
-    ] refl
+kept_grants c dropped tags gs all =
+    all-kept (IsGoodGrant tags) (IsGoodGrant (without (λ r. r.op) c (λ r. bytes_eq r.key dropped) tags)) (λ g. bytes_eq g.op c && bytes_eq g.key dropped)
+    (λ g stays it. record { tag = kept_tag c dropped tags g.op g.key stays it.tag; receiver = it.receiver }) gs all
 
 some_row : (blocked : TagRow → Info) (o : Option TagRow) → IsSome (option_map blocked o) → IsSome o
 some_row blocked None some = some
@@ -165,6 +175,17 @@ found-put r txs =
     let t : TxRow → Bool = (λ x. bytes_eq x.op r.op && is_tx r.station r.number x) in
     let here : t r ≡ true = three_parts r.op r.station r.op r.station r.number r.number ∙ ap is_eq (tied_itself keys_total (tx_key r)) in
     some-new (by_key tx_key) t r txs here
+
+-- a transaction that is not forgotten is still there
+kept_tx : (c name : List ℕ) (numbers : List ℕ) (txs : List TxRow) (b station : List ℕ) (number : ℕ) → bytes_eq b c && (bytes_eq station name && has_number numbers number) ≡ false
+    → IsSome (found (λ t. t.op) b (is_tx station number) txs) → IsSome (found (λ t. t.op) b (is_tx station number) (without (λ r. r.op) c (is_one_of (λ r. r.station) (λ r. r.number) name numbers) txs))
+kept_tx c name numbers txs b station number other on =
+    kept_found (λ x. bytes_eq x.op b && is_tx station number x) (λ x. bytes_eq x.op c && is_one_of (λ r. r.station) (λ r. r.number) name numbers x)
+    (λ x is.
+    let parts = and_parts (bytes_eq x.op b) (is_tx station number x) is in
+    let of_station = and_parts (bytes_eq x.station station) (x.number == number) parts.1 in
+    let same : x.number ≡ number = grind (arith, nat_tests, of_station.1) in
+    (λ i. bytes_eq (same_text x.op b parts.0 i) c && (bytes_eq (same_text x.station station of_station.0 i) name && has_number numbers (same i))) ∙ other) txs on
 
 -- ---- one list is another
 
@@ -321,6 +342,27 @@ module _ (b : List ℕ) (rows : Rows) (good : WellFormedRows rows) where
     uses = good.uses;
   }
 
+  -- transactions are forgotten with the owners of their tags
+  pub forgotten : (station : List ℕ) (gone : Forgettable) → WellFormedRows (edit b (Transactions (Forgotten station gone)) rows)
+  forgotten station gone =
+      record {
+        stations = good.stations;
+        connectors = good.connectors;
+        tags = good.tags;
+        grants = good.grants;
+        transactions = good-filter tx_key (IsGoodTx rows.stations) (λ r. not (bytes_eq r.op b && is_one_of (λ r. r.station) (λ r. r.number) station gone.transactions r)) rows.transactions good.transactions;
+        readings = good-filter reading_key (IsGoodReading rows.stations) (λ r. not (bytes_eq r.op b && is_one_of (λ r. r.station) (λ r. r.number) station gone.readings r)) rows.readings good.readings;
+        reservations = good.reservations;
+        local_lists = good.local_lists;
+        reports = good.reports;
+        tx_owners = record {
+          sorted = IsStrictlySortedBy-filter (by_key tx_owner_key) (λ r. not (bytes_eq r.op b && is_one_of (λ r. r.station) (λ r. r.number) station gone.transactions r)) rows.tx_owners good.tx_owners.sorted;
+          each = all-kept (IsGoodTxOwner rows.transactions) (IsGoodTxOwner (edit b (Transactions (Forgotten station gone)) rows).transactions) (λ r. bytes_eq r.op b && is_one_of (λ r. r.station) (λ r. r.number) station gone.transactions r)
+              (λ r stays it. record { tx = kept_tx b station gone.transactions rows.transactions r.op r.station r.number stays it.tx; owner = it.owner }) rows.tx_owners good.tx_owners.each;
+        };
+        uses = good.uses;
+      }
+
   pub use-put : (r : UseRow) → IsGoodUse r → WellFormedRows (record rows { uses = put (by_key use_key) r rows.uses })
   use-put r new = record {
     stations = good.stations;
@@ -389,6 +431,7 @@ well_formed-edit b (Transactions (TxStopped station number stop first readings))
     let read = readings-put b (record rows { transactions = changed (λ r. r.op) b (is_tx station number) (with_stop stop) rows.transactions }) ended station _ first readings (on_record-tx b station number rows good fits.0) fits.1 in
     use-settled b (record rows { transactions = changed (λ r. r.op) b (is_tx station number) (with_stop stop) rows.transactions; readings = with_readings b station first readings rows.readings }) read (settled_use b station number stop rows) (is_settled b station number stop rows good)
 well_formed-edit b (Transactions (ReadingsAdded station first readings)) rows good fits = readings-put b rows good station _ first readings (on_record b station rows.stations fits.0) fits.1
+well_formed-edit b (Transactions (Forgotten station gone)) rows good fits = forgotten b rows good station gone
 well_formed-edit b (Holdings (ReservationPut station id reservation)) rows good fits = reservation-put b rows good (reservation_row b station id reservation) (on_record b station rows.stations fits)
 well_formed-edit b (Holdings (ReservationDropped station id)) rows good fits = reservations-without b rows good (is_reservation station id)
 well_formed-edit b (Holdings (ListSet station list)) rows good fits = list-put b rows good (list_row b station list) (record { station = on_record b station rows.stations fits.0; entries = fits.1 })

@@ -1,5 +1,6 @@
 -- What a change does to the rows of all operators.
-use Rattle.std.specs.Prelude.{◌≡◌, ◌≢◌, ℕ, List, length, Option, Some, None, IsSome, true}
+use Rattle.std.specs.Prelude.{◌≡◌, ◌≢◌, ℕ, List, length, Option, Some, None, IsSome, true, false}
+use Rattle.std.specs.List.{AllByRecursion}
 use Rattle.std.specs.Str.{bytes_eq}
 use Rattle.ocpp_types.specs.TagKey.{key_of}
 use Rattle.ocpp_types.specs.declared.policy.Policy.{Policy}
@@ -28,9 +29,10 @@ use Rattle.hub_rows.specs.declared.change.Edit.{Edit}
 use Rattle.hub_rows.specs.declared.change.Edit.TheVariants.{Stations, Tags, Transactions, Holdings}
 use Rattle.hub_rows.specs.declared.change.StationEdit.TheVariants.{StationAdded, BootSeen, PolicySet, ConnectorSeen, ReportSeen}
 use Rattle.hub_rows.specs.declared.change.TagEdit.TheVariants.{TagPut, TagDropped, GrantPut, GrantDropped}
-use Rattle.hub_rows.specs.declared.change.TransactionEdit.TheVariants.{TxStarted, TxStopped, ReadingsAdded}
+use Rattle.hub_rows.specs.declared.change.TransactionEdit.TheVariants.{TxStarted, TxStopped, ReadingsAdded, Forgotten}
 use Rattle.hub_rows.specs.declared.change.HoldingEdit.TheVariants.{ReservationPut, ReservationDropped, ListSet}
 use Rattle.hub_rows.specs.Keyed.{put, put_all, by_key, changed, without}
+use Rattle.hub_rows.specs.Forgetting.{is_one_of}
 use Rattle.hub_rows.specs.Grants.{is_grant}
 use Rattle.hub_rows.specs.LocalLists.{AreEntries}
 use Rattle.hub_rows.specs.Reservations.{is_reservation, without_named}
@@ -88,7 +90,7 @@ abbrev pub report_row : List ℕ → List ℕ → ReportedStatus → ℕ → Rep
 report_row b station status moment = record { op = b; station = station; status = status; moment = moment }
 
 -- an edit of the rows of operator b; a tag is dropped with its grants, a start ends the reservation that it
--- names, and a stop settles a use of the owner that granted the tag
+-- names, a stop settles a use of the owner that granted the tag, and forgotten transactions go with the owners of their tags
 abbrev pub edit : List ℕ → Edit → Rows → Rows
 edit b (Stations (StationAdded station policy interval)) rows = record rows { stations = put (by_key station_key) (new_station b station policy interval) rows.stations }
 edit b (Stations (BootSeen station boot state)) rows = record rows { stations = changed (λ r. r.op) b (λ r. bytes_eq r.station station) (with_boot boot state) rows.stations }
@@ -101,6 +103,11 @@ edit b (Tags (GrantDropped key to)) rows = record rows { grants = without (λ r.
 edit b (Transactions (TxStarted station number start owner)) rows = record rows { transactions = put (by_key tx_key) (tx_row b station number start) rows.transactions; reservations = without_named b station start.reservation rows.reservations; tx_owners = with_owner b station number owner rows.tx_owners }
 edit b (Transactions (TxStopped station number stop first readings)) rows = record rows { transactions = changed (λ r. r.op) b (is_tx station number) (with_stop stop) rows.transactions; readings = with_readings b station first readings rows.readings; uses = with_use (settled_use b station number stop rows) rows.uses }
 edit b (Transactions (ReadingsAdded station first readings)) rows = record rows { readings = with_readings b station first readings rows.readings }
+edit b (Transactions (Forgotten station gone)) rows = record rows {
+  transactions = without (λ r. r.op) b (is_one_of (λ r. r.station) (λ r. r.number) station gone.transactions) rows.transactions;
+  readings = without (λ r. r.op) b (is_one_of (λ r. r.station) (λ r. r.number) station gone.readings) rows.readings;
+  tx_owners = without (λ r. r.op) b (is_one_of (λ r. r.station) (λ r. r.number) station gone.transactions) rows.tx_owners;
+}
 edit b (Holdings (ReservationPut station id reservation)) rows = record rows { reservations = put (by_key reservation_key) (reservation_row b station id reservation) rows.reservations }
 edit b (Holdings (ReservationDropped station id)) rows = record rows { reservations = without (λ r. r.op) b (is_reservation station id) rows.reservations }
 edit b (Holdings (ListSet station list)) rows = record rows { local_lists = put (by_key list_key) (list_row b station list) rows.local_lists }
@@ -110,13 +117,17 @@ abbrev pub IsOpen : Option TxState → Type 0
 IsOpen None = ⊥
 IsOpen (Some t) = t.is_open ≡ true
 
+abbrev pub IsStopped : Option TxState → Type 0
+IsStopped None = ⊥
+IsStopped (Some t) = t.is_open ≡ false
+
 -- none, or another operator than b
 abbrev pub IsAnother : List ℕ → Option (List ℕ) → Type 0
 IsAnother b None = Unit {0}
 IsAnother b (Some a) = a ≢ b
 
 -- an edit that the rows allow: a new station isn't there, one that is edited or has the row is,
--- a transaction that is stopped is open, new numbers follow the station's last, if it has one, the
+-- a transaction that is stopped is open, those that are forgotten are stopped, new numbers follow the station's last, if it has one, the
 -- key of a tag is the key of its text, a tag that is granted is the operator's own and is granted to
 -- another, the owner of a granted tag is another, and a local list has its entries in the order of their keys
 abbrev pub EditFits : List ℕ → Edit → Rows → Type 0
@@ -131,6 +142,7 @@ EditFits b (Tags (GrantDropped key to)) rows = Unit {0}
 EditFits b (Transactions (TxStarted station number start owner)) rows = IsSome (registration_at b station rows) × AreNext (last_tx_in b station rows.transactions) number 1 × (start.id.key ≡ key_of start.tag) × IsAnother b owner
 EditFits b (Transactions (TxStopped station number stop first readings)) rows = IsOpen (tx_in b station number rows.transactions) × AreNext (last_reading_in b station rows.readings) first (length readings)
 EditFits b (Transactions (ReadingsAdded station first readings)) rows = IsSome (registration_at b station rows) × AreNext (last_reading_in b station rows.readings) first (length readings)
+EditFits b (Transactions (Forgotten station gone)) rows = AllByRecursion (λ n. IsStopped (tx_in b station n rows.transactions)) gone.transactions
 EditFits b (Holdings (ReservationPut station id reservation)) rows = IsSome (registration_at b station rows)
 EditFits b (Holdings (ReservationDropped station id)) rows = Unit {0}
 EditFits b (Holdings (ListSet station list)) rows = IsSome (registration_at b station rows) × AreEntries list.entries

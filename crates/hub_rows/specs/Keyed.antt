@@ -26,6 +26,10 @@ pair_key op name r = op r ∷ name r ∷ []
 abbrev pub numbered_key : {R : Type 0} → (R → List ℕ) → (R → List ℕ) → (R → ℕ) → R → List (List ℕ)
 numbered_key op station number r = op r ∷ station r ∷ (number r ∷ []) ∷ []
 
+-- the key of a row that its number tells apart from the others of its station
+abbrev pub number_key : {R : Type 0} → (R → ℕ) → R → List (List ℕ)
+number_key number r = (number r ∷ []) ∷ []
+
 -- a row at its place in the order, in place of one with its key
 abbrev pub put : {R : Type 0} → (R → R → Ordering) → R → List R → List R
 put cmp r [] = r ∷ []

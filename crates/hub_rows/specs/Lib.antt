@@ -9,6 +9,8 @@ pub mod Tags
 pub mod Grants
 pub mod Transactions
 pub mod Reservations
+pub mod Forgetting
+pub mod LastReading
 pub mod LocalLists
 pub mod WellFormed
 pub mod Uses

@@ -30,7 +30,9 @@ use Rattle.hub_rows.specs.Grants.{granted_in, granted_tag_in, grants_in, has_gra
 use Rattle.hub_rows.specs.Reservations.{reservations_in, reserved_until_in}
 use Rattle.hub_rows.specs.Rows.{Rows, registration_at}
 use Rattle.hub_rows.specs.Tags.{own_tag_in}
-use Rattle.hub_rows.specs.Transactions.{is_used_in, same_start_in, tx_in, has_open_in, open_txs_in, txs_from_in, readings_in, last_tx_in, last_reading_in}
+use Rattle.hub_rows.specs.Forgetting.{forgettable}
+use Rattle.hub_rows.specs.declared.forgettable.History.{History}
+use Rattle.hub_rows.specs.Transactions.{is_used_in, same_start_in, tx_in, txs_in, has_open_in, open_txs_in, txs_from_in, readings_in, last_tx_in, last_reading_in}
 use Rattle.hub_rows.specs.Uses.{uses_in}
 
 pub record Lookups : Type 0 where
@@ -73,6 +75,8 @@ pub record Lookups : Type 0 where
   -- of all transactions, or of those sent with a number
   pub readings : List ℕ → Option ℕ → List ReadingRow
   pub reservations : List ℕ → List ReservationRow
+  -- what of a station's history may go before a moment
+  pub forgettable : List ℕ → ℕ → History
   pub reports : List ℕ → List ReportRow
   pub uses : List UseRow
 
@@ -97,6 +101,10 @@ local_list_in b station rows = option_map (λ r. r.list) (found (λ r. r.op) b (
 -- the last reports of a station of operator b, among those of all
 abbrev pub reports_in : List ℕ → List ℕ → List ReportRow → List ReportRow
 reports_in b station rows = those (λ r. r.op) b (λ r. bytes_eq r.station station) rows
+
+-- what of the history of a station of operator b may go, among the rows of all
+abbrev pub forgettable_in : List ℕ → List ℕ → ℕ → Rows → History
+forgettable_in b station until rows = forgettable until (txs_in b station rows.transactions) (readings_in b station None rows.readings)
 
 -- over the rows of all operators, with the operator in each condition
 abbrev pub lookups_at : List ℕ → Rows → Lookups
@@ -123,13 +131,15 @@ lookups_at b rows = record {
   open_txs = open_txs_in b rows.transactions;
   readings = λ station n. readings_in b station n rows.readings;
   reservations = λ station. reservations_in b station rows.reservations;
+  forgettable = λ station until. forgettable_in b station until rows;
   reports = λ station. reports_in b station rows.reports;
   uses = uses_in b rows.uses;
 }
 
 -- ---- over the rows of one operator alone
 
--- Nothing here is shared with the look-ups among the rows of all operators.
+-- Of what is said of the rows of all operators nothing is shared here. What may go of a station's history is said of
+-- the rows of one station (`forgettable`).
 
 -- how a station is registered
 abbrev pub own_registration : StationRow → Registration
@@ -218,6 +228,7 @@ own_lookups a rows granted = record {
   open_txs = filter (λ r. is_none r.stop) rows.transactions;
   readings = λ station n. filter (own_reading station n) rows.readings;
   reservations = λ station. filter (λ r. bytes_eq r.station station) rows.reservations;
+  forgettable = λ station until. forgettable until (filter (λ r. bytes_eq r.station station) rows.transactions) (filter (λ r. bytes_eq r.station station) rows.readings);
   reports = λ station. filter (λ r. bytes_eq r.station station) rows.reports;
   uses = rows.uses;
 }

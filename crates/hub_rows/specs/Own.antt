@@ -7,7 +7,7 @@ use Rattle.hub_rows.specs.declared.change.Edit.{Edit}
 use Rattle.hub_rows.specs.declared.change.Edit.TheVariants.{Stations, Tags, Transactions, Holdings}
 use Rattle.hub_rows.specs.declared.change.StationEdit.TheVariants.{StationAdded, BootSeen, PolicySet, ConnectorSeen, ReportSeen}
 use Rattle.hub_rows.specs.declared.change.TagEdit.TheVariants.{TagPut, TagDropped, GrantPut, GrantDropped}
-use Rattle.hub_rows.specs.declared.change.TransactionEdit.TheVariants.{TxStarted, TxStopped, ReadingsAdded}
+use Rattle.hub_rows.specs.declared.change.TransactionEdit.TheVariants.{TxStarted, TxStopped, ReadingsAdded, Forgotten}
 use Rattle.hub_rows.specs.declared.change.HoldingEdit.TheVariants.{ReservationPut, ReservationDropped, ListSet}
 use Rattle.hub_rows.specs.declared.reading_row.Reading.{Reading}
 use Rattle.hub_rows.specs.declared.reading_row.ReadingRow.{ReadingRow}
@@ -15,6 +15,7 @@ use Rattle.hub_rows.specs.declared.reservation_row.ReservationRow.{ReservationRo
 use Rattle.hub_rows.specs.declared.station_row.StationRow.{StationRow}
 use Rattle.hub_rows.specs.declared.tx_row.TxOwnerRow.{TxOwnerRow}
 use Rattle.hub_rows.specs.declared.tx_row.TxRow.{TxRow}
+use Rattle.hub_rows.specs.Forgetting.{has_number}
 use Rattle.hub_rows.specs.Keyed.{put, put_all, by_key, own}
 use Rattle.hub_rows.specs.Rows.{Rows, station_rest, connector_rest, tag_rest, grant_rest, tx_rest, reading_rest, reservation_rest, list_rest, report_rest, tx_owner_rest}
 
@@ -55,6 +56,11 @@ own_edit a (Tags (GrantDropped key to)) rows = record rows { grants = filter (λ
 own_edit a (Transactions (TxStarted station number start owner)) rows = record rows { transactions = put (by_key tx_rest) (record { op = a; station = station; number = number; start = start; stop = None }) rows.transactions; reservations = filter (λ r. not (own_named station start.reservation r)) rows.reservations; tx_owners = own_with_owner a station number owner rows.tx_owners }
 own_edit a (Transactions (TxStopped station number stop first readings)) rows = record rows { transactions = map (λ (r : TxRow). if bytes_eq r.station station && r.number == number then record r { stop = Some stop } else r) rows.transactions; readings = put_all (by_key reading_rest) (own_readings a station first readings) rows.readings }
 own_edit a (Transactions (ReadingsAdded station first readings)) rows = record rows { readings = put_all (by_key reading_rest) (own_readings a station first readings) rows.readings }
+own_edit a (Transactions (Forgotten station gone)) rows = record rows {
+  transactions = filter (λ (r : TxRow). not (bytes_eq r.station station && has_number gone.transactions r.number)) rows.transactions;
+  readings = filter (λ (r : ReadingRow). not (bytes_eq r.station station && has_number gone.readings r.number)) rows.readings;
+  tx_owners = filter (λ (r : TxOwnerRow). not (bytes_eq r.station station && has_number gone.transactions r.number)) rows.tx_owners;
+}
 own_edit a (Holdings (ReservationPut station id reservation)) rows = record rows { reservations = put (by_key reservation_rest) (record { op = a; station = station; id = id; reservation = reservation }) rows.reservations }
 own_edit a (Holdings (ReservationDropped station id)) rows = record rows { reservations = filter (λ r. not (bytes_eq r.station station && r.id == id)) rows.reservations }
 own_edit a (Holdings (ListSet station list)) rows = record rows { local_lists = put (by_key list_rest) (record { op = a; station = station; list = list }) rows.local_lists }

@@ -1,6 +1,7 @@
 //! Changes of records.
 
 use crate::connector_row::ConnectorReport;
+use crate::forgettable::Forgettable;
 use crate::list_row::LocalList;
 use crate::reading_row::Reading;
 use crate::report_row::ReportedStatus;
@@ -111,6 +112,11 @@ pub enum TransactionEdit {
         station: Text,
         first: u32,
         readings: Listed<Reading>,
+    },
+    /// These rows of a station are gone, and the owners of these transactions' tags.
+    Forgotten {
+        station: Text,
+        rows: Forgettable,
     },
 }
 

@@ -3,6 +3,8 @@
 
 mod change;
 mod connector_row;
+mod forgettable;
+mod forgotten;
 mod grant_row;
 mod info;
 mod list_row;
@@ -20,13 +22,15 @@ mod use_row;
 
 pub use change::{Change, Edit, HoldingEdit, StationEdit, TagEdit, TransactionEdit};
 pub use connector_row::{ConnectorReport, ConnectorRow};
+pub use forgettable::{Forgettable, History, MAX_FORGOTTEN, reading_numbers};
+pub use forgotten::{goes_with, has_number, tx_goes};
 pub use grant_row::GrantRow;
 pub use info::{GrantedTag, Info};
 pub use list_row::{ListRow, LocalList, LocalTag};
 pub use named_row::{NamedRow, place_of_name, remove_row, row_of};
 pub use operators::{MAX_OPERATOR, are_operators, is_hosted, is_operator_name};
 pub use ordered::{Keyed, put_ready, put_row};
-pub use reading_row::{Reading, ReadingRow};
+pub use reading_row::{Reading, ReadingRow, is_sent_with};
 pub use report_row::{ReportRow, ReportedStatus};
 pub use reservation_row::{Reservation, ReservationId, ReservationRow};
 pub use station_row::{Boot, Registration, StationRow};

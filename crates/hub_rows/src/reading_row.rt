@@ -1,5 +1,6 @@
 //! The record of a meter reading.
 ghost use Rattle.std.specs.Prelude.{◌≡◌};
+ghost use Rattle.hub_rows.specs.Transactions.{is_sent_with};
 
 use crate::ordered::Keyed;
 use ocpp_types::{Location, Measurand, Phase, ReadingContext, Text, UnitOfMeasure, ValueFormat};
@@ -45,5 +46,16 @@ impl Keyed for ReadingRow {
             .cmp(&other.op)
             .then(self.station.cmp(&other.station))
             .then(self.number.cmp(&other.number))
+    }
+}
+
+/// Whether a reading was sent with that number of a transaction, or with any.
+pub fn is_sent_with(wanted: Option<u64>, transaction: Option<i32>) -> bool
+    ensures { result ≡ is_sent_with wanted transaction }
+{
+    match (wanted, transaction) {
+        (None, _) => true,
+        (Some(_), None) => false,
+        (Some(wanted), Some(transaction)) => transaction as i128 == wanted as i128,
     }
 }

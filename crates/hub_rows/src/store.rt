@@ -3,7 +3,7 @@ ghost use Rattle.std.specs.Prelude.{◌≡◌, Err, IfOk, OnOk, OnErr};
 ghost use Rattle.hub_rows.specs.Rows.{registration_at};
 ghost use Rattle.hub_rows.specs.WellFormed.{WellFormedRows};
 ghost use Rattle.hub_rows.specs.Tags.{own_tag_in};
-ghost use Rattle.hub_rows.specs.Lookups.{stations_in, tags_in, connectors_in, local_list_in, reports_in};
+ghost use Rattle.hub_rows.specs.Lookups.{stations_in, tags_in, connectors_in, local_list_in, reports_in, forgettable_in};
 ghost use Rattle.hub_rows.specs.Transactions.{is_used_in, same_start_in, tx_in, has_open_in, open_txs_in, txs_from_in, readings_in, last_tx_in, last_reading_in};
 ghost use Rattle.hub_rows.specs.Changes.{edit, EditFits};
 ghost use Rattle.hub_rows.specs.Grants.{granted_in, granted_tag_in, grants_in, has_grant_in};
@@ -15,6 +15,7 @@ ghost use Rattle.hub_rows.specs.declared.store.StoreFault.TheVariants as store_f
 
 use crate::change::Change;
 use crate::connector_row::ConnectorRow;
+use crate::forgettable::History;
 use crate::grant_row::GrantRow;
 use crate::info::{GrantedTag, Info};
 use crate::list_row::LocalList;
@@ -210,6 +211,13 @@ pub trait Store {
         ensures reads { OnlyReads view self.old self.new result }
         ensures found { (view self.new).clean
             → IfOk result (λ r. r ≡ open_txs_in op.now (view self.old).rows.transactions) };
+
+    /// What of a station's history may go before a moment: its first readings and transactions that may, at most
+    /// `MAX_FORGOTTEN`.
+    fn forgettable(&mut self, op: &str, station: &str, until: Moment) -> Result<History, StoreFault>
+        ensures reads { OnlyReads view self.old self.new result }
+        ensures found { (view self.new).clean
+            → IfOk result (λ r. r ≡ forgettable_in op.now station.now until (view self.old).rows) };
 
     /// The readings of a station in the order of their numbers: all, or those that were sent with
     /// the number of a transaction.

@@ -9,7 +9,7 @@ use Rattle.operator_cmds.specs.Command.{command}
 use Rattle.ocpp_types.specs.Policy.{policies}
 use Rattle.ocpp_types.specs.declared.policy.Policy.{Policy}
 use Rattle.serde_json.specs.Read.{read}
-use Rattle.lines.specs.Words.{first_word, only_word, number_of, transaction_number, meter_of, parent_of, is_expiry, expiry_of, ◌>>=◌}
+use Rattle.lines.specs.Words.{first_word, only_word, number_of, transaction_number, meter_of, moment_at, parent_of, is_expiry, expiry_of, ◌>>=◌}
 
 -- `connect ST`
 abbrev pub connect_form : List ℕ → Option What
@@ -77,6 +77,13 @@ abbrev pub tag_drop_form : List ℕ → Option What
 tag_drop_form rest = do
   tag ← only_word rest
   Some (what.Admin (admin.TagDrop tag))
+
+-- `forget ST UNTIL`
+abbrev pub forget_form : List ℕ → Option What
+forget_form rest = do
+  station ← first_word rest
+  until ← moment_at station.1
+  Some (what.Forget station.0 until)
 
 -- `grant TAG OP2 UNTIL|-`
 abbrev pub grant_form : List ℕ → Option What
@@ -174,9 +181,16 @@ reports_form rest = do
   station ← only_word rest
   Some (what.List (listing.Reports station))
 
+-- `forgettable ST UNTIL`
+abbrev pub forgettable_form : List ℕ → Option What
+forgettable_form rest = do
+  station ← first_word rest
+  until ← moment_at station.1
+  Some (what.List (listing.Forgettable station.0 until))
+
 -- the listings of a station
 abbrev pub station_list_form : List ℕ → Option What
-station_list_form = by_word ((codes "connectors", connectors_form) ∷ (codes "transactions", transactions_form) ∷ (codes "readings", readings_form) ∷ (codes "reservations", reservations_form) ∷ (codes "locallist", local_list_form) ∷ (codes "reports", reports_form) ∷ [])
+station_list_form = by_word ((codes "connectors", connectors_form) ∷ (codes "transactions", transactions_form) ∷ (codes "readings", readings_form) ∷ (codes "reservations", reservations_form) ∷ (codes "locallist", local_list_form) ∷ (codes "reports", reports_form) ∷ (codes "forgettable", forgettable_form) ∷ [])
 
 -- the listings of an operator
 abbrev pub plain_list : List ℕ → Option What
@@ -192,4 +206,4 @@ list_form rest = list_by_word (plain_list rest) rest
 
 -- the forms after `MOMENT OP`
 unfoldable pub what_of : List ℕ → Option What
-what_of = by_word ((codes "connect", connect_form) ∷ (codes "disconnect", disconnect_form) ∷ (codes "frame", frame_form) ∷ (codes "call", call_form) ∷ (codes "station", station_form) ∷ (codes "tag", tag_form) ∷ (codes "transaction", transaction_form) ∷ (codes "grant", grant_form) ∷ (codes "revoke", revoke_form) ∷ (codes "list", list_form) ∷ [])
+what_of = by_word ((codes "connect", connect_form) ∷ (codes "disconnect", disconnect_form) ∷ (codes "frame", frame_form) ∷ (codes "call", call_form) ∷ (codes "station", station_form) ∷ (codes "tag", tag_form) ∷ (codes "transaction", transaction_form) ∷ (codes "forget", forget_form) ∷ (codes "grant", grant_form) ∷ (codes "revoke", revoke_form) ∷ (codes "list", list_form) ∷ [])

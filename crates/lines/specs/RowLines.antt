@@ -170,6 +170,10 @@ report_line op r = op ++ (codes " row report " ++ (r.station ++ (codes " " ++ (k
 abbrev pub connection_line : List ℕ → List ℕ → ℕ → List ℕ
 connection_line op station calls = op ++ (codes " row connection " ++ (station ++ (codes " " ++ decimal calls)))
 
+-- `OP row forgotten ST TRANSACTIONS READINGS`
+abbrev pub forgotten_line : List ℕ → List ℕ → ℕ → ℕ → List ℕ
+forgotten_line op station transactions readings = op ++ (codes " row forgotten " ++ (station ++ (codes " " ++ (decimal transactions ++ (codes " " ++ decimal readings)))))
+
 abbrev pub row_line : List ℕ → Row → List ℕ
 row_line op (row.Station r) = station_line op r
 row_line op (row.Tag r) = tag_line op r
@@ -184,3 +188,4 @@ row_line op (row.LocalList station version) = local_list_line op station version
 row_line op (row.LocalTag station entry) = local_tag_line op station entry
 row_line op (row.Report r) = report_line op r
 row_line op (row.Connection station calls) = connection_line op station calls
+row_line op (row.Forgotten station transactions readings) = forgotten_line op station transactions readings

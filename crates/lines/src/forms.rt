@@ -3,11 +3,12 @@ ghost use Rattle.std.specs.Prelude.{◌≡◌, IfOk, option_map};
 ghost use Rattle.serde_json.specs.Read.{read};
 ghost use Rattle.serde_json.specs.View.{view};
 ghost use Rattle.lines.specs.Words.{only_word, parent_of};
-ghost use Rattle.lines.specs.Forms.{what_of, connect_form, disconnect_form, frame_form, call_form, station_form, station_add_form, station_policy_form, policy_words, tag_form, tag_put_form, tag_drop_form, transaction_form, transaction_close_form, grant_form, revoke_form, mark_of};
+ghost use Rattle.lines.specs.Forms.{what_of, connect_form, disconnect_form, frame_form, call_form, station_form, station_add_form, station_policy_form, policy_words, tag_form, tag_put_form, tag_drop_form, transaction_form, transaction_close_form, forget_form, grant_form, revoke_form, mark_of};
 
 use crate::list_forms::list;
 use crate::words::{
-    expiry_of, first_word, is_expiry, meter_of, name_of, number_of, only_word, transaction_number,
+    expiry_of, first_word, is_expiry, meter_of, moment_at, name_of, number_of, only_word,
+    transaction_number,
 };
 use hub_events::{Admin, What};
 use hub_rows::Tag;
@@ -34,6 +35,7 @@ pub fn read_what(alloc: Global, text: &str) -> Mem<Option<What>>
         "station" => station(alloc, rest),
         "tag" => tag(alloc, rest),
         "transaction" => transaction(alloc, rest),
+        "forget" => forget(alloc, rest),
         "grant" => grant(alloc, rest),
         "revoke" => revoke(alloc, rest),
         "list" => list(alloc, rest),
@@ -246,6 +248,19 @@ fn transaction_close(alloc: Global, rest: &str) -> Mem<Option<What>>
         number,
         meter_stop,
     })))
+}
+
+fn forget(alloc: Global, rest: &str) -> Mem<Option<What>>
+    ensures { IfOk result (λ w. w ≡ forget_form rest.now) }
+{
+    let Some((station, until)) = first_word(rest) else {
+        return Ok(None);
+    };
+    let Some(until) = moment_at(until) else {
+        return Ok(None);
+    };
+    let station = Text::copy_of(alloc, station)?;
+    Ok(Some(What::Forget { station, until }))
 }
 
 fn grant(alloc: Global, rest: &str) -> Mem<Option<What>>

@@ -1,8 +1,8 @@
 //! The forms of listings (docs/RULES.md, Lines).
 ghost use Rattle.std.specs.Prelude.{◌≡◌, IfOk};
-ghost use Rattle.lines.specs.Forms.{list_form, plain_list, station_list_form, connectors_form, transactions_form, later_transactions_form, readings_form, numbered_readings_form, reservations_form, local_list_form, reports_form};
+ghost use Rattle.lines.specs.Forms.{list_form, plain_list, station_list_form, connectors_form, transactions_form, later_transactions_form, readings_form, numbered_readings_form, reservations_form, local_list_form, reports_form, forgettable_form};
 
-use crate::words::{first_word, name_of, number_of, transaction_number};
+use crate::words::{first_word, moment_at, name_of, number_of, transaction_number};
 use hub_events::{Listing, What};
 use ocpp_types::{Mem, Text};
 use std::alloc::Global;
@@ -46,6 +46,7 @@ fn station_list_form(alloc: Global, rest: &str) -> Mem<Option<What>>
         "reservations" => reservations(alloc, rest),
         "locallist" => local_list(alloc, rest),
         "reports" => reports(alloc, rest),
+        "forgettable" => forgettable(alloc, rest),
         _ => Ok(None),
     }
 }
@@ -137,4 +138,17 @@ fn reports(alloc: Global, rest: &str) -> Mem<Option<What>>
         return Ok(None);
     };
     Ok(Some(What::List(Listing::Reports { station })))
+}
+
+fn forgettable(alloc: Global, rest: &str) -> Mem<Option<What>>
+    ensures { IfOk result (λ w. w ≡ forgettable_form rest.now) }
+{
+    let Some((station, until)) = first_word(rest) else {
+        return Ok(None);
+    };
+    let Some(until) = moment_at(until) else {
+        return Ok(None);
+    };
+    let station = Text::copy_of(alloc, station)?;
+    Ok(Some(What::List(Listing::Forgettable { station, until })))
 }

@@ -50,6 +50,10 @@ fn is_order(what: &What) -> bool
 {
     match what {
         What::Connect { .. } | What::Disconnect { .. } | What::Frame { .. } => false,
-        What::Do { .. } | What::Admin(_) | What::List(_) | What::Connections => true,
+        What::Do { .. }
+        | What::Admin(_)
+        | What::List(_)
+        | What::Connections
+        | What::Forget { .. } => true,
     }
 }

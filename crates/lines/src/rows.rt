@@ -41,6 +41,11 @@ pub fn print_row(alloc: Global, op: &Text, row: &Row) -> Mem<String>
         Row::Connection { station, calls } => {
             Ok(format!(in alloc; "{op} row connection {station} {calls}")?)
         }
+        Row::Forgotten {
+            station,
+            transactions,
+            readings,
+        } => Ok(format!(in alloc; "{op} row forgotten {station} {transactions} {readings}")?),
     }
 }
 

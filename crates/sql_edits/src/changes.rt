@@ -7,6 +7,7 @@ ghost use Rattle.hub_rows.specs.declared.change.Edit.TheVariants.{Stations, Tags
 ghost use Rattle.sql_edits.specs.Ready.{IsReady, MakesFitting};
 
 use crate::connectors::put_connector;
+use crate::forget::forget;
 use crate::grants::{drop_grant, put_grant};
 use crate::local_lists::set_list;
 use crate::readings::add_readings;
@@ -75,7 +76,7 @@ fn edit_tags<S: Alter>(
     }
 }
 
-/// Makes an edit of a transaction or of readings.
+/// Makes an edit of transactions, or of readings.
 fn edit_transactions<S: Alter>(
     tx: &mut Transaction<'_, S>,
     op: &str,
@@ -110,6 +111,7 @@ fn edit_transactions<S: Alter>(
             first,
             readings,
         } => add_readings(tx, op, station.as_str(), *first, readings.as_slice()),
+        TransactionEdit::Forgotten { station, rows } => forget(tx, op, station.as_str(), rows),
     }
 }
 

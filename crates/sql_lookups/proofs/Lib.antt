@@ -1,2 +1,4 @@
 pub mod Asking
 pub mod GrantedLaws
+pub mod PageLaws
+pub mod ForgetLaws

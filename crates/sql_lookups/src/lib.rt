@@ -3,6 +3,7 @@
 
 mod bounds;
 pub mod connectors;
+pub mod forget;
 pub mod granted;
 pub mod grants;
 pub mod local_lists;

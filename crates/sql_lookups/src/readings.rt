@@ -3,11 +3,12 @@ ghost use Rattle.std.specs.Prelude.{◌≡◌, ◌&&◌, ◌<◌, ◌^◌, None,
 ghost use Rattle.std.specs.Str.{bytes_eq};
 ghost use Rattle.sqlite.specs.Held.{state};
 ghost use Rattle.hub_rows.specs.Transactions.{is_reading, is_sent_with, readings_in, last_reading_in};
-ghost use Rattle.sql_rows.specs.Kept.{IsServing, Shows, ShowsLast};
+ghost use Rattle.sql_rows.specs.Kept.{IsPage, IsServing, Shows, ShowsLast, ShowsPage};
 ghost use Rattle.sql_lookups.specs.Asks.{Asks};
+ghost use Rattle.sql_lookups.specs.Pages.{is_between};
 ghost use Rattle.sql_rows.specs.TypedTables.{readings};
 
-use hub_rows::{ReadingRow, StoreFault};
+use hub_rows::{ReadingRow, StoreFault, is_sent_with};
 use ocpp_types::Listed;
 use sql_rows::{listed, only_number};
 use sqlite::{Alter, Connection, Error, Row, params};
@@ -40,6 +41,34 @@ fn find_last<S: Alter>(conn: &mut Connection<S>, op: &str, station: &str) -> Res
     conn.query_all(sql_tables::readings::FIND_LAST, params![op, station])
 }
 
+fn page<S: Alter>(
+    conn: &mut Connection<S>,
+    op: &str,
+    station: &str,
+    first: u32,
+    last: u32,
+) -> Result<Vec<Row>, Error>
+    ensures shows { IsServing (state S.Store conn.old) → ShowsPage (λ v. v.items) readings (λ r. r.number) (is_between (λ r. r.op) (λ r. r.station) (λ r. r.number) op.now station.now first last) (state S.Store conn.old) (state S.Store conn.new) result }
+{
+    conn.query_all(
+        sql_tables::readings::PAGE,
+        params![op, station, first, last],
+    )
+}
+
+/// The first readings of a station whose numbers lie in a range: all up to the last one of them.
+pub(crate) fn readings_page<S: Alter>(
+    conn: &mut Connection<S>,
+    op: &str,
+    station: &str,
+    first: u32,
+    last: u32,
+) -> Result<Listed<ReadingRow>, StoreFault>
+    ensures asks { Asks (state S.Store conn.old) (state S.Store conn.new) result (λ rows page. IsPage (λ r. r.number) (is_between (λ r. r.op) (λ r. r.station) (λ r. r.number) op.now station.now first last) rows.readings page) }
+{
+    listed(page(conn, op, station, first, last))
+}
+
 /// All readings of a station.
 fn all_readings<S: Alter>(
     conn: &mut Connection<S>,
@@ -64,15 +93,6 @@ fn tx_readings<S: Alter>(
     listed(list_of_tx(conn, op, station, transaction))
 }
 
-fn is_sent_with(wanted: u64, transaction: Option<i32>) -> bool
-    ensures { result ≡ is_sent_with (Some wanted) transaction }
-{
-    match transaction {
-        None => false,
-        Some(transaction) => i128::from(transaction) == i128::from(wanted),
-    }
-}
-
 /// Those of some readings that were sent with that number.
 fn sent_with(
     alloc: Global,
@@ -84,7 +104,7 @@ fn sent_with(
     let sent: Vec<ReadingRow> = rows
         .into_vec()
         .into_iter()
-        .filter(|row| is_sent_with(wanted, row.reading.transaction))
+        .filter(|row| is_sent_with(Some(wanted), row.reading.transaction))
         .collect(alloc)?;
     Ok(Listed::from(sent))
 }

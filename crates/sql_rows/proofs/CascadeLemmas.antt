@@ -29,7 +29,7 @@ use Rattle.sqlite_rules.proofs.RuleLemmas.{keeps_at}
 use Rattle.hub_rows.specs.declared.tag_row.TagRow.{TagRow}
 use Rattle.hub_rows.specs.declared.grant_row.GrantRow.{GrantRow}
 use Rattle.sql_tables.specs.Tables.{of_parent, hub_tag, hub_grant, hub_schema}
-use Rattle.sql_tables.specs.Forms.{drop_query}
+use Rattle.sql_tables.specs.Forms.{where_is, drop_query}
 use Rattle.sql_rows.specs.TypedTable.{text_part, typed, AreTyped}
 use Rattle.sql_rows.specs.TypedTables.{tags, grants, hub_good}
 use Rattle.sql_rows.proofs.TableLemmas.{table_without, left_from, left_has, has_its_id, tied_by}
@@ -146,7 +146,7 @@ same_tag_back i j t g h =
     let both = agree_keys (text_part ∷ text_part ∷ []) 1 1 (Int j ∷ grants.row g) (Int i ∷ tags.row t) (g.op ∷ g.key ∷ []) (t.op ∷ t.key ∷ []) refl refl refl refl h in
     (cc, cc)
 
-module _ (op key : List ℕ) (db mid final : Trees) (kept : AreTyped hub_schema hub_good db) (rows : List Row) (answer : IsAnswer (drop_query 6 (1 ∷ 2 ∷ [])) (overlay db []) (Text op ∷ Text key ∷ []) rows)
+module _ (op key : List ℕ) (db mid final : Trees) (kept : AreTyped hub_schema hub_good db) (rows : List Row) (answer : IsAnswer (drop_query 6 (where_is 0 (1 ∷ 2 ∷ []))) (overlay db []) (Text op ∷ Text key ∷ []) rows)
     (c : Cascades db (edit_of db hub_tag (ids_of rows) Given 0 []) mid final) where
   abbrev p : TagRow → Bool
   p t = bytes_eq t.op op && bytes_eq t.key key
@@ -155,7 +155,7 @@ module _ (op key : List ℕ) (db mid final : Trees) (kept : AreTyped hub_schema 
   q g = bytes_eq g.op op && bytes_eq g.key key
 
   tags_mid : DropsIn tags db mid p
-  tags_mid = (drops_means hub_schema hub_good 3 tags on_tags (1 ∷ 2 ∷ []) (Text op ∷ Text key ∷ []) p (of_tag op key) db kept rows mid answer c.applied).inside
+  tags_mid = (drops_means hub_schema hub_good 3 tags on_tags (where_is 0 (1 ∷ 2 ∷ [])) (Text op ∷ Text key ∷ []) p (of_tag op key) db kept rows mid answer c.applied).inside
 
   same6 : final 6 ≡ mid 6
   same6 = all_has (λ (t : Table). (t.tree ≡ 8 → ⊥) → final t.tree ≡ mid t.tree) hub_schema.tables hub_tag c.others on_tags.listed (λ e. cc)
@@ -193,7 +193,7 @@ module _ (op key : List ℕ) (db mid final : Trees) (kept : AreTyped hub_schema 
       let m = some_has (is_child_of (deletes_grants (taken_by db (edit_of db hub_tag (ids_of rows) Given 0 []))) r.0) (pairs (taken_by db (edit_of db hub_tag (ids_of rows) Given 0 [])) []) r.2 in
       let agreed : agree plain (1 ∷ 2 ∷ []) r.0 (1 ∷ 2 ∷ []) m.0.0 ≡ true = (and_parts (loses plain (1 ∷ 2 ∷ []) m.0) (agree plain (1 ∷ 2 ∷ []) r.0 (1 ∷ 2 ∷ []) m.0.0) m.2).1 in
       let j = has_mapped (row_at (db 6)) (ids_of rows) m.0.0 (pairs_from _ m.0 m.1) in
-      let t = gone_from hub_schema hub_good 3 tags on_tags (1 ∷ 2 ∷ []) (Text op ∷ Text key ∷ []) p (of_tag op key) db kept rows answer j.0 j.1 in
+      let t = gone_from hub_schema hub_good 3 tags on_tags (where_is 0 (1 ∷ 2 ∷ [])) (Text op ∷ Text key ∷ []) p (of_tag op key) db kept rows answer j.0 j.1 in
       let old : m.0.0 ≡ t.0 = j.2 ∙ row_at_is (db 6) j.0 t.0 (typed_table.table_in hub_schema hub_good 3 tags on_tags db kept) t.1 (has_its_id t.0 j.0 t.3) in
       let u = typed_table.row_in hub_schema hub_good 4 grants on_grants db kept r.0 there in
       let v = typed_table.row_in hub_schema hub_good 3 tags on_tags db kept t.0 t.1 in

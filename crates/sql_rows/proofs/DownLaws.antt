@@ -1,5 +1,5 @@
 -- What a SELECT of the last row says of the numbers of typed rows.
-use Rattle.std.proofs.Common.{◌≡◌, ℕ, ℤ, ◌≤◌, pos, List, [], ◌∷◌, map, filter, max, Bool, true, refl, sym, ap, ◌∙◌, subst, subst₂, inl, inr, arith, Ordering, Less, Equal, Greater, int_cmp}
+use Rattle.std.proofs.Common.{◌≡◌, ℕ, ◌≤◌, pos, List, [], ◌∷◌, map, filter, max, Bool, true, refl, sym, ap, ◌∙◌, subst, subst₂, inl, inr, arith, Ordering, Less, Equal, Greater, int_cmp}
 use Rattle.std.specs.List.{list_all}
 use Rattle.sqlite_value.specs.declared.value.Value.TheVariants.{Int}
 use Rattle.sqlite_value.specs.Order.{Row, column, value_cmp}
@@ -7,7 +7,7 @@ use Rattle.std.proofs.lemmas.Bool.Decides.{nat_tests}
 use Rattle.sqlite_value.proofs.OrderLemmas.{value_cmp-Int}
 use Rattle.sqlite_trees.specs.Tree.{Trees}
 use Rattle.sqlite_schema.specs.Rules.{Obeys}
-use Rattle.sqlite_sql.specs.Term.{Term, holds, eval_all}
+use Rattle.sqlite_sql.specs.Term.{Term, holds}
 use Rattle.sqlite_sql.specs.Query.{IsAnswer}
 use Rattle.sqlite_sql.specs.Program.{overlay}
 use Rattle.sqlite_rules.specs.Lists.{Has}
@@ -20,10 +20,10 @@ use Rattle.sql_rows.specs.TypedTable.{TypedTable, typed, rows_in, AreTyped}
 use Rattle.sql_rows.specs.TypedTables.{hub_good}
 use Rattle.sql_rows.proofs.TypedTableLemmas as typed_table
 use Rattle.sql_rows.proofs.TypedTableLemmas.{IsTypedTable}
-use Rattle.sql_rows.proofs.ReadLaws.{IsTest, IsWhole, passes}
+use Rattle.sql_rows.proofs.ReadLaws.{IsNumbered, IsTest, IsWhole, based, number_of, passes, read_is}
 use Rattle.sql_rows.proofs.LastLaws.{last_shown, greatest_is}
 
-not_above : (m n : ℕ) → (int_cmp (pos m) (pos n) ≡ Less → ⊥) → n ≤ m
+pub not_above : (m n : ℕ) → (int_cmp (pos m) (pos n) ≡ Less → ⊥) → n ≤ m
 not_above m n h = go (int_cmp (pos m) (pos n)) refl
   where
     go : (o : Ordering) → int_cmp (pos m) (pos n) ≡ o → n ≤ m
@@ -31,28 +31,18 @@ not_above m n h = go (int_cmp (pos m) (pos n)) refl
     go Equal e = grind (arith, nat_tests, e)
     go Greater e = grind (arith, nat_tests, e)
 
-none_left : {X : Type 0} (xs : List X) → ((x : X) → Has xs x → ⊥) → xs ≡ []
+pub none_left : {X : Type 0} (xs : List X) → ((x : X) → Has xs x → ⊥) → xs ≡ []
 none_left [] h = refl
 none_left (x ∷ xs) h = absurd (h x (inl refl))
 
 module _ {T : Type 0} (at : ℕ) (s : TypedTable T) (is : IsTypedTable hub_schema hub_good at s) (wanted project : List Term) (whole : IsWhole s project) (params : Row) (p : T → Bool) (test : IsTest s wanted params p)
-    (place : ℕ) (number : T → ℕ) (numbered : (id : ℤ) (t : T) → column (Int id ∷ s.row t) place ≡ Int (pos (number t)))
+    (place : ℕ) (number : T → ℕ) (numbered : IsNumbered s number place)
     (db : Trees) (kept : AreTyped hub_schema hub_good db) (obeys : Obeys hub_schema db) (rows : List Row) (answer : IsAnswer (last_query s.table.tree wanted project place) (overlay db []) params rows) where
   passing : (r : Row) → Has (db s.table.tree) r → list_all (holds (params ∷ r ∷ [])) wanted ≡ p (typed s r)
   passing r h = passes hub_schema hub_good at s is wanted params p test db kept r h
 
-  number_of : (r : Row) → Has (db s.table.tree) r → column r place ≡ Int (pos (number (typed s r)))
-  number_of r h =
-      let u = typed_table.row_in hub_schema hub_good at s is db kept r h in
-      ap (λ (x : Row). column x place) u.2 ∙ numbered u.0 u.1 ∙ ap (λ t. Int (pos (number t))) (sym (typed_table.typed_is hub_schema hub_good at s is db kept r h))
-
-  read_is : (r : Row) → Has (db s.table.tree) r → s.read (eval_all project (params ∷ r ∷ [])) ≡ typed s r
-  read_is r h =
-      let u = typed_table.row_in hub_schema hub_good at s is db kept r h in
-      ap (λ (z : Row). s.read (eval_all project (params ∷ z ∷ []))) u.2 ∙ ap s.read (whole u.1 (Int u.0) params) ∙ is.round u.1 ∙ sym (typed_table.typed_is hub_schema hub_good at s is db kept r h)
-
-  based : (r : Row) → Has (db s.table.tree) r → Has (overlay db [] s.table.tree) r
-  based r h = subst (λ l. Has l r) (sym (is.base db)) h
+  numbered_is : (r : Row) → Has (db s.table.tree) r → column r place ≡ Int (pos (number (typed s r)))
+  numbered_is = number_of hub_schema hub_good at s is wanted params p test db kept place number numbered
 
   pub last_is : greatest (map number (map s.read rows)) ≡ greatest (map number (filter p (rows_in s db)))
   last_is = elim (last_shown s.table.tree wanted project place (overlay db []) params rows answer) [
@@ -60,12 +50,12 @@ module _ {T : Type 0} (at : ℕ) (s : TypedTable T) (is : IsTypedTable hub_schem
         let empty : filter p (rows_in s db) ≡ [] = none_left (filter p (rows_in s db)) (λ t h.
         let f = has_filtered p (rows_in s db) t h in
         let r = typed_table.rows_from hub_schema hub_good at s is db kept obeys t f.0 in
-        none.1 r.0 (based r.0 r.1) (passing r.0 r.1 ∙ subst (λ u. p u ≡ true) r.2 f.1)) in
+        none.1 r.0 (based hub_schema hub_good at s is wanted params p test db kept r.0 r.1) (passing r.0 r.1 ∙ subst (λ u. p u ≡ true) r.2 f.1)) in
         ap (λ l. greatest (map number (map s.read l))) none.0 ∙ ap (λ l. greatest (map number l)) (sym empty)
     | inr one ↦
         let r = one.0 in
         let there : Has (db s.table.tree) r = subst (λ l. Has l r) (is.base db) one.1 in
-        let left : greatest (map number (map s.read rows)) ≡ number (typed s r) = ap (λ l. greatest (map number (map s.read l))) one.3 ∙ ap (λ t. max (number t) 0) (read_is r there) ∙ omega arith in
+        let left : greatest (map number (map s.read rows)) ≡ number (typed s r) = ap (λ l. greatest (map number (map s.read l))) one.3 ∙ ap (λ t. max (number t) 0) (read_is hub_schema hub_good at s is wanted params p test db kept project whole r there) ∙ omega arith in
         left ∙ sym (greatest_is (map number (filter p (rows_in s db))) (number (typed s r))
         (mapped_has number (filter p (rows_in s db)) (typed s r) (has_kept p (rows_in s db) (typed s r) (typed_table.rows_have hub_schema hub_good at s is db kept obeys r there) (sym (passing r there) ∙ one.2)))
         (λ m h.
@@ -73,7 +63,7 @@ module _ {T : Type 0} (at : ℕ) (s : TypedTable T) (is : IsTypedTable hub_schem
         let f = has_filtered p (rows_in s db) t.0 t.1 in
         let u = typed_table.rows_from hub_schema hub_good at s is db kept obeys t.0 f.0 in
         let high : number (typed s u.0) ≤ number (typed s r) = not_above (number (typed s r)) (number (typed s u.0)) (λ low.
-        one.4 u.0 (based u.0 u.1) (passing u.0 u.1 ∙ subst (λ w. p w ≡ true) u.2 f.1)
-        (subst₂ (λ a b. value_cmp a b ≡ Less) (sym (number_of r there)) (sym (number_of u.0 u.1)) (value_cmp-Int (pos (number (typed s r))) (pos (number (typed s u.0))) ∙ low))) in
+        one.4 u.0 (based hub_schema hub_good at s is wanted params p test db kept u.0 u.1) (passing u.0 u.1 ∙ subst (λ w. p w ≡ true) u.2 f.1)
+        (subst₂ (λ a b. value_cmp a b ≡ Less) (sym (numbered_is r there)) (sym (numbered_is u.0 u.1)) (value_cmp-Int (pos (number (typed s r))) (pos (number (typed s u.0))) ∙ low))) in
         subst (λ k. k ≤ number (typed s r)) (sym (t.2 ∙ ap number u.2)) high))
   ]

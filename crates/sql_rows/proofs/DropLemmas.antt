@@ -6,7 +6,7 @@ use Rattle.std.proofs.lemmas.Bool.{cases_Bool, false_from_ne_true, not-true}
 use Rattle.sqlite_value.specs.declared.value.Value.TheVariants.{Null, Int}
 use Rattle.sqlite_value.specs.Order.{Row}
 use Rattle.sqlite_trees.specs.Tree.{Trees, rowid, IsTable}
-use Rattle.sqlite_sql.specs.Term.{col}
+use Rattle.sqlite_sql.specs.Term.{Term, col}
 use Rattle.sqlite_sql.specs.Query.{IsAnswer}
 use Rattle.sqlite_sql.specs.Program.{overlay}
 use Rattle.sqlite_schema.specs.declared.schema.Keys.TheVariants.{Enforced}
@@ -29,7 +29,7 @@ use Rattle.sql_rows.specs.TypedTable.{TypedTable, typed, cmp, rows_in, AreTyped,
 use Rattle.hub_rows.proofs.ListLaws.{by_key_total}
 use Rattle.sql_rows.proofs.MemberLaws.{same_elements, is_arranged, sorted_filter}
 use Rattle.sql_rows.proofs.QueryLemmas as query
-use Rattle.sql_tables.specs.Forms.{where_is, drop_query, drop_command}
+use Rattle.sql_tables.specs.Forms.{drop_query, drop_command}
 use Rattle.sql_rows.proofs.TableLemmas.{table_without, left_from, left_has, has_its_id, tied_by}
 use Rattle.sql_rows.proofs.TypedTableLemmas as typed_table
 use Rattle.sql_rows.proofs.TypedTableLemmas.{IsTypedTable}
@@ -77,21 +77,21 @@ module _ {T : Type 0} (schema : Schema) (good : ℕ → Row → Type 0) (at : �
             subst (λ (rows : List Row). IsTable rows × AllByRecursion (good u.tree) rows) (sym same) (all_has _ schema.tables u before listed)
       ])
 
-  module _ (columns : List ℕ) (params : Row) (p : T → Bool) (test : IsTest s (where_is 0 columns) params p) where
+  module _ (wanted : List Term) (params : Row) (p : T → Bool) (test : IsTest s wanted params p) where
     id_of : (db : Trees) (kept : AreTyped schema good db) (x : Row) → Has (db tree) x → rowid x ≡ Int (id_in (rowid x))
     id_of db kept x h = let u = typed_table.row_in schema good at s is db kept x h in rw u.2 refl
 
     -- the rowids are those of rows that pass
-    pub gone_from : (db : Trees) (kept : AreTyped schema good db) (rows : List Row) → IsAnswer (drop_query tree columns) (overlay db []) params rows → (j : ℤ) → Has (ids_of rows) j
+    pub gone_from : (db : Trees) (kept : AreTyped schema good db) (rows : List Row) → IsAnswer (drop_query tree wanted) (overlay db []) params rows → (j : ℤ) → Has (ids_of rows) j
         → (r : Row) × Has (db tree) r × (p (typed s r) ≡ true) × (rowid r ≡ Int j)
     gone_from db kept rows answer j gone =
         let y = has_mapped (λ (z : Row). id_in (rowid z)) rows j gone in
-        let r = query.rows_from (where_is 0 columns) (col 1 0 ∷ []) [] (overlay db []) tree params rows answer y.0 y.1 in
+        let r = query.rows_from wanted (col 1 0 ∷ []) [] (overlay db []) tree params rows answer y.0 y.1 in
         let there = subst (λ l. Has l r.0) (is.base db) r.1 in
         let j_is : j ≡ id_in (rowid r.0) = y.2 ∙ ap (λ (z : Row). id_in (rowid z)) r.3 in
-        (r.0, there, sym (passes schema good at s is (where_is 0 columns) params p test db kept r.0 there) ∙ r.2, id_of db kept r.0 there ∙ ap Int (sym j_is))
+        (r.0, there, sym (passes schema good at s is wanted params p test db kept r.0 there) ∙ r.2, id_of db kept r.0 there ∙ ap Int (sym j_is))
 
-    pub drops_means : (db : Trees) (kept : AreTyped schema good db) (rows : List Row) (next : Trees) → IsAnswer (drop_query tree columns) (overlay db []) params rows
+    pub drops_means : (db : Trees) (kept : AreTyped schema good db) (rows : List Row) (next : Trees) → IsAnswer (drop_query tree wanted) (overlay db []) params rows
         → Applies schema Enforced db (edit_of db s.table (ids_of rows) Given 0 []) next → Drops schema s db next p
     drops_means db kept rows next answer applied =
         record {
@@ -100,7 +100,7 @@ module _ {T : Type 0} (schema : Schema) (good : ℕ → Row → Type 0) (at : �
                 let old = left_from (ids_of rows) (db tree) x (subst (λ l. Has l x) applied.rows h) in (
                   old.0,
                   false_from_ne_true _ (λ holds_it.
-                      let told = query.rows_have (where_is 0 columns) (col 1 0 ∷ []) [] (overlay db []) tree params rows answer x (subst (λ l. Has l x) (sym (is.base db)) old.0) (passes schema good at s is (where_is 0 columns) params p test db kept x old.0 ∙ holds_it) in
+                      let told = query.rows_have wanted (col 1 0 ∷ []) [] (overlay db []) tree params rows answer x (subst (λ l. Has l x) (sym (is.base db)) old.0) (passes schema good at s is wanted params p test db kept x old.0 ∙ holds_it) in
                       let gone : Has (ids_of rows) (id_in (rowid x)) = mapped_has (λ (y : Row). id_in (rowid y)) rows (rowid x ∷ []) told in
                       true≢false (sym (has_its_id x (id_in (rowid x)) (id_of db kept x old.0)) ∙ old.1 (id_in (rowid x)) gone)),
                 );
@@ -115,10 +115,10 @@ module _ {T : Type 0} (schema : Schema) (good : ℕ → Row → Type 0) (at : �
 
     -- what the statement makes of a database: its edit, and what that sets off
     pub deletes : (limit : Option ℕ) (st : State) (db : Database) (sql : List ℕ) (tally : Tally) (after : Database) → db.schema ≡ schema
-        → Does limit (mode_of st) params db sql None (drop_command at tree columns) (Ok (tally, after))
-        → (rows : List Row) × IsAnswer (drop_query tree columns) (overlay db.trees []) params rows × Writes schema Enforced db.trees (edit_of db.trees s.table (ids_of rows) Given 0 []) (Ok after.trees) × (after.schema ≡ schema)
+        → Does limit (mode_of st) params db sql None (drop_command at tree wanted) (Ok (tally, after))
+        → (rows : List Row) × IsAnswer (drop_query tree wanted) (overlay db.trees []) params rows × Writes schema Enforced db.trees (edit_of db.trees s.table (ids_of rows) Given 0 []) (Ok after.trees) × (after.schema ≡ schema)
     deletes limit st db sql tally after has h =
-        let command = drop_command at tree columns in
+        let command = drop_command at tree wanted in
         let at_schema = subst (λ x. Does limit (mode_of st) params (record db { schema = x }) sql None command (Ok (tally, after))) has h in
         let on_table : OnRows (record { limit = limit; keys = Enforced; schema = schema; table = s.table; params = params }) (mode_of st) None command db.trees (Ok (tally, after)) =
         subst (λ o. AtPlace (λ table. OnRows (record { limit = limit; keys = Enforced; schema = schema; table = table; params = params }) (mode_of st) None command db.trees) o (Ok (tally, after))) is.here at_schema in
@@ -132,7 +132,7 @@ module _ {T : Type 0} (schema : Schema) (good : ℕ → Row → Type 0) (at : �
         (read.0, read.1.answer Null, subst (λ (d : Trees). Writes schema Enforced db.trees edit (Ok d)) (sym all) wrote.1, ap (λ (d : Database). d.schema) now)
 
     pub does_drop : ((olds : List Row) → works schema Enforced 0 tree olds [] ≡ []) → (limit : Option ℕ) (st : State) (db : Database) (sql : List ℕ) (tally : Tally) (after : Database) → db.schema ≡ schema → AreTyped schema good db.trees
-        → Does limit (mode_of st) params db sql None (drop_command at tree columns) (Ok (tally, after)) → Drops schema s db.trees after.trees p × (after.schema ≡ schema)
+        → Does limit (mode_of st) params db sql None (drop_command at tree wanted) (Ok (tally, after)) → Drops schema s db.trees after.trees p × (after.schema ≡ schema)
     does_drop frees limit st db sql tally after has kept h =
         let d = deletes limit st db sql tally after has h in
         let edit = edit_of db.trees s.table (ids_of d.0) Given 0 [] in

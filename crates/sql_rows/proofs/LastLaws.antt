@@ -1,48 +1,42 @@
 -- What ORDER BY .. DESC LIMIT 1 shows: the greatest number of the rows that pass.
-use Rattle.std.proofs.Common.{◌≡◌, ◌⊎◌, ℕ, suc, ◌+◌, ◌≤◌, max, List, [], ◌∷◌, map, take, Bool, true, false, refl, sym, ap, ◌∙◌, subst, inl, inr, arith, slice_index_or}
+use Rattle.std.proofs.Common.{◌≡◌, ◌⊎◌, ℕ, suc, ◌+◌, ◌≤◌, pos, List, [], ◌∷◌, map, take, Bool, true, false, refl, sym, ap, ◌∙◌, subst, inl, inr, arith, slice_index_or}
 use Rattle.std.specs.List.Sorted.{IsSortedBy}
 use Rattle.std.specs.List.{list_all}
 use Rattle.std.specs.Cmp.{IsTotalOrder}
 use Rattle.std.specs.Ordering.{is_lt, ordering_then}
 use Rattle.std.proofs.Common.{Ordering, Less, Equal, Greater}
 use Rattle.std.proofs.lemmas.Cmp.{tied_itself}
-use Rattle.std.proofs.lemmas.List.Sorted.{IsPermutation-sym}
+use Rattle.sqlite_value.specs.declared.value.Value.TheVariants.{Int}
+use Rattle.sqlite_value.specs.declared.keys.Collation.TheVariants.{Binary}
+use Rattle.sqlite_value.specs.declared.keys.Key as sort
 use Rattle.sqlite_value.specs.Order.{Row, column, value_cmp}
 use Rattle.sqlite_value.proofs.OrderLemmas.{value_cmp_total}
 use Rattle.sqlite_trees.specs.Tree.{Trees}
 use Rattle.sqlite_trees.proofs.TreeLemmas.{above}
-use Rattle.sqlite_sql.specs.Term.{Term, holds, eval_all}
-use Rattle.sqlite_sql.specs.Query.{inner, end, IsAnswer, Output, output, output_cmp, matches}
+use Rattle.sqlite_sql.specs.Term.{Term, col, lit, holds, eval_all}
+use Rattle.sqlite_sql.specs.Query.{IsAnswer, Output, output, output_cmp}
 use Rattle.sql_tables.specs.Forms.{last_query}
-use Rattle.sql_rows.proofs.QueryLemmas.{has_permuted, one_from, one_has}
+use Rattle.sql_rows.proofs.QueryLemmas.{ordered_from, ordered_has}
 use Rattle.hub_rows.specs.Keyed.{greatest}
 use Rattle.sqlite_rules.specs.Lists.{Has}
-use Rattle.sqlite_rules.proofs.ProbeLemmas.{has_mapped, mapped_has}
+
+-- no number is above the greatest, and it is not above a number that none of them is above
+pub greatest_above : (ns : List ℕ) (m : ℕ) → Has ns m → m ≤ greatest ns
+greatest_above [] m none = absurd none
+greatest_above (l ∷ ns) m (inl same) = omega (arith, same)
+greatest_above (l ∷ ns) m (inr later) = let rest = greatest_above ns m later in omega (arith, rest)
+
+pub greatest_below : (ns : List ℕ) (n : ℕ) → ((m : ℕ) → Has ns m → m ≤ n) → greatest ns ≤ n
+greatest_below [] n each = omega arith
+greatest_below (m ∷ ns) n each = let here = each m (inl refl) in let rest = greatest_below ns n (λ l there. each l (inr there)) in omega (arith, here, rest)
 
 -- a number that is among them, and that none is above, is the greatest
 pub greatest_is : (ns : List ℕ) (n : ℕ) → Has ns n → ((m : ℕ) → Has ns m → m ≤ n) → greatest ns ≡ n
-greatest_is [] n none all = absurd none
-greatest_is (k ∷ ns) n h all = bounds (greatest ns) (below ns (λ m there. all m (inr there))) (all k (inl refl)) (reach h)
-  where
-    below : (ns : List ℕ) → ((m : ℕ) → Has ns m → m ≤ n) → greatest ns ≤ n
-    below [] each = omega arith
-    below (m ∷ ns) each = let here = each m (inl refl) in let rest = below ns (λ l there. each l (inr there)) in omega (arith, here, rest)
-
-    above : (ns : List ℕ) (m : ℕ) → Has ns m → m ≤ greatest ns
-    above [] m none = absurd none
-    above (l ∷ ns) m (inl same) = omega (arith, same)
-    above (l ∷ ns) m (inr later) = let rest = above ns m later in omega (arith, rest)
-
-    reach : Has (k ∷ ns) n → n ≤ max k (greatest ns)
-    reach (inl same) = omega (arith, same)
-    reach (inr later) = let rest = above ns n later in omega (arith, rest)
-
-    bounds : (g : ℕ) → g ≤ n → k ≤ n → n ≤ max k g → max k g ≡ n
-    bounds g a b c = omega (arith, a, b, c)
+greatest_is ns n h all = let low = greatest_below ns n all in let high = greatest_above ns n h in omega (arith, low, high)
 
 -- the first of a list in order is below no other
 module _ {X : Type 0} (lt : X → X → Bool) (still : (a b c : X) → lt b a ≡ false → lt c b ≡ false → lt c a ≡ false) where
-  rest_sorted : (x : X) (xs : List X) → IsSortedBy lt (x ∷ xs) → IsSortedBy lt xs
+  pub rest_sorted : (x : X) (xs : List X) → IsSortedBy lt (x ∷ xs) → IsSortedBy lt xs
   rest_sorted x xs h = λ k d low high.
       let next : suc k + 1 ≡ suc (k + 1) = omega arith in
       subst (λ n. lt (slice_index_or (x ∷ xs) n d) (slice_index_or xs k d) ≡ false) next (h (suc k) d (omega arith) (omega (arith, high)))
@@ -54,24 +48,27 @@ module _ {X : Type 0} (lt : X → X → Bool) (still : (a b c : X) → lt b a �
 
 -- ---- an order that is turned round
 
-not_less : (o : Ordering) → is_lt (ordering_then o Equal) ≡ false → o ≡ Less → ⊥
+pub not_less : (o : Ordering) → is_lt (ordering_then o Equal) ≡ false → o ≡ Less → ⊥
 not_less Less h e = absurd cc
 not_less Equal h e = cc
 not_less Greater h e = cc
 
-less_not : (o : Ordering) → (o ≡ Less → ⊥) → is_lt (ordering_then o Equal) ≡ false
+pub less_not : (o : Ordering) → (o ≡ Less → ⊥) → is_lt (ordering_then o Equal) ≡ false
 less_not Less h = absurd (h refl)
 less_not Equal h = refl
 less_not Greater h = refl
 
 -- not below is carried on
-on_and_on : {K : Type 0} (R : K → K → Ordering) (o : IsTotalOrder R) (a b c : K) → (R a b ≡ Less → ⊥) → (R b c ≡ Less → ⊥) → R a c ≡ Less → ⊥
+pub on_and_on : {K : Type 0} (R : K → K → Ordering) (o : IsTotalOrder R) (a b c : K) → (R a b ≡ Less → ⊥) → (R b c ≡ Less → ⊥) → R a c ≡ Less → ⊥
 on_and_on R o a b c p q low = go (R a b) refl
   where
     go : (x : Ordering) → R a b ≡ x → ⊥
     go Less e = p e
     go Equal e = q (sym (o.congr a b c e) ∙ low)
     go Greater e = q (o.trans b a c (above o a b e) low)
+
+abbrev down_by : ℕ → List (Term × sort.Key)
+down_by at = (col 1 at, record { collation = Binary; descending = true }) ∷ []
 
 module _ (tree : ℕ) (wanted project : List Term) (at : ℕ) (db : Trees) (params : Row) (rows : List Row) (answer : IsAnswer (last_query tree wanted project at) db params rows) where
   abbrev passes : Row → Type 0
@@ -82,20 +79,14 @@ module _ (tree : ℕ) (wanted project : List Term) (at : ℕ) (db : Trees) (para
   IsLast = ((rows ≡ []) × ((r : Row) → Has (db tree) r → passes r → ⊥))
       ⊎ ((r : Row) × Has (db tree) r × passes r × (rows ≡ eval_all project (params ∷ r ∷ []) ∷ []) × ((u : Row) → Has (db tree) u → passes u → value_cmp (column r at) (column u at) ≡ Less → ⊥))
 
-  kept : answer.kept ≡ map (output (last_query tree wanted project at)) (matches db wanted (inner tree end) (params ∷ []))
-  kept = answer.distinct ∙ ap (map (output (last_query tree wanted project at))) answer.grouped
-
   abbrev out_of : Row → Output
   out_of r = output (last_query tree wanted project at) (params ∷ r ∷ [])
 
   there_is : (r : Row) → Has (db tree) r → passes r → Has answer.ordered (out_of r)
-  there_is r h test = has_permuted answer.kept answer.ordered (out_of r) answer.same (subst (λ l. Has l (out_of r)) (sym kept) (mapped_has (output (last_query tree wanted project at)) _ (params ∷ r ∷ []) (one_has db wanted tree params r h test)))
+  there_is = ordered_has wanted project (down_by at) (lit (Int (pos 1))) db tree params rows answer
 
   comes_from : (o : Output) → Has answer.ordered o → (r : Row) × Has (db tree) r × passes r × (o ≡ out_of r)
-  comes_from o h =
-      let e = has_mapped (output (last_query tree wanted project at)) (matches db wanted (inner tree end) (params ∷ [])) o (subst (λ l. Has l o) kept (has_permuted answer.ordered answer.kept o (IsPermutation-sym _ _ answer.same) h)) in
-      let r = one_from db wanted tree params e.0 e.1 in
-      (r.0, r.1, r.2, e.2 ∙ ap (output (last_query tree wanted project at)) r.3)
+  comes_from = ordered_from wanted project (down_by at) (lit (Int (pos 1))) db tree params rows answer
 
   abbrev lt : Output → Output → Bool
   lt x y = is_lt (output_cmp (last_query tree wanted project at) x y)

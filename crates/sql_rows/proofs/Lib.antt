@@ -18,6 +18,7 @@ pub mod TxTables
 pub mod HoldingTables
 pub mod LastLaws
 pub mod DownLaws
+pub mod PageLaws
 pub mod Selects
 pub mod Writes
 pub mod Tests

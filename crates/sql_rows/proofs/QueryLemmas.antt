@@ -17,7 +17,7 @@ use Rattle.sqlite_sql.specs.Ops.{binary, is_true, from_truth}
 use Rattle.std.proofs.lemmas.Map.Text.{is_eq-slice_cmp}
 use Rattle.std.proofs.lemmas.Slice.Eq.{bytes_eq-Decides}
 use Rattle.sqlite_sql.specs.Term.{Term, Env, eval_all, holds}
-use Rattle.sqlite_sql.specs.Query.{Join, inner, end, IsAnswer, Output, output, matches}
+use Rattle.sqlite_sql.specs.Query.{Query, Join, inner, end, IsAnswer, Output, output, matches}
 use Rattle.sqlite_rules.specs.Lists.{Has}
 use Rattle.sql_tables.specs.Forms.{plain_query}
 use Rattle.sqlite_rules.proofs.ListLemmas.{has_contained, contains_had, has_left, has_right, has_either}
@@ -98,6 +98,26 @@ module _ (filter project : List Term) (order : List (Term × Key)) (db : Trees) 
 
   pub rows_have : (r : Row) → Has (db tree) r → list_all (holds (params ∷ r ∷ [])) filter ≡ true → Has rows (eval_all project (params ∷ r ∷ []))
   rows_have r h test = shown_has (inner tree end) filter project order db params rows answer (params ∷ r ∷ []) (one_has db filter tree params r h test)
+
+-- what a query over one table puts in an order, before LIMIT
+module _ (filter project : List Term) (order : List (Term × Key)) (limit : Term) (db : Trees) (tree : ℕ) (params : Row) (rows : List Row)
+    (answer : IsAnswer (record (plain_query (inner tree end) filter project order) { limit = limit }) db params rows) where
+  abbrev limited_query : Query
+  limited_query = record (plain_query (inner tree end) filter project order) { limit = limit }
+
+  all_kept : answer.kept ≡ map (output limited_query) (matches db filter (inner tree end) (params ∷ []))
+  all_kept = answer.distinct ∙ ap (map (output limited_query)) answer.grouped
+
+  pub ordered_has : (r : Row) → Has (db tree) r → list_all (holds (params ∷ r ∷ [])) filter ≡ true → Has answer.ordered (output limited_query (params ∷ r ∷ []))
+  ordered_has r h test =
+      let o = output limited_query (params ∷ r ∷ []) in
+      has_permuted answer.kept answer.ordered o answer.same (subst (λ l. Has l o) (sym all_kept) (mapped_has (output limited_query) _ (params ∷ r ∷ []) (one_has db filter tree params r h test)))
+
+  pub ordered_from : (o : Output) → Has answer.ordered o → (r : Row) × Has (db tree) r × (list_all (holds (params ∷ r ∷ [])) filter ≡ true) × (o ≡ output limited_query (params ∷ r ∷ []))
+  ordered_from o h =
+      let e = has_mapped (output limited_query) (matches db filter (inner tree end) (params ∷ [])) o (subst (λ l. Has l o) all_kept (has_permuted answer.ordered answer.kept o (IsPermutation-sym _ _ answer.same) h)) in
+      let r = one_from db filter tree params e.0 e.1 in
+      (r.0, r.1, r.2, e.2 ∙ ap (output limited_query) r.3)
 
 -- ---- = on texts
 

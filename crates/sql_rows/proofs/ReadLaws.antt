@@ -1,10 +1,10 @@
 -- What a SELECT of all columns shows, by the test of typed rows that its WHERE is.
-use Rattle.std.proofs.Common.{◌≡◌, ℕ, ℤ, List, [], ◌∷◌, map, filter, Bool, true, sym, ap, ◌∙◌, subst}
+use Rattle.std.proofs.Common.{◌≡◌, ℕ, ℤ, pos, List, [], ◌∷◌, map, filter, Bool, true, sym, ap, ◌∙◌, subst}
 use Rattle.std.specs.List.{list_all}
 use Rattle.sqlite_value.specs.declared.value.Value.{Value}
 use Rattle.sqlite_value.specs.declared.value.Value.TheVariants.{Int}
 use Rattle.sqlite_value.specs.declared.keys.Key as sort
-use Rattle.sqlite_value.specs.Order.{Row}
+use Rattle.sqlite_value.specs.Order.{Row, column}
 use Rattle.sqlite_trees.specs.Tree.{Trees}
 use Rattle.sqlite_sql.specs.Term.{Term, holds, eval_all}
 use Rattle.sqlite_sql.specs.Query.{IsAnswer, inner, end}
@@ -31,6 +31,10 @@ IsTest {T} s filter params p = (id : ℤ) (t : T) → list_all (holds (params �
 abbrev pub IsWhole : {T : Type 0} → TypedTable T → List Term → Type 0
 IsWhole {T} s project = (t : T) (v : Value) (params : Row) → eval_all project (params ∷ (v ∷ s.row t) ∷ []) ≡ s.row t
 
+-- the column at that place is the number of a row
+abbrev pub IsNumbered : {T : Type 0} → TypedTable T → (T → ℕ) → ℕ → Type 0
+IsNumbered {T} s number place = (id : ℤ) (t : T) → column (Int id ∷ s.row t) place ≡ Int (pos (number t))
+
 module _ {T : Type 0} (schema : Schema) (good : ℕ → Row → Type 0) (at : ℕ) (s : TypedTable T) (is : IsTypedTable schema good at s) (wanted : List Term) (params : Row) (p : T → Bool) (test : IsTest s wanted params p)
     (db : Trees) (kept : AreTyped schema good db) where
   pub passes : (r : Row) → Has (db s.table.tree) r → list_all (holds (params ∷ r ∷ [])) wanted ≡ p (typed s r)
@@ -38,25 +42,37 @@ module _ {T : Type 0} (schema : Schema) (good : ℕ → Row → Type 0) (at : �
       let u = typed_table.row_in schema good at s is db kept r h in
       ap (λ (x : Row). list_all (holds (params ∷ x ∷ [])) wanted) u.2 ∙ test u.0 u.1 ∙ ap p (sym (typed_table.typed_is schema good at s is db kept r h))
 
+  -- a row of the table, as all its columns are read
+  pub read_is : (project : List Term) → IsWhole s project → (r : Row) → Has (db s.table.tree) r → s.read (eval_all project (params ∷ r ∷ [])) ≡ typed s r
+  read_is project whole r h =
+      let u = typed_table.row_in schema good at s is db kept r h in
+      ap (λ (z : Row). s.read (eval_all project (params ∷ z ∷ []))) u.2 ∙ ap s.read (whole u.1 (Int u.0) params) ∙ is.round u.1 ∙ sym (typed_table.typed_is schema good at s is db kept r h)
+
+  -- the number of a row, which stands at that place
+  pub number_of : (place : ℕ) (number : T → ℕ) → IsNumbered s number place → (r : Row) → Has (db s.table.tree) r → column r place ≡ Int (pos (number (typed s r)))
+  number_of place number numbered r h =
+      let u = typed_table.row_in schema good at s is db kept r h in
+      ap (λ (x : Row). column x place) u.2 ∙ numbered u.0 u.1 ∙ ap (λ t. Int (pos (number t))) (sym (typed_table.typed_is schema good at s is db kept r h))
+
+  pub based : (r : Row) → Has (db s.table.tree) r → Has (overlay db [] s.table.tree) r
+  based r h = subst (λ l. Has l r) (sym (is.base db)) h
+
   module _ (project : List Term) (whole : IsWhole s project) (order : List (Term × sort.Key)) (obeys : Obeys schema db)
       (rows : List Row) (answer : IsAnswer (plain_query (inner s.table.tree end) wanted project order) (overlay db []) params rows) where
     shows_from : (x : Row) → Has rows x → (r : Row) × Has (db s.table.tree) r × (p (typed s r) ≡ true) × (s.read x ≡ typed s r)
     shows_from x h =
         let r = query.rows_from wanted project order (overlay db []) s.table.tree params rows answer x h in
-        let there = subst (λ l. Has l r.0) (is.base db) r.1 in
-        let u = typed_table.row_in schema good at s is db kept r.0 there in (
+        let there = subst (λ l. Has l r.0) (is.base db) r.1 in (
           r.0,
           there,
           sym (passes r.0 there) ∙ r.2,
-          ap s.read (r.3 ∙ ap (λ (z : Row). eval_all project (params ∷ z ∷ [])) u.2 ∙ whole u.1 (Int u.0) params) ∙ is.round u.1 ∙ sym (typed_table.typed_is schema good at s is db kept r.0 there),
+          ap s.read r.3 ∙ read_is project whole r.0 there,
         )
 
     shows_has : (r : Row) → Has (db s.table.tree) r → p (typed s r) ≡ true → Has (map s.read rows) (typed s r)
     shows_has r h good_one =
-        let u = typed_table.row_in schema good at s is db kept r h in
-        let x = query.rows_have wanted project order (overlay db []) s.table.tree params rows answer r (subst (λ l. Has l r) (sym (is.base db)) h) (passes r h ∙ good_one) in
-        subst (Has (map s.read rows)) (ap (λ (z : Row). s.read (eval_all project (params ∷ z ∷ []))) u.2 ∙ ap s.read (whole u.1 (Int u.0) params) ∙ is.round u.1 ∙ sym (typed_table.typed_is schema good at s is db kept r h))
-        (mapped_has s.read rows _ x)
+        let x = query.rows_have wanted project order (overlay db []) s.table.tree params rows answer r (based r h) (passes r h ∙ good_one) in
+        subst (Has (map s.read rows)) (read_is project whole r h) (mapped_has s.read rows _ x)
 
     pub once : IsSingle (cmp s) (by_key_total s.key) (map s.read rows)
     once a b h l tie =

@@ -114,7 +114,7 @@ puts_grant r = means_as (puts 4 grants on_grants sql_grants.PUT.now 1 put_grants
 
 pub drops_grant : (op key to : List ℕ) → Means sql_grants.DROP.now (Text op ∷ Text key ∷ Text to ∷ []) (IsMade (λ rows. record rows { grants = filter (λ r. not (bytes_eq r.op op && is_grant key to r)) rows.grants }))
 drops_grant op key to =
-    means_as (drops 4 grants on_grants sql_grants.DROP.now (1 ∷ 2 ∷ 3 ∷ []) (Text op ∷ Text key ∷ Text to ∷ []) (λ r. bytes_eq r.op op && is_grant key to r) (tests.of_grant op key to) frees_grants texts.drop_grant_is)
+    means_as (drops 4 grants on_grants sql_grants.DROP.now (where_is 0 (1 ∷ 2 ∷ 3 ∷ [])) (Text op ∷ Text key ∷ Text to ∷ []) (λ r. bytes_eq r.op op && is_grant key to r) (tests.of_grant op key to) frees_grants texts.drop_grant_is)
     (λ old new h. grants_made old new _ h.rows h.frame)
 
 pub reads_grant : (op key to : List ℕ) → ReadsRows sql_grants.FIND.now (Text op ∷ Text key ∷ Text to ∷ []) grants (λ r. bytes_eq r.op op && is_grant key to r)

@@ -16,7 +16,7 @@ use Rattle.hub_rows.specs.declared.change.Edit.TheVariants.{Tags}
 use Rattle.hub_rows.specs.declared.change.TagEdit.TheVariants.{TagDropped}
 use Rattle.hub_rows.specs.Changes.{edit}
 use Rattle.sql_tables.specs.Tables.{hub_schema, hub_tag}
-use Rattle.sql_tables.specs.Forms.{drop_query, drop_command}
+use Rattle.sql_tables.specs.Forms.{where_is, drop_query, drop_command}
 use Rattle.sql_tables.specs.declared.tags.TheConstants as sql_tags
 use Rattle.sql_tables.proofs.Texts as texts
 use Rattle.sql_rows.specs.TypedTable.{AreTyped}
@@ -29,7 +29,7 @@ use Rattle.sql_rows.proofs.Tests.{of_tag}
 use Rattle.sql_rows.proofs.CascadeLemmas.{Cascades, cascades, tags_dropped, grants_dropped, tables_kept, others_are}
 use Rattle.sql_rows.proofs.StoreLemmas.{Means}
 
-module _ (op key : List ℕ) (db mid final : Trees) (kept : AreTyped hub_schema hub_good db) (obeys : Obeys hub_schema db) (rows : List Row) (answer : IsAnswer (drop_query 6 (1 ∷ 2 ∷ [])) (overlay db []) (Text op ∷ Text key ∷ []) rows)
+module _ (op key : List ℕ) (db mid final : Trees) (kept : AreTyped hub_schema hub_good db) (obeys : Obeys hub_schema db) (rows : List Row) (answer : IsAnswer (drop_query 6 (where_is 0 (1 ∷ 2 ∷ []))) (overlay db []) (Text op ∷ Text key ∷ []) rows)
     (c : Cascades db (edit_of db hub_tag (ids_of rows) Given 0 []) mid final) where
   are_typed : AreTyped hub_schema hub_good final
   are_typed = tables_kept op key db mid final kept rows answer c
@@ -45,12 +45,12 @@ module _ (op key : List ℕ) (db mid final : Trees) (kept : AreTyped hub_schema 
 
 pub drops_tag : (op key : List ℕ) → Means sql_tags.DROP.now (Text op ∷ Text key ∷ []) (IsMade (edit op (Tags (TagDropped key))))
 drops_tag op key = record {
-  command = drop_command 3 6 (1 ∷ 2 ∷ []);
+  command = drop_command 3 6 (where_is 0 (1 ∷ 2 ∷ []));
   is = texts.drop_tag_is.0;
   plain = texts.drop_tag_is.1;
   writes = tt;
   does = λ limit st db words tally after has kept obeys h.
-      let d = deletes hub_schema hub_good 3 tags on_tags (1 ∷ 2 ∷ []) (Text op ∷ Text key ∷ []) (λ t. bytes_eq t.op op && bytes_eq t.key key) (of_tag op key) limit st db words tally after has h in
+      let d = deletes hub_schema hub_good 3 tags on_tags (where_is 0 (1 ∷ 2 ∷ [])) (Text op ∷ Text key ∷ []) (λ t. bytes_eq t.op op && bytes_eq t.key key) (of_tag op key) limit st db words tally after has h in
       let c = cascades db.trees (ids_of d.0) after.trees d.2 in
       (d.3, are_typed op key db.trees c.0 after.trees kept obeys d.0 d.1 c.1, λ sound. tag_dropped op key db.trees c.0 after.trees kept obeys d.0 d.1 c.1 sound);
 }

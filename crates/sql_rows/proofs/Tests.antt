@@ -135,6 +135,12 @@ one_number m n = ap₂ (λ a b. a && (b && true)) (at_least m n) (at_most m n) �
 counts_from : (m n : ℕ) → between (Int (pos m)) (Int (pos n)) (Blob []) ≡ nat_le n m
 counts_from m n = ap₂ (λ a b. a && (b && true)) (at_least (pos m) (pos n) ∙ not_less m n) (below_blob (pos m) []) ∙ and_true (nat_le n m)
 
+at_most_count : (m n : ℕ) → is_le (int_cmp (pos m) (pos n)) ≡ nat_le m n
+at_most_count m n = grind (arith, nat_tests)
+
+counts_between : (m low high : ℕ) → between (Int (pos m)) (Int (pos low)) (Int (pos high)) ≡ nat_le low m && nat_le m high
+counts_between m low high = ap₂ (λ a b. a && (b && true)) (at_least (pos m) (pos low) ∙ not_less m low) (at_most (pos m) (pos high) ∙ at_most_count m high) ∙ ap (λ b. nat_le low m && b) (and_true (nat_le m high))
+
 all_signed : (n : ℕ) → between (Int (unshifted n)) (Int (negsuc 2147483647)) (Blob []) ≡ true
 all_signed n = ap₂ (λ a b. a && (b && true)) (at_least (unshifted n) (negsuc 2147483647) ∙ not_below_least n) (below_blob (unshifted n) [])
 
@@ -175,6 +181,15 @@ module _ (op station : List ℕ) where
 
   pub txs_from : (n : ℕ) → IsTest txs (where_is 0 (1 ∷ 2 ∷ []) ++ range_is 2 3) (Text op ∷ Text station ∷ Int (pos n) ∷ Blob [] ∷ []) (λ r. bytes_eq r.op op && (bytes_eq r.station station && nat_le n r.number))
   txs_from n = λ id r. ap₂ ◌&&◌ (text_test r.op op) (ap₂ ◌&&◌ (text_test r.station station) (counts_from r.number n))
+
+  pub txs_between : (low high : ℕ) → IsTest txs (where_is 0 (1 ∷ 2 ∷ []) ++ range_is 2 3) (Text op ∷ Text station ∷ Int (pos low) ∷ Int (pos high) ∷ []) (λ r. bytes_eq r.op op && (bytes_eq r.station station && (nat_le low r.number && nat_le r.number high)))
+  txs_between low high = λ id r. ap₂ ◌&&◌ (text_test r.op op) (ap₂ ◌&&◌ (text_test r.station station) (counts_between r.number low high))
+
+  pub tx_owners_between : (low high : ℕ) → IsTest tx_owners (where_is 0 (1 ∷ 2 ∷ []) ++ range_is 2 3) (Text op ∷ Text station ∷ Int (pos low) ∷ Int (pos high) ∷ []) (λ r. bytes_eq r.op op && (bytes_eq r.station station && (nat_le low r.number && nat_le r.number high)))
+  tx_owners_between low high = λ id r. ap₂ ◌&&◌ (text_test r.op op) (ap₂ ◌&&◌ (text_test r.station station) (counts_between r.number low high))
+
+  pub readings_between : (low high : ℕ) → IsTest readings (where_is 0 (1 ∷ 2 ∷ []) ++ range_is 2 3) (Text op ∷ Text station ∷ Int (pos low) ∷ Int (pos high) ∷ []) (λ r. bytes_eq r.op op && (bytes_eq r.station station && (nat_le low r.number && nat_le r.number high)))
+  readings_between low high = λ id r. ap₂ ◌&&◌ (text_test r.op op) (ap₂ ◌&&◌ (text_test r.station station) (counts_between r.number low high))
 
   pub of_txs : IsTest txs (where_is 0 (1 ∷ 2 ∷ [])) (Text op ∷ Text station ∷ []) (λ r. bytes_eq r.op op && bytes_eq r.station station)
   of_txs = λ id r. ap₂ ◌&&◌ (text_test r.op op) (last_text r.station station)

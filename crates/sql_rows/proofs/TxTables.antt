@@ -1,6 +1,13 @@
 -- Transactions, the owners of their tags, readings and uses: their typed tables, and what the texts that write and show them
 -- mean.
-use Rattle.std.proofs.Common.{◌&&◌, ◌++◌, ◌∷◌, ◌≡◌, ℕ, nat_le, pos, List, [], Option, Some, None, option_map, refl, inl, inr, true}
+use Rattle.std.proofs.Common.{◌&&◌, ◌++◌, ◌∷◌, ◌≡◌, ◌∙◌, ℕ, nat_le, pos, List, [], Bool, Option, Some, None, option_map, refl, sym, ap, arith, inl, inr, true, Equal}
+use Rattle.std.proofs.lemmas.Bool.{and_parts}
+use Rattle.std.proofs.lemmas.Cmp.{tied_itself}
+use Rattle.sqlite_value.specs.Order.{Row}
+use Rattle.sqlite_value.specs.Keys.{joined}
+use Rattle.sqlite_schema.specs.declared.schema.Keys.TheVariants.{Enforced}
+use Rattle.sqlite_schema.specs.Names.{same_name}
+use Rattle.sqlite_rules.specs.Action.{works}
 use Rattle.sql_tables.specs.Tables.{hub_schema, hub_tx, names_of, hub_reading, hub_tx_owner, hub_use}
 use Rattle.sql_tables.specs.Forms.{cols, where_is, range_is, by_column}
 use Rattle.sql_rows.specs.TypedTables.{hub_good, txs, tx_owners, readings, uses, stop_tag, rows_of}
@@ -23,7 +30,8 @@ use Rattle.sqlite_value.specs.declared.value.Value.TheVariants.{Int, Text, Blob}
 use Rattle.sqlite_trees.specs.Tree.{Trees}
 use Rattle.hub_rows.specs.declared.reading_row.ReadingRow.{ReadingRow}
 use Rattle.hub_rows.specs.declared.use_row.UseRow.{UseRow}
-use Rattle.hub_rows.specs.Keyed.{by_key, put}
+use Rattle.hub_rows.specs.Keyed.{by_key, key_cmp, numbered_key, put, without}
+use Rattle.hub_rows.proofs.ListLaws.{keys_total, same_text}
 use Rattle.hub_rows.specs.Rows.{tx_key, tx_owner_key, reading_key, use_key}
 use Rattle.hub_rows.specs.Uses.{is_owner_of}
 use Rattle.sql_tables.specs.declared.readings.TheConstants as sql_readings
@@ -34,9 +42,9 @@ use Rattle.sql_tables.proofs.Texts as texts
 use Rattle.sql_rows.specs.TypedTable.{rows_in, Spares}
 use Rattle.sql_rows.specs.Kept.{IsMade}
 use Rattle.sql_rows.proofs.StoreLemmas.{Means, means_as}
-use Rattle.sql_rows.proofs.Writes.{adds, puts}
+use Rattle.sql_rows.proofs.Writes.{adds, puts, drops}
 use Rattle.hub_rows.specs.declared.tx_row.StartKey.{StartKey}
-use Rattle.sql_rows.proofs.Selects.{ReadsRows, ReadsLast}
+use Rattle.sql_rows.proofs.Selects.{ReadsRows, ReadsLast, ReadsPage}
 use Rattle.sql_rows.proofs.Tests as tests
 use Rattle.sql_rows.proofs.HubTables.{all_plain, rest_is, spared}
 
@@ -102,6 +110,16 @@ puts_tx r = means_as (puts 5 txs on_txs sql_txs.PUT.now 15 put_txs texts.put_tx_
 pub adds_tx : (r : TxRow) → Means sql_txs.ADD.now (txs.row r) (IsMade (λ rows. record rows { transactions = put (by_key tx_key) r rows.transactions }))
 adds_tx r = means_as (adds 5 txs on_txs sql_txs.ADD.now 15 put_txs texts.add_tx_is r) (λ old new h. transactions_made old new _ h.rows h.frame)
 
+-- a delete in this table sets off nothing
+frees_txs : (olds : List Row) → works hub_schema Enforced 0 10 olds [] ≡ []
+unfolding same_name joined
+frees_txs olds = refl
+
+pub drops_txs : (op station : List ℕ) (low high : ℕ) → Means sql_txs.DROP.now (Text op ∷ Text station ∷ Int (pos low) ∷ Int (pos high) ∷ []) (IsMade (λ rows. record rows { transactions = without (λ r. r.op) op (λ r. bytes_eq r.station station && (nat_le low r.number && nat_le r.number high)) rows.transactions }))
+drops_txs op station low high =
+    means_as (drops 5 txs on_txs sql_txs.DROP.now (where_is 0 (1 ∷ 2 ∷ []) ++ range_is 2 3) (Text op ∷ Text station ∷ Int (pos low) ∷ Int (pos high) ∷ []) (λ r. bytes_eq r.op op && (bytes_eq r.station station && (nat_le low r.number && nat_le r.number high))) (tests.txs_between op station low high) frees_txs texts.drop_txs_is)
+    (λ old new h. transactions_made old new _ h.rows h.frame)
+
 pub reads_tx : (op station : List ℕ) (n : ℕ) → ReadsRows sql_txs.FIND.now (Text op ∷ Text station ∷ Int (pos n) ∷ Int (pos n) ∷ []) txs (λ r. bytes_eq r.op op && is_tx station n r)
 reads_tx op station n = record { at = 5; is = on_txs; wanted = where_is 0 (1 ∷ 2 ∷ []) ++ range_is 2 3; project = cols 1 1 18; whole = whole_txs; order = by_column 3 ∷ []; names = names_of hub_tx; text = texts.find_txs_is; test = tests.one_tx op station n }
 
@@ -110,6 +128,35 @@ reads_txs op station n = record { at = 5; is = on_txs; wanted = where_is 0 (1 �
 
 pub reads_last_tx : (op station : List ℕ) → ReadsLast sql_txs.FIND_LAST.now (Text op ∷ Text station ∷ []) txs (λ r. r.number) (λ r. bytes_eq r.op op && bytes_eq r.station station)
 reads_last_tx op station = record { at = 5; is = on_txs; wanted = where_is 0 (1 ∷ 2 ∷ []); project = cols 1 1 18; whole = whole_txs; place = 3; numbered = λ id r. refl; names = names_of hub_tx; text = texts.find_last_tx_is; test = tests.of_txs op station }
+
+-- rows of one station with one number have one key
+same_numbered : {R : Type 0} (op station : R → List ℕ) (number : R → ℕ) (b st : List ℕ) (within : R → Bool) → (x y : R)
+    → bytes_eq (op x) b && (bytes_eq (station x) st && within x) ≡ true → bytes_eq (op y) b && (bytes_eq (station y) st && within y) ≡ true → number x ≡ number y → by_key (numbered_key op station number) x y ≡ Equal
+same_numbered op station number b st within x y p q same =
+    let px = and_parts (bytes_eq (op x) b) _ p in
+    let py = and_parts (bytes_eq (op y) b) _ q in
+    let sx = and_parts (bytes_eq (station x) st) (within x) px.1 in
+    let sy = and_parts (bytes_eq (station y) st) (within y) py.1 in
+    let its_op : op x ≡ op y = same_text (op x) b px.0 ∙ sym (same_text (op y) b py.0) in
+    let its_station : station x ≡ station y = same_text (station x) st sx.0 ∙ sym (same_text (station y) st sy.0) in
+    ap (key_cmp (numbered_key op station number x)) (λ i. sym its_op i ∷ sym its_station i ∷ (sym same i ∷ []) ∷ []) ∙ tied_itself keys_total (numbered_key op station number x)
+
+pub pages_of_txs : (op station : List ℕ) (low high : ℕ) → ReadsPage sql_txs.PAGE.now (Text op ∷ Text station ∷ Int (pos low) ∷ Int (pos high) ∷ []) txs (λ r. r.number) (λ r. bytes_eq r.op op && (bytes_eq r.station station && (nat_le low r.number && nat_le r.number high)))
+pages_of_txs op station low high = record {
+  at = 5;
+  is = on_txs;
+  wanted = where_is 0 (1 ∷ 2 ∷ []) ++ range_is 2 3;
+  project = cols 1 1 18;
+  whole = whole_txs;
+  place = 3;
+  most = 256;
+  some = omega arith;
+  numbered = λ id r. refl;
+  apart = λ a b. same_numbered (λ r. r.op) (λ r. r.station) (λ r. r.number) op station (λ r. nat_le low r.number && nat_le r.number high) a b;
+  names = names_of hub_tx;
+  text = texts.page_of_txs_is;
+  test = tests.txs_between op station low high;
+}
 
 pub reads_txs_in_use : (op key : List ℕ) → ReadsRows sql_txs.LIST_IN_USE.now (Text op ∷ Text key ∷ Int (pos 1) ∷ []) txs (λ r. bytes_eq r.op op && (bytes_eq r.start.id.key key && counts r))
 reads_txs_in_use op key = record { at = 5; is = on_txs; wanted = where_is 0 (1 ∷ 5 ∷ 13 ∷ []); project = cols 1 1 18; whole = whole_txs; order = []; names = names_of hub_tx; text = texts.list_txs_in_use_is; test = tests.used_txs op key }
@@ -158,6 +205,16 @@ tx_owners_made old new made rows frame = λ i. record (rows_of (rest_is (22 ∷ 
 pub adds_tx_owner : (r : TxOwnerRow) → Means sql_tx_owners.ADD.now (tx_owners.row r) (IsMade (λ rows. record rows { tx_owners = put (by_key tx_owner_key) r rows.tx_owners }))
 adds_tx_owner r = means_as (adds 11 tx_owners on_tx_owners sql_tx_owners.ADD.now 1 put_tx_owners texts.add_tx_owner_is r) (λ old new h. tx_owners_made old new _ h.rows h.frame)
 
+-- a delete in this table sets off nothing
+frees_tx_owners : (olds : List Row) → works hub_schema Enforced 0 22 olds [] ≡ []
+unfolding same_name joined
+frees_tx_owners olds = refl
+
+pub drops_tx_owners : (op station : List ℕ) (low high : ℕ) → Means sql_tx_owners.DROP.now (Text op ∷ Text station ∷ Int (pos low) ∷ Int (pos high) ∷ []) (IsMade (λ rows. record rows { tx_owners = without (λ r. r.op) op (λ r. bytes_eq r.station station && (nat_le low r.number && nat_le r.number high)) rows.tx_owners }))
+drops_tx_owners op station low high =
+    means_as (drops 11 tx_owners on_tx_owners sql_tx_owners.DROP.now (where_is 0 (1 ∷ 2 ∷ []) ++ range_is 2 3) (Text op ∷ Text station ∷ Int (pos low) ∷ Int (pos high) ∷ []) (λ r. bytes_eq r.op op && (bytes_eq r.station station && (nat_le low r.number && nat_le r.number high))) (tests.tx_owners_between op station low high) frees_tx_owners texts.drop_tx_owners_is)
+    (λ old new h. tx_owners_made old new _ h.rows h.frame)
+
 pub reads_tx_owner : (op station : List ℕ) (n : ℕ) → ReadsRows sql_tx_owners.FIND.now (Text op ∷ Text station ∷ Int (pos n) ∷ []) tx_owners (λ r. bytes_eq r.op op && is_owner_of station n r)
 reads_tx_owner op station n = record { at = 11; is = on_tx_owners; wanted = where_is 0 (1 ∷ 2 ∷ 3 ∷ []); project = cols 1 1 4; whole = whole_tx_owners; order = []; names = names_of hub_tx_owner; text = texts.find_tx_owner_is; test = tests.of_tx_owner op station n }
 
@@ -196,6 +253,16 @@ readings_made old new made rows frame = λ i. record (rows_of (rest_is (12 ∷ [
 pub adds_reading : (r : ReadingRow) → Means sql_readings.ADD.now (readings.row r) (IsMade (λ rows. record rows { readings = put (by_key reading_key) r rows.readings }))
 adds_reading r = means_as (adds 6 readings on_readings sql_readings.ADD.now 10 put_readings texts.add_reading_is r) (λ old new h. readings_made old new _ h.rows h.frame)
 
+-- a delete in this table sets off nothing
+frees_readings : (olds : List Row) → works hub_schema Enforced 0 12 olds [] ≡ []
+unfolding same_name joined
+frees_readings olds = refl
+
+pub drops_readings : (op station : List ℕ) (low high : ℕ) → Means sql_readings.DROP.now (Text op ∷ Text station ∷ Int (pos low) ∷ Int (pos high) ∷ []) (IsMade (λ rows. record rows { readings = without (λ r. r.op) op (λ r. bytes_eq r.station station && (nat_le low r.number && nat_le r.number high)) rows.readings }))
+drops_readings op station low high =
+    means_as (drops 6 readings on_readings sql_readings.DROP.now (where_is 0 (1 ∷ 2 ∷ []) ++ range_is 2 3) (Text op ∷ Text station ∷ Int (pos low) ∷ Int (pos high) ∷ []) (λ r. bytes_eq r.op op && (bytes_eq r.station station && (nat_le low r.number && nat_le r.number high))) (tests.readings_between op station low high) frees_readings texts.drop_readings_is)
+    (λ old new h. readings_made old new _ h.rows h.frame)
+
 pub reads_readings : (op station : List ℕ) → ReadsRows sql_readings.LIST.now (Text op ∷ Text station ∷ []) readings (λ r. bytes_eq r.op op && is_reading station None r)
 reads_readings op station = record { at = 6; is = on_readings; wanted = where_is 0 (1 ∷ 2 ∷ []); project = cols 1 1 13; whole = whole_readings; order = by_column 3 ∷ []; names = names_of hub_reading; text = texts.list_readings_is; test = tests.of_readings op station }
 
@@ -204,6 +271,23 @@ reads_tx_readings op station n = record { at = 6; is = on_readings; wanted = whe
 
 pub reads_last_reading : (op station : List ℕ) → ReadsLast sql_readings.FIND_LAST.now (Text op ∷ Text station ∷ []) readings (λ r. r.number) (λ r. bytes_eq r.op op && is_reading station None r)
 reads_last_reading op station = record { at = 6; is = on_readings; wanted = where_is 0 (1 ∷ 2 ∷ []); project = cols 1 1 13; whole = whole_readings; place = 3; numbered = λ id r. refl; names = names_of hub_reading; text = texts.find_last_reading_is; test = tests.of_readings op station }
+
+pub pages_of_readings : (op station : List ℕ) (low high : ℕ) → ReadsPage sql_readings.PAGE.now (Text op ∷ Text station ∷ Int (pos low) ∷ Int (pos high) ∷ []) readings (λ r. r.number) (λ r. bytes_eq r.op op && (bytes_eq r.station station && (nat_le low r.number && nat_le r.number high)))
+pages_of_readings op station low high = record {
+  at = 6;
+  is = on_readings;
+  wanted = where_is 0 (1 ∷ 2 ∷ []) ++ range_is 2 3;
+  project = cols 1 1 13;
+  whole = whole_readings;
+  place = 3;
+  most = 256;
+  some = omega arith;
+  numbered = λ id r. refl;
+  apart = λ a b. same_numbered (λ r. r.op) (λ r. r.station) (λ r. r.number) op station (λ r. nat_le low r.number && nat_le r.number high) a b;
+  names = names_of hub_reading;
+  text = texts.page_of_readings_is;
+  test = tests.readings_between op station low high;
+}
 
 -- ---- uses
 

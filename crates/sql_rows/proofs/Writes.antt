@@ -4,7 +4,8 @@ use Rattle.sqlite_value.specs.Order.{Row}
 use Rattle.sqlite_schema.specs.declared.schema.Keys.TheVariants.{Enforced}
 use Rattle.sqlite_rules.specs.Action.{works}
 use Rattle.sql_tables.specs.Tables.{hub_schema}
-use Rattle.sql_tables.specs.Forms.{where_is, add_command, put_command, drop_command}
+use Rattle.sqlite_sql.specs.Term.{Term}
+use Rattle.sql_tables.specs.Forms.{add_command, put_command, drop_command}
 use Rattle.sql_tables.specs.Meanings.{IsWrite}
 use Rattle.sql_rows.specs.TypedTable.{TypedTable}
 use Rattle.sql_rows.specs.TypedTables.{hub_good}
@@ -41,15 +42,15 @@ module _ {T : Type 0} (at : ℕ) (s : TypedTable T) (is : IsTypedTable hub_schem
         (d.1, are_typed, λ sound. record { rows = put_means hub_schema hub_good at s is db.trees after.trees t kept obeys are_typed sound d.0; frame = d.0.frame });
   }
 
-  pub drops : (columns : List ℕ) (params : Row) (p : T → Bool) → IsTest s (where_is 0 columns) params p → ((olds : List Row) → works hub_schema Enforced 0 s.table.tree olds [] ≡ [])
-      → IsWrite sql (drop_command at s.table.tree columns) → Means sql params (IsDropped s p)
-  drops columns params p test frees text = record {
-    command = drop_command at s.table.tree columns;
+  pub drops : (wanted : List Term) (params : Row) (p : T → Bool) → IsTest s wanted params p → ((olds : List Row) → works hub_schema Enforced 0 s.table.tree olds [] ≡ [])
+      → IsWrite sql (drop_command at s.table.tree wanted) → Means sql params (IsDropped s p)
+  drops wanted params p test frees text = record {
+    command = drop_command at s.table.tree wanted;
     is = text.0;
     plain = text.1;
     writes = tt;
     does = λ limit st db words tally after has kept obeys h.
-        let d = does_drop hub_schema hub_good at s is columns params p test frees limit st db words tally after has kept h in
+        let d = does_drop hub_schema hub_good at s is wanted params p test frees limit st db words tally after has kept h in
         let are_typed = drop_typed hub_schema hub_good at s is db.trees after.trees p kept d.0 in
         (d.1, are_typed, λ sound. record { rows = drop_means hub_schema hub_good at s is db.trees after.trees p kept obeys are_typed sound d.0.inside; frame = d.0.frame });
   }

@@ -1,5 +1,5 @@
 -- What a connection keeps, and what a call makes of it.
-use Rattle.std.specs.Prelude.{◌≡◌, ◌⊎◌, ℕ, ◌≤◌, false, true, not, None, List, [], map, filter, Bool, IsTrue, Result, Ok, Err, OnOk, OnErr, IfOk}
+use Rattle.std.specs.Prelude.{◌≡◌, ◌⊎◌, ◌&&◌, ℕ, nat_le, ◌≤◌, false, true, not, None, List, [], map, filter, Bool, IsTrue, Result, Ok, Err, OnOk, OnErr, IfOk}
 use Rattle.std.specs.declared.cmp.Ordering.TheVariants.{Equal}
 use Rattle.sqlite_rules.specs.Lists.{Has}
 use Rattle.sqlite_value.specs.Order.{Row}
@@ -70,6 +70,18 @@ pub record Shows {V T : Type 0} (items : V → List Row) (s : TypedTable T) (p :
 -- the greatest number that is shown is that of the rows that pass, and nothing changes
 pub record ShowsLast {V T : Type 0} (items : V → List Row) (s : TypedTable T) (number : T → ℕ) (p : T → Bool) (old new : State) (r : Result V Error) : Type 0 where
   pub ok : IsTrue new.is_open → IfOk r (λ v. greatest (map number (map s.read (items v))) ≡ greatest (map number (filter p (rows_in s old.now.trees))))
+  pub same : IsTrue new.is_open → IsAsBefore old new
+  pub stops : CommitsNothing old new r
+
+-- the first rows that pass, in the order of a number: all up to the greatest number among them, and none only where none
+-- passes
+pub record IsPage {T : Type 0} (number : T → ℕ) (p : T → Bool) (rows page : List T) : Type 0 where
+  pub all : page ≡ filter (λ t. p t && nat_le (number t) (greatest (map number page))) rows
+  pub none : page ≡ [] → filter p rows ≡ []
+
+-- the first rows that pass are shown, and nothing changes
+pub record ShowsPage {V T : Type 0} (items : V → List Row) (s : TypedTable T) (number : T → ℕ) (p : T → Bool) (old new : State) (r : Result V Error) : Type 0 where
+  pub ok : IsTrue new.is_open → IfOk r (λ v. IsPage number p (rows_in s old.now.trees) (put_all (cmp s) (map s.read (items v)) []))
   pub same : IsTrue new.is_open → IsAsBefore old new
   pub stops : CommitsNothing old new r
 

@@ -3,7 +3,7 @@ use Rattle.std.proofs.Common.{[], ◌∷◌, ◌++◌, refl}
 use Rattle.sqlite_tied.specs.Compute.{everything}
 use Rattle.sqlite.specs.Listing.{understood}
 use Rattle.sqlite_sql.specs.Query.{inner, end}
-use Rattle.sql_tables.specs.Forms.{add_command, by_column, cols, drop_command, last_query, plain_query, put_command, range_is, where_is}
+use Rattle.sql_tables.specs.Forms.{add_command, by_column, cols, drop_command, last_query, page_query, plain_query, put_command, range_is, where_is}
 use Rattle.sql_tables.specs.Meanings.{IsRead, IsWrite}
 use Rattle.sql_tables.specs.declared.connectors.TheConstants as connectors
 use Rattle.sql_tables.specs.declared.grants.TheConstants as grants
@@ -76,21 +76,33 @@ pub add_use_is : IsWrite uses.ADD.now (add_command 12 6)
 unfolding understood everything
 add_use_is = (refl, (refl, refl))
 
-pub drop_tag_is : IsWrite tags.DROP.now (drop_command 3 6 (1 ∷ 2 ∷ []))
+pub drop_tag_is : IsWrite tags.DROP.now (drop_command 3 6 (where_is 0 (1 ∷ 2 ∷ [])))
 unfolding understood everything
 drop_tag_is = (refl, (refl, refl))
 
-pub drop_grant_is : IsWrite grants.DROP.now (drop_command 4 8 (1 ∷ 2 ∷ 3 ∷ []))
+pub drop_grant_is : IsWrite grants.DROP.now (drop_command 4 8 (where_is 0 (1 ∷ 2 ∷ 3 ∷ [])))
 unfolding understood everything
 drop_grant_is = (refl, (refl, refl))
 
-pub drop_reservation_is : IsWrite reservations.DROP.now (drop_command 7 14 (1 ∷ 2 ∷ 3 ∷ []))
+pub drop_reservation_is : IsWrite reservations.DROP.now (drop_command 7 14 (where_is 0 (1 ∷ 2 ∷ 3 ∷ [])))
 unfolding understood everything
 drop_reservation_is = (refl, (refl, refl))
 
-pub drop_entries_is : IsWrite list_entries.DROP.now (drop_command 9 18 (1 ∷ 2 ∷ []))
+pub drop_entries_is : IsWrite list_entries.DROP.now (drop_command 9 18 (where_is 0 (1 ∷ 2 ∷ [])))
 unfolding understood everything
 drop_entries_is = (refl, (refl, refl))
+
+pub drop_readings_is : IsWrite readings.DROP.now (drop_command 6 12 (where_is 0 (1 ∷ 2 ∷ []) ++ range_is 2 3))
+unfolding understood everything
+drop_readings_is = (refl, (refl, refl))
+
+pub drop_txs_is : IsWrite txs.DROP.now (drop_command 5 10 (where_is 0 (1 ∷ 2 ∷ []) ++ range_is 2 3))
+unfolding understood everything
+drop_txs_is = (refl, (refl, refl))
+
+pub drop_tx_owners_is : IsWrite tx_owners.DROP.now (drop_command 11 22 (where_is 0 (1 ∷ 2 ∷ []) ++ range_is 2 3))
+unfolding understood everything
+drop_tx_owners_is = (refl, (refl, refl))
 
 pub find_stations_is : IsRead stations.FIND.now (plain_query (inner 2 end) (where_is 0 (1 ∷ []) ++ range_is 1 2) (cols 1 1 15) (by_column 2 ∷ [])) (names_of hub_station)
 unfolding understood everything
@@ -124,6 +136,10 @@ pub find_last_tx_is : IsRead txs.FIND_LAST.now (last_query 10 (where_is 0 (1 ∷
 unfolding understood everything
 find_last_tx_is = (refl, (refl, refl), refl)
 
+pub page_of_txs_is : IsRead txs.PAGE.now (page_query 10 (where_is 0 (1 ∷ 2 ∷ []) ++ range_is 2 3) (cols 1 1 18) 3 256) (names_of hub_tx)
+unfolding understood everything
+page_of_txs_is = (refl, (refl, refl), refl)
+
 pub list_txs_in_use_is : IsRead txs.LIST_IN_USE.now (plain_query (inner 10 end) (where_is 0 (1 ∷ 5 ∷ 13 ∷ [])) (cols 1 1 18) ([])) (names_of hub_tx)
 unfolding understood everything
 list_txs_in_use_is = (refl, (refl, refl), refl)
@@ -151,6 +167,10 @@ list_tx_readings_is = (refl, (refl, refl), refl)
 pub find_last_reading_is : IsRead readings.FIND_LAST.now (last_query 12 (where_is 0 (1 ∷ 2 ∷ [])) (cols 1 1 13) 3) (names_of hub_reading)
 unfolding understood everything
 find_last_reading_is = (refl, (refl, refl), refl)
+
+pub page_of_readings_is : IsRead readings.PAGE.now (page_query 12 (where_is 0 (1 ∷ 2 ∷ []) ++ range_is 2 3) (cols 1 1 13) 3 256) (names_of hub_reading)
+unfolding understood everything
+page_of_readings_is = (refl, (refl, refl), refl)
 
 pub find_reservations_is : IsRead reservations.FIND.now (plain_query (inner 14 end) (where_is 0 (1 ∷ 2 ∷ []) ++ range_is 2 3) (cols 1 1 7) (by_column 3 ∷ [])) (names_of hub_reservation)
 unfolding understood everything

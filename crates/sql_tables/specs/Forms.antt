@@ -50,6 +50,10 @@ by_column at = (col 1 at, record { collation = Binary; descending = false })
 abbrev pub last_query : ℕ → List Term → List Term → ℕ → Query
 last_query tree filter project at = record (plain_query (inner tree end) filter project ((col 1 at, record { collation = Binary; descending = true }) ∷ [])) { limit = lit (Int (pos 1)) }
 
+-- the first rows in the ascending order of this column, at most so many
+abbrev pub page_query : ℕ → List Term → List Term → ℕ → ℕ → Query
+page_query tree filter project at most = record (plain_query (inner tree end) filter project (by_column at ∷ [])) { limit = lit (Int (pos most)) }
+
 -- ---- INSERT of a row of w columns, into the table at that place of the schema
 
 abbrev pub put_terms : ℕ → List Term
@@ -76,10 +80,10 @@ put_clause tree n m = record { target = Some (places 1 n); update = Some (record
 abbrev pub put_command : ℕ → ℕ → ℕ → ℕ → Command
 put_command at tree n m = InsertOr at Abort (Values (put_terms (n + m)) (n + m + 1)) (put_clause tree n m ∷ [])
 
--- ---- DELETE .. WHERE these columns equal the parameters
+-- ---- DELETE .. WHERE
 
-abbrev pub drop_query : ℕ → List ℕ → Query
-drop_query tree columns = plain_query (inner tree end) (where_is 0 columns) (col 1 0 ∷ []) []
+abbrev pub drop_query : ℕ → List Term → Query
+drop_query tree filter = plain_query (inner tree end) filter (col 1 0 ∷ []) []
 
-abbrev pub drop_command : ℕ → ℕ → List ℕ → Command
-drop_command at tree columns = Delete at (record { lets = []; body = drop_query tree columns })
+abbrev pub drop_command : ℕ → ℕ → List Term → Command
+drop_command at tree filter = Delete at (record { lets = []; body = drop_query tree filter })

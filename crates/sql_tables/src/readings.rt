@@ -38,8 +38,18 @@ pub const FIND_LAST: &str = with_columns!(
     " FROM hub_reading WHERE op = ?1 AND station = ?2 ORDER BY number DESC LIMIT 1"
 );
 
+/// The first readings of a station whose numbers lie in a range.
+pub const PAGE: &str = with_columns!(
+    "SELECT ",
+    " FROM hub_reading WHERE op = ?1 AND station = ?2 AND number BETWEEN ?3 AND ?4 ORDER BY number LIMIT 256"
+);
+
 /// Adds a reading.
 pub const ADD: &str = with_columns!(
     "INSERT INTO hub_reading (",
     ") VALUES (?1, ?2, ?3, ?4, ?5, ?6, ?7, ?8, ?9, ?10, ?11, ?12, ?13)"
 );
+
+/// Drops the readings of a station whose numbers lie in a range.
+pub const DROP: &str =
+    "DELETE FROM hub_reading WHERE op = ?1 AND station = ?2 AND number BETWEEN ?3 AND ?4";

@@ -22,3 +22,7 @@ pub const FIND: &str = with_columns!(
 
 /// Adds an owner.
 pub const ADD: &str = with_columns!("INSERT INTO hub_tx_owner (", ") VALUES (?1, ?2, ?3, ?4)");
+
+/// Drops the owners of the tags of a station's transactions whose numbers lie in a range.
+pub const DROP: &str =
+    "DELETE FROM hub_tx_owner WHERE op = ?1 AND station = ?2 AND number BETWEEN ?3 AND ?4";

@@ -45,6 +45,12 @@ pub const FIND_LAST: &str = with_columns!(
     " FROM hub_tx WHERE op = ?1 AND station = ?2 ORDER BY number DESC LIMIT 1"
 );
 
+/// The first transactions of a station whose numbers lie in a range.
+pub const PAGE: &str = with_columns!(
+    "SELECT ",
+    " FROM hub_tx WHERE op = ?1 AND station = ?2 AND number BETWEEN ?3 AND ?4 ORDER BY number LIMIT 256"
+);
+
 /// The transactions by which a tag is in use.
 pub const LIST_IN_USE: &str = with_columns!(
     "SELECT ",
@@ -80,3 +86,7 @@ pub const PUT: &str = with_columns!(
     "INSERT INTO hub_tx (",
     ") VALUES (?1, ?2, ?3, ?4, ?5, ?6, ?7, ?8, ?9, ?10, ?11, ?12, ?13, ?14, ?15, ?16, ?17, ?18) ON CONFLICT (op, station, number) DO UPDATE SET connector = excluded.connector, tag_key = excluded.tag_key, meter_start = excluded.meter_start, start_at = excluded.start_at, id_tag = excluded.id_tag, reservation_id = excluded.reservation_id, status = excluded.status, begun = excluded.begun, is_open = excluded.is_open, in_use = excluded.in_use, meter_stop = excluded.meter_stop, stop_at = excluded.stop_at, stop_reason = excluded.stop_reason, stop_id_tag = excluded.stop_id_tag, ended = excluded.ended"
 );
+
+/// Drops the transactions of a station whose numbers lie in a range.
+pub const DROP: &str =
+    "DELETE FROM hub_tx WHERE op = ?1 AND station = ?2 AND number BETWEEN ?3 AND ?4";

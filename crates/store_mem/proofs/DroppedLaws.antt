@@ -12,7 +12,7 @@ use Rattle.hub_rows.proofs.PlaceLaws.{placed}
 use Rattle.store_mem.specs.declared.groups.Group.{Group}
 use Rattle.store_mem.specs.Groups.{name_key, all_of, AreGroups}
 use Rattle.store_mem.proofs.GroupLaws.{all_of-append, parts-found, set-without, without-mine}
-use Rattle.store_mem.proofs.RowLaws.{all-append, filter-all}
+use Rattle.hub_rows.proofs.FilterLaws.{all-append, filter-all}
 
 pub all-passed : {R : Type 0} (t : R → Bool) (xs : List R) → AllByRecursion (λ r. t r ≡ true) (filter t xs)
 all-passed t [] = tt

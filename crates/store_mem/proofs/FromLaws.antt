@@ -8,13 +8,12 @@ use Rattle.std.proofs.Common.{refl, sym, ◌∙◌, ap, subst, arith}
 use Rattle.std.proofs.lemmas.Bool.{le-leb, lt-leb}
 use Rattle.std.proofs.lemmas.List.{take-append-drop}
 use Rattle.std.proofs.lemmas.List.Elements.{filter-append}
-use Rattle.hub_rows.specs.Keyed.{key_cmp}
+use Rattle.hub_rows.specs.Keyed.{key_cmp, number_key}
 use Rattle.hub_rows.specs.Places.{AllAbove, IsFoundAt, IsGapAt}
 use Rattle.hub_rows.proofs.ListLaws.{all-weaker}
 use Rattle.hub_rows.proofs.Steps.{drop_here}
-use Rattle.store_mem.specs.NamedGroups.{number_key}
-use Rattle.store_mem.proofs.RowLaws.{filter-all, filter-no}
-use Rattle.store_mem.proofs.StationRowsLaws.{less-number, number_order}
+use Rattle.hub_rows.proofs.FilterLaws.{filter-all, filter-no}
+use Rattle.hub_rows.proofs.NumberLaws.{less-number, number_order}
 
 greater-number : (m n : ℕ) → key_cmp ((m ∷ []) ∷ []) ((n ∷ []) ∷ []) ≡ Greater → n < m
 greater-number m n e = subst (λ o. MatchOrdering o (m < n) (m ≡ n) (n < m)) (sym (number_order m n) ∙ e) (ranked m n (nat_cmp m n) refl)

@@ -28,7 +28,7 @@ use Rattle.hub_rows.proofs.Steps.{drop_here}
 use Rattle.store_mem.specs.declared.received.Received.{Received}
 use Rattle.store_mem.specs.Received.{receiver_key, least_key, IsFrom, AreReceived}
 use Rattle.store_mem.proofs.ReceivedLaws.{received-of}
-use Rattle.store_mem.proofs.RowLaws.{all-both, all-front}
+use Rattle.hub_rows.proofs.FilterLaws.{all-both, all-front}
 
 -- ---- all that is granted
 

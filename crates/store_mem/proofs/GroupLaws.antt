@@ -20,7 +20,8 @@ use Rattle.hub_rows.proofs.ListLaws.{keys_total, by_key_total, all-weaker, all-f
 use Rattle.hub_rows.proofs.PlaceLaws.{all-back, put-passed, put-gap}
 use Rattle.store_mem.specs.declared.groups.Group.{Group}
 use Rattle.store_mem.specs.Groups.{name_key, all_of, AreOfGroup, AreGroups}
-use Rattle.store_mem.proofs.RowLaws.{all-append, all-front, all-both, filter-all, filter-no, sorted-swap}
+use Rattle.store_mem.proofs.RowLaws.{sorted-swap}
+use Rattle.hub_rows.proofs.FilterLaws.{all-append, all-both, all-front, filter-all, filter-no}
 
 -- ---- one's own rows
 

@@ -15,5 +15,8 @@ pub mod OpenTxLaws
 pub mod StartLaws
 pub mod NewRows
 pub mod TxOwnerLaws
+pub mod NumberLaws
+pub mod FirstLaws
+pub mod ForgottenLaws
 pub mod UseLaws
 pub mod Named

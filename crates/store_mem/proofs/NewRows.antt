@@ -7,11 +7,11 @@ use Rattle.std.specs.declared.cmp.Ordering.TheVariants.{Less}
 use Rattle.std.proofs.Common.{refl, sym, ◌∙◌, subst, arith, ⊎_elim}
 use Rattle.hub_rows.specs.declared.reading_row.Reading.{Reading}
 use Rattle.hub_rows.specs.declared.reading_row.ReadingRow.{ReadingRow}
-use Rattle.hub_rows.specs.Keyed.{by_key, those, greatest}
+use Rattle.hub_rows.specs.Keyed.{by_key, those, greatest, number_key}
 use Rattle.hub_rows.specs.Transactions.{reading_rows, readings_in, AreNext}
 use Rattle.hub_rows.proofs.ListLaws.{all-weaker, and-true}
-use Rattle.store_mem.specs.NamedGroups.{number_key, AreOf}
-use Rattle.store_mem.proofs.StationRowsLaws.{number-less}
+use Rattle.store_mem.specs.NamedGroups.{AreOf}
+use Rattle.hub_rows.proofs.NumberLaws.{number-less}
 
 -- numbers that follow the last are above it
 pub follows-above : (last first count : ℕ) → 1 ≤ count → AreNext last first count → last < first

@@ -22,14 +22,14 @@ use Rattle.hub_rows.specs.Keyed.{text_cmp, by_key, key_cmp, put, changed, found,
 use Rattle.hub_rows.specs.Rows.{tx_key}
 use Rattle.hub_rows.specs.Transactions.{counts, is_tx, is_left_out, is_used_in}
 use Rattle.hub_rows.proofs.ListLaws.{by_key_total, all-filter, all-weaker, put-front, put-agree, same_key, same_text, text_itself, two_parts, head, keys_total, and-true}
+use Rattle.store_mem.proofs.DroppedLaws.{all-passed}
 use Rattle.store_mem.specs.declared.named_groups.NamedGroup.{NamedGroup}
 use Rattle.store_mem.specs.declared.open.OpenRow.{OpenRow}
 use Rattle.store_mem.specs.NamedGroups.{rows_at, AreInPlace}
 use Rattle.store_mem.specs.Open.{open_key, open_of, is_open_tx, is_excepted, has_other, opens_of, AreOpens}
-use Rattle.store_mem.proofs.DroppedLaws.{all-passed}
 use Rattle.store_mem.proofs.ReceivedLaws.{map-filter, map-put}
-use Rattle.store_mem.proofs.RowLaws.{all-both, filter-all}
 use Rattle.store_mem.proofs.StationRowsLaws.{second}
+use Rattle.hub_rows.proofs.FilterLaws.{all-both, filter-alike, filter-all}
 
 -- ---- whether one is not left out
 
@@ -230,10 +230,6 @@ module _ (stands : TxRow → Bool) (name : TxRow → List ℕ) where
           | false ↦ λ e. ap (map open_of) (filter-all (λ r. not (ending r)) rs (all-weaker (λ r. (is b n r ≡ true) × (ending r ≡ true → name r ≡ k)) (λ r. not (ending r) ≡ true) (λ r at. other r e at.0 at.1) rs facts))
         ] refl
       where
-        filter-alike : (t u : TxRow → Bool) (xs : List TxRow) → AllByRecursion (λ x. t x ≡ u x) xs → filter t xs ≡ filter u xs
-        filter-alike t u [] all = refl
-        filter-alike t u (x ∷ xs) all = λ i. cond (all.0 i) (x ∷ filter-alike t u xs all.1 i) (filter-alike t u xs all.1 i)
-
         other : (r : TxRow) → (bytes_eq o b && bytes_eq k n) ≡ false → is b n r ≡ true → (ending r ≡ true → name r ≡ k) → not (ending r) ≡ true
         other r e its it =
             elim (ending r) as (λ t. ending r ≡ t → not t ≡ true) [

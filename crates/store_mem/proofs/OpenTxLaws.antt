@@ -17,11 +17,11 @@ use Rattle.hub_rows.specs.Rows.{tx_key}
 use Rattle.hub_rows.specs.Transactions.{has_open_in, is_open, is_tx, open_txs_in}
 use Rattle.hub_rows.proofs.ListLaws.{all-filter, all-weaker, and-true, keys_total, same_text, text_itself}
 use Rattle.hub_rows.proofs.PlaceLaws.{all-at}
+use Rattle.store_mem.proofs.DroppedLaws.{all-passed}
 use Rattle.store_mem.specs.declared.open.OpenRow.{OpenRow}
 use Rattle.store_mem.specs.Open.{open_key, open_of, opens_of, has_at, tx_of, txs_of}
-use Rattle.store_mem.proofs.DroppedLaws.{all-passed}
 use Rattle.store_mem.proofs.OpenLaws.{and_false}
-use Rattle.store_mem.proofs.RowLaws.{all-both}
+use Rattle.hub_rows.proofs.FilterLaws.{all-both}
 
 -- ---- a search for a station
 
@@ -121,7 +121,7 @@ module _ (b : List ℕ) where
       ] refl
 
   -- a transaction of the operator is found by its station and number
-  found_itself : (txs : List TxRow) → IsStrictlySortedBy (by_key tx_key) txs → AllByRecursion (λ r. r.op ≡ b → tx_of b txs (open_of r) ≡ Some r) txs
+  pub found_itself : (txs : List TxRow) → IsStrictlySortedBy (by_key tx_key) txs → AllByRecursion (λ r. r.op ≡ b → tx_of b txs (open_of r) ≡ Some r) txs
   unfolding IsStrictlySortedBy
   found_itself [] sorted = tt
   found_itself (x ∷ txs) sorted = (

@@ -3,31 +3,40 @@ use Rattle.std.specs.Prelude.{◌≡◌, ℕ, List, [], ◌∷◌, ◌++◌, Boo
 use Rattle.std.specs.List.{AllByRecursion}
 use Rattle.std.specs.List.Sorted.{IsStrictlySortedBy}
 use Rattle.std.specs.declared.cmp.Ordering.TheVariants.{Less}
-use Rattle.std.proofs.Common.{refl, sym, ◌∙◌, subst}
+use Rattle.std.proofs.Common.{refl, sym, ◌∙◌, ap, subst}
 use Rattle.hub_rows.specs.Keyed.{key_cmp, by_key}
 use Rattle.hub_rows.proofs.PlaceLaws.{map-append}
 
 -- ---- lists
 
-pub all-append : {R : Type 0} (P : R → Type 0) (xs ys : List R) → AllByRecursion P xs → AllByRecursion P ys → AllByRecursion P (xs ++ ys)
-all-append P [] ys all more = more
-all-append P (x ∷ xs) ys all more = (all.0, all-append P xs ys all.1 more)
+-- of those that pass a test none was dropped
+pub filter-kept : {R : Type 0} (t stays : R → Bool) (xs : List R) → AllByRecursion (λ x. t x ≡ true → stays x ≡ true) xs → filter t (filter stays xs) ≡ filter t xs
+filter-kept t stays [] all = refl
+filter-kept t stays (x ∷ xs) all =
+    elim (stays x) as (λ b. stays x ≡ b → filter t (cond b (x ∷ filter stays xs) (filter stays xs)) ≡ cond (t x) (x ∷ filter t xs) (filter t xs)) [
+      | true ↦ λ e. ap (λ ys. cond (t x) (x ∷ ys) ys) (filter-kept t stays xs all.1)
+      | false ↦ λ e. filter-kept t stays xs all.1 ∙ sym (ap (λ b. cond b (x ∷ filter t xs) (filter t xs)) (fails e))
+    ] refl
+  where
+    fails : stays x ≡ false → t x ≡ false
+    fails e = elim (t x) as (λ b. t x ≡ b → b ≡ false) [ true ↦ λ passes. sym (all.0 passes) ∙ e | false ↦ λ passes. refl ] refl
 
-pub all-front : {R : Type 0} (P : R → Type 0) (front back : List R) → AllByRecursion P (front ++ back) → AllByRecursion P front
-all-front P [] back all = tt
-all-front P (x ∷ front) back all = (all.0, all-front P front back all.1)
-
-pub all-both : {R : Type 0} (P Q : R → Type 0) (xs : List R) → AllByRecursion P xs → AllByRecursion Q xs → AllByRecursion (λ x. P x × Q x) xs
-all-both P Q [] all more = tt
-all-both P Q (x ∷ xs) all more = ((all.0, more.0), all-both P Q xs all.1 more.1)
-
-pub filter-all : {R : Type 0} (t : R → Bool) (xs : List R) → AllByRecursion (λ r. t r ≡ true) xs → filter t xs ≡ xs
-filter-all t [] all = refl
-filter-all t (x ∷ xs) all = λ i. cond (all.0 i) (x ∷ filter-all t xs all.1 i) (filter-all t xs all.1 i)
-
-pub filter-no : {R : Type 0} (t : R → Bool) (xs : List R) → AllByRecursion (λ r. t r ≡ false) xs → filter t xs ≡ []
-filter-no t [] all = refl
-filter-no t (x ∷ xs) all = λ i. cond (all.0 i) (x ∷ filter-no t xs all.1 i) (filter-no t xs all.1 i)
+-- two tests one after the other, where the second answers alike on what passes the first
+pub filter-swap : {R : Type 0} (t stays keeps : R → Bool) → ((x : R) → t x ≡ true → stays x ≡ keeps x) → (xs : List R) → filter t (filter stays xs) ≡ filter keeps (filter t xs)
+filter-swap t stays keeps alike [] = refl
+filter-swap t stays keeps alike (x ∷ xs) =
+    let more = filter-swap t stays keeps alike xs in
+    elim (t x) as (λ a. t x ≡ a → filter t (cond (stays x) (x ∷ filter stays xs) (filter stays xs)) ≡ filter keeps (cond a (x ∷ filter t xs) (filter t xs))) [
+      | true ↦ λ passes. elim (stays x) as (λ b. stays x ≡ b → filter t (cond b (x ∷ filter stays xs) (filter stays xs)) ≡ cond (keeps x) (x ∷ filter keeps (filter t xs)) (filter keeps (filter t xs))) [
+        | true ↦ λ e. ap (λ b. cond b (x ∷ filter t (filter stays xs)) (filter t (filter stays xs))) passes ∙ ap (λ ys. x ∷ ys) more
+            ∙ sym (ap (λ b. cond b (x ∷ filter keeps (filter t xs)) (filter keeps (filter t xs))) (sym (alike x passes) ∙ e))
+        | false ↦ λ e. more ∙ sym (ap (λ b. cond b (x ∷ filter keeps (filter t xs)) (filter keeps (filter t xs))) (sym (alike x passes) ∙ e))
+      ] refl
+      | false ↦ λ fails. elim (stays x) as (λ b. filter t (cond b (x ∷ filter stays xs) (filter stays xs)) ≡ filter keeps (filter t xs)) [
+        | true ↦ ap (λ b. cond b (x ∷ filter t (filter stays xs)) (filter t (filter stays xs))) fails ∙ more
+        | false ↦ more
+      ]
+    ] refl
 
 -- ---- the order
 

@@ -26,15 +26,15 @@ use Rattle.hub_rows.proofs.GrantLaws.{second}
 use Rattle.hub_rows.proofs.ListLaws.{keys_total, by_key_total, all-weaker, filter-put, filter-put_not, put-agree, ties_key, same_key, same_text, head}
 use Rattle.hub_rows.proofs.OrderLaws.{find-first, in_order-sorted, filter-in_order, in_order-put}
 use Rattle.hub_rows.proofs.PlaceLaws.{find-none}
+use Rattle.store_mem.proofs.DroppedLaws.{all-passed}
 use Rattle.store_mem.specs.declared.starts.StartRow.{StartRow}
 use Rattle.store_mem.specs.declared.named_groups.NamedGroup.{NamedGroup}
 use Rattle.store_mem.specs.NamedGroups.{rows_at, AreInPlace}
 use Rattle.store_mem.specs.Starts.{sign, code, start_key, start_of, starts_of, AreStarts, number_of}
 use Rattle.std.proofs.lemmas.Map.Text.{is_eq-slice_cmp}
-use Rattle.store_mem.proofs.DroppedLaws.{all-passed}
 use Rattle.store_mem.proofs.ReceivedLaws.{map-filter, map-put}
-use Rattle.store_mem.proofs.RowLaws.{all-both}
-use Rattle.store_mem.proofs.StationRowsLaws.{all-above, found-those, number-greater, those-those}
+use Rattle.hub_rows.proofs.FilterLaws.{all-both}
+use Rattle.hub_rows.proofs.NumberLaws.{all-above, found-those, number-greater, those-those}
 
 -- ---- equal starts have one code
 

@@ -1,5 +1,5 @@
 -- Rows kept station by station: what is found of them, and what more rows of one station make.
-use Rattle.std.specs.Prelude.{◌≡◌, ℕ, ◌+◌, ◌-◌, Some, ◌<◌, ◌≤◌, max, List, [], ◌∷◌, ◌++◌, length, take, drop, Bool, true, false, cond, ◌&&◌, ◌||◌, ◌==◌, filter, map, find}
+use Rattle.std.specs.Prelude.{◌≡◌, ℕ, ◌+◌, ◌-◌, Some, ◌<◌, ◌≤◌, max, List, [], ◌∷◌, ◌++◌, length, take, drop, Bool, true, false, cond, ◌&&◌, ◌||◌, ◌==◌, not, filter, map, find}
 use Rattle.std.specs.List.{AllByRecursion, list_any, slice_get}
 use Rattle.std.specs.List.Sorted.{IsStrictlySortedBy}
 use Rattle.std.specs.Ordering.{nat_cmp, ordering_then, ordering_reverse, is_eq, MatchOrdering}
@@ -12,26 +12,25 @@ use Rattle.std.proofs.Math.ListN.{set}
 use Rattle.std.proofs.lemmas.Bool.{and_parts}
 use Rattle.std.proofs.lemmas.List.{take-append-drop}
 use Rattle.std.proofs.lemmas.List.Elements.{filter-append}
+use Rattle.std.proofs.lemmas.List.Kept.{IsStrictlySortedBy-filter}
 use Rattle.std.proofs.Math.Nat.{le-max_left, le-max_right, max-zero, max-eq_right}
 use Rattle.std.proofs.lemmas.Cmp.{tied_itself, nat_list_cmp_total}
-use Rattle.hub_rows.specs.Keyed.{text_cmp, key_cmp, by_key, put_all, found, those, any_of, numbered_key, greatest}
+use Rattle.hub_rows.specs.Forgetting.{has_number, is_one_of}
+use Rattle.hub_rows.specs.Keyed.{text_cmp, key_cmp, by_key, put_all, found, those, any_of, numbered_key, greatest, number_key}
 use Rattle.hub_rows.specs.Places.{AllBelow, AllAbove, IsFoundAt, IsGapAt}
-use Rattle.hub_rows.proofs.ListLaws.{keys_total, by_key_total, all-weaker, put-front, sorted-put, set_here, two_parts, head, same_text}
+use Rattle.hub_rows.proofs.ListLaws.{keys_total, by_key_total, all-filter, all-weaker, put-front, sorted-put, set_here, two_parts, head, same_text}
 use Rattle.hub_rows.proofs.PlaceLaws.{all-back, map-append, map-none, put-passed, put-gap}
 use Rattle.store_mem.specs.declared.named_groups.NamedGroup.{NamedGroup}
-use Rattle.store_mem.specs.NamedGroups.{number_key, group_key, is_at, rows_or_none, rows_at, all_rows, AreOf, AreGrouped}
-use Rattle.store_mem.proofs.RowLaws.{all-append, all-front, all-both, filter-all, filter-no, sorted-kept, sorted-swap}
+use Rattle.store_mem.specs.NamedGroups.{group_key, is_at, rows_or_none, rows_at, all_rows, AreOf, AreGrouped}
+use Rattle.store_mem.proofs.RowLaws.{sorted-kept, sorted-swap}
+use Rattle.hub_rows.proofs.FilterLaws.{all-append, all-both, all-front, filter-alike, filter-all, filter-no}
+use Rattle.hub_rows.proofs.NumberLaws.{all-above, number-greater, number-less}
 
 -- ---- lists
 
 pub map-same : {R : Type 0} (t u : R → Bool) (f : R → R) (xs : List R) → AllByRecursion (λ r. t r ≡ u r) xs → map (λ r. cond (t r) (f r) r) xs ≡ map (λ r. cond (u r) (f r) r) xs
 map-same t u f [] all = refl
 map-same t u f (x ∷ xs) all = λ i. cond (all.0 i) (f x) x ∷ map-same t u f xs all.1 i
-
--- what one looks for is found among the rows of one station
-pub found-those : {R : Type 0} (op : R → List ℕ) (b : List ℕ) (p q : R → Bool) (xs : List R) → found op b (λ r. p r && q r) xs ≡ find q (those op b p xs)
-found-those op b p q [] = refl
-found-those op b p q (x ∷ xs) = grind (arith, found-those op b p q xs)
 
 pub any-those : {R : Type 0} (op : R → List ℕ) (b : List ℕ) (p q : R → Bool) (xs : List R) → any_of op b (λ r. p r && q r) xs ≡ list_any q (those op b p xs)
 any-those op b p q [] = refl
@@ -43,10 +42,6 @@ any-those op b p q (x ∷ xs) =
       ]
       | false ↦ any-those op b p q xs
     ]
-
-pub those-those : {R : Type 0} (op : R → List ℕ) (b : List ℕ) (p q : R → Bool) (xs : List R) → those op b (λ r. p r && q r) xs ≡ filter q (those op b p xs)
-those-those op b p q [] = refl
-those-those op b p q (x ∷ xs) = grind (arith, those-those op b p q xs)
 
 -- ---- the order
 
@@ -72,22 +67,6 @@ then-greater Equal Equal q e = absurd (cc)
 then-greater Equal Greater q e = refl
 then-greater Greater p q e = refl
 
--- the order of numbers, as parts of keys
-pub number_order : (m n : ℕ) → key_cmp ((m ∷ []) ∷ []) ((n ∷ []) ∷ []) ≡ nat_cmp m n
-number_order m n = elim (nat_cmp m n) as (λ o. ordering_then (ordering_then o Equal) Equal ≡ o) [ Less ↦ refl | Equal ↦ refl | Greater ↦ refl ]
-
-pub number-less : (m n : ℕ) → m < n → key_cmp ((m ∷ []) ∷ []) ((n ∷ []) ∷ []) ≡ Less
-number-less m n below = number_order m n ∙ sym (nat_cmp_is m n Less below)
-
-some_same : {R : Type 0} (r x : R) → Some r ≡ Some x → r ≡ x
-some_same r x e = cc
-
-pub less-number : (m n : ℕ) → key_cmp ((m ∷ []) ∷ []) ((n ∷ []) ∷ []) ≡ Less → m < n
-less-number m n e = subst (λ o. MatchOrdering o (m < n) (m ≡ n) (n < m)) (sym (number_order m n) ∙ e) (ranked m n (nat_cmp m n) refl)
-
-pub number-greater : (m n : ℕ) → n < m → key_cmp ((m ∷ []) ∷ []) ((n ∷ []) ∷ []) ≡ Greater
-number-greater m n above = number_order m n ∙ sym (nat_cmp_is m n Greater above)
-
 -- keys of one station compare by their numbers
 same_station : (a b : List ℕ) (k l : List (List ℕ)) → key_cmp (a ∷ b ∷ k) (a ∷ b ∷ l) ≡ key_cmp k l
 same_station a b k l = λ i. ordering_then (tied_itself nat_list_cmp_total a i) (ordering_then (tied_itself nat_list_cmp_total b i) (key_cmp k l))
@@ -103,28 +82,6 @@ and-true true false n e = absurd (cc)
 and-true false q n e = absurd (cc)
 
 -- ---- numbers
-
-pub all-above : {R : Type 0} (number : R → ℕ) (n : ℕ) (xs : List R) → greatest (map number xs) < n → AllByRecursion (λ x. number x < n) xs
-all-above number n [] below = tt
-all-above number n (x ∷ xs) below =
-    let here : number x ≤ max (number x) (greatest (map number xs)) = le-max_left (number x) (greatest (map number xs)) in
-    let there : greatest (map number xs) ≤ max (number x) (greatest (map number xs)) = le-max_right (number x) (greatest (map number xs)) in
-    (omega (arith, here, there), all-above number n xs (omega (arith, here, there)))
-
--- the greatest is the last, in the order of the numbers
-last_from : {R : Type 0} (number : R → ℕ) (x : R) (xs : List R) (r : R) → IsStrictlySortedBy (by_key (number_key number)) (x ∷ xs) → Some r ≡ slice_get (x ∷ xs) (length xs) → number r ≡ greatest (map number (x ∷ xs))
-unfolding IsStrictlySortedBy
-last_from number x [] r sorted is = ap number (some_same r x is) ∙ sym (max-zero (number x))
-last_from number x (y ∷ xs) r sorted is =
-    let low : number x < number y = less-number (number x) (number y) sorted.0.0 in
-    let high : number y ≤ greatest (map number (y ∷ xs)) = le-max_left (number y) (greatest (map number xs)) in
-    last_from number y xs r sorted.1 is ∙ sym (max-eq_right (omega (arith, low, high)))
-
-pub last_greatest : {R : Type 0} (number : R → ℕ) (xs : List R) (r : R) → IsStrictlySortedBy (by_key (number_key number)) xs → Some r ≡ slice_get xs (length xs - 1) → number r ≡ greatest (map number xs)
-last_greatest number [] r sorted is = absurd (cc)
-last_greatest number (x ∷ xs) r sorted is =
-    let here : length (x ∷ xs) - 1 ≡ length xs = omega arith in
-    last_from number x xs r sorted (is ∙ ap (slice_get (x ∷ xs)) here)
 
 -- ---- the rows of all stations
 
@@ -274,6 +231,21 @@ module _ {R : Type 0} (op station : R → List ℕ) (number : R → ℕ) (b st :
       ap (map g) parts.split ∙ map-append g front (rows ++ back) ∙ ap (λ xs. map g front ++ xs) (map-append g rows back)
       ∙ (λ i. none front parts.front_not i ++ (map-same t (λ r. number r == n) f rows (all-weaker (λ r. mine r ≡ true) (λ r. t r ≡ (number r == n)) (λ r e. and-true (bytes_eq (op r) b) (bytes_eq (station r) st) (number r == n) e) rows (all_mine rows parts.of_station.mine)) i ++ none back parts.back_not i))
 
+  -- the rows with some numbers are dropped
+  abbrev goes : List ℕ → R → Bool
+  goes numbers r = bytes_eq (op r) b && is_one_of station number st numbers r
+
+  pub dropped-parts : (ss : List (NamedGroup R)) (front rows back : List R) (numbers : List ℕ) → Parts ss front rows back
+      → filter (λ r. not (goes numbers r)) (all_rows ss) ≡ front ++ (filter (λ r. not (has_number numbers (number r))) rows ++ back)
+  dropped-parts ss front rows back numbers parts =
+      let stays : R → Bool = (λ r. not (goes numbers r)) in
+      let all : (xs : List R) → AllByRecursion (λ r. mine r ≡ false) xs → filter stays xs ≡ xs = (λ xs none. filter-all stays xs (all-weaker (λ r. mine r ≡ false) (λ r. stays r ≡ true)
+      (λ r e. ap not (and-false (bytes_eq (op r) b) (bytes_eq (station r) st) (has_number numbers (number r)) e)) xs none)) in
+      ap (filter stays) parts.split ∙ filter-append stays front (rows ++ back) ∙ ap (λ xs. filter stays front ++ xs) (filter-append stays rows back)
+      ∙ (λ i. all front parts.front_not i ++ (filter-alike stays (λ r. not (has_number numbers (number r))) rows
+      (all-weaker (λ r. mine r ≡ true) (λ r. stays r ≡ not (has_number numbers (number r))) (λ r e. ap not (and-true (bytes_eq (op r) b) (bytes_eq (station r) st) (has_number numbers (number r)) e)) rows (all_mine rows parts.of_station.mine)) i
+      ++ all back parts.back_not i))
+
   -- ---- more rows
 
   -- rows of one station are in the order of their keys
@@ -391,6 +363,9 @@ module _ {R : Type 0} (op station : R → List ℕ) (number : R → ℕ) (b st :
       mines [] all = tt
       mines (x ∷ rows) all = (elim (number x == n) as (λ t. IsMine (cond t (f x) x)) [ true ↦ ((same x).0 ∙ all.0.0, (same x).1.0 ∙ all.0.1) | false ↦ all.0 ], mines rows all.1)
 
+  pub of-filter : (keeps : R → Bool) (rows : List R) → AreOf op station number b st rows → AreOf op station number b st (filter keeps rows)
+  of-filter keeps rows are = record { mine = all-filter IsMine keeps rows are.mine; sorted = IsStrictlySortedBy-filter (by_key (number_key number)) keeps rows are.sorted }
+
   -- ---- what becomes of the rows of a station
 
   abbrev IsChanged : List (NamedGroup R) → List R → Type 0
@@ -416,6 +391,12 @@ module _ {R : Type 0} (op station : R → List ℕ) (number : R → ℕ) (b st :
         let to = changed_to (at.row.rows.items ++ new) (both-of ss (all_rows (take i ss)) at.row.rows.items (all_rows (drop (i + 1) ss)) its_parts new are_new behind_these) are in
         (to.0, to.1 ∙ sym (put-parts ss (all_rows (take i ss)) at.row.rows.items (all_rows (drop (i + 1) ss)) its_parts new are_new behind_these))
 
+    pub set-dropped : (numbers : List ℕ) → s.rows.items ≡ filter (λ r. not (has_number numbers (number r))) at.row.rows.items → IsChanged (set ss i s) (filter (λ r. not (goes numbers r)) (all_rows ss))
+    set-dropped numbers are =
+        let kept : List R = filter (λ r. not (has_number numbers (number r))) at.row.rows.items in
+        let to = changed_to kept (of-filter (λ r. not (has_number numbers (number r))) at.row.rows.items its_parts.of_station) are in
+        (to.0, to.1 ∙ sym (dropped-parts ss (all_rows (take i ss)) at.row.rows.items (all_rows (drop (i + 1) ss)) numbers its_parts))
+
     pub set-changed : (n : ℕ) (f : R → R) → ((r : R) → (op (f r) ≡ op r) × ((station (f r) ≡ station r) × (number (f r) ≡ number r))) → s.rows.items ≡ map (λ r. cond (number r == n) (f r) r) at.row.rows.items
         → IsChanged (set ss i s) (map (λ r. cond (bytes_eq (op r) b && (bytes_eq (station r) st && number r == n)) (f r) r) (all_rows ss))
     set-changed n f same are =
@@ -437,6 +418,9 @@ module _ {R : Type 0} (op station : R → List ℕ) (number : R → ℕ) (b st :
     insert-none s its_op its_station are =
         let of = subst (AreOf op station number b st) (sym are) no_parts.of_station in
         (insert-groups ss i good s its_op its_station gap of, insert-rows ss i good s its_op its_station gap of ∙ ap (λ xs. all_rows (take i ss) ++ (xs ++ all_rows (drop i ss))) are ∙ sym no_parts.split)
+
+    pub dropped-none : (numbers : List ℕ) → filter (λ r. not (goes numbers r)) (all_rows ss) ≡ all_rows ss
+    dropped-none numbers = dropped-parts ss (all_rows (take i ss)) [] (all_rows (drop i ss)) numbers no_parts ∙ sym no_parts.split
 
     pub changed-none : (n : ℕ) (f : R → R) → map (λ r. cond (bytes_eq (op r) b && (bytes_eq (station r) st && number r == n)) (f r) r) (all_rows ss) ≡ all_rows ss
     changed-none n f = changed-parts ss (all_rows (take i ss)) [] (all_rows (drop i ss)) n f no_parts ∙ sym no_parts.split

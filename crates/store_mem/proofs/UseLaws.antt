@@ -7,13 +7,12 @@ use Rattle.std.specs.declared.cmp.Ordering.TheVariants.{Less}
 use Rattle.std.proofs.Common.{sym, ◌∙◌, ap}
 use Rattle.std.proofs.lemmas.Cmp.{tied_itself, nat_list_cmp_total}
 use Rattle.hub_rows.specs.declared.use_row.UseRow.{UseRow}
-use Rattle.hub_rows.specs.Keyed.{key_cmp, by_key, greatest, own}
+use Rattle.hub_rows.specs.Keyed.{key_cmp, by_key, greatest, own, number_key}
 use Rattle.hub_rows.specs.Rows.{use_key, use_rest}
 use Rattle.hub_rows.specs.Uses.{last_use_in}
 use Rattle.hub_rows.proofs.ListLaws.{all-weaker}
-use Rattle.store_mem.specs.NamedGroups.{number_key}
 use Rattle.store_mem.proofs.GroupLaws.{those-all}
-use Rattle.store_mem.proofs.RowLaws.{all-both}
+use Rattle.hub_rows.proofs.FilterLaws.{all-both}
 
 abbrev pub number : UseRow → ℕ
 number r = r.number

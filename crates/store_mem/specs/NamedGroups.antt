@@ -3,7 +3,7 @@ use Rattle.std.specs.Prelude.{◌≡◌, ℕ, ◌<◌, List, [], ◌∷◌, ◌+
 use Rattle.std.specs.List.{AllByRecursion}
 use Rattle.std.specs.List.Sorted.{IsStrictlySortedBy}
 use Rattle.std.specs.Str.{bytes_eq}
-use Rattle.hub_rows.specs.Keyed.{by_key}
+use Rattle.hub_rows.specs.Keyed.{by_key, number_key}
 use Rattle.store_mem.specs.declared.named_groups.NamedGroup.{NamedGroup}
 
 -- what tells groups apart
@@ -39,10 +39,6 @@ abbrev pub HasRoomAt : {R : Type 0} → List ℕ → List ℕ → List (NamedGro
 HasRoomAt b n ss = IsRoomAt (find (is_at b n) ss)
 
 -- ---- rows of stations, in the order of their numbers
-
--- what tells the rows of one station apart
-abbrev pub number_key : {R : Type 0} → (R → ℕ) → R → List (List ℕ)
-number_key number r = (number r ∷ []) ∷ []
 
 -- the rows of all groups in one list
 abbrev pub all_rows : {R : Type 0} → List (NamedGroup R) → List R

@@ -3,6 +3,7 @@ ghost use Rattle.std.specs.Prelude.{◌≡◌, OnOk, OnErr};
 ghost use Rattle.hub_rows.specs.Changes.{edit, EditFits};
 ghost use Rattle.hub_rows.specs.declared.change.Edit.TheVariants.{Stations, Tags, Transactions, Holdings};
 ghost use Rattle.hub_rows.specs.declared.change.StationEdit.TheVariants.{StationAdded, PolicySet, ConnectorSeen, ReportSeen};
+ghost use Rattle.hub_rows.specs.declared.change.TransactionEdit.TheVariants.{Forgotten};
 ghost use Rattle.hub_rows.specs.WellFormed.{WellFormedRows};
 ghost use Rattle.store_mem.specs.Lists.{rows_in};
 
@@ -13,8 +14,9 @@ use crate::station_copies::copy_of;
 use crate::stations::{StationChange, change_station};
 use crate::tx_owners::owner_row;
 use hub_rows::{
-    ConnectorReport, ConnectorRow, Edit, GrantRow, HoldingEdit, ListRow, ReportRow, ReportedStatus,
-    ReservationRow, StationEdit, StationRow, TagEdit, TagRow, TransactionEdit, put_row,
+    ConnectorReport, ConnectorRow, Edit, Forgettable, GrantRow, HoldingEdit, ListRow, ReportRow,
+    ReportedStatus, ReservationRow, StationEdit, StationRow, TagEdit, TagRow, TransactionEdit,
+    put_row,
 };
 use ocpp_types::{Mem, Moment, Policy, State, Text};
 
@@ -213,8 +215,22 @@ impl Lists {
                 first,
                 readings,
             } => self.readings.add(op, station, *first, readings.as_slice())?,
+            TransactionEdit::Forgotten { station, rows } => {
+                self.forget(op.as_str(), station.as_str(), rows);
+            }
         }
         Ok(())
+    }
+
+    /// Drops what is forgotten of a station's history, which can't fail.
+    fn forget(&mut self, op: &str, station: &str, rows: &Forgettable)
+        requires { EditFits op.now (Transactions (Forgotten station.now rows.now)) (rows_in self.old) }
+        ensures { rows_in self.new ≡ edit op.now (Transactions (Forgotten station.now rows.now)) (rows_in self.old) }
+    {
+        let transactions = rows.transactions.as_slice();
+        self.transactions.forget(op, station, transactions);
+        self.readings.forget(op, station, rows.readings.as_slice());
+        self.tx_owners.forget(op, station, transactions);
     }
 
     fn edit_holdings(&mut self, op: &Text, change: &HoldingEdit) -> Mem<()>

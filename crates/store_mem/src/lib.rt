@@ -3,12 +3,14 @@
 
 mod copies;
 mod edits;
+mod forgettable;
 mod granted;
 mod grants;
 mod groups;
 mod lists;
 mod mem_store;
 mod named_groups;
+mod numbers;
 mod open;
 mod readings;
 mod received;

@@ -1,17 +1,21 @@
 //! The lists that the store keeps.
 ghost use Rattle.std.specs.Prelude.{◌≡◌, IfOk};
+ghost use Rattle.hub_rows.specs.Lookups.{forgettable_in};
 ghost use Rattle.hub_rows.specs.Rows.{no_rows};
 ghost use Rattle.hub_rows.specs.Uses.{settled_use};
 ghost use Rattle.store_mem.specs.Lists.{rows_in};
 
+use crate::forgettable::forgettable;
 use crate::grants::Grants;
 use crate::readings::Readings;
 use crate::tags::Tags;
 use crate::transactions::Transactions;
 use crate::tx_owners::TxOwners;
 use crate::uses::{Uses, next_use};
-use hub_rows::{ConnectorRow, ListRow, ReportRow, ReservationRow, StationRow, Stop, UseRow};
-use ocpp_types::{Mem, Text};
+use hub_rows::{
+    ConnectorRow, History, ListRow, ReportRow, ReservationRow, StationRow, Stop, UseRow,
+};
+use ocpp_types::{Mem, Moment, Text};
 use std::alloc::Global;
 
 /// The records of all operators, each kind in the order of its keys or in groups.
@@ -50,6 +54,15 @@ impl Lists {
             tx_owners: TxOwners::new(alloc),
             uses: Uses::new(alloc),
         }
+    }
+
+    /// What of a station's history may go before a moment.
+    pub fn forgettable(&self, op: &str, station: &str, until: Moment) -> Mem<History>
+        ensures { IfOk result (λ f. f ≡ forgettable_in op.now station.now until (rows_in self.now)) }
+    {
+        let txs = self.transactions.rows_of(op, station);
+        let readings = self.readings.rows_of(op, station);
+        forgettable(self.alloc, until, txs, readings)
     }
 
     /// The use that the stop of a transaction settles, if another operator granted its tag.

@@ -13,7 +13,7 @@ use crate::reservations::reserved_until;
 use crate::station_copies::{copies_of_station, local_list_of};
 use crate::stations::registration_of;
 use hub_rows::{
-    Change, ConnectorRow, GrantRow, GrantedTag, Info, LocalList, ReadingRow, Registration,
+    Change, ConnectorRow, GrantRow, GrantedTag, History, Info, LocalList, ReadingRow, Registration,
     ReportRow, ReservationId, ReservationRow, StartKey, StationRow, Store, StoreFault, TagRow,
     TxKey, TxRow, TxState, UseRow,
 };
@@ -137,6 +137,15 @@ impl Store for MemStore {
 
     fn open_txs(&mut self, op: &str) -> Result<Listed<TxRow>, StoreFault> {
         Ok(self.lists.transactions.open_copies(op)?)
+    }
+
+    fn forgettable(
+        &mut self,
+        op: &str,
+        station: &str,
+        until: Moment,
+    ) -> Result<History, StoreFault> {
+        Ok(self.lists.forgettable(op, station, until)?)
     }
 
     fn readings(

@@ -1,14 +1,16 @@
 //! Meter readings, kept station by station.
-ghost use Rattle.std.specs.Prelude.{◌≡◌, ◌+◌, ◌≤◌, [], length, filter, IfOk, OnOk, OnErr};
+ghost use Rattle.std.specs.Prelude.{◌≡◌, ◌+◌, ◌≤◌, [], None, length, filter, IfOk, OnOk, OnErr};
 ghost use Rattle.std.proofs.Props.{props};
 ghost use Rattle.hub_rows.specs.Changes.{with_readings};
+ghost use Rattle.hub_rows.specs.Forgetting.{is_one_of};
+ghost use Rattle.hub_rows.specs.Keyed.{without};
 ghost use Rattle.hub_rows.specs.Transactions.{last_reading_in, reading_rows, readings_in, is_sent_with, AreNext};
 ghost use Rattle.store_mem.specs.NamedGroups.{all_rows, AreGrouped};
 
 use crate::copies::copy;
 use crate::named_groups::NamedGroup;
-use crate::station_rows::{append_rows, last_number, rows_of};
-use hub_rows::{Reading, ReadingRow};
+use crate::station_rows::{append_rows, drop_numbers, last_number, rows_of};
+use hub_rows::{Reading, ReadingRow, is_sent_with};
 use ocpp_types::{Listed, Mem, Text};
 use std::alloc::Global;
 
@@ -63,6 +65,20 @@ impl Readings {
         sent_with(self.alloc, rows_of(&self.rows, op, station), transaction)
     }
 
+    /// All readings of a station, lent.
+    pub fn rows_of(&self, op: &str, station: &str) -> &[ReadingRow]
+        ensures { result.now ≡ readings_in op.now station.now None (all_rows self.now.rows.items) }
+    {
+        rows_of(&self.rows, op, station)
+    }
+
+    /// Drops the readings of a station that have these numbers, which can't fail.
+    pub fn forget(&mut self, op: &str, station: &str, numbers: &[u32])
+        ensures { all_rows self.new.rows.items ≡ without (λ r. r.op) op.now (is_one_of (λ r. r.station) (λ r. r.number) station.now numbers.now) (all_rows self.old.rows.items) }
+    {
+        drop_numbers(&mut self.rows, op, station, numbers);
+    }
+
     /// The number of a station's last reading, 0 where there is none.
     pub fn last_number(&self, op: &str, station: &str) -> u32
         ensures { result ≡ last_reading_in op.now station.now (all_rows self.now.rows.items) }
@@ -112,14 +128,4 @@ fn sent_with(
         }
     }
     Ok(chosen)
-}
-
-fn is_sent_with(wanted: Option<u64>, transaction: Option<i32>) -> bool
-    ensures { result ≡ is_sent_with wanted transaction }
-{
-    match (wanted, transaction) {
-        (None, _) => true,
-        (Some(_), None) => false,
-        (Some(wanted), Some(transaction)) => transaction as i128 == wanted as i128,
-    }
 }

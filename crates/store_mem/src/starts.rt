@@ -1,12 +1,17 @@
 //! The starts of each station in the order of their times, to find one that was sent before.
-ghost use Rattle.std.specs.Prelude.{◌≡◌, [], ◌∷◌, unsigned_abs, IfOk};
+ghost use Rattle.std.specs.Prelude.{◌≡◌, ℕ, List, [], ◌∷◌, ◌&&◌, if◌then◌else◌, not, filter, unsigned_abs, IfOk};
 ghost use Rattle.std.specs.List.Sorted.{IsStrictlySortedBy};
+ghost use Rattle.std.specs.Str.{bytes_eq};
+ghost use Rattle.hub_rows.specs.Forgetting.{has_number};
 ghost use Rattle.hub_rows.specs.Keyed.{by_key, text_cmp};
 ghost use Rattle.hub_rows.specs.Places.{IsPlace, IsGapAt};
 ghost use Rattle.hub_rows.specs.Transactions.{is_start};
+ghost use Rattle.store_mem.specs.NamedGroups.{rows_at, AreInPlace};
 ghost use Rattle.store_mem.specs.Starts.{code, sign, start_key, start_of, number_of};
 
-use hub_rows::{Keyed, StartKey, TxRow};
+use crate::named_groups::{NamedGroup, drop_if_empty};
+use crate::numbers::{greatest, is_none_of};
+use hub_rows::{Keyed, StartKey, TxRow, place_of_name};
 use ocpp_types::Mem;
 use std::cmp::Ordering;
 
@@ -60,6 +65,26 @@ pub fn start_of(row: &TxRow) -> Mem<StartRow>
         start: row.start.id.clone()?,
         number: row.number,
     })
+}
+
+/// Drops the starts of a station's transactions that have these numbers, which can't fail.
+pub fn drop_starts(groups: &mut Vec<NamedGroup<StartRow>>, op: &str, station: &str, numbers: &[u32])
+    requires { AreInPlace groups.old.items }
+    ensures in_place { AreInPlace groups.new.items }
+    ensures rows { (b n : List ℕ) → rows_at b n groups.new.items
+        ≡ (if bytes_eq op.now b && bytes_eq station.now n then filter (λ s. not (has_number numbers.now s.number)) (rows_at b n groups.old.items) else rows_at b n groups.old.items) }
+{
+    if let Ok(place) = place_of_name(groups.as_slice(), op, station) {
+        drop_in(&mut groups[place].rows, numbers);
+        drop_if_empty(groups, op, station);
+    }
+}
+
+fn drop_in(rows: &mut Vec<StartRow>, numbers: &[u32])
+    ensures { rows.new.items ≡ filter (λ s. not (has_number numbers.now s.number)) rows.old.items }
+{
+    let last = greatest(numbers);
+    rows.retain(|row| is_none_of(numbers, last, row.number));
 }
 
 /// The number of the first of a station's transactions that began so, by a binary search.

@@ -1,13 +1,15 @@
 //! Rows that are kept station by station, in the order of their numbers.
-ghost use Rattle.std.specs.Prelude.{◌≡◌, ◌<◌, ◌≤◌, nat_le, ◌==◌, ◌&&◌, ℕ, List, [], ◌∷◌, ◌++◌, length, drop, filter, map, option_map, OnOk, OnErr};
+ghost use Rattle.std.specs.Prelude.{◌≡◌, ◌<◌, ◌≤◌, nat_le, ◌==◌, ◌&&◌, ℕ, List, [], ◌∷◌, ◌++◌, length, drop, filter, find, map, not, option_map, OnOk, OnErr};
 ghost use Rattle.std.specs.List.{AllByRecursion};
 ghost use Rattle.std.specs.List.Sorted.{IsStrictlySortedBy};
 ghost use Rattle.std.specs.Str.{bytes_eq};
-ghost use Rattle.hub_rows.specs.Keyed.{by_key, found, greatest, numbered_key, put, put_all, those};
+ghost use Rattle.hub_rows.specs.Forgetting.{has_number, is_one_of};
+ghost use Rattle.hub_rows.specs.Keyed.{by_key, found, greatest, numbered_key, put, put_all, those, without, number_key};
 ghost use Rattle.hub_rows.specs.Places.{IsPlace};
-ghost use Rattle.store_mem.specs.NamedGroups.{number_key, all_rows, AreOf, AreGrouped, HasRoomAt};
+ghost use Rattle.store_mem.specs.NamedGroups.{all_rows, AreOf, AreGrouped, HasRoomAt};
 
 use crate::named_groups::{NamedGroup, rows_at};
+use crate::numbers::{greatest, is_none_of};
 use hub_rows::{ReadingRow, TxOwnerRow, TxRow, place_of_name};
 use ocpp_types::{Mem, Text};
 use std::alloc::{AllocError, Global};
@@ -121,7 +123,14 @@ pub fn row_of_number<'a, R: NumberedRow>(
     ensures { option_map (λ r. r.now) result
         ≡ found R.op op.now (λ r. bytes_eq (R.station r) station.now && R.number r == number) (all_rows groups.now) }
 {
-    let rows = rows_of(groups, op, station);
+    row_in(rows_of(groups, op, station), number)
+}
+
+/// The row of a number among those of a station.
+pub fn row_in<R: NumberedRow>(rows: &[R], number: u32) -> Option<&R>
+    requires { IsStrictlySortedBy (by_key (number_key R.number)) rows.now }
+    ensures { option_map (λ r. r.now) result ≡ find (λ r. R.number r == number) rows.now }
+{
     match place_of_number(rows, number) {
         Ok(place) => Some(&rows[place]),
         Err(_) => None,
@@ -202,6 +211,32 @@ fn extend_group<R: NumberedRow>(group: &mut NamedGroup<R>, rows: Vec<R>) -> Resu
 {
     let mut rows = rows;
     group.rows.append(&mut rows)
+}
+
+/// Drops the rows of a station that have these numbers, in one pass over its rows, which can't fail.
+pub fn drop_numbers<R: NumberedRow>(
+    groups: &mut Vec<NamedGroup<R>>,
+    op: &str,
+    station: &str,
+    numbers: &[u32],
+)
+    requires { AreGrouped R.op R.station R.number groups.old.items }
+    ensures groups { AreGrouped R.op R.station R.number groups.new.items }
+    ensures rows { all_rows groups.new.items ≡ without R.op op.now (is_one_of R.station R.number station.now numbers.now) (all_rows groups.old.items) }
+{
+    if let Ok(place) = place_of_name(groups.as_slice(), op, station) {
+        drop_in_group(&mut groups[place], numbers);
+    }
+}
+
+fn drop_in_group<R: NumberedRow>(group: &mut NamedGroup<R>, numbers: &[u32])
+    ensures op { group.new.op ≡ group.old.op }
+    ensures name { group.new.name ≡ group.old.name }
+    ensures rows { group.new.rows.items ≡ filter (λ r. not (has_number numbers.now (R.number r))) group.old.rows.items }
+{
+    let last = greatest(numbers);
+    let rows = &mut group.rows;
+    rows.retain(|row| is_none_of(numbers, last, row.number()));
 }
 
 /// Puts a row behind those of its station. There is room for it, so that it can't fail.

@@ -1,11 +1,13 @@
 //! Transactions, with what finds them.
 ghost use Rattle.std.specs.Prelude.{◌≡◌, [], option_map, IfOk, OnOk, OnErr};
+ghost use Rattle.std.specs.List.{AllByRecursion};
 ghost use Rattle.std.specs.List.Sorted.{IsStrictlySortedBy};
 ghost use Rattle.std.proofs.Props.{props};
-ghost use Rattle.hub_rows.specs.Changes.{tx_row, with_stop};
-ghost use Rattle.hub_rows.specs.Keyed.{by_key, changed, found, put};
+ghost use Rattle.hub_rows.specs.Changes.{tx_row, with_stop, IsStopped};
+ghost use Rattle.hub_rows.specs.Forgetting.{is_one_of};
+ghost use Rattle.hub_rows.specs.Keyed.{by_key, changed, found, put, without, number_key};
 ghost use Rattle.hub_rows.specs.Rows.{tx_key};
-ghost use Rattle.hub_rows.specs.Transactions.{counts, is_open, is_tx, is_used_in, same_start_in, tx_in, has_open_in, open_txs_in, last_tx_in, txs_from_in, AreNext};
+ghost use Rattle.hub_rows.specs.Transactions.{counts, is_open, is_tx, is_used_in, same_start_in, tx_in, has_open_in, open_txs_in, last_tx_in, txs_in, txs_from_in, AreNext};
 ghost use Rattle.store_mem.specs.NamedGroups.{all_rows, AreGrouped};
 ghost use Rattle.store_mem.specs.Open.{AreOpens};
 ghost use Rattle.store_mem.specs.Starts.{AreStarts};
@@ -14,8 +16,8 @@ use crate::named_groups::{NamedGroup, make_room_at, put_at, rows_at};
 use crate::open::{
     OpenRow, close, close_tag, has_at, has_other, make_room_if, open_of, put_counted, txs_of,
 };
-use crate::starts::{StartRow, number_of, start_of};
-use crate::station_rows::{last_number, put_last, row_of_number, rows_from, rows_of};
+use crate::starts::{StartRow, drop_starts, number_of, start_of};
+use crate::station_rows::{drop_numbers, last_number, put_last, row_of_number, rows_from, rows_of};
 use crate::tx_rows::{started, stop_tx};
 use hub_rows::{Start, StartKey, Stop, TxKey, TxRow, TxState};
 use ocpp_types::{Listed, Mem, Text};
@@ -87,6 +89,15 @@ impl Transactions {
         stop_tx(&mut self.rows, op, station, number, stop);
     }
 
+    /// Drops the transactions of a station that have these numbers, all of which are stopped. It can't fail.
+    pub fn forget(&mut self, op: &str, station: &str, numbers: &[u32])
+        requires { AllByRecursion (λ n. IsStopped (tx_in op.now station.now n (all_rows self.old.rows.items))) numbers.now }
+        ensures { all_rows self.new.rows.items ≡ without (λ r. r.op) op.now (is_one_of (λ r. r.station) (λ r. r.number) station.now numbers.now) (all_rows self.old.rows.items) }
+    {
+        drop_starts(&mut self.starts, op, station, numbers);
+        drop_numbers(&mut self.rows, op, station, numbers);
+    }
+
     /// Whether the tag of a key is in use, by another transaction than the one left out.
     pub fn is_used(&self, op: &str, key: &str, except: &Option<TxKey>) -> bool
         ensures { result ≡ is_used_in op.now key.now except.now (all_rows self.now.rows.items) }
@@ -127,6 +138,14 @@ impl Transactions {
         ensures { result.now ≡ txs_from_in op.now station.now first (all_rows self.now.rows.items) }
     {
         rows_from(&self.rows, op, station, first)
+    }
+
+    /// All transactions of a station.
+    pub fn rows_of(&self, op: &str, station: &str) -> &[TxRow]
+        ensures rows { result.now ≡ txs_in op.now station.now (all_rows self.now.rows.items) }
+        ensures sorted { IsStrictlySortedBy (by_key (number_key (λ r. r.number))) result.now }
+    {
+        rows_of(&self.rows, op, station)
     }
 
     /// Copies of the open transactions of an operator.

@@ -1,12 +1,14 @@
 //! The owners of the id tags with which transactions began, where other operators granted them.
 ghost use Rattle.std.specs.Prelude.{◌≡◌, [], IfOk, OnOk, option_map};
 ghost use Rattle.std.proofs.Props.{props};
+ghost use Rattle.hub_rows.specs.Forgetting.{is_one_of};
+ghost use Rattle.hub_rows.specs.Keyed.{without};
 ghost use Rattle.hub_rows.specs.Uses.{owner_in};
 ghost use Rattle.store_mem.specs.NamedGroups.{all_rows, AreGrouped};
 ghost use Rattle.store_mem.specs.TxOwners.{owner_row, with_row, HasRoomFor, IsBehind};
 
 use crate::named_groups::{NamedGroup, make_room_at};
-use crate::station_rows::{put_last, row_of_number};
+use crate::station_rows::{drop_numbers, put_last, row_of_number};
 use hub_rows::TxOwnerRow;
 use ocpp_types::{Mem, Text};
 use std::alloc::Global;
@@ -50,6 +52,13 @@ impl TxOwners {
             }
             None => Ok(()),
         }
+    }
+
+    /// Drops the owners of a station's transactions that have these numbers, which can't fail.
+    pub fn forget(&mut self, op: &str, station: &str, numbers: &[u32])
+        ensures { all_rows self.new.rows.items ≡ without (λ r. r.op) op.now (is_one_of (λ r. r.station) (λ r. r.number) station.now numbers.now) (all_rows self.old.rows.items) }
+    {
+        drop_numbers(&mut self.rows, op, station, numbers);
     }
 
     /// Puts a row behind those of its station, if there is one. There is room for it, so that it can't fail.

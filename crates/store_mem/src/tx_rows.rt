@@ -2,9 +2,9 @@
 ghost use Rattle.std.specs.Prelude.{◌≡◌, ◌==◌, if◌then◌else◌, map, IfOk};
 ghost use Rattle.std.specs.List.Sorted.{IsStrictlySortedBy};
 ghost use Rattle.hub_rows.specs.Changes.{tx_row, with_stop};
-ghost use Rattle.hub_rows.specs.Keyed.{by_key, changed};
+ghost use Rattle.hub_rows.specs.Keyed.{by_key, changed, number_key};
 ghost use Rattle.hub_rows.specs.Transactions.{is_tx};
-ghost use Rattle.store_mem.specs.NamedGroups.{number_key, all_rows, AreGrouped};
+ghost use Rattle.store_mem.specs.NamedGroups.{all_rows, AreGrouped};
 
 use crate::named_groups::NamedGroup;
 use crate::station_rows::place_of_number;

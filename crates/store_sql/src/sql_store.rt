@@ -5,14 +5,14 @@ ghost use Rattle.hub_rows.specs.declared.store.StoreFault.TheVariants as store_f
 
 use crate::opening::{PrepareFault, fault, prepare};
 use hub_rows::{
-    Change, ConnectorRow, GrantRow, GrantedTag, Info, LocalList, ReadingRow, Registration,
+    Change, ConnectorRow, GrantRow, GrantedTag, History, Info, LocalList, ReadingRow, Registration,
     ReportRow, ReservationId, ReservationRow, StartKey, StationRow, Store, StoreFault, TagRow,
     TxKey, TxRow, TxState, UseRow,
 };
 use ocpp_types::{Listed, Moment, TagKey};
 use sql_lookups::{
-    connectors, granted, grants, local_lists, readings, reports, reservations, stations, tags, txs,
-    uses,
+    connectors, forget, granted, grants, local_lists, readings, reports, reservations, stations,
+    tags, txs, uses,
 };
 use sqlite::{Alter, Connection, FileFrom, FileStore, MemStore, Start};
 use std::alloc::Global;
@@ -278,6 +278,16 @@ impl<A: Alter> Store for SqlStore<A> {
 
     fn open_txs(&mut self, op: &str) -> Result<Listed<TxRow>, StoreFault> {
         let found = txs::open_txs(&mut self.conn, op);
+        self.counted(found)
+    }
+
+    fn forgettable(
+        &mut self,
+        op: &str,
+        station: &str,
+        until: Moment,
+    ) -> Result<History, StoreFault> {
+        let found = forget::forgettable(&mut self.conn, self.alloc, op, station, until);
         self.counted(found)
     }
 

@@ -4,7 +4,7 @@ use Rattle.hub_rows.specs.Rows.{Rows}
 use Rattle.hub_rows.specs.Uses.{with_owner}
 use Rattle.hub_rows.specs.declared.change.TransactionEdit.{TransactionEdit}
 use Rattle.hub_rows.specs.declared.change.Edit.TheVariants.{Transactions}
-use Rattle.hub_rows.specs.declared.change.TransactionEdit.TheVariants.{TxStarted, TxStopped}
+use Rattle.hub_rows.specs.declared.change.TransactionEdit.TheVariants.{TxStarted, TxStopped, Forgotten}
 use Rattle.sql_rows.specs.Kept.{Makes}
 use Rattle.sql_edits.proofs.Making.{makes_then}
 use Rattle.sql_edits.proofs.changes.edit_transactions.Goals as goal
@@ -38,4 +38,15 @@ returns-in_ok-stop_tx-in-TxStopped g c =
     record {
       makes = subst (λ (e : TransactionEdit). Makes g.S.Store (edit op (Transactions e)) old new c.add_readings.result) (sym stopped.is)
           (subst₂ (λ s r. Makes g.S.Store (edit op (Transactions (TxStopped s stopped.number stopped.stop stopped.first r))) old new c.add_readings.result) c.as_str-station-in-TxStopped.ensures c.as_slice.ensures both);
+    }
+
+pub returns-in-Forgotten : goal.returns-in-Forgotten
+returns-in-Forgotten g c =
+    let op = c.args.op.now in
+    let old = c.args.tx.now in
+    let new = c.forget.new.tx in
+    let forgotten = c.in-Forgotten in
+    record {
+      makes = subst (λ (e : TransactionEdit). Makes g.S.Store (edit op (Transactions e)) old new c.forget.result) (sym forgotten.is)
+          (subst (λ s. Makes g.S.Store (edit op (Transactions (Forgotten s forgotten.rows))) old new c.forget.result) c.as_str-in-Forgotten.ensures c.forget.ensures.makes);
     }

@@ -1,7 +1,7 @@
 use Rattle.std.proofs.Common.{ap, sym, ◌∙◌}
 use Rattle.std.specs.Option.{option_copied}
-use Rattle.store_mem.proofs.StationRowsLaws.{last_greatest}
 use Rattle.store_mem.proofs.station_rows.last_number.Goals as goal
+use Rattle.hub_rows.proofs.NumberLaws.{last_greatest}
 
 pub returns-in-Some : goal.returns-in-Some
 returns-in-Some g c =

@@ -1,10 +1,9 @@
 use Rattle.std.proofs.Common.{[], ◌∷◌, rules}
 use Rattle.std.proofs.lemmas.Fn.{always_returns_same}
-use Rattle.hub_rows.specs.Keyed.{key_cmp}
+use Rattle.hub_rows.specs.Keyed.{key_cmp, number_key}
 use Rattle.hub_rows.proofs.PlaceLaws.{placed}
-use Rattle.store_mem.specs.NamedGroups.{number_key}
-use Rattle.store_mem.proofs.StationRowsLaws.{number_order}
 use Rattle.store_mem.proofs.station_rows.place_of_number.Goals as goal
+use Rattle.hub_rows.proofs.NumberLaws.{number_order}
 
 pub returns : goal.returns
 returns g c =

@@ -3,8 +3,8 @@ use Rattle.std.specs.Str.{bytes_eq}
 use Rattle.std.proofs.Math.Seq.{take-length}
 use Rattle.std.proofs.lemmas.List.{length-drop}
 use Rattle.store_mem.specs.NamedGroups.{all_rows}
-use Rattle.store_mem.proofs.StationRowsLaws.{those-those}
 use Rattle.store_mem.proofs.station_rows.rows_from.Goals as goal
+use Rattle.hub_rows.proofs.NumberLaws.{those-those}
 
 pub returns : goal.returns
 returns g c =

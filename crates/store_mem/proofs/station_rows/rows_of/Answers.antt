@@ -1,7 +1,6 @@
 use Rattle.std.proofs.Common.{sym, subst, ◌∙◌}
 use Rattle.std.specs.List.Sorted.{IsStrictlySortedBy}
-use Rattle.hub_rows.specs.Keyed.{by_key}
-use Rattle.store_mem.specs.NamedGroups.{number_key}
+use Rattle.hub_rows.specs.Keyed.{by_key, number_key}
 use Rattle.store_mem.proofs.StationRowsLaws.{rows-those, rows-sorted}
 use Rattle.store_mem.proofs.station_rows.rows_of.Goals as goal
 

@@ -3,8 +3,8 @@ use Rattle.hub_rows.specs.declared.tx_row.TxRow.{TxRow}
 use Rattle.hub_rows.specs.Changes.{with_stop}
 use Rattle.hub_rows.proofs.ListLaws.{one_part, set_here}
 use Rattle.hub_rows.proofs.PlaceLaws.{map-found, map-gap}
-use Rattle.store_mem.specs.NamedGroups.{number_key}
 use Rattle.store_mem.proofs.tx_rows.stop_in_group.Goals as goal
+use Rattle.hub_rows.specs.Keyed.{number_key}
 
 pub returns-in-Ok-clause-rows : goal.returns-in-Ok-clause-rows
 returns-in-Ok-clause-rows c =

@@ -4,8 +4,8 @@ use Rattle.std.specs.Str.{bytes_eq}
 use Rattle.hub_rows.specs.Keyed.{those}
 use Rattle.hub_rows.specs.Transactions.{is_sent_with}
 use Rattle.store_mem.specs.NamedGroups.{all_rows}
-use Rattle.store_mem.proofs.StationRowsLaws.{those-those}
 use Rattle.store_mem.proofs.readings.Readings.of_station.Goals as goal
+use Rattle.hub_rows.proofs.NumberLaws.{those-those}
 
 pub returns : goal.returns
 returns c =

@@ -3,9 +3,9 @@ use Rattle.std.specs.Prelude.{map}
 use Rattle.std.specs.Option.{option_copied}
 use Rattle.hub_rows.specs.Keyed.{greatest, own}
 use Rattle.store_mem.specs.Groups.{all_of}
-use Rattle.store_mem.proofs.StationRowsLaws.{last_greatest}
 use Rattle.store_mem.proofs.UseLaws.{number, by_numbers, last_own}
 use Rattle.store_mem.proofs.uses.Uses.last_number.Goals as goal
+use Rattle.hub_rows.proofs.NumberLaws.{last_greatest}
 
 pub returns-in-Some : goal.returns-in-Some
 returns-in-Some c =

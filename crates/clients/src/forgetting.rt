@@ -1,0 +1,194 @@
+//! History that an operator forgets, at all its stations.
+ghost use Rattle.std.specs.Prelude.{◌≡◌};
+ghost use Rattle.clients.specs.Days.{days_of};
+
+use crate::clock::now;
+use crate::export::Export;
+use crate::fault::ClientFault;
+use crate::orders::Orders;
+use crate::reply::{Forgotten, Reply, forgotten_of, reply_of, station_of};
+use ocpp_types::{Text, number_of_digits};
+
+/// The most digits of a number of days.
+const MAX_DIGITS: usize = 5;
+
+const SECONDS_A_DAY: u64 = 86_400;
+
+/// What an operator forgets.
+#[derive(Drop)]
+pub struct ForgetOptions {
+    pub port: u16,
+    pub operator: Text,
+    /// What is older than so many days goes.
+    pub days: u64,
+    /// The name of two files to which what goes is written before.
+    pub export: Option<Text>,
+}
+
+/// The days of a text such as `90d`: one to five digits and a `d`.
+pub fn days_of(text: &str) -> Option<u64>
+    ensures { result ≡ days_of text.now }
+{
+    let (days, rest) = text.split_once('d')?;
+    if rest.is_empty() {
+        number_of_digits(days, MAX_DIGITS)
+    } else {
+        None
+    }
+}
+
+/// An operator's stations, whose history is forgotten.
+#[derive(Drop)]
+struct Forgetting<'a> {
+    rt: &'a HostRuntime,
+    operator: &'a Text,
+    orders: Orders<'a>,
+    export: Option<Export>,
+    /// The history before that moment, in seconds since 1970.
+    until: u64,
+    /// What went so far.
+    gone: Forgotten,
+}
+
+/// Forgets what is so old, at each station of the operator, and prints how many rows went of each and of all. Whether
+/// all orders were taken. Errors: no connection, one that ends, an answer that doesn't come, a clock that gives no
+/// moment, an export that can't be written.
+pub fn forget(rt: &HostRuntime, options: &ForgetOptions) -> Result<bool, ClientFault> {
+    let moment = now(rt).ok_or(ClientFault::Clock)?;
+    let age = options.days.saturating_mul(SECONDS_A_DAY);
+    let mut forgetting = Forgetting {
+        rt,
+        operator: &options.operator,
+        orders: Orders::to(rt, options.port, options.operator.as_str())?,
+        export: export_of(rt, &options.export)?,
+        until: moment.seconds().saturating_sub(age),
+        gone: Forgotten {
+            transactions: 0,
+            readings: 0,
+        },
+    };
+    let stations = forgetting.stations()?;
+    forgetting.all(stations.as_slice())
+}
+
+fn export_of(rt: &HostRuntime, name: &Option<Text>) -> Result<Option<Export>, ClientFault> {
+    match name {
+        Some(name) => Ok(Some(Export::to(rt, name.as_str())?)),
+        None => Ok(None),
+    }
+}
+
+impl Forgetting<'_> {
+    /// The names of the operator's stations.
+    fn stations(&mut self) -> Result<Vec<Text>, ClientFault> {
+        let alloc = self.rt.alloc();
+        let mut stations = Vec::new(alloc);
+        self.orders.send("list stations")?;
+        for _ in 0..u64::MAX {
+            let Some(text) = self.orders.answer()? else {
+                return Ok(stations);
+            };
+            if let Some(station) = station_of(self.operator.as_str(), text.as_str()) {
+                stations.push(Text::copy_of(alloc, station)?)?;
+            }
+        }
+        Err(self.orders.silent())
+    }
+
+    /// Forgets at each of these stations. Whether all orders were taken.
+    fn all(&mut self, stations: &[Text]) -> Result<bool, ClientFault> {
+        let mut all_taken = true;
+        for station in stations {
+            if !self.at(station.as_str())? {
+                all_taken = false;
+            }
+        }
+        let Forgotten {
+            transactions,
+            readings,
+        } = self.gone;
+        println!(self.rt; "all {transactions} {readings}")?;
+        Ok(all_taken)
+    }
+
+    /// Gives the order at one station until nothing is left to go. Whether it was taken.
+    fn at(&mut self, station: &str) -> Result<bool, ClientFault> {
+        let until = self.until;
+        let line = format!(in self.rt.alloc(); "forget {station} {until}")?;
+        for _ in 0..u64::MAX {
+            let written = self.write(station)?;
+            let Some(gone) = self.order(station, line.as_str())? else {
+                return Ok(false);
+            };
+            self.compare(written, gone)?;
+            if gone.transactions == 0 && gone.readings == 0 {
+                return Ok(true);
+            }
+            self.add(station, gone)?;
+        }
+        Err(self.orders.silent())
+    }
+
+    /// Writes what the next order takes to the files of the export, if there are any, and on the disk. How many rows.
+    fn write(&mut self, station: &str) -> Result<u64, ClientFault> {
+        let Some(export) = &mut self.export else {
+            return Ok(0);
+        };
+        let alloc = self.rt.alloc();
+        let until = self.until;
+        let line = format!(in alloc; "list forgettable {station} {until}")?;
+        let mut written = 0u64;
+        self.orders.send(line.as_str())?;
+        for _ in 0..u64::MAX {
+            let Some(text) = self.orders.answer()? else {
+                export.sync()?;
+                return Ok(written);
+            };
+            let rows = export.add(alloc, self.operator.as_str(), station, text.as_str())?;
+            written = written.saturating_add(rows);
+        }
+        Err(self.orders.silent())
+    }
+
+    /// A row that the station sent after the listing, and that is old by its own time, went unwritten.
+    fn compare(&self, written: u64, gone: Forgotten) -> Result<(), ClientFault> {
+        let rows = gone.transactions.saturating_add(gone.readings);
+        if self.export.is_some() && rows > written {
+            return Err(ClientFault::Unwritten(rows - written));
+        }
+        Ok(())
+    }
+
+    /// Gives the order once. What went; `None` where it was refused, which is printed.
+    fn order(&mut self, station: &str, line: &str) -> Result<Option<Forgotten>, ClientFault> {
+        let operator = self.operator.as_str();
+        let mut gone = None;
+        self.orders.send(line)?;
+        for _ in 0..u64::MAX {
+            let Some(text) = self.orders.answer()? else {
+                return Ok(gone);
+            };
+            if reply_of(operator, text.as_str()) == Reply::Refused {
+                println!(self.rt; "{text}")?;
+            }
+            if let Some(rows) = forgotten_of(operator, station, text.as_str()) {
+                gone = Some(rows);
+            }
+        }
+        Err(self.orders.silent())
+    }
+
+    /// Counts and prints what went of a station.
+    fn add(&mut self, station: &str, gone: Forgotten) -> Result<(), ClientFault> {
+        let Forgotten {
+            transactions,
+            readings,
+        } = gone;
+        self.gone = Forgotten {
+            transactions: self.gone.transactions.saturating_add(transactions),
+            readings: self.gone.readings.saturating_add(readings),
+        };
+        println!(self.rt; "{station} {transactions} {readings}")?;
+        Ok(())
+    }
+}

@@ -1,0 +1,125 @@
+//! The edit that forgets rows of a station's history.
+ghost use Rattle.std.specs.Prelude.{◌≡◌, ◌+◌, ◌==◌, ◌∷◌};
+ghost use Rattle.hub_rows.specs.Changes.{edit};
+ghost use Rattle.hub_rows.specs.Forgetting.{has_number};
+ghost use Rattle.hub_rows.specs.declared.change.Edit.TheVariants.{Transactions};
+ghost use Rattle.hub_rows.specs.declared.change.TransactionEdit.TheVariants.{Forgotten};
+ghost use Rattle.sql_rows.specs.Kept.{Makes};
+ghost use Rattle.sql_edits.specs.Forget.{drop_text, dropped, is_in};
+
+use crate::binds::done;
+use hub_rows::{Forgettable, StoreFault};
+use sqlite::{Alter, Transaction, params};
+
+/// A table of a station's history.
+#[derive(Clone, Copy, Drop)]
+enum HistoryTable {
+    Readings,
+    Transactions,
+    Owners,
+}
+
+/// Numbers that follow one another.
+#[derive(Clone, Copy, Drop)]
+struct Run {
+    first: u32,
+    last: u32,
+}
+
+impl Run {
+    /// Whether a number follows the last one.
+    fn is_next(self, number: u32) -> bool
+        ensures { result ≡ (number == self.last + 1) }
+    {
+        self.last < u32::MAX && number == self.last + 1
+    }
+}
+
+fn drop_text(history: HistoryTable) -> &'static str
+    ensures { result.now ≡ drop_text history }
+{
+    match history {
+        HistoryTable::Readings => sql_tables::readings::DROP,
+        HistoryTable::Transactions => sql_tables::txs::DROP,
+        HistoryTable::Owners => sql_tables::tx_owners::DROP,
+    }
+}
+
+/// Drops the rows of a station with a number of the run.
+fn drop_run<S: Alter>(
+    tx: &mut Transaction<'_, S>,
+    history: HistoryTable,
+    op: &str,
+    station: &str,
+    run: Run,
+) -> Result<(), StoreFault>
+    ensures makes { Makes S.Store (dropped history op.now station.now (is_in run)) tx.old tx.new result }
+{
+    done(tx.execute(
+        drop_text(history),
+        params![op, station, run.first, run.last],
+    ))
+}
+
+/// Drops the rows of a station with the first number or one of the others, run by run.
+fn drop_runs<S: Alter>(
+    tx: &mut Transaction<'_, S>,
+    history: HistoryTable,
+    op: &str,
+    station: &str,
+    first: u32,
+    others: &[u32],
+) -> Result<(), StoreFault>
+    ensures makes { Makes S.Store (dropped history op.now station.now (has_number (first ∷ others.now))) tx.old tx.new result }
+{
+    let mut run = Run { first, last: first };
+    'others: for number in others {
+        if run.is_next(*number) {
+            run.last = *number;
+        } else {
+            drop_run(tx, history, op, station, run)?;
+            run = Run {
+                first: *number,
+                last: *number,
+            };
+        }
+    }
+    drop_run(tx, history, op, station, run)
+}
+
+/// Drops the rows of a station with these numbers.
+fn drop_rows<S: Alter>(
+    tx: &mut Transaction<'_, S>,
+    history: HistoryTable,
+    op: &str,
+    station: &str,
+    numbers: &[u32],
+) -> Result<(), StoreFault>
+    ensures makes { Makes S.Store (dropped history op.now station.now (has_number numbers.now)) tx.old tx.new result }
+{
+    match numbers.split_first() {
+        Some((first, others)) => drop_runs(tx, history, op, station, *first, others),
+        None => Ok(()),
+    }
+}
+
+/// Drops the rows of a station that are forgotten.
+pub(crate) fn forget<S: Alter>(
+    tx: &mut Transaction<'_, S>,
+    op: &str,
+    station: &str,
+    rows: &Forgettable,
+) -> Result<(), StoreFault>
+    ensures makes { Makes S.Store (edit op.now (Transactions (Forgotten station.now rows.now))) tx.old tx.new result }
+{
+    let gone = rows.transactions.as_slice();
+    drop_rows(tx, HistoryTable::Transactions, op, station, gone)?;
+    drop_rows(
+        tx,
+        HistoryTable::Readings,
+        op,
+        station,
+        rows.readings.as_slice(),
+    )?;
+    drop_rows(tx, HistoryTable::Owners, op, station, gone)
+}

@@ -1,0 +1,232 @@
+//! What of a station's history may go. Its rows are looked up page by page, so that few are held at once.
+ghost use Rattle.std.specs.Prelude.{◌≡◌, ◌<◌, ◌≤◌, ◌+◌, ◌-◌, ◌++◌, [], ◌∷◌, cond, filter, map, take, length, option_map, OnOk};
+ghost use Rattle.std.specs.List.Sorted.{IsStrictlySortedBy};
+ghost use Rattle.sqlite.specs.Held.{state};
+ghost use Rattle.hub_rows.specs.Forgetting.{goes_with, may_go, named_tx};
+ghost use Rattle.hub_rows.specs.Keyed.{by_key, number_key};
+ghost use Rattle.hub_rows.specs.LastReading.{tx_goes};
+ghost use Rattle.hub_rows.specs.Lookups.{forgettable_in};
+ghost use Rattle.hub_rows.specs.Transactions.{txs_in};
+ghost use Rattle.sql_lookups.specs.Asks.{Asks};
+ghost use Rattle.sql_lookups.specs.Forgotten.{IsNamed, old_readings_below, old_txs_below};
+ghost use Rattle.sql_lookups.specs.Pages.{after_page};
+
+use crate::readings::{last_reading, readings_page};
+use crate::txs::{find_tx, last_tx, txs_page};
+use hub_rows::{
+    History, MAX_FORGOTTEN, ReadingRow, StoreFault, TxRow, goes_with, reading_numbers, tx_goes,
+};
+use ocpp_types::{Listed, Mem, Moment};
+use sqlite::{Alter, Connection};
+use std::alloc::Global;
+
+/// What a reading names: the transaction, if it is on record.
+#[derive(Drop)]
+struct Named {
+    transaction: Option<i32>,
+    tx: Option<TxRow>,
+}
+
+/// The transaction that a reading names, by its key. A number below zero names none.
+fn tx_named<S: Alter>(
+    conn: &mut Connection<S>,
+    op: &str,
+    station: &str,
+    transaction: Option<i32>,
+) -> Result<Option<TxRow>, StoreFault>
+    ensures asks { Asks (state S.Store conn.old) (state S.Store conn.new) result (λ rows tx. tx ≡ named_tx transaction (txs_in op.now station.now rows.transactions)) }
+{
+    match transaction {
+        Some(id) if id.is_negative() => Ok(None),
+        Some(id) => find_tx(conn, op, station, id.unsigned_abs()),
+        None => Ok(None),
+    }
+}
+
+/// The same, which is looked up only where it isn't what was named last.
+fn named_now<S: Alter>(
+    conn: &mut Connection<S>,
+    op: &str,
+    station: &str,
+    last: Named,
+    transaction: Option<i32>,
+) -> Result<Named, StoreFault>
+    ensures asks { Asks (state S.Store conn.old) (state S.Store conn.new) result (λ rows now. IsNamed (txs_in op.now station.now rows.transactions) last → IsNamed (txs_in op.now station.now rows.transactions) now × (now.transaction ≡ transaction)) }
+{
+    if last.transaction == transaction {
+        return Ok(last);
+    }
+    let tx = tx_named(conn, op, station, transaction)?;
+    Ok(Named { transaction, tx })
+}
+
+fn goes(until: Moment, row: &ReadingRow, named: &Named) -> bool
+    ensures { result ≡ goes_with until row.now.reading.at named.now.tx }
+{
+    goes_with(until, row.reading.at, named.tx.as_ref())
+}
+
+/// Adds a row, if it goes.
+fn add_if<R: Clone + Drop>(rows: &mut Listed<R>, goes: bool, row: &R) -> Mem<()>
+    requires { (row copy : R) → R.is_clone row copy → copy ≡ row }
+    ensures { OnOk result (rows.new ≡ rows.old ++ cond goes (row.now ∷ []) []) }
+{
+    if goes {
+        rows.push(row.clone()?)
+    } else {
+        Ok(())
+    }
+}
+
+/// The first of some rows.
+fn first_of<R: Drop>(rows: Listed<R>, most: usize) -> Listed<R>
+    ensures { result ≡ take most rows }
+{
+    let mut rows = rows.into_vec();
+    rows.truncate(most);
+    Listed::from(rows)
+}
+
+// ---- pages
+
+/// Where the page of readings after this one begins: after its last row, or at the end where it has none.
+fn after_readings(first: u32, end: u32, page: &[ReadingRow]) -> u32
+    requires { first < end }
+    ensures forward { first < result }
+    ensures next { IsStrictlySortedBy (by_key (number_key (λ r. r.number))) page.now → first < after_page end (map (λ r. r.number) page.now) → after_page end (map (λ r. r.number) page.now) ≤ end → result ≡ after_page end (map (λ r. r.number) page.now) }
+{
+    match page.last() {
+        Some(row) => row.number.max(first).saturating_add(1),
+        None => end,
+    }
+}
+
+/// The same of transactions.
+fn after_txs(first: u32, end: u32, page: &[TxRow]) -> u32
+    requires { first < end }
+    ensures forward { first < result }
+    ensures next { IsStrictlySortedBy (by_key (number_key (λ t. t.number))) page.now → first < after_page end (map (λ t. t.number) page.now) → after_page end (map (λ t. t.number) page.now) ≤ end → result ≡ after_page end (map (λ t. t.number) page.now) }
+{
+    match page.last() {
+        Some(tx) => tx.number.max(first).saturating_add(1),
+        None => end,
+    }
+}
+
+// ---- readings
+
+/// Adds those of some readings that may go.
+fn add_old_readings<S: Alter>(
+    conn: &mut Connection<S>,
+    op: &str,
+    station: &str,
+    until: Moment,
+    readings: &[ReadingRow],
+    gone: &mut Listed<ReadingRow>,
+) -> Result<(), StoreFault>
+    ensures asks { Asks (state S.Store conn.old) (state S.Store conn.new) result (λ rows done. gone.new ≡ gone.old ++ filter (may_go until (txs_in op.now station.now rows.transactions)) readings.now) }
+{
+    let mut last = Named {
+        transaction: None,
+        tx: None,
+    };
+    'readings: for row in readings {
+        last = named_now(conn, op, station, last, row.reading.transaction)?;
+        add_if(gone, goes(until, row, &last), row)?;
+    }
+    Ok(())
+}
+
+/// The first readings of a station below the end that may go, as many as go at once.
+fn old_readings<S: Alter>(
+    conn: &mut Connection<S>,
+    alloc: Global,
+    op: &str,
+    station: &str,
+    until: Moment,
+    end: u32,
+) -> Result<Listed<ReadingRow>, StoreFault>
+    ensures asks { Asks (state S.Store conn.old) (state S.Store conn.new) result (λ rows gone. gone ≡ take MAX_FORGOTTEN (old_readings_below op.now station.now until end rows)) }
+{
+    let mut gone = Listed::new(alloc);
+    let mut next = 0;
+    'pages: while next < end && gone.as_slice().len() < MAX_FORGOTTEN {
+        let page = readings_page(conn, op, station, next, end - 1)?;
+        add_old_readings(conn, op, station, until, page.as_slice(), &mut gone)?;
+        next = after_readings(next, end, page.as_slice());
+    }
+    Ok(first_of(gone, MAX_FORGOTTEN))
+}
+
+// ---- transactions
+
+/// Adds those of some transactions that may go, once the readings with those numbers are gone and these are left.
+fn add_old_txs(
+    until: Moment,
+    left: &[ReadingRow],
+    gone: &[u32],
+    txs: &[TxRow],
+    ended: &mut Listed<TxRow>,
+) -> Mem<()>
+    ensures { OnOk result (ended.new ≡ ended.old ++ filter (tx_goes until left.now gone.now) txs.now) }
+{
+    'txs: for tx in txs {
+        add_if(ended, tx_goes(until, left, gone, tx), tx)?;
+    }
+    Ok(())
+}
+
+/// The first transactions of a station below the end that may go then, as many as go at once with the readings.
+fn old_txs<S: Alter>(
+    conn: &mut Connection<S>,
+    alloc: Global,
+    op: &str,
+    station: &str,
+    until: Moment,
+    end: u32,
+    left: &[ReadingRow],
+    gone: &[u32],
+) -> Result<Listed<TxRow>, StoreFault>
+    ensures asks { Asks (state S.Store conn.old) (state S.Store conn.new) result (λ rows ended. ended ≡ take (MAX_FORGOTTEN - length gone.now) (old_txs_below op.now station.now until end left.now gone.now rows)) }
+{
+    let most = MAX_FORGOTTEN.saturating_sub(gone.len());
+    let mut ended = Listed::new(alloc);
+    let mut next = 0;
+    'pages: while next < end && ended.as_slice().len() < most {
+        let page = txs_page(conn, op, station, next, end - 1)?;
+        add_old_txs(until, left, gone, page.as_slice(), &mut ended)?;
+        next = after_txs(next, end, page.as_slice());
+    }
+    Ok(first_of(ended, most))
+}
+
+/// What of a station's history may go before a moment. Where as many readings go as may at once, no transaction does.
+/// Where fewer do, all go that may, so that of those that name a transaction that is over the last reading alone can be
+/// left.
+pub fn forgettable<S: Alter>(
+    conn: &mut Connection<S>,
+    alloc: Global,
+    op: &str,
+    station: &str,
+    until: Moment,
+) -> Result<History, StoreFault>
+    ensures asks { Asks (state S.Store conn.old) (state S.Store conn.new) result (λ rows f. f ≡ forgettable_in op.now station.now until rows) }
+{
+    let last = last_reading(conn, op, station)?;
+    let readings = old_readings(conn, alloc, op, station, until, last)?;
+    if readings.as_slice().len() == MAX_FORGOTTEN {
+        return Ok(History {
+            readings,
+            transactions: Listed::new(alloc),
+        });
+    }
+    let left = readings_page(conn, op, station, last, last)?;
+    let end = last_tx(conn, op, station)?;
+    let gone = reading_numbers(alloc, readings.as_slice())?;
+    let (left, gone) = (left.as_slice(), gone.as_slice());
+    let transactions = old_txs(conn, alloc, op, station, until, end, left, gone)?;
+    Ok(History {
+        readings,
+        transactions,
+    })
+}
