@@ -14,6 +14,7 @@ const FOLDERS: &[&str] = &[
     "databases",
     "frames",
     "grants",
+    "history",
     "lines",
     "local_lists",
     "operators",
