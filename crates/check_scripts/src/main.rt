@@ -10,23 +10,34 @@
 //! `data/databases` has databases too, `NAME.db`, which are opened. `NAME.opened` has the lines of a script over a copy of
 //! one that an earlier version of the program made, and `NAME.again` those of a script after it.
 //!
-//! Some of the scripts are tried over stores of which each call fails in turn. `check_scripts memory NAME` and `check_scripts cache
-//! NAME` print what one script is answered over a store in memory, and over a cache before a database. An event that
-//! ends in a fault is handed once more. checks/allocations.py runs them with allocations refused.
+//! Some of the scripts are tried over stores of which each call fails in turn. `check_scripts memory NAME` and
+//! `check_scripts cache NAME` print what one script is answered over a store in memory, and over a cache before a database.
+//! An event that ends in a fault is handed once more. checks/allocations.py runs them with allocations refused.
+//!
+//! `data/stopped` has the scripts that are stopped at each call on the files of a database, and the lines that list all
+//! records, `lists.txt`.
 #![tactic(auto)]
 
 mod caches;
 mod checked;
 mod databases;
 mod difference;
+mod disks;
 mod failures;
 mod handed_again;
 mod kept;
 mod later;
+mod migration;
 mod opened;
 mod replayed;
+mod run_and_stop;
+mod runs;
 mod script;
+mod stop;
+mod stopped_script;
+mod stops;
 mod stores;
+mod tries;
 
 use caches::try_caches;
 use checked::{Tally, check_all};
@@ -37,6 +48,7 @@ use later::check_later;
 use opened::check_opened;
 use std::env;
 use std::process::ExitCode;
+use stops::try_stops;
 use stores::{InCache, InCachedDatabase, InDatabase, InFile, InMemory, Replays};
 
 /// The file of the stores in a file.
@@ -106,11 +118,13 @@ fn check(rt: &HostRuntime) -> anyhow::Result<bool> {
     let memory = check_failures(rt, "in memory", Kind::Memory)?;
     let small = check_failures(rt, "in a cache of 1 of a database", Kind::Cache(1))?;
     let large = check_failures(rt, "in a cache of a database", Kind::Cache(1024))?;
+    let stopped = try_stops(rt)?;
     let replayed = opened && in_memory && in_database && in_cache && in_file && later;
-    Ok(replayed && memory && small && large)
+    Ok(replayed && memory && small && large && stopped)
 }
 
-/// Statuses: 0 where each script is answered as it is to be over each kind of store, 1 otherwise.
+/// Statuses: 0 where each script is answered as it is to be over each kind of store, and no stop left other records, 1
+/// otherwise.
 fn main(rt: HostRuntime) -> anyhow::Result<ExitCode> {
     let words: Vec<String> = env::args(&rt)?.collect(rt.alloc())?;
     let all = match words.as_slice() {

@@ -1,7 +1,7 @@
 //! Rows of a station's history, written as CSV before they go (RFC 4180).
 
 use crate::fault::ClientFault;
-use crate::reply::row_of_station;
+use crate::reply::{Forgotten, row_of_station};
 use csv::{Error, ErrorKind, Terminator, Writer, WriterBuilder};
 use serde_json::Value;
 use std::alloc::Global;
@@ -68,16 +68,16 @@ impl Export {
         operator: &str,
         station: &str,
         text: &str,
-    ) -> Result<u64, ClientFault> {
+    ) -> Result<Forgotten, ClientFault> {
+        let mut written = Forgotten::default();
         if let Some(row) = row_of_station(operator, "transaction", station, text) {
             write_row(alloc, &mut self.transactions, station, row)?;
-            return Ok(1);
-        }
-        if let Some(row) = row_of_station(operator, "reading", station, text) {
+            written.transactions = 1;
+        } else if let Some(row) = row_of_station(operator, "reading", station, text) {
             write_row(alloc, &mut self.readings, station, row)?;
-            return Ok(1);
+            written.readings = 1;
         }
-        Ok(0)
+        Ok(written)
     }
 
     /// Ends once what was written is on the disk.

@@ -62,10 +62,7 @@ pub fn forget(rt: &HostRuntime, options: &ForgetOptions) -> Result<bool, ClientF
         orders: Orders::to(rt, options.port, options.operator.as_str())?,
         export: export_of(rt, &options.export)?,
         until: moment.seconds().saturating_sub(age),
-        gone: Forgotten {
-            transactions: 0,
-            readings: 0,
-        },
+        gone: Forgotten::default(),
     };
     let stations = forgetting.stations()?;
     forgetting.all(stations.as_slice())
@@ -130,14 +127,14 @@ impl Forgetting<'_> {
     }
 
     /// Writes what the next order takes to the files of the export, if there are any, and on the disk. How many rows.
-    fn write(&mut self, station: &str) -> Result<u64, ClientFault> {
+    fn write(&mut self, station: &str) -> Result<Forgotten, ClientFault> {
+        let mut written = Forgotten::default();
         let Some(export) = &mut self.export else {
-            return Ok(0);
+            return Ok(written);
         };
         let alloc = self.rt.alloc();
         let until = self.until;
         let line = format!(in alloc; "list forgettable {station} {until}")?;
-        let mut written = 0u64;
         self.orders.send(line.as_str())?;
         for _ in 0..u64::MAX {
             let Some(text) = self.orders.answer()? else {
@@ -145,16 +142,17 @@ impl Forgetting<'_> {
                 return Ok(written);
             };
             let rows = export.add(alloc, self.operator.as_str(), station, text.as_str())?;
-            written = written.saturating_add(rows);
+            written = written.with(rows);
         }
         Err(self.orders.silent())
     }
 
-    /// A row that the station sent after the listing, and that is old by its own time, went unwritten.
-    fn compare(&self, written: u64, gone: Forgotten) -> Result<(), ClientFault> {
-        let rows = gone.transactions.saturating_add(gone.readings);
-        if self.export.is_some() && rows > written {
-            return Err(ClientFault::Unwritten(rows - written));
+    /// A reading that the station sent after the listing, and that is old by its own time, went unwritten. Where an order
+    /// takes as many rows as it may, a transaction that was written stays in its place.
+    fn compare(&self, written: Forgotten, gone: Forgotten) -> Result<(), ClientFault> {
+        let unwritten = gone.beyond(written);
+        if self.export.is_some() && unwritten > 0 {
+            return Err(ClientFault::Unwritten(unwritten));
         }
         Ok(())
     }
@@ -184,10 +182,7 @@ impl Forgetting<'_> {
             transactions,
             readings,
         } = gone;
-        self.gone = Forgotten {
-            transactions: self.gone.transactions.saturating_add(transactions),
-            readings: self.gone.readings.saturating_add(readings),
-        };
+        self.gone = self.gone.with(gone);
         println!(self.rt; "{station} {transactions} {readings}")?;
         Ok(())
     }

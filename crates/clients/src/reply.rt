@@ -21,10 +21,26 @@ pub enum Reply {
 }
 
 /// How many rows of a station went.
-#[derive(Clone, Copy, Debug, PartialEq, Eq, Drop)]
+#[derive(Clone, Copy, Debug, Default, PartialEq, Eq, Drop)]
 pub struct Forgotten {
     pub transactions: u64,
     pub readings: u64,
+}
+
+impl Forgotten {
+    /// Both together.
+    pub fn with(self, more: Forgotten) -> Forgotten {
+        Forgotten {
+            transactions: self.transactions.saturating_add(more.transactions),
+            readings: self.readings.saturating_add(more.readings),
+        }
+    }
+
+    /// How many of these rows are more than those of their kind.
+    pub fn beyond(self, rows: Forgotten) -> u64 {
+        let transactions = self.transactions.saturating_sub(rows.transactions);
+        transactions.saturating_add(self.readings.saturating_sub(rows.readings))
+    }
 }
 
 /// The number of the line whose answer follows, by the text `#N begin`.

@@ -12,9 +12,8 @@ use Rattle.std.proofs.lemmas.List.{take-append-drop}
 use Rattle.std.proofs.lemmas.List.Folds.{list_any-append}
 use Rattle.hub_rows.specs.declared.reading_row.ReadingRow.{ReadingRow}
 use Rattle.hub_rows.specs.declared.tx_row.TxRow.{TxRow}
-use Rattle.hub_rows.specs.Forgetting.{goes_with, has_number, is_left, is_over, may_go, named_tx}
+use Rattle.hub_rows.specs.Forgetting.{goes_with, has_number, is_left, is_over, may_go, named_tx, is_one_left, tx_goes}
 use Rattle.hub_rows.specs.Keyed.{by_key, number_key}
-use Rattle.hub_rows.specs.LastReading.{is_one_left, tx_goes}
 use Rattle.hub_rows.specs.Transactions.{is_sent_with}
 use Rattle.hub_rows.proofs.ListLaws.{all-weaker}
 use Rattle.hub_rows.proofs.FilterLaws.{all-both, all-front, filter-alike}

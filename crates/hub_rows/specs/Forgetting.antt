@@ -43,13 +43,20 @@ old_readings most until txs readings = take most (filter (may_go until txs) (but
 abbrev pub has_number : List ℕ → ℕ → Bool
 has_number numbers n = list_any (λ number. number == n) numbers
 
--- whether a reading of the transaction is left
-abbrev pub is_left : List ReadingRow → List ℕ → TxRow → Bool
-is_left readings gone t = list_any (λ r. is_sent_with (Some t.number) r.reading.transaction && not (has_number gone r.number)) readings
+-- a reading of the transaction that is left once those with these numbers are gone
+abbrev pub is_one_left : List ℕ → TxRow → ReadingRow → Bool
+is_one_left gone t r = is_sent_with (Some t.number) r.reading.transaction && not (has_number gone r.number)
 
--- the first transactions that may go once these readings are gone, at most so many
+abbrev pub is_left : List ReadingRow → List ℕ → TxRow → Bool
+is_left readings gone t = list_any (is_one_left gone t) readings
+
+-- a transaction may go once no reading of it is left
+abbrev pub tx_goes : ℕ → List ReadingRow → List ℕ → TxRow → Bool
+tx_goes until readings gone t = is_over until t && not (is_left readings gone t)
+
+-- the first transactions that may go, at most so many
 abbrev pub old_txs : ℕ → ℕ → List TxRow → List ReadingRow → List ℕ → List TxRow
-old_txs most until txs readings gone = take most (filter (λ t. is_over until t && not (is_left readings gone t)) (but_last txs))
+old_txs most until txs readings gone = take most (filter (tx_goes until readings gone) (but_last txs))
 
 -- readings go first, and with them at most 1,000 rows
 abbrev pub old_rows : ℕ → List TxRow → List ReadingRow → List ReadingRow → History

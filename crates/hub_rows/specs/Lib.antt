@@ -10,7 +10,6 @@ pub mod Grants
 pub mod Transactions
 pub mod Reservations
 pub mod Forgetting
-pub mod LastReading
 pub mod LocalLists
 pub mod WellFormed
 pub mod Uses

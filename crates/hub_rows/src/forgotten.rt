@@ -1,7 +1,6 @@
 //! Whether a row of a station's history may go.
 ghost use Rattle.std.specs.Prelude.{◌≡◌, option_map};
-ghost use Rattle.hub_rows.specs.Forgetting.{goes_with, has_number, is_left, is_over};
-ghost use Rattle.hub_rows.specs.LastReading.{is_one_left, tx_goes};
+ghost use Rattle.hub_rows.specs.Forgetting.{goes_with, has_number, is_left, is_over, is_one_left, tx_goes};
 
 use crate::reading_row::{ReadingRow, is_sent_with};
 use crate::tx_row::TxRow;

@@ -7,9 +7,8 @@ use Rattle.sqlite_trees.specs.Tree.{Trees}
 use Rattle.hub_rows.specs.declared.forgettable.TheConstants.{MAX_FORGOTTEN}
 use Rattle.hub_rows.specs.declared.reading_row.ReadingRow.{ReadingRow}
 use Rattle.hub_rows.specs.declared.tx_row.TxRow.{TxRow}
-use Rattle.hub_rows.specs.Forgetting.{but_last, may_go}
+use Rattle.hub_rows.specs.Forgetting.{but_last, may_go, tx_goes}
 use Rattle.hub_rows.specs.Keyed.{by_key, greatest, number_key}
-use Rattle.hub_rows.specs.LastReading.{tx_goes}
 use Rattle.hub_rows.specs.Lookups.{forgettable_in}
 use Rattle.hub_rows.specs.Rows.{Rows, reading_key, tx_key}
 use Rattle.hub_rows.specs.Transactions.{last_reading_in, last_tx_in, readings_in, txs_in}

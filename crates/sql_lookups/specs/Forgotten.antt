@@ -3,9 +3,8 @@ use Rattle.std.specs.Prelude.{◌≡◌, ℕ, List, filter}
 use Rattle.std.specs.Str.{bytes_eq}
 use Rattle.hub_rows.specs.declared.reading_row.ReadingRow.{ReadingRow}
 use Rattle.hub_rows.specs.declared.tx_row.TxRow.{TxRow}
-use Rattle.hub_rows.specs.Forgetting.{may_go, named_tx}
+use Rattle.hub_rows.specs.Forgetting.{may_go, named_tx, tx_goes}
 use Rattle.hub_rows.specs.Keyed.{those}
-use Rattle.hub_rows.specs.LastReading.{tx_goes}
 use Rattle.hub_rows.specs.Rows.{Rows}
 use Rattle.hub_rows.specs.Transactions.{txs_in}
 use Rattle.sql_lookups.specs.declared.forget.Named.{Named}

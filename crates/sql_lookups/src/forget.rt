@@ -2,9 +2,8 @@
 ghost use Rattle.std.specs.Prelude.{◌≡◌, ◌<◌, ◌≤◌, ◌+◌, ◌-◌, ◌++◌, [], ◌∷◌, cond, filter, map, take, length, option_map, OnOk};
 ghost use Rattle.std.specs.List.Sorted.{IsStrictlySortedBy};
 ghost use Rattle.sqlite.specs.Held.{state};
-ghost use Rattle.hub_rows.specs.Forgetting.{goes_with, may_go, named_tx};
+ghost use Rattle.hub_rows.specs.Forgetting.{goes_with, may_go, named_tx, tx_goes};
 ghost use Rattle.hub_rows.specs.Keyed.{by_key, number_key};
-ghost use Rattle.hub_rows.specs.LastReading.{tx_goes};
 ghost use Rattle.hub_rows.specs.Lookups.{forgettable_in};
 ghost use Rattle.hub_rows.specs.Transactions.{txs_in};
 ghost use Rattle.sql_lookups.specs.Asks.{Asks};

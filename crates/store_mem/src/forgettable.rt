@@ -1,9 +1,8 @@
 //! What may go of a station's history, by its rows in the order of their numbers.
 ghost use Rattle.std.specs.Prelude.{◌≡◌, ◌≤◌, length, filter, take, option_map, IfOk};
 ghost use Rattle.std.specs.List.Sorted.{IsStrictlySortedBy};
-ghost use Rattle.hub_rows.specs.Forgetting.{forgettable, may_go, named_tx};
+ghost use Rattle.hub_rows.specs.Forgetting.{forgettable, may_go, named_tx, tx_goes};
 ghost use Rattle.hub_rows.specs.Keyed.{by_key, number_key};
-ghost use Rattle.hub_rows.specs.LastReading.{tx_goes};
 
 use crate::copies::copy;
 use crate::station_rows::row_in;

@@ -1,6 +1,6 @@
 use Rattle.std.proofs.Common.{◌≡◌, ◌∙◌, ◌+◌, ◌++◌, [], ◌∷◌, ap, filter, rules, take}
 use Rattle.std.proofs.lemmas.List.{take_all, take_more}
-use Rattle.hub_rows.specs.LastReading.{tx_goes}
+use Rattle.hub_rows.specs.Forgetting.{tx_goes}
 use Rattle.sql_lookups.proofs.PageLaws.{one_found}
 use Rattle.sql_lookups.proofs.forget.add_old_txs.Goals as goal
 

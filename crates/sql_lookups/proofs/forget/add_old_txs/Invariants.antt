@@ -1,5 +1,5 @@
 use Rattle.std.proofs.Common.{◌≡◌, ◌++◌, filter, take}
-use Rattle.hub_rows.specs.LastReading.{tx_goes}
+use Rattle.hub_rows.specs.Forgetting.{tx_goes}
 use Rattle.sql_lookups.proofs.forget.add_old_txs.Given as goal
 
 abbrev pub invariant-txs : goal.invariant-txs

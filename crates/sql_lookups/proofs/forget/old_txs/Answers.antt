@@ -1,7 +1,7 @@
 use Rattle.std.proofs.Common.{◌≡◌, ◌∙◌, ◌⊎◌, ◌<◌, ◌≤◌, ◌++◌, ap, arith, filter, inl, inr, length, map, subst, sym, take}
 use Rattle.std.specs.List.Sorted.{IsStrictlySortedBy}
 use Rattle.hub_rows.specs.Keyed.{by_key, number_key}
-use Rattle.hub_rows.specs.LastReading.{tx_goes}
+use Rattle.hub_rows.specs.Forgetting.{tx_goes}
 use Rattle.hub_rows.specs.Transactions.{txs_in}
 use Rattle.sql_rows.specs.TypedTables.{rows_of}
 use Rattle.sql_lookups.specs.Pages.{after_page, below}

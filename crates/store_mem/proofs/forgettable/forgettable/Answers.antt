@@ -2,10 +2,9 @@ use Rattle.std.proofs.Common.{◌≡◌, ◌-◌, List, ℕ, length, map, filter
 use Rattle.std.proofs.lemmas.List.{length-map, take-append-drop}
 use Rattle.hub_rows.specs.declared.forgettable.TheConstants.{MAX_FORGOTTEN}
 use Rattle.hub_rows.specs.declared.reading_row.ReadingRow.{ReadingRow}
-use Rattle.hub_rows.specs.Forgetting.{may_go}
+use Rattle.hub_rows.specs.Forgetting.{may_go, tx_goes}
 use Rattle.hub_rows.proofs.LastReadingLaws.{gone, by-room}
 use Rattle.store_mem.proofs.forgettable.forgettable.Goals as goal
-use Rattle.hub_rows.specs.LastReading.{tx_goes}
 
 pub returns : goal.returns
 returns c =

@@ -2,7 +2,7 @@ use Rattle.std.proofs.Common.{◌≡◌, ◌<◌, ◌+◌, ◌++◌, ◌∷◌, 
 use Rattle.store_mem.proofs.FirstLaws.{AreFirst, one-found, none-here}
 use Rattle.store_mem.proofs.forgettable.old_txs.Goals as goal
 use Rattle.store_mem.proofs.forgettable.old_txs.Goals.{then-tx_goes+in_ok-copy+in_ok-push, else-tx_goes}
-use Rattle.hub_rows.specs.LastReading.{tx_goes}
+use Rattle.hub_rows.specs.Forgetting.{tx_goes}
 
 pub loop-tx-preserved : goal.loop-tx-preserved
 loop-tx-preserved c =

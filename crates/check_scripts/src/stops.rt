@@ -1,27 +1,14 @@
 //! Scripts that are stopped at each call on the files of a database, which is opened again: whether the records found are
-//! those after the events taken, or with the one in progress.
-//!
-//! `data/` has the lines of each script, `NAME.script`, and the lines that list all records, `lists.txt`. The opening of
-//! `records_in_each_list.db` and `records_of_schema_2.db`, databases of schemas 1 and 2, is stopped in the same way. They
-//! are those of crates/check_scripts.
-#![tactic(auto)]
+//! those after the events taken, or with the one in progress. The openings of databases of earlier schemas are stopped in
+//! the same way.
 
-mod disks;
-mod migration;
-mod run_and_stop;
-mod runs;
-mod script;
-mod stop;
-mod tries;
-
+use crate::disks::{File, Leaves};
+use crate::migration::{Earlier, Stops};
+use crate::runs::events;
+use crate::stopped_script::{LISTS, Script};
+use crate::tries::{Tally, try_files, try_in_place};
 use anyhow::{Context, Result};
-use disks::{File, Leaves};
-use migration::{Earlier, Stops};
-use runs::events;
-use script::Script;
 use std::fs;
-use std::process::ExitCode;
-use tries::{Tally, try_files, try_in_place};
 
 /// The scripts that are tried.
 const SCRIPTS: &[&str] = &[
@@ -38,8 +25,8 @@ const SCRIPTS: &[&str] = &[
 
 /// The databases of earlier schemas, by their numbers.
 const EARLIER: &[(u32, &str)] = &[
-    (1, "records_in_each_list.db"),
-    (2, "records_of_schema_2.db"),
+    (1, "databases/records_in_each_list.db"),
+    (2, "databases/records_of_schema_2.db"),
 ];
 
 /// What is tried of each script.
@@ -49,6 +36,19 @@ const KINDS: &[(&str, File, Leaves)] = &[
     ("the database, written", File::Database, Leaves::Written),
     ("the database, synced", File::Database, Leaves::Synced),
 ];
+
+/// Stops all of them, and prints how many stops there were of each. Whether none left other records.
+pub fn try_stops(rt: &HostRuntime) -> Result<bool> {
+    let mut wrong = 0u64;
+    for (number, name) in EARLIER {
+        let stops = try_earlier(rt, *number, name).context(format_args!("database {name}"))?;
+        wrong = wrong.saturating_add(stops);
+    }
+    for name in SCRIPTS {
+        wrong = wrong.saturating_add(try_script(rt, name).context(format_args!("script {name}"))?);
+    }
+    Ok(wrong == 0)
+}
 
 /// Prints a tally. How many were wrong.
 fn told(rt: &HostRuntime, name: &str, kind: &str, tally: Tally) -> Result<u64> {
@@ -80,7 +80,7 @@ fn try_script(rt: &HostRuntime, name: &str) -> Result<u64> {
 fn try_earlier(rt: &HostRuntime, number: u32, name: &str) -> Result<u64> {
     let alloc = rt.alloc();
     let database = fs::read(rt, name)?;
-    let lists = events(alloc, fs::read(rt, "lists.txt")?.as_slice())?;
+    let lists = events(alloc, fs::read(rt, LISTS)?.as_slice())?;
     let earlier = Earlier::new(alloc, database, lists)?;
     let mut all = 0u64;
     for (kind, leaves) in [("written", Leaves::Written), ("synced", Leaves::Synced)] {
@@ -91,17 +91,4 @@ fn try_earlier(rt: &HostRuntime, number: u32, name: &str) -> Result<u64> {
         all = all.saturating_add(wrong);
     }
     Ok(all)
-}
-
-/// Statuses: 0 where no stop left other records, 1 otherwise.
-fn main(rt: HostRuntime) -> Result<ExitCode> {
-    let mut wrong = 0u64;
-    for (number, name) in EARLIER {
-        let stops = try_earlier(&rt, *number, name).context(format_args!("database {name}"))?;
-        wrong = wrong.saturating_add(stops);
-    }
-    for name in SCRIPTS {
-        wrong = wrong.saturating_add(try_script(&rt, name).context(format_args!("script {name}"))?);
-    }
-    Ok(ExitCode::from(if wrong == 0 { 0 } else { 1 }))
 }

@@ -2,7 +2,7 @@
 
 use crate::disks::{At, File, Leaves, Opened, close, open_again, open_new};
 use crate::runs::{records_in, take_all_in, take_and_stop};
-use crate::script::Script;
+use crate::stopped_script::Script;
 use anyhow::{Result, bail};
 use std::alloc::Global;
 

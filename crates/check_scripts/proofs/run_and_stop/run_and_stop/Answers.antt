@@ -1,7 +1,7 @@
 use Rattle.std.proofs.Common.{IfOk, IsTrue, Result, Ok, Err, subst}
 use Rattle.sqlite.specs.Held.{state}
 use Rattle.store_sql.specs.Store.{sql_rows, sql_may_find}
-use Rattle.check_stops.proofs.run_and_stop.run_and_stop.Goals as goal
+use Rattle.check_scripts.proofs.run_and_stop.run_and_stop.Goals as goal
 
 -- what follows of a value follows of an answer
 each : {V E : Type 0} (P Q : V → Type 0) (r : Result V E) → ((v : V) → P v → Q v) → IfOk r P → IfOk r Q
