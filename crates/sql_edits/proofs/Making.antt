@@ -9,7 +9,7 @@ use Rattle.sqlite.specs.State.{State}
 use Rattle.sqlite.specs.Store.{Ghosts}
 use Rattle.hub_rows.specs.Keyed.{first, greatest, put_all}
 use Rattle.hub_rows.specs.Rows.{Rows}
-use Rattle.sql_rows.specs.Kept.{AsksInside, Goes, IsInside, IsSame, Leaves, MakesIf, MakesIn, ShowsInside, ShowsLastInside}
+use Rattle.sql_rows.specs.Kept.{AsksInside, Goes, Inside, IsInside, IsSame, Leaves, MakesIf, MakesIn, ShowsInside, ShowsLastInside}
 use Rattle.sql_rows.specs.TypedTable.{TypedTable, cmp, rows_in}
 use Rattle.sql_rows.specs.TypedTables.{rows_of}
 use Rattle.sql_rows.specs.Values.{count_in}
@@ -71,6 +71,40 @@ module _ {S : Type 0} {g : Ghosts S} where
     goes = λ begins.
         let first = (one.goes begins).ok in
         record { ok = record { leaves = first.leaves; within = first.within; edit = λ up. means begins up (first.edit up); still = first.still }; err = tt };
+  }
+
+  -- the same, where it may begin more often
+  pub makes_when : {A E : Type 0} {Begins Next : State → Type 0} {Edit : Trees → Trees → Type 0} {old new : Transaction S} {r : Result A E} → MakesIf g Next Edit old new r → ((s : State) → Begins s → Next s) → MakesIf g Begins Edit old new r
+  makes_when {A} {E} {Begins} {Next} {Edit} {old} {new} {r} part may = record { same_reference = part.same_reference; goes = λ begins. part.goes (may (state g old.conn.now) begins) }
+
+  -- what follows of what is made, for any answer
+  pub makes_as : {A E : Type 0} {Begins : State → Type 0} {One Two : Trees → Trees → Type 0} {old new : Transaction S} {r : Result A E} → MakesIf g Begins One old new r
+      → (Begins (state g old.conn.now) → IsTrue (state g old.conn.now).is_open → One (state g old.conn.now).now.trees (state g new.conn.now).now.trees → Two (state g old.conn.now).now.trees (state g new.conn.now).now.trees) → MakesIf g Begins Two old new r
+  makes_as {A} {E} {Begins} {One} {Two} {old} {new} {r} one means = record { same_reference = one.same_reference; goes = λ begins. go begins r (one.goes begins) }
+    where
+      go : Begins (state g old.conn.now) → (r : Result A E) → Goes One (state g old.conn.now) (state g new.conn.now) r → Goes Two (state g old.conn.now) (state g new.conn.now) r
+      go begins (Ok x) it =
+          let first = it.ok in
+          record { ok = record { leaves = first.leaves; within = first.within; edit = λ up. means begins (first.leaves.was_open up) (first.edit up); still = first.still }; err = tt }
+      go begins (Err e) it = record { ok = tt; err = it.err }
+
+  -- an error after a part
+  pub makes_stops : {A B E F : Type 0} {Begins : State → Type 0} {One Two : Trees → Trees → Type 0} {old new : Transaction S} {x : A} {q : Result B F} → MakesIf {E = E} g Begins One old new (Ok x) → IsErr q → MakesIf g Begins Two old new q
+  makes_stops {A} {B} {E} {F} {Begins} {One} {Two} {old} {new} {x} {q} one failed = record {
+    same_reference = one.same_reference;
+    goes = λ begins. goes_err Two (state g old.conn.now) (state g new.conn.now) q failed (one.goes begins).ok.leaves;
+  }
+
+  -- one part after the other, where what the first makes lets the other begin
+  pub makes_next : {A B E F : Type 0} {Begins Next : State → Type 0} {One Two Both : Trees → Trees → Type 0} {a b c : Transaction S} {x : A} {r : Result B F} → MakesIf {E = E} g Begins One a b (Ok x) → MakesIf g Next Two b c r
+      → (Begins (state g a.conn.now) → Inside One (state g a.conn.now) (state g b.conn.now) → Next (state g b.conn.now))
+      → (Begins (state g a.conn.now) → IsTrue (state g b.conn.now).is_open → One (state g a.conn.now).now.trees (state g b.conn.now).now.trees → Two (state g b.conn.now).now.trees (state g c.conn.now).now.trees → Both (state g a.conn.now).now.trees (state g c.conn.now).now.trees)
+      → MakesIf g Begins Both a c r
+  makes_next {A} {B} {E} {F} {Begins} {Next} {One} {Two} {Both} {a} {b} {c} {x} {r} one two next joined = record {
+    same_reference = two.same_reference ∙ one.same_reference;
+    goes = λ begins.
+        let first = (one.goes begins).ok in
+        goes_then One Two Both (state g a.conn.now) (state g b.conn.now) (state g c.conn.now) r (joined begins) first (two.goes (next begins first));
   }
 
   -- one part after the other

@@ -76,13 +76,14 @@ fn edit_tags<S: Alter>(
     }
 }
 
-/// Makes an edit of transactions, or of readings.
+/// Makes an edit of transactions or of readings, that fits.
 fn edit_transactions<S: Alter>(
     tx: &mut Transaction<'_, S>,
+    alloc: Global,
     op: &str,
     change: &TransactionEdit,
 ) -> Result<(), StoreFault>
-    ensures makes { Makes S.Store (edit op.now (Transactions change.now)) tx.old tx.new result }
+    ensures makes { MakesFitting S.Store op.now (Transactions change.now) tx.old tx.new result }
 {
     match change {
         TransactionEdit::TxStarted {
@@ -104,14 +105,14 @@ fn edit_transactions<S: Alter>(
         } => {
             let station = station.as_str();
             stop_tx(tx, op, station, *number, stop)?;
-            add_readings(tx, op, station, *first, readings.as_slice())
+            add_readings(tx, alloc, op, station, *first, readings.as_slice())
         }
         TransactionEdit::ReadingsAdded {
             station,
             first,
             readings,
-        } => add_readings(tx, op, station.as_str(), *first, readings.as_slice()),
-        TransactionEdit::Forgotten { station, rows } => forget(tx, op, station.as_str(), rows),
+        } => add_readings(tx, alloc, op, station.as_str(), *first, readings.as_slice()),
+        TransactionEdit::Forgotten { station, rows } => forget(tx, alloc, op, station.as_str(), rows),
     }
 }
 
@@ -149,7 +150,7 @@ fn make<S: Alter>(
     match change {
         Edit::Stations(change) => edit_stations(tx, op, change),
         Edit::Tags(change) => edit_tags(tx, alloc, op, change),
-        Edit::Transactions(change) => edit_transactions(tx, op, change),
+        Edit::Transactions(change) => edit_transactions(tx, alloc, op, change),
         Edit::Holdings(change) => edit_holdings(tx, alloc, op, change),
     }
 }

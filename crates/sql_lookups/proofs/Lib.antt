@@ -2,3 +2,4 @@ pub mod Asking
 pub mod GrantedLaws
 pub mod PageLaws
 pub mod ForgetLaws
+pub mod ValueLaws

@@ -1,9 +1,10 @@
 -- What a look-up says.
-use Rattle.std.specs.Prelude.{Result}
+use Rattle.std.specs.Prelude.{◌≡◌, ℕ, List, Option, Result}
 use Rattle.sqlite_trees.specs.Tree.{Trees}
 use Rattle.sqlite.specs.State.{State}
+use Rattle.hub_rows.specs.Keyed.{first}
 use Rattle.hub_rows.specs.Rows.{Rows}
-use Rattle.sql_rows.specs.Kept.{CommitsNothing, FindsIn, Rests}
+use Rattle.sql_rows.specs.Kept.{CommitsNothing, FindsIn, IsTop, Rests}
 use Rattle.sql_rows.specs.TypedTables.{rows_of}
 
 -- what a look-up says, of the tables
@@ -18,3 +19,7 @@ pub record AsksIn {A E : Type 0} (old new : State) (r : Result A E) (P : Trees �
 -- what a look-up says, of the rows of the hub
 abbrev pub Asks : {A E : Type 0} → State → State → Result A E → (Rows → A → Type 0) → Type 0
 Asks old new r P = AsksIn old new r (λ db. P (rows_of db))
+
+-- the row with the greatest number, if there are any
+abbrev pub IsTopRow : {T : Type 0} → (T → ℕ) → List T → Option T → Type 0
+IsTopRow {T} number all row = (ts : List T) × IsTop number all ts × (row ≡ first ts)

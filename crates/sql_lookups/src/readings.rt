@@ -1,23 +1,28 @@
-//! Look-ups of readings.
-ghost use Rattle.std.specs.Prelude.{◌≡◌, ◌&&◌, ◌<◌, ◌^◌, None, Some, IfOk, filter};
+//! Look-ups of readings, which are kept as meter values.
+ghost use Rattle.std.specs.Prelude.{◌≡◌, ◌&&◌, ◌++◌, ◌<◌, ◌^◌, None, Some, IfOk, OnOk, filter, flat_map};
+ghost use Rattle.std.specs.List.Sorted.{IsStrictlySortedBy};
 ghost use Rattle.std.specs.Str.{bytes_eq};
 ghost use Rattle.sqlite.specs.Held.{state};
-ghost use Rattle.hub_rows.specs.Transactions.{is_reading, is_sent_with, readings_in, last_reading_in};
-ghost use Rattle.sql_rows.specs.Kept.{IsPage, IsServing, Shows, ShowsLast, ShowsPage};
-ghost use Rattle.sql_lookups.specs.Asks.{Asks};
+ghost use Rattle.hub_rows.specs.Keyed.{by_key};
+ghost use Rattle.hub_rows.specs.Rows.{reading_key};
+ghost use Rattle.hub_rows.specs.Transactions.{is_sent_with, readings_in, last_reading_in};
+ghost use Rattle.sql_rows.specs.Kept.{IsPage, IsServing, Shows, ShowsPage, ShowsTop};
+ghost use Rattle.sql_rows.specs.TypedTable.{rows_in};
+ghost use Rattle.sql_rows.specs.TypedTables.{meter_values, is_meter_value, sampled_row, sampled_rows, unfolded, IsLastOf};
+ghost use Rattle.sql_lookups.specs.Asks.{Asks, AsksIn, IsTopRow};
 ghost use Rattle.sql_lookups.specs.Pages.{is_between};
-ghost use Rattle.sql_rows.specs.TypedTables.{readings};
 
-use hub_rows::{ReadingRow, StoreFault, is_sent_with};
-use ocpp_types::Listed;
-use sql_rows::{listed, only_number};
+use hub_rows::{Reading, ReadingRow, StoreFault, is_sent_with};
+use meter_values::Sampled;
+use ocpp_types::{Listed, Text};
+use sql_rows::{MeterValueRow, first_row, listed};
 use sqlite::{Alter, Connection, Error, Row, params};
 use std::alloc::Global;
 
 fn list<S: Alter>(conn: &mut Connection<S>, op: &str, station: &str) -> Result<Vec<Row>, Error>
-    ensures shows { IsServing (state S.Store conn.old) → Shows (λ v. v.items) readings (λ r. bytes_eq r.op op.now && is_reading station.now None r) (state S.Store conn.old) (state S.Store conn.new) result }
+    ensures shows { IsServing (state S.Store conn.old) → Shows (λ v. v.items) meter_values (λ m. bytes_eq m.op op.now && is_meter_value station.now None m) (state S.Store conn.old) (state S.Store conn.new) result }
 {
-    conn.query_all(sql_tables::readings::LIST, params![op, station])
+    conn.query_all(sql_tables::meter_values::LIST, params![op, station])
 }
 
 fn list_of_tx<S: Alter>(
@@ -27,18 +32,131 @@ fn list_of_tx<S: Alter>(
     transaction: u64,
 ) -> Result<Vec<Row>, Error>
     requires { transaction < 2 ^ 63 }
-    ensures shows { IsServing (state S.Store conn.old) → Shows (λ v. v.items) readings (λ r. bytes_eq r.op op.now && is_reading station.now (Some transaction) r) (state S.Store conn.old) (state S.Store conn.new) result }
+    ensures shows { IsServing (state S.Store conn.old) → Shows (λ v. v.items) meter_values (λ m. bytes_eq m.op op.now && is_meter_value station.now (Some transaction) m) (state S.Store conn.old) (state S.Store conn.new) result }
 {
     conn.query_all(
-        sql_tables::readings::LIST_OF_TX,
+        sql_tables::meter_values::LIST_OF_TX,
         params![op, station, transaction as i64],
     )
 }
 
 fn find_last<S: Alter>(conn: &mut Connection<S>, op: &str, station: &str) -> Result<Vec<Row>, Error>
-    ensures shows { IsServing (state S.Store conn.old) → ShowsLast (λ v. v.items) readings (λ r. r.number) (λ r. bytes_eq r.op op.now && is_reading station.now None r) (state S.Store conn.old) (state S.Store conn.new) result }
+    ensures shows { IsServing (state S.Store conn.old) → ShowsTop (λ v. v.items) meter_values (λ m. m.first) (λ m. bytes_eq m.op op.now && is_meter_value station.now None m) (state S.Store conn.old) (state S.Store conn.new) result }
 {
-    conn.query_all(sql_tables::readings::FIND_LAST, params![op, station])
+    conn.query_all(sql_tables::meter_values::FIND_LAST, params![op, station])
+}
+
+/// All meter values of a station.
+fn all_values<S: Alter>(
+    conn: &mut Connection<S>,
+    op: &str,
+    station: &str,
+) -> Result<Listed<MeterValueRow>, StoreFault>
+    ensures asks { AsksIn (state S.Store conn.old) (state S.Store conn.new) result (λ db list. list ≡ filter (λ m. bytes_eq m.op op.now && is_meter_value station.now None m) (rows_in meter_values db)) }
+{
+    listed(list(conn, op, station))
+}
+
+/// The meter values of a station that were sent with the number of a transaction.
+fn tx_values<S: Alter>(
+    conn: &mut Connection<S>,
+    op: &str,
+    station: &str,
+    transaction: u64,
+) -> Result<Listed<MeterValueRow>, StoreFault>
+    requires { transaction < 2 ^ 63 }
+    ensures asks { AsksIn (state S.Store conn.old) (state S.Store conn.new) result (λ db list. list ≡ filter (λ m. bytes_eq m.op op.now && is_meter_value station.now (Some transaction) m) (rows_in meter_values db)) }
+{
+    listed(list_of_tx(conn, op, station, transaction))
+}
+
+/// The reading of a sampled value.
+fn row_of(
+    alloc: Global,
+    op: &str,
+    station: &str,
+    number: u32,
+    connector: u8,
+    transaction: Option<i32>,
+    at: i64,
+    sampled: Sampled,
+) -> Result<ReadingRow, StoreFault>
+    ensures { IfOk result (λ r. r ≡ sampled_row op.now station.now number connector transaction at sampled) }
+{
+    Ok(ReadingRow {
+        op: Text::copy_of(alloc, op)?,
+        station: Text::copy_of(alloc, station)?,
+        number,
+        reading: Reading {
+            connector,
+            transaction,
+            at,
+            context: sampled.context,
+            format: sampled.format,
+            measurand: sampled.measurand,
+            phase: sampled.phase,
+            location: sampled.location,
+            unit: sampled.unit,
+            text: sampled.text,
+        },
+    })
+}
+
+/// Adds the readings of sampled values. The number after the last is within 32 bits, or else this
+/// answers Failed.
+fn add_sampled(
+    alloc: Global,
+    readings: &mut Vec<ReadingRow>,
+    op: &str,
+    station: &str,
+    first: u32,
+    connector: u8,
+    transaction: Option<i32>,
+    at: i64,
+    sampled: Listed<Sampled>,
+) -> Result<(), StoreFault>
+    ensures { OnOk result (readings.new.items ≡ readings.old.items ++ sampled_rows op.now station.now first connector transaction at sampled) }
+{
+    let mut number = first;
+    for one in sampled.into_vec() {
+        let reading = row_of(alloc, op, station, number, connector, transaction, at, one)?;
+        readings.push(reading)?;
+        number = number.checked_add(1).ok_or(StoreFault::Failed)?;
+    }
+    Ok(())
+}
+
+/// Adds the readings of a meter value.
+fn add_each(
+    alloc: Global,
+    readings: &mut Vec<ReadingRow>,
+    row: MeterValueRow,
+) -> Result<(), StoreFault>
+    ensures { OnOk result (readings.new.items ≡ readings.old.items ++ unfolded row) }
+{
+    let value = row.value;
+    add_sampled(
+        alloc,
+        readings,
+        row.op.as_str(),
+        row.station.as_str(),
+        row.first,
+        value.connector,
+        value.transaction,
+        value.at,
+        value.sampled,
+    )
+}
+
+/// The readings that meter values stand for.
+fn unfold(alloc: Global, rows: Listed<MeterValueRow>) -> Result<Listed<ReadingRow>, StoreFault>
+    ensures { IfOk result (λ list. list ≡ flat_map unfolded rows) }
+{
+    let mut readings = Vec::new(alloc);
+    for row in rows.into_vec() {
+        add_each(alloc, &mut readings, row)?;
+    }
+    Ok(Listed::from(readings))
 }
 
 fn page<S: Alter>(
@@ -72,17 +190,20 @@ pub(crate) fn readings_page<S: Alter>(
 /// All readings of a station.
 fn all_readings<S: Alter>(
     conn: &mut Connection<S>,
+    alloc: Global,
     op: &str,
     station: &str,
 ) -> Result<Listed<ReadingRow>, StoreFault>
     ensures asks { Asks (state S.Store conn.old) (state S.Store conn.new) result (λ rows list. list ≡ readings_in op.now station.now None rows.readings) }
 {
-    listed(list(conn, op, station))
+    let values = all_values(conn, op, station)?;
+    unfold(alloc, values)
 }
 
 /// The readings of a station that were sent with the number of a transaction.
 fn tx_readings<S: Alter>(
     conn: &mut Connection<S>,
+    alloc: Global,
     op: &str,
     station: &str,
     transaction: u64,
@@ -90,7 +211,8 @@ fn tx_readings<S: Alter>(
     requires { transaction < 2 ^ 63 }
     ensures asks { Asks (state S.Store conn.old) (state S.Store conn.new) result (λ rows list. list ≡ readings_in op.now station.now (Some transaction) rows.readings) }
 {
-    listed(list_of_tx(conn, op, station, transaction))
+    let values = tx_values(conn, op, station, transaction)?;
+    unfold(alloc, values)
 }
 
 /// Those of some readings that were sent with that number.
@@ -121,23 +243,50 @@ pub fn readings<S: Alter>(
     ensures asks { Asks (state S.Store conn.old) (state S.Store conn.new) result (λ rows list. list ≡ readings_in op.now station.now transaction rows.readings) }
 {
     let wanted = match transaction {
-        None => return all_readings(conn, op, station),
+        None => return all_readings(conn, alloc, op, station),
         Some(wanted) => wanted,
     };
     if wanted <= i64::MAX as u64 {
-        return tx_readings(conn, op, station, wanted);
+        return tx_readings(conn, alloc, op, station, wanted);
     }
-    let all = all_readings(conn, op, station)?;
+    let all = all_readings(conn, alloc, op, station)?;
     sent_with(alloc, all, wanted)
 }
 
-/// The number of a station's last reading, 0 where it has none.
+/// The last meter value of a station.
+fn last_value<S: Alter>(
+    conn: &mut Connection<S>,
+    op: &str,
+    station: &str,
+) -> Result<Option<MeterValueRow>, StoreFault>
+    ensures asks { AsksIn (state S.Store conn.old) (state S.Store conn.new) result (λ db row. IsTopRow (λ m. m.first) (filter (λ m. bytes_eq m.op op.now && is_meter_value station.now None m) (rows_in meter_values db)) row) }
+{
+    first_row(find_last(conn, op, station))
+}
+
+/// The number of the last reading of a meter value, which has some; 0 where there is none.
+fn last_number(row: Option<MeterValueRow>) -> Result<u32, StoreFault>
+    ensures { IfOk result (IsLastOf row) }
+{
+    let Some(row) = row else {
+        return Ok(0);
+    };
+    let count = row.value.sampled.as_slice().len();
+    if count == 0 || count - 1 > (u32::MAX - row.first) as usize {
+        return Err(StoreFault::Failed);
+    }
+    Ok(row.first + (count - 1) as u32)
+}
+
+/// The number of a station's last reading, 0 where it has none, if the readings are in the order of
+/// their keys.
 pub fn last_reading<S: Alter>(
     conn: &mut Connection<S>,
     op: &str,
     station: &str,
 ) -> Result<u32, StoreFault>
-    ensures asks { Asks (state S.Store conn.old) (state S.Store conn.new) result (λ rows n. n ≡ last_reading_in op.now station.now rows.readings) }
+    ensures asks { Asks (state S.Store conn.old) (state S.Store conn.new) result (λ rows n. IsStrictlySortedBy (by_key reading_key) rows.readings → n ≡ last_reading_in op.now station.now rows.readings) }
 {
-    only_number(find_last(conn, op, station), 2)
+    let row = last_value(conn, op, station)?;
+    last_number(row)
 }

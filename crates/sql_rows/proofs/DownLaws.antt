@@ -18,6 +18,7 @@ use Rattle.sql_tables.specs.Tables.{hub_schema}
 use Rattle.sql_tables.specs.Forms.{last_query}
 use Rattle.sql_rows.specs.TypedTable.{TypedTable, typed, rows_in, AreTyped}
 use Rattle.sql_rows.specs.TypedTables.{hub_good}
+use Rattle.sql_rows.specs.Kept.{IsTop}
 use Rattle.sql_rows.proofs.TypedTableLemmas as typed_table
 use Rattle.sql_rows.proofs.TypedTableLemmas.{IsTypedTable}
 use Rattle.sql_rows.proofs.ReadLaws.{IsNumbered, IsTest, IsWhole, based, number_of, passes, read_is}
@@ -35,6 +36,14 @@ pub none_left : {X : Type 0} (xs : List X) → ((x : X) → Has xs x → ⊥) �
 none_left [] h = refl
 none_left (x ∷ xs) h = absurd (h x (inl refl))
 
+-- its number is the greatest
+top_greatest : {T : Type 0} (number : T → ℕ) (all ts : List T) → IsTop number all ts → greatest (map number ts) ≡ greatest (map number all)
+top_greatest number all [] none = ap (λ l. greatest (map number l)) (sym none)
+top_greatest number all (t ∷ ts) top =
+    ap (λ l. greatest (map number (t ∷ l))) top.0
+    ∙ (let one : max (number t) 0 ≡ number t = omega arith in one)
+    ∙ sym (greatest_is (map number all) (number t) (mapped_has number all t top.1) (λ m h. let u = has_mapped number all m h in subst (λ k. k ≤ number t) (sym u.2) (top.2 u.0 u.1)))
+
 module _ {T : Type 0} (at : ℕ) (s : TypedTable T) (is : IsTypedTable hub_schema hub_good at s) (wanted project : List Term) (whole : IsWhole s project) (params : Row) (p : T → Bool) (test : IsTest s wanted params p)
     (place : ℕ) (number : T → ℕ) (numbered : IsNumbered s number place)
     (db : Trees) (kept : AreTyped hub_schema hub_good db) (obeys : Obeys hub_schema db) (rows : List Row) (answer : IsAnswer (last_query s.table.tree wanted project place) (overlay db []) params rows) where
@@ -44,26 +53,28 @@ module _ {T : Type 0} (at : ℕ) (s : TypedTable T) (is : IsTypedTable hub_schem
   numbered_is : (r : Row) → Has (db s.table.tree) r → column r place ≡ Int (pos (number (typed s r)))
   numbered_is = number_of hub_schema hub_good at s is wanted params p test db kept place number numbered
 
-  pub last_is : greatest (map number (map s.read rows)) ≡ greatest (map number (filter p (rows_in s db)))
-  last_is = elim (last_shown s.table.tree wanted project place (overlay db []) params rows answer) [
+  pub top_is : IsTop number (filter p (rows_in s db)) (map s.read rows)
+  top_is = elim (last_shown s.table.tree wanted project place (overlay db []) params rows answer) [
     | inl none ↦
-        let empty : filter p (rows_in s db) ≡ [] = none_left (filter p (rows_in s db)) (λ t h.
+        subst (λ (l : List Row). IsTop number (filter p (rows_in s db)) (map s.read l)) (sym none.0) (none_left (filter p (rows_in s db)) (λ t h.
         let f = has_filtered p (rows_in s db) t h in
         let r = typed_table.rows_from hub_schema hub_good at s is db kept obeys t f.0 in
-        none.1 r.0 (based hub_schema hub_good at s is wanted params p test db kept r.0 r.1) (passing r.0 r.1 ∙ subst (λ u. p u ≡ true) r.2 f.1)) in
-        ap (λ l. greatest (map number (map s.read l))) none.0 ∙ ap (λ l. greatest (map number l)) (sym empty)
+        none.1 r.0 (based hub_schema hub_good at s is wanted params p test db kept r.0 r.1) (passing r.0 r.1 ∙ subst (λ u. p u ≡ true) r.2 f.1)))
     | inr one ↦
         let r = one.0 in
         let there : Has (db s.table.tree) r = subst (λ l. Has l r) (is.base db) one.1 in
-        let left : greatest (map number (map s.read rows)) ≡ number (typed s r) = ap (λ l. greatest (map number (map s.read l))) one.3 ∙ ap (λ t. max (number t) 0) (read_is hub_schema hub_good at s is wanted params p test db kept project whole r there) ∙ omega arith in
-        left ∙ sym (greatest_is (map number (filter p (rows_in s db))) (number (typed s r))
-        (mapped_has number (filter p (rows_in s db)) (typed s r) (has_kept p (rows_in s db) (typed s r) (typed_table.rows_have hub_schema hub_good at s is db kept obeys r there) (sym (passing r there) ∙ one.2)))
-        (λ m h.
-        let t = has_mapped number (filter p (rows_in s db)) m h in
-        let f = has_filtered p (rows_in s db) t.0 t.1 in
-        let u = typed_table.rows_from hub_schema hub_good at s is db kept obeys t.0 f.0 in
-        let high : number (typed s u.0) ≤ number (typed s r) = not_above (number (typed s r)) (number (typed s u.0)) (λ low.
-        one.4 u.0 (based hub_schema hub_good at s is wanted params p test db kept u.0 u.1) (passing u.0 u.1 ∙ subst (λ w. p w ≡ true) u.2 f.1)
-        (subst₂ (λ a b. value_cmp a b ≡ Less) (sym (numbered_is r there)) (sym (numbered_is u.0 u.1)) (value_cmp-Int (pos (number (typed s r))) (pos (number (typed s u.0))) ∙ low))) in
-        subst (λ k. k ≤ number (typed s r)) (sym (t.2 ∙ ap number u.2)) high))
+        subst (λ (l : List Row). IsTop number (filter p (rows_in s db)) (map s.read l)) (sym one.3) (subst (λ t. IsTop number (filter p (rows_in s db)) (t ∷ [])) (sym (read_is hub_schema hub_good at s is wanted params p test db kept project whole r there)) (
+          refl,
+          has_kept p (rows_in s db) (typed s r) (typed_table.rows_have hub_schema hub_good at s is db kept obeys r there) (sym (passing r there) ∙ one.2),
+          λ t h.
+              let f = has_filtered p (rows_in s db) t h in
+              let u = typed_table.rows_from hub_schema hub_good at s is db kept obeys t f.0 in
+              let high : number (typed s u.0) ≤ number (typed s r) = not_above (number (typed s r)) (number (typed s u.0)) (λ low.
+              one.4 u.0 (based hub_schema hub_good at s is wanted params p test db kept u.0 u.1) (passing u.0 u.1 ∙ subst (λ w. p w ≡ true) u.2 f.1)
+              (subst₂ (λ a b. value_cmp a b ≡ Less) (sym (numbered_is r there)) (sym (numbered_is u.0 u.1)) (value_cmp-Int (pos (number (typed s r))) (pos (number (typed s u.0))) ∙ low))) in
+              subst (λ k. k ≤ number (typed s r)) (sym (ap number u.2)) high,
+        ))
   ]
+
+  pub last_is : greatest (map number (map s.read rows)) ≡ greatest (map number (filter p (rows_in s db)))
+  last_is = top_greatest number (filter p (rows_in s db)) (map s.read rows) top_is

@@ -19,6 +19,7 @@ pub mod HoldingTables
 pub mod LastLaws
 pub mod DownLaws
 pub mod PageLaws
+pub mod AnyLaws
 pub mod Selects
 pub mod Writes
 pub mod Tests
@@ -27,7 +28,9 @@ pub mod TagWrites
 pub mod ChangedLaws
 pub mod TxReads
 pub mod RowEdits
+pub mod MeterValueLaws
 pub mod ListEdits
+pub mod ValueEdits
 pub mod OrderedLaws
 pub mod CreateLemmas
 pub mod RaisingLemmas

@@ -189,7 +189,7 @@ module _ (op station : List ℕ) where
 
 -- ---- one more entry
 
-spares_then : (tree : ℕ) (a b c : Trees) → Spares hub_schema tree a b → Spares hub_schema tree b c → Spares hub_schema tree a c
+pub spares_then : (tree : ℕ) (a b c : Trees) → Spares hub_schema tree a b → Spares hub_schema tree b c → Spares hub_schema tree a c
 spares_then tree a b c p q = all_from (λ (t : Table). (t.tree ≡ tree → ⊥) → c t.tree ≡ a t.tree) hub_schema.tables
     (λ t listed other. all_has (λ (t : Table). (t.tree ≡ tree → ⊥) → c t.tree ≡ b t.tree) hub_schema.tables t q listed other ∙ all_has (λ (t : Table). (t.tree ≡ tree → ⊥) → b t.tree ≡ a t.tree) hub_schema.tables t p listed other)
 

@@ -16,7 +16,7 @@ use Rattle.sqlite.specs.Steps.{FailsToCommit}
 use Rattle.sqlite.specs.Held.{Held, state}
 use Rattle.sqlite.specs.Store.{Ghosts}
 use Rattle.sql_tables.specs.Opening.{our_number, tables_at, schema_at}
-use Rattle.sql_tables.specs.Tables.{hub_schema, first_tables, second_tables, hub_report, hub_tx_owner, hub_use}
+use Rattle.sql_tables.specs.Tables.{hub_schema, first_tables, second_tables, third_tables, hub_report, hub_tx_owner, hub_use, hub_meter_value}
 use Rattle.hub_rows.specs.Keyed.{put}
 use Rattle.hub_rows.specs.WellFormed.{WellFormedRows}
 use Rattle.sql_rows.specs.TypedTable.{cmp, rows_in, AreTyped, Spares}
@@ -76,23 +76,26 @@ abbrev IsTypedAt : ℕ → Trees → Table → Type 0
 IsTypedAt n db t = IsTable (trees_at n db t.tree) × AllByRecursion (hub_good t.tree) (trees_at n db t.tree)
 
 typed_at : (n : ℕ) → n < our_number → (db : Trees) → AreTyped (schema_at n) hub_good db → AreTyped hub_schema hub_good (trees_at n db)
-typed_at zero earlier db are_typed = ((tt, tt), ((tt, tt), ((tt, tt), ((tt, tt), ((tt, tt), ((tt, tt), ((tt, tt), ((tt, tt), ((tt, tt), ((tt, tt), ((tt, tt), ((tt, tt), ((tt, tt), tt)))))))))))))
-typed_at (suc zero) earlier db are_typed = more_tables (IsTypedAt 1 db) (second_tables.tables ++ hub_tx_owner ∷ []) hub_use
-    (more_tables (IsTypedAt 1 db) second_tables.tables hub_tx_owner (more_tables (IsTypedAt 1 db) first_tables.tables hub_report are_typed (tt, tt)) (tt, tt)) (tt, tt)
-typed_at (suc (suc zero)) earlier db are_typed = more_tables (IsTypedAt 2 db) (second_tables.tables ++ hub_tx_owner ∷ []) hub_use (more_tables (IsTypedAt 2 db) second_tables.tables hub_tx_owner are_typed (tt, tt)) (tt, tt)
-typed_at (suc (suc (suc n))) earlier db are_typed = absurd (omega (arith, earlier))
+typed_at zero earlier db are_typed = ((tt, tt), ((tt, tt), ((tt, tt), ((tt, tt), ((tt, tt), ((tt, tt), ((tt, tt), ((tt, tt), ((tt, tt), ((tt, tt), ((tt, tt), ((tt, tt), ((tt, tt), ((tt, tt), tt))))))))))))))
+typed_at (suc zero) earlier db are_typed = more_tables (IsTypedAt 1 db) third_tables.tables hub_meter_value
+    (more_tables (IsTypedAt 1 db) (second_tables.tables ++ hub_tx_owner ∷ []) hub_use
+    (more_tables (IsTypedAt 1 db) second_tables.tables hub_tx_owner (more_tables (IsTypedAt 1 db) first_tables.tables hub_report are_typed (tt, tt)) (tt, tt)) (tt, tt)) (tt, tt)
+typed_at (suc (suc zero)) earlier db are_typed = more_tables (IsTypedAt 2 db) third_tables.tables hub_meter_value
+    (more_tables (IsTypedAt 2 db) (second_tables.tables ++ hub_tx_owner ∷ []) hub_use (more_tables (IsTypedAt 2 db) second_tables.tables hub_tx_owner are_typed (tt, tt)) (tt, tt)) (tt, tt)
+typed_at (suc (suc (suc zero))) earlier db are_typed = more_tables (IsTypedAt 3 db) third_tables.tables hub_meter_value are_typed (tt, tt)
+typed_at (suc (suc (suc (suc n)))) earlier db are_typed = absurd (omega (arith, earlier))
 
-rows_at_is : (n : ℕ) → n < our_number → (db : Trees) → rows_of (trees_at n db) ≡ rows_at n db
-rows_at_is zero earlier db = refl
-rows_at_is (suc zero) earlier db = refl
-rows_at_is (suc (suc zero)) earlier db = refl
-rows_at_is (suc (suc (suc n))) earlier db = absurd (omega (arith, earlier))
+-- of an empty database; those of earlier schemas have their readings in hub_reading
+rows_at_is : (n : ℕ) → n ≡ 0 → (db : Trees) → rows_of (trees_at n db) ≡ rows_at n db
+rows_at_is zero blank db = refl
+rows_at_is (suc n) blank db = absurd (omega (arith, blank))
 
 kept_at : (n : ℕ) → n < our_number → (db : Trees) → KeepsRows (schema_at n).tables (trees_at n db) db
 kept_at zero earlier db = tt
 kept_at (suc zero) earlier db = (refl, (refl, (refl, (refl, (refl, (refl, (refl, (refl, (refl, (refl, tt))))))))))
 kept_at (suc (suc zero)) earlier db = (refl, (refl, (refl, (refl, (refl, (refl, (refl, (refl, (refl, (refl, (refl, tt)))))))))))
-kept_at (suc (suc (suc n))) earlier db = absurd (omega (arith, earlier))
+kept_at (suc (suc (suc zero))) earlier db = (refl, (refl, (refl, (refl, (refl, (refl, (refl, (refl, (refl, (refl, (refl, (refl, (refl, tt)))))))))))))
+kept_at (suc (suc (suc (suc n)))) earlier db = absurd (omega (arith, earlier))
 
 not_below : (t k : ℕ) → k ≤ t → nat_lt t k ≡ false
 not_below t k over = grind (arith, nat_tests)
@@ -104,7 +107,8 @@ pub cut_later : (n : ℕ) → n < our_number → (rows : Trees) → IsCut n rows
 cut_later zero earlier rows cut t over = cut t (omega arith)
 cut_later (suc zero) earlier rows cut t over = cut t (omega (arith, over))
 cut_later (suc (suc zero)) earlier rows cut t over = cut t (omega (arith, over))
-cut_later (suc (suc (suc n))) earlier rows cut t over = absurd (omega (arith, earlier))
+cut_later (suc (suc (suc zero))) earlier rows cut t over = cut t (omega (arith, over))
+cut_later (suc (suc (suc (suc n)))) earlier rows cut t over = absurd (omega (arith, earlier))
 
 -- ---- the ends
 
@@ -113,9 +117,12 @@ pub begun_as : {S : Type 0} (g : Ghosts S) (old tx : Held S) (n : ℕ) → n < o
 begun_as g old tx n earlier begun rested was =
     subst (λ k. IsInsideAs (trees_at n (state g old).now.trees) (schema_at n) (state g k)) (sym begun) (λ up. record { schema_is = was up; sound = rested.sound up; kept = kept_at n earlier (state g old).now.trees; mode = refl; limit = rested.limit })
 
-module _ {S : Type 0} (g : Ghosts S) (old tx mid end : Held S) (n : ℕ) (lower : n < our_number) (begun : tx ≡ record old { in_transaction = true }) (rested : Rested (state g old)) (was : IsTrue (state g old).is_open → (state g old).now.schema ≡ schema_at n)
+module _ {S : Type 0} (g : Ghosts S) (old tx mid end : Held S) (n : ℕ) (blank : n ≡ 0) (begun : tx ≡ record old { in_transaction = true }) (rested : Rested (state g old)) (was : IsTrue (state g old).is_open → (state g old).now.schema ≡ schema_at n)
     (clean : IsTrue (state g end).is_open → HasCleanDisk (state g end)) (before : IsTrue (state g old).is_open → (db : Trees) → (state g old).may_leave db → db ≡ (state g old).committed.trees)
     (left : Leaves (state g tx) (state g mid)) where
+  lower : n < our_number
+  lower = omega (arith, blank)
+
   abbrev starts : Held S
   starts = record old { in_transaction = true }
 
@@ -153,7 +160,7 @@ module _ {S : Type 0} (g : Ghosts S) (old tx mid end : Held S) (n : ℕ) (lower 
   commits_raise r has mode mid_up ok err survives after = go r ok err
     where
       tables : AreTyped (schema_at n) hub_good (state g old).now.trees → IsTrue (state g mid).is_open → HasTables (rows_at n (state g old).now.trees) (state g mid)
-      tables are_typed up = subst (λ rows. HasTables rows (state g mid)) (rows_at_is n lower (state g old).now.trees) (has (typed_at n lower (state g old).now.trees are_typed) up)
+      tables are_typed up = subst (λ rows. HasTables rows (state g mid)) (rows_at_is n blank (state g old).now.trees) (has (typed_at n lower (state g old).now.trees are_typed) up)
 
       raised : IsTrue (state g mid).is_open → (db : Trees) → db ≡ (state g mid).now.trees → IsRaised (state g old).now db
       raised up db same = record { from = n; earlier = lower; was = was (leaves.was_open up); holds = λ are_typed. subst (Holds (rows_at n (state g old).now.trees)) (sym same) (tables are_typed up).holds }

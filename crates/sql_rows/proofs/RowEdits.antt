@@ -105,13 +105,6 @@ none_named op station (x ∷ rows) = ap₂ (λ b l. cond b (x ∷ l) l) (and_fal
 
 -- ---- one more reading
 
-rows-last : (op station : List ℕ) (first : ℕ) (xs : List Reading) (x : Reading) (n : ℕ) → n ≡ first + length xs → reading_rows op station first (xs ++ x ∷ []) ≡ reading_rows op station first xs ++ record { op = op; station = station; number = n; reading = x } ∷ []
+pub rows-last : (op station : List ℕ) (first : ℕ) (xs : List Reading) (x : Reading) (n : ℕ) → n ≡ first + length xs → reading_rows op station first (xs ++ x ∷ []) ≡ reading_rows op station first xs ++ record { op = op; station = station; number = n; reading = x } ∷ []
 rows-last op station first [] x n e = let here : first ≡ n = omega (arith, e) in λ i. record { op = op; station = station; number = here i; reading = x } ∷ []
 rows-last op station first (y ∷ xs) x n e = ap (λ l. record { op = op; station = station; number = first; reading = y } ∷ l) (rows-last op station (first + 1) xs x n (omega (arith, e)))
-
-pub readings_more : (op station : List ℕ) (first : ℕ) (xs more : List Reading) (x : Reading) (n : ℕ) → n ≡ first + length xs → more ≡ xs ++ x ∷ [] → (rows : List ReadingRow)
-    → put (by_key reading_key) (record { op = op; station = station; number = n; reading = x }) (with_readings op station first xs rows) ≡ with_readings op station first more rows
-readings_more op station first xs more x n e is rows =
-    sym (put_all-last (by_key reading_key) (reading_rows op station first xs) (record { op = op; station = station; number = n; reading = x }) rows)
-    ∙ ap (λ l. put_all (by_key reading_key) l rows) (sym (rows-last op station first xs x n e))
-    ∙ ap (λ l. with_readings op station first l rows) (sym is)

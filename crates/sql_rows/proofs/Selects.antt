@@ -16,14 +16,14 @@ use Rattle.sqlite.specs.State.{State, HasCleanDisk, Survives, Shown, FailsToQuer
 use Rattle.sqlite.proofs.Callers.{IsPlain, reads_as}
 use Rattle.hub_rows.specs.Keyed.{put_all, greatest}
 use Rattle.sql_tables.specs.Tables.{hub_schema}
-use Rattle.sql_tables.specs.Forms.{plain_query, last_query, page_query}
+use Rattle.sql_tables.specs.Forms.{any_query, plain_query, last_query, page_query}
 use Rattle.sql_tables.specs.Meanings.{IsRead}
 use Rattle.sql_rows.specs.TypedTable.{TypedTable, cmp, rows_in, AreTyped}
 use Rattle.sql_rows.specs.TypedTables.{hub_good}
-use Rattle.sql_rows.specs.Kept.{IsServing, IsAsBefore, IsUncommitted, CommitsNothing, IsPage, Shows, ShowsLast, ShowsPage}
+use Rattle.sql_rows.specs.Kept.{IsServing, IsAsBefore, IsUncommitted, CommitsNothing, IsPage, IsTop, Shows, ShowsLast, ShowsPage, ShowsTop}
 use Rattle.sql_rows.proofs.TypedTableLemmas.{IsTypedTable}
 use Rattle.sql_rows.proofs.ReadLaws.{IsNumbered, IsTest, IsWhole, lists_those, once}
-use Rattle.sql_rows.proofs.DownLaws.{last_is}
+use Rattle.sql_rows.proofs.DownLaws.{last_is, top_is}
 use Rattle.sql_rows.proofs.PageLaws.{IsApart, page_is}
 use Rattle.sql_rows.proofs.StoreLemmas.{obeys_in, serves_still, shown_was, shown_up, shown_unchanged, commits_none, failed_was, fails_before}
 
@@ -75,6 +75,15 @@ pub record ReadsRows {T : Type 0} (sql : List ℕ) (params : Row) (s : TypedTabl
   pub names : List (List ℕ)
   pub text : IsRead sql (plain_query (inner s.table.tree end) wanted project order) names
   pub test : IsTest s wanted params p
+
+-- it shows one of all rows
+pub record ReadsAny {T : Type 0} (sql : List ℕ) (s : TypedTable T) : Type 1 where
+  pub at : ℕ
+  pub is : IsTypedTable hub_schema hub_good at s
+  pub project : List Term
+  pub whole : IsWhole s project
+  pub names : List (List ℕ)
+  pub text : IsRead sql (any_query s.table.tree project) names
 
 -- it shows the row that passes and has the greatest number, which stands at that place
 pub record ReadsLast {T : Type 0} (sql : List ℕ) (params : Row) (s : TypedTable T) (number : T → ℕ) (p : T → Bool) : Type 1 where
@@ -135,4 +144,14 @@ shows_page {T} {sql} {params} {s} {number} {p} f items old new values r ok err s
       (λ db kept obeys rows answer. page_is f.at s f.is f.wanted f.project f.whole params p f.test f.place f.most f.some number f.numbered f.apart db kept obeys rows answer) items old new values r given h (ok (clean up));
   same = λ up. stays sql (page_query s.table.tree f.wanted f.project f.place f.most) f.names f.text params items old new values r survives.limit h up (ok (clean up)) (err (clean up));
   stops = stops sql (page_query s.table.tree f.wanted f.project f.place f.most) f.names f.text params items old new values r survives ok;
+}
+
+pub shows_top : {T : Type 0} {sql : List ℕ} {params : Row} {s : TypedTable T} {number : T → ℕ} {p : T → Bool} → ReadsLast sql params s number p
+    → {V : Type 0} (items : V → List Row) (old new : State) (values : Row) (r : Result V Error) → (HasCleanDisk new → IfOk r (λ v. Shown sql values old new (items v))) → (HasCleanDisk new → IfErr r (FailsToQuery sql values old new))
+    → Survives old new (CommitsShowing sql values old) → values ≡ params → IsServing old → (IsTrue new.is_open → HasCleanDisk new) → ShowsTop items s number p old new r
+shows_top {T} {sql} {params} {s} {number} {p} f items old new values r ok err survives given h clean = record {
+  ok = λ up. answers sql (last_query s.table.tree f.wanted f.project f.place) f.names f.text params (λ db rows. IsTop number (filter p (rows_in s db)) (map s.read rows))
+      (λ db kept obeys rows answer. top_is f.at s f.is f.wanted f.project f.whole params p f.test f.place number f.numbered db kept obeys rows answer) items old new values r given h (ok (clean up));
+  same = λ up. stays sql (last_query s.table.tree f.wanted f.project f.place) f.names f.text params items old new values r survives.limit h up (ok (clean up)) (err (clean up));
+  stops = stops sql (last_query s.table.tree f.wanted f.project f.place) f.names f.text params items old new values r survives ok;
 }

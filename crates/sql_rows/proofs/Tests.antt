@@ -24,7 +24,7 @@ use Rattle.hub_rows.specs.Transactions.{is_open, counts, is_tx, is_started, is_r
 use Rattle.hub_rows.specs.Uses.{is_owner_of}
 use Rattle.hub_rows.specs.declared.tx_row.StartKey.{StartKey}
 use Rattle.sql_tables.specs.Forms.{where_is, range_is}
-use Rattle.sql_rows.specs.TypedTables.{stations, connectors, tags, grants, txs, readings, reservations, lists, entries, reports, tx_owners, uses}
+use Rattle.sql_rows.specs.TypedTables.{stations, connectors, tags, grants, txs, readings, reservations, lists, entries, reports, tx_owners, uses, meter_values, is_meter_value}
 use Rattle.sql_rows.specs.Values.{flag, number_or_null}
 use Rattle.sql_rows.proofs.ReadLaws.{IsTest}
 use Rattle.sql_rows.proofs.TableLemmas.{equal_is}
@@ -206,11 +206,14 @@ module _ (op station : List ℕ) where
 
   -- ---- readings
 
-  pub of_readings : IsTest readings (where_is 0 (1 ∷ 2 ∷ [])) (Text op ∷ Text station ∷ []) (λ r. bytes_eq r.op op && is_reading station None r)
-  of_readings = λ id r. ap₂ ◌&&◌ (text_test r.op op) (ap (λ b. b && true) (text_test r.station station))
+  pub meter_values_between : (low high : ℕ) → IsTest meter_values (where_is 0 (1 ∷ 2 ∷ []) ++ range_is 2 3) (Text op ∷ Text station ∷ Int (pos low) ∷ Int (pos high) ∷ []) (λ m. bytes_eq m.op op && (bytes_eq m.station station && (nat_le low m.first && nat_le m.first high)))
+  meter_values_between low high = λ id m. ap₂ ◌&&◌ (text_test m.op op) (ap₂ ◌&&◌ (text_test m.station station) (counts_between m.first low high))
 
-  pub tx_readings : (n : ℕ) → IsTest readings (where_is 0 (1 ∷ 2 ∷ 5 ∷ [])) (Text op ∷ Text station ∷ Int (pos n) ∷ []) (λ r. bytes_eq r.op op && is_reading station (Some n) r)
-  tx_readings n = λ id r. ap₂ ◌&&◌ (text_test r.op op) (ap₂ ◌&&◌ (text_test r.station station) (ap (λ b. b && true) (option_test r.reading.transaction n) ∙ and_true (is_sent_with (Some n) r.reading.transaction)))
+  pub of_meter_values : IsTest meter_values (where_is 0 (1 ∷ 2 ∷ [])) (Text op ∷ Text station ∷ []) (λ m. bytes_eq m.op op && is_meter_value station None m)
+  of_meter_values = λ id m. ap₂ ◌&&◌ (text_test m.op op) (ap (λ b. b && true) (text_test m.station station))
+
+  pub tx_meter_values : (n : ℕ) → IsTest meter_values (where_is 0 (1 ∷ 2 ∷ 5 ∷ [])) (Text op ∷ Text station ∷ Int (pos n) ∷ []) (λ m. bytes_eq m.op op && is_meter_value station (Some n) m)
+  tx_meter_values n = λ id m. ap₂ ◌&&◌ (text_test m.op op) (ap₂ ◌&&◌ (text_test m.station station) (ap (λ b. b && true) (option_test m.value.transaction n) ∙ and_true (is_sent_with (Some n) m.value.transaction)))
 
 -- ---- of an operator
 

@@ -1,6 +1,6 @@
 -- Transactions, the owners of their tags, readings and uses: their typed tables, and what the texts that write and show them
 -- mean.
-use Rattle.std.proofs.Common.{◌&&◌, ◌++◌, ◌∷◌, ◌≡◌, ◌∙◌, ℕ, nat_le, pos, List, [], Bool, Option, Some, None, option_map, refl, sym, ap, arith, inl, inr, true, Equal}
+use Rattle.std.proofs.Common.{◌&&◌, ◌++◌, ◌∷◌, ◌≡◌, ◌∙◌, ℕ, nat_le, pos, List, [], Bool, Option, Some, None, option_map, unwrap_or, length, refl, sym, ap, arith, inl, inr, true, Equal}
 use Rattle.std.proofs.lemmas.Bool.{and_parts}
 use Rattle.std.proofs.lemmas.Cmp.{tied_itself}
 use Rattle.sqlite_value.specs.Order.{Row}
@@ -8,9 +8,9 @@ use Rattle.sqlite_value.specs.Keys.{joined}
 use Rattle.sqlite_schema.specs.declared.schema.Keys.TheVariants.{Enforced}
 use Rattle.sqlite_schema.specs.Names.{same_name}
 use Rattle.sqlite_rules.specs.Action.{works}
-use Rattle.sql_tables.specs.Tables.{hub_schema, hub_tx, names_of, hub_reading, hub_tx_owner, hub_use}
+use Rattle.sql_tables.specs.Tables.{hub_schema, hub_tx, names_of, hub_reading, hub_tx_owner, hub_use, hub_meter_value}
 use Rattle.sql_tables.specs.Forms.{cols, where_is, range_is, by_column}
-use Rattle.sql_rows.specs.TypedTables.{hub_good, txs, tx_owners, readings, uses, stop_tag, rows_of}
+use Rattle.sql_rows.specs.TypedTables.{hub_good, txs, tx_owners, readings, meter_values, is_meter_value, uses, stop_tag, rows_of}
 use Rattle.sql_rows.proofs.TableLemmas.{cast_int}
 use Rattle.sql_rows.proofs.ValueLaws.{text_cast, number_cast, count_cast, flag_cast, text_back, number_back}
 use Rattle.sql_rows.proofs.TypedTableLemmas.{IsTypedTable}
@@ -34,17 +34,20 @@ use Rattle.hub_rows.specs.Keyed.{by_key, key_cmp, numbered_key, put, without}
 use Rattle.hub_rows.proofs.ListLaws.{keys_total, same_text}
 use Rattle.hub_rows.specs.Rows.{tx_key, tx_owner_key, reading_key, use_key}
 use Rattle.hub_rows.specs.Uses.{is_owner_of}
+use Rattle.sql_tables.specs.declared.meter_values.TheConstants as sql_meter_values
 use Rattle.sql_tables.specs.declared.readings.TheConstants as sql_readings
 use Rattle.sql_tables.specs.declared.tx_owners.TheConstants as sql_tx_owners
 use Rattle.sql_tables.specs.declared.txs.TheConstants as sql_txs
 use Rattle.sql_tables.specs.declared.uses.TheConstants as sql_uses
 use Rattle.sql_tables.proofs.Texts as texts
 use Rattle.sql_rows.specs.TypedTable.{rows_in, Spares}
-use Rattle.sql_rows.specs.Kept.{IsMade}
+use Rattle.sql_rows.specs.Kept.{IsDropped, IsMade, IsPutIn}
+use Rattle.sql_rows.specs.declared.meter_value_rows.MeterValueRow.{MeterValueRow}
+use Rattle.meter_values.proofs.ReadAgain.{read_again}
 use Rattle.sql_rows.proofs.StoreLemmas.{Means, means_as}
 use Rattle.sql_rows.proofs.Writes.{adds, puts, drops}
 use Rattle.hub_rows.specs.declared.tx_row.StartKey.{StartKey}
-use Rattle.sql_rows.proofs.Selects.{ReadsRows, ReadsLast, ReadsPage}
+use Rattle.sql_rows.proofs.Selects.{ReadsAny, ReadsRows, ReadsLast, ReadsPage}
 use Rattle.sql_rows.proofs.Tests as tests
 use Rattle.sql_rows.proofs.HubTables.{all_plain, rest_is, spared}
 
@@ -241,36 +244,20 @@ on_readings = record {
   still = λ olds news some. rw some refl;
 }
 
-pub put_readings : IsPutForm readings 10
-put_readings = record { source = λ s. refl; filter = λ s v i r. refl; project = λ s u v i j. refl }
-
 pub whole_readings : IsWhole readings (cols 1 1 13)
 whole_readings s v params = refl
-
-pub readings_made : (old new : Trees) (made : List ReadingRow) → rows_in readings new ≡ made → Spares hub_schema 12 old new → rows_of new ≡ record (rows_of old) { readings = made }
-readings_made old new made rows frame = λ i. record (rows_of (rest_is (12 ∷ []) old new (spared 12 old new frame) i)) { readings = rows i }
-
-pub adds_reading : (r : ReadingRow) → Means sql_readings.ADD.now (readings.row r) (IsMade (λ rows. record rows { readings = put (by_key reading_key) r rows.readings }))
-adds_reading r = means_as (adds 6 readings on_readings sql_readings.ADD.now 10 put_readings texts.add_reading_is r) (λ old new h. readings_made old new _ h.rows h.frame)
 
 -- a delete in this table sets off nothing
 frees_readings : (olds : List Row) → works hub_schema Enforced 0 12 olds [] ≡ []
 unfolding same_name joined
 frees_readings olds = refl
 
-pub drops_readings : (op station : List ℕ) (low high : ℕ) → Means sql_readings.DROP.now (Text op ∷ Text station ∷ Int (pos low) ∷ Int (pos high) ∷ []) (IsMade (λ rows. record rows { readings = without (λ r. r.op) op (λ r. bytes_eq r.station station && (nat_le low r.number && nat_le r.number high)) rows.readings }))
-drops_readings op station low high =
-    means_as (drops 6 readings on_readings sql_readings.DROP.now (where_is 0 (1 ∷ 2 ∷ []) ++ range_is 2 3) (Text op ∷ Text station ∷ Int (pos low) ∷ Int (pos high) ∷ []) (λ r. bytes_eq r.op op && (bytes_eq r.station station && (nat_le low r.number && nat_le r.number high))) (tests.readings_between op station low high) frees_readings texts.drop_readings_is)
-    (λ old new h. readings_made old new _ h.rows h.frame)
+-- one of all readings
+pub any_reading : ReadsAny sql_readings.ANY.now readings
+any_reading = record { at = 6; is = on_readings; project = cols 1 1 13; whole = whole_readings; names = names_of hub_reading; text = texts.any_reading_is }
 
-pub reads_readings : (op station : List ℕ) → ReadsRows sql_readings.LIST.now (Text op ∷ Text station ∷ []) readings (λ r. bytes_eq r.op op && is_reading station None r)
-reads_readings op station = record { at = 6; is = on_readings; wanted = where_is 0 (1 ∷ 2 ∷ []); project = cols 1 1 13; whole = whole_readings; order = by_column 3 ∷ []; names = names_of hub_reading; text = texts.list_readings_is; test = tests.of_readings op station }
-
-pub reads_tx_readings : (op station : List ℕ) (n : ℕ) → ReadsRows sql_readings.LIST_OF_TX.now (Text op ∷ Text station ∷ Int (pos n) ∷ []) readings (λ r. bytes_eq r.op op && is_reading station (Some n) r)
-reads_tx_readings op station n = record { at = 6; is = on_readings; wanted = where_is 0 (1 ∷ 2 ∷ 5 ∷ []); project = cols 1 1 13; whole = whole_readings; order = by_column 3 ∷ []; names = names_of hub_reading; text = texts.list_tx_readings_is; test = tests.tx_readings op station n }
-
-pub reads_last_reading : (op station : List ℕ) → ReadsLast sql_readings.FIND_LAST.now (Text op ∷ Text station ∷ []) readings (λ r. r.number) (λ r. bytes_eq r.op op && is_reading station None r)
-reads_last_reading op station = record { at = 6; is = on_readings; wanted = where_is 0 (1 ∷ 2 ∷ []); project = cols 1 1 13; whole = whole_readings; place = 3; numbered = λ id r. refl; names = names_of hub_reading; text = texts.find_last_reading_is; test = tests.of_readings op station }
+pub drops_readings : (op station : List ℕ) (low high : ℕ) → Means sql_readings.DROP.now (Text op ∷ Text station ∷ Int (pos low) ∷ Int (pos high) ∷ []) (IsDropped readings (λ r. bytes_eq r.op op && (bytes_eq r.station station && (nat_le low r.number && nat_le r.number high))))
+drops_readings op station low high = drops 6 readings on_readings sql_readings.DROP.now (where_is 0 (1 ∷ 2 ∷ []) ++ range_is 2 3) (Text op ∷ Text station ∷ Int (pos low) ∷ Int (pos high) ∷ []) (λ r. bytes_eq r.op op && (bytes_eq r.station station && (nat_le low r.number && nat_le r.number high))) (tests.readings_between op station low high) frees_readings texts.drop_readings_is
 
 pub pages_of_readings : (op station : List ℕ) (low high : ℕ) → ReadsPage sql_readings.PAGE.now (Text op ∷ Text station ∷ Int (pos low) ∷ Int (pos high) ∷ []) readings (λ r. r.number) (λ r. bytes_eq r.op op && (bytes_eq r.station station && (nat_le low r.number && nat_le r.number high)))
 pages_of_readings op station low high = record {
@@ -288,6 +275,89 @@ pages_of_readings op station low high = record {
   text = texts.page_of_readings_is;
   test = tests.readings_between op station low high;
 }
+
+-- ---- meter values
+
+meter_value_round : (s : MeterValueRow) → meter_values.read (meter_values.row s) ≡ s
+meter_value_round s = λ i. record s { value = record s.value { transaction = number_back s.value.transaction i; sampled = unwrap_or (read_again s.value.sampled i) [] } }
+
+pub on_meter_values : IsTypedTable hub_schema hub_good 13 meter_values
+on_meter_values = record {
+  key_row = λ s. refl;
+  row_key = λ s. refl;
+  long = λ s. refl;
+  round = λ s. meter_value_round s;
+  casts = λ s. rw (cast_int (pos s.first), cast_int (pos s.value.connector), number_cast s.value.transaction, cast_int s.value.at, cast_int (pos (length s.value.sampled))) refl;
+  good_is = refl;
+  here = refl;
+  listed = inr (inr (inr (inr (inr (inr (inr (inr (inr (inr (inr (inr (inr (inl refl)))))))))))));
+  index = _;
+  guarded = inr (inr (inr (inr (inr (inr (inr (inr (inr (inr (inr (inr (inr (inl refl)))))))))))));
+  guards_it = refl;
+  columns = refl;
+  order = refl;
+  orders = all_plain;
+  base = λ db. refl;
+  counted = refl;
+  still = λ olds news some. rw some refl;
+}
+
+pub put_meter_values : IsPutForm meter_values 5
+put_meter_values = record { source = λ s. refl; filter = λ s v i r. refl; project = λ s u v i j. refl }
+
+pub whole_meter_values : IsWhole meter_values (cols 1 1 8)
+whole_meter_values s v params = refl
+
+pub adds_meter_value : (m : MeterValueRow) → Means sql_meter_values.ADD.now (meter_values.row m) (IsPutIn meter_values m)
+adds_meter_value m = adds 13 meter_values on_meter_values sql_meter_values.ADD.now 5 put_meter_values texts.add_meter_value_is m
+
+pub reads_meter_values : (op station : List ℕ) → ReadsRows sql_meter_values.LIST.now (Text op ∷ Text station ∷ []) meter_values (λ m. bytes_eq m.op op && is_meter_value station None m)
+reads_meter_values op station = record { at = 13; is = on_meter_values; wanted = where_is 0 (1 ∷ 2 ∷ []); project = cols 1 1 8; whole = whole_meter_values; order = by_column 3 ∷ []; names = names_of hub_meter_value; text = texts.list_meter_values_is; test = tests.of_meter_values op station }
+
+pub reads_tx_meter_values : (op station : List ℕ) (n : ℕ) → ReadsRows sql_meter_values.LIST_OF_TX.now (Text op ∷ Text station ∷ Int (pos n) ∷ []) meter_values (λ m. bytes_eq m.op op && is_meter_value station (Some n) m)
+reads_tx_meter_values op station n = record { at = 13; is = on_meter_values; wanted = where_is 0 (1 ∷ 2 ∷ 5 ∷ []); project = cols 1 1 8; whole = whole_meter_values; order = by_column 3 ∷ []; names = names_of hub_meter_value; text = texts.list_tx_meter_values_is; test = tests.tx_meter_values op station n }
+
+pub reads_last_meter_value : (op station : List ℕ) → ReadsLast sql_meter_values.FIND_LAST.now (Text op ∷ Text station ∷ []) meter_values (λ m. m.first) (λ m. bytes_eq m.op op && is_meter_value station None m)
+reads_last_meter_value op station = record { at = 13; is = on_meter_values; wanted = where_is 0 (1 ∷ 2 ∷ []); project = cols 1 1 8; whole = whole_meter_values; place = 3; numbered = λ id m. refl; names = names_of hub_meter_value; text = texts.find_last_meter_value_is; test = tests.of_meter_values op station }
+
+pub last_meter_value_between : (op station : List ℕ) (low high : ℕ) → ReadsLast sql_meter_values.LAST_BETWEEN.now (Text op ∷ Text station ∷ Int (pos low) ∷ Int (pos high) ∷ []) meter_values (λ m. m.first) (λ m. bytes_eq m.op op && (bytes_eq m.station station && (nat_le low m.first && nat_le m.first high)))
+last_meter_value_between op station low high = record {
+  at = 13;
+  is = on_meter_values;
+  wanted = where_is 0 (1 ∷ 2 ∷ []) ++ range_is 2 3;
+  project = cols 1 1 8;
+  whole = whole_meter_values;
+  place = 3;
+  numbered = λ id m. refl;
+  names = names_of hub_meter_value;
+  text = texts.last_meter_value_between_is;
+  test = tests.meter_values_between op station low high;
+}
+
+pub pages_of_meter_values : (op station : List ℕ) (low high : ℕ) → ReadsPage sql_meter_values.PAGE.now (Text op ∷ Text station ∷ Int (pos low) ∷ Int (pos high) ∷ []) meter_values (λ m. m.first) (λ m. bytes_eq m.op op && (bytes_eq m.station station && (nat_le low m.first && nat_le m.first high)))
+pages_of_meter_values op station low high = record {
+  at = 13;
+  is = on_meter_values;
+  wanted = where_is 0 (1 ∷ 2 ∷ []) ++ range_is 2 3;
+  project = cols 1 1 8;
+  whole = whole_meter_values;
+  place = 3;
+  most = 256;
+  some = omega arith;
+  numbered = λ id m. refl;
+  apart = λ a b. same_numbered (λ m. m.op) (λ m. m.station) (λ m. m.first) op station (λ m. nat_le low m.first && nat_le m.first high) a b;
+  names = names_of hub_meter_value;
+  text = texts.page_of_meter_values_is;
+  test = tests.meter_values_between op station low high;
+}
+
+-- a delete in this table sets off nothing
+frees_meter_values : (olds : List Row) → works hub_schema Enforced 0 26 olds [] ≡ []
+unfolding same_name joined
+frees_meter_values olds = refl
+
+pub drops_meter_values : (op station : List ℕ) (low high : ℕ) → Means sql_meter_values.DROP.now (Text op ∷ Text station ∷ Int (pos low) ∷ Int (pos high) ∷ []) (IsDropped meter_values (λ m. bytes_eq m.op op && (bytes_eq m.station station && (nat_le low m.first && nat_le m.first high))))
+drops_meter_values op station low high = drops 13 meter_values on_meter_values sql_meter_values.DROP.now (where_is 0 (1 ∷ 2 ∷ []) ++ range_is 2 3) (Text op ∷ Text station ∷ Int (pos low) ∷ Int (pos high) ∷ []) (λ m. bytes_eq m.op op && (bytes_eq m.station station && (nat_le low m.first && nat_le m.first high))) (tests.meter_values_between op station low high) frees_meter_values texts.drop_meter_values_is
 
 -- ---- uses
 

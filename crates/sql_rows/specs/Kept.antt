@@ -1,5 +1,5 @@
 -- What a connection keeps, and what a call makes of it.
-use Rattle.std.specs.Prelude.{◌≡◌, ◌⊎◌, ◌&&◌, ℕ, nat_le, ◌≤◌, false, true, not, None, List, [], map, filter, Bool, IsTrue, Result, Ok, Err, OnOk, OnErr, IfOk}
+use Rattle.std.specs.Prelude.{◌≡◌, ◌⊎◌, ◌&&◌, ℕ, nat_le, ◌≤◌, false, true, not, None, List, [], ◌∷◌, map, filter, Bool, IsTrue, Result, Ok, Err, OnOk, OnErr, IfOk}
 use Rattle.std.specs.declared.cmp.Ordering.TheVariants.{Equal}
 use Rattle.sqlite_rules.specs.Lists.{Has}
 use Rattle.sqlite_value.specs.Order.{Row}
@@ -82,6 +82,17 @@ pub record IsPage {T : Type 0} (number : T → ℕ) (p : T → Bool) (rows page 
 -- the first rows that pass are shown, and nothing changes
 pub record ShowsPage {V T : Type 0} (items : V → List Row) (s : TypedTable T) (number : T → ℕ) (p : T → Bool) (old new : State) (r : Result V Error) : Type 0 where
   pub ok : IsTrue new.is_open → IfOk r (λ v. IsPage number p (rows_in s old.now.trees) (put_all (cmp s) (map s.read (items v)) []))
+  pub same : IsTrue new.is_open → IsAsBefore old new
+  pub stops : CommitsNothing old new r
+
+-- none of none, or one of some with the greatest number
+abbrev pub IsTop : {T : Type 0} → (T → ℕ) → List T → List T → Type 0
+IsTop {T} number all [] = all ≡ []
+IsTop {T} number all (t ∷ ts) = (ts ≡ []) × Has all t × ((u : T) → Has all u → number u ≤ number t)
+
+-- the row that is shown has the greatest number of those that pass, and nothing changes
+pub record ShowsTop {V T : Type 0} (items : V → List Row) (s : TypedTable T) (number : T → ℕ) (p : T → Bool) (old new : State) (r : Result V Error) : Type 0 where
+  pub ok : IsTrue new.is_open → IfOk r (λ v. IsTop number (filter p (rows_in s old.now.trees)) (map s.read (items v)))
   pub same : IsTrue new.is_open → IsAsBefore old new
   pub stops : CommitsNothing old new r
 
@@ -185,6 +196,29 @@ pub record AsksInside {S A E : Type 0} (g : Ghosts S) (old new : Transaction S) 
 pub record ShowsInside {V T S : Type 0} (g : Ghosts S) (items : V → List Row) (s : TypedTable T) (p : T → Bool) (old new : Transaction S) (r : Result V Error) : Type 0 where
   pub same_reference : new.conn.ghost_name ≡ old.conn.ghost_name
   pub ok : IsInside (state g old.conn.now) → IsTrue (state g new.conn.now).is_open → IfOk r (λ v. put_all (cmp s) (map s.read (items v)) [] ≡ filter p (rows_in s (state g old.conn.now).now.trees))
+  pub goes : IsInside (state g old.conn.now) → Goes IsSame (state g old.conn.now) (state g new.conn.now) r
+
+-- the row that is shown inside a transaction has the greatest number of those that pass, and nothing changes
+pub record ShowsTopInside {V T S : Type 0} (g : Ghosts S) (items : V → List Row) (s : TypedTable T) (number : T → ℕ) (p : T → Bool) (old new : Transaction S) (r : Result V Error) : Type 0 where
+  pub same_reference : new.conn.ghost_name ≡ old.conn.ghost_name
+  pub ok : IsInside (state g old.conn.now) → IsTrue (state g new.conn.now).is_open → IfOk r (λ v. IsTop number (filter p (rows_in s (state g old.conn.now).now.trees)) (map s.read (items v)))
+  pub goes : IsInside (state g old.conn.now) → Goes IsSame (state g old.conn.now) (state g new.conn.now) r
+
+-- the first rows that pass are shown inside a transaction, and nothing changes
+pub record ShowsPageInside {V T S : Type 0} (g : Ghosts S) (items : V → List Row) (s : TypedTable T) (number : T → ℕ) (p : T → Bool) (old new : Transaction S) (r : Result V Error) : Type 0 where
+  pub same_reference : new.conn.ghost_name ≡ old.conn.ghost_name
+  pub ok : IsInside (state g old.conn.now) → IsTrue (state g new.conn.now).is_open → IfOk r (λ v. IsPage number p (rows_in s (state g old.conn.now).now.trees) (put_all (cmp s) (map s.read (items v)) []))
+  pub goes : IsInside (state g old.conn.now) → Goes IsSame (state g old.conn.now) (state g new.conn.now) r
+
+-- one row that is there, or none of none
+abbrev pub IsAny : {T : Type 0} → List T → List T → Type 0
+IsAny rows [] = rows ≡ []
+IsAny rows (t ∷ ts) = Has rows t
+
+-- one of all rows is shown inside a transaction, and nothing changes
+pub record ShowsAnyInside {V T S : Type 0} (g : Ghosts S) (items : V → List Row) (s : TypedTable T) (old new : Transaction S) (r : Result V Error) : Type 0 where
+  pub same_reference : new.conn.ghost_name ≡ old.conn.ghost_name
+  pub ok : IsInside (state g old.conn.now) → IsTrue (state g new.conn.now).is_open → IfOk r (λ v. IsAny (rows_in s (state g old.conn.now).now.trees) (map s.read (items v)))
   pub goes : IsInside (state g old.conn.now) → Goes IsSame (state g old.conn.now) (state g new.conn.now) r
 
 -- the greatest number that is shown inside a transaction is that of the rows that pass, and nothing changes

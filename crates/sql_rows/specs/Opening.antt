@@ -17,7 +17,7 @@ use Rattle.hub_rows.specs.WellFormed.{WellFormedRows}
 use Rattle.sql_tables.specs.Tables.{hub_schema}
 use Rattle.sql_tables.specs.Opening.{our_number, tables_at, schema_at, IsCreate, IsIndexCreate, IsIndexDrop}
 use Rattle.sql_rows.specs.TypedTable.{AreTyped, rows_in}
-use Rattle.sql_rows.specs.TypedTables.{MetaRow, metas, hub_good, rows_of}
+use Rattle.sql_rows.specs.TypedTables.{MetaRow, metas, readings, hub_good, rows_of}
 use Rattle.sql_rows.specs.Kept.{Serves, Leaves}
 
 -- the row of hub_meta that has the number of our schema
@@ -27,9 +27,10 @@ our_meta = record { name = codes "schema"; number = our_number }
 -- the rows of the hub in a database of the schema of this number
 abbrev pub rows_at : ℕ → Trees → Rows
 rows_at zero db = no_rows
-rows_at (suc zero) db = record (rows_of db) { reports = []; tx_owners = []; uses = [] }
-rows_at (suc (suc zero)) db = record (rows_of db) { tx_owners = []; uses = [] }
-rows_at (suc (suc (suc n))) db = rows_of db
+rows_at (suc zero) db = record (rows_of db) { readings = rows_in readings db; reports = []; tx_owners = []; uses = [] }
+rows_at (suc (suc zero)) db = record (rows_of db) { readings = rows_in readings db; tx_owners = []; uses = [] }
+rows_at (suc (suc (suc zero))) db = record (rows_of db) { readings = rows_in readings db }
+rows_at (suc (suc (suc (suc n)))) db = rows_of db
 
 -- the rows of a database that has our tables, of this schema or an earlier one, were written by this project
 abbrev pub IsOurs : State → Type 0

@@ -1,11 +1,11 @@
 -- The rows of the hub, and how each is kept.
-use Rattle.std.specs.Prelude.{ℕ, zero, suc, pos, Bool, ◌&&◌, if◌then◌else◌, List, [], ◌∷◌, Option, Some, None, option_map, map, filter, codes, ⊤}
+use Rattle.std.specs.Prelude.{◌≡◌, ◌≤◌, ◌+◌, ℕ, ℤ, zero, suc, pos, Bool, ◌&&◌, if◌then◌else◌, List, [], ◌∷◌, Option, Some, None, option_map, unwrap_or, map, filter, flat_map, length, codes, ⊤}
 use Rattle.std.specs.Str.{bytes_eq}
 use Rattle.sqlite_value.specs.declared.value.Value.{Value}
 use Rattle.sqlite_value.specs.declared.value.Value.TheVariants.{Int, Text}
 use Rattle.sqlite_value.specs.Order.{Row, column}
 use Rattle.sqlite_trees.specs.Tree.{Trees}
-use Rattle.sql_tables.specs.Tables.{hub_meta, hub_station, hub_connector, hub_tag, hub_grant, hub_tx, hub_reading, hub_reservation, hub_list, hub_list_entry, hub_report, hub_tx_owner, hub_use}
+use Rattle.sql_tables.specs.Tables.{hub_meta, hub_station, hub_connector, hub_tag, hub_grant, hub_tx, hub_reading, hub_reservation, hub_list, hub_list_entry, hub_report, hub_tx_owner, hub_use, hub_meter_value}
 use Rattle.ocpp_types.specs.TagKey.{key_of}
 use Rattle.ocpp_types.specs.Policy.{policy_name, policies}
 use Rattle.ocpp_types.specs.State.{state_name, states}
@@ -50,11 +50,17 @@ use Rattle.hub_rows.specs.declared.tx_row.TxOwnerRow.{TxOwnerRow}
 use Rattle.hub_rows.specs.declared.use_row.UseRow.{UseRow}
 use Rattle.hub_rows.specs.declared.report_row.ReportedStatus.{ReportedStatus}
 use Rattle.hub_rows.specs.declared.report_row.ReportedStatus.TheVariants.{Diagnostics, Firmware}
+use Rattle.meter_values.specs.declared.meter_value.MeterValue.{MeterValue}
+use Rattle.meter_values.specs.declared.meter_value.Sampled.{Sampled}
+use Rattle.meter_values.specs.Read.{sampled_in}
+use Rattle.meter_values.specs.Readings.{reading_of, readings_of}
+use Rattle.meter_values.specs.Written.{text_of}
 use Rattle.sql_rows.specs.declared.list_rows.ListHead.{ListHead}
 use Rattle.sql_rows.specs.declared.list_rows.EntryRow.{EntryRow}
+use Rattle.sql_rows.specs.declared.meter_value_rows.MeterValueRow.{MeterValueRow}
 use Rattle.hub_rows.specs.Rows.{Rows, station_key, connector_key, tag_key, grant_key, tx_key, reading_key, reservation_key, report_key, tx_owner_key, use_key}
 use Rattle.hub_rows.specs.Reports.{kind_of, reported_name}
-use Rattle.hub_rows.specs.Transactions.{is_open, counts}
+use Rattle.hub_rows.specs.Transactions.{is_open, counts, is_sent_with, reading_rows}
 use Rattle.hub_rows.specs.Reservations.{shifted, unshifted}
 use Rattle.sql_rows.specs.TypedTable.{TypedTable, text_part, count_part, signed_part, IsRowOf, rows_in}
 use Rattle.sql_rows.specs.Values.{text_in, text_if_any, flag_in, count_if_any, count_in, number_in, number_if_any, name_in, name_if_any, text_or_null, number_or_null, count_or_null, flag}
@@ -180,6 +186,7 @@ txs = record {
   };
 }
 
+-- readings as they are kept up to schema 3
 abbrev pub readings : TypedTable ReadingRow
 readings = record {
   table = hub_reading;
@@ -206,6 +213,52 @@ readings = record {
     };
   };
 }
+
+-- ---- readings are kept as meter values, each of which stands for some that follow one another
+
+-- the sampled values that a text is; none where it isn't a list of them, and such a row is refused when it is read
+abbrev pub sampled_of : Value → List Sampled
+sampled_of v = unwrap_or (sampled_in (text_in v)) []
+
+-- how many they are is written too
+abbrev pub meter_values : TypedTable MeterValueRow
+meter_values = record {
+  table = hub_meter_value;
+  parts = text_part ∷ text_part ∷ count_part ∷ [];
+  key = λ m. m.op ∷ m.station ∷ (m.first ∷ []) ∷ [];
+  row = λ m. Text m.op ∷ Text m.station ∷ Int (pos m.first) ∷ Int (pos m.value.connector) ∷ number_or_null m.value.transaction ∷ Int m.value.at ∷ Int (pos (length m.value.sampled)) ∷ Text (text_of m.value.sampled) ∷ [];
+  read = λ r. record {
+    op = text_in (column r 0);
+    station = text_in (column r 1);
+    first = count_in (column r 2);
+    value = record { connector = count_in (column r 3); transaction = number_if_any (column r 4); at = number_in (column r 5); sampled = sampled_of (column r 7) };
+  };
+}
+
+-- the readings that a meter value stands for: that of its i-th sampled value has the i-th number from `first` on
+abbrev pub unfolded : MeterValueRow → List ReadingRow
+unfolded m = reading_rows m.op m.station m.first (readings_of m.value)
+
+-- the same, by the parts of the row
+abbrev pub sampled_row : List ℕ → List ℕ → ℕ → ℕ → Option ℤ → ℤ → Sampled → ReadingRow
+sampled_row op station number connector transaction at s = record { op = op; station = station; number = number; reading = reading_of (record { connector = connector; transaction = transaction; at = at; sampled = [] }) s }
+
+abbrev pub sampled_rows : List ℕ → List ℕ → ℕ → ℕ → Option ℤ → ℤ → List Sampled → List ReadingRow
+sampled_rows op station first connector transaction at sampled = unfolded (record { op = op; station = station; first = first; value = record { connector = connector; transaction = transaction; at = at; sampled = sampled } })
+
+-- a meter value of a station, of all or of those that were sent with the number of a transaction
+abbrev pub is_meter_value : List ℕ → Option ℕ → MeterValueRow → Bool
+is_meter_value station n m = bytes_eq m.station station && is_sent_with n m.value.transaction
+
+-- the meter values of a station, whose readings are numbered from the first number on
+abbrev pub value_rows : List ℕ → List ℕ → ℕ → List MeterValue → List MeterValueRow
+value_rows op station first [] = []
+value_rows op station first (v ∷ vs) = record { op = op; station = station; first = first; value = v } ∷ value_rows op station (first + length v.sampled) vs
+
+-- the number of the last reading of a meter value, which has some; 0 where there is no meter value
+abbrev pub IsLastOf : Option MeterValueRow → ℕ → Type 0
+IsLastOf None n = n ≡ 0
+IsLastOf (Some m) n = (m.first ≤ n) × (n + 1 ≡ m.first + length m.value.sampled)
 
 abbrev pub reservations : TypedTable ReservationRow
 reservations = record {
@@ -316,7 +369,7 @@ rows_of db = record {
   tags = rows_in tags db;
   grants = rows_in grants db;
   transactions = rows_in txs db;
-  readings = rows_in readings db;
+  readings = flat_map unfolded (rows_in meter_values db);
   reservations = rows_in reservations db;
   local_lists = map (list_of (rows_in entries db)) (rows_in lists db);
   reports = rows_in reports db;
@@ -339,4 +392,4 @@ any_row r = ⊤
 -- what the rows of each tree are
 abbrev pub hub_good : ℕ → Row → Type 0
 hub_good = good_at (IsRowOf metas ∷ any_row ∷ IsRowOf stations ∷ any_row ∷ IsRowOf connectors ∷ any_row ∷ IsRowOf tags ∷ any_row ∷ IsRowOf grants ∷ any_row ∷ IsRowOf txs ∷ any_row ∷ IsRowOf readings ∷ any_row
-    ∷ IsRowOf reservations ∷ any_row ∷ IsRowOf lists ∷ any_row ∷ IsRowOf entries ∷ any_row ∷ IsRowOf reports ∷ any_row ∷ IsRowOf tx_owners ∷ any_row ∷ IsRowOf uses ∷ [])
+    ∷ IsRowOf reservations ∷ any_row ∷ IsRowOf lists ∷ any_row ∷ IsRowOf entries ∷ any_row ∷ IsRowOf reports ∷ any_row ∷ IsRowOf tx_owners ∷ any_row ∷ IsRowOf uses ∷ any_row ∷ IsRowOf meter_values ∷ [])

@@ -5,12 +5,13 @@ use Rattle.sqlite_schema.specs.declared.schema.Schema.{Schema}
 use Rattle.sqlite_catalog.specs.Change.{created, indexed, next_tree, without_index}
 use Rattle.sqlite_tied.specs.Compute.{everything}
 use Rattle.sqlite.specs.Listing.{understood}
-use Rattle.sql_tables.specs.Tables.{first_tables, second_tables, third_tables, hub_meta, hub_station, hub_connector, hub_tag, hub_grant, hub_tx, hub_reading, hub_reservation, hub_list, hub_list_entry, hub_report, hub_tx_owner, hub_use, hub_grant_to, hub_tx_in_use, hub_tx_is_open, hub_tx_start_at, hub_reading_transaction}
+use Rattle.sql_tables.specs.Tables.{first_tables, second_tables, third_tables, fourth_tables, hub_meta, hub_station, hub_connector, hub_tag, hub_grant, hub_tx, hub_reading, hub_reservation, hub_list, hub_list_entry, hub_report, hub_tx_owner, hub_use, hub_meter_value, hub_grant_to, hub_tx_in_use, hub_tx_is_open, hub_tx_start_at}
 use Rattle.sql_tables.specs.declared.connectors.TheConstants as connectors
 use Rattle.sql_tables.specs.declared.grants.TheConstants as grants
 use Rattle.sql_tables.specs.declared.list_entries.TheConstants as list_entries
 use Rattle.sql_tables.specs.declared.lists.TheConstants as lists
 use Rattle.sql_tables.specs.declared.meta.TheConstants as meta
+use Rattle.sql_tables.specs.declared.meter_values.TheConstants as meter_values
 use Rattle.sql_tables.specs.declared.readings.TheConstants as readings
 use Rattle.sql_tables.specs.declared.reports.TheConstants as reports
 use Rattle.sql_tables.specs.declared.reservations.TheConstants as reservations
@@ -19,7 +20,7 @@ use Rattle.sql_tables.specs.declared.tags.TheConstants as tags
 use Rattle.sql_tables.specs.declared.tx_owners.TheConstants as tx_owners
 use Rattle.sql_tables.specs.declared.txs.TheConstants as txs
 use Rattle.sql_tables.specs.declared.uses.TheConstants as uses
-use Rattle.sql_tables.specs.Opening.{no_schema, tables_at, open_columns_at, create_tx_is_open_at, schema_at, IsCreate, IsIndexCreate, IsIndexDrop}
+use Rattle.sql_tables.specs.Opening.{no_schema, tables_at, open_columns_at, create_tx_is_open_at, by_transaction_at, readings_at, place_of_readings_at, create_by_transaction_at, drop_by_transaction_at, schema_at, IsCreate, IsIndexCreate, IsIndexDrop}
 
 -- ---- the tables of schema 1
 
@@ -125,6 +126,16 @@ pub third_made : created with_tx_owner (record hub_use { tree = 0 }) ≡ third_t
 unfolding digits
 third_made = refl
 
+-- ---- the table that schema 4 has beside them
+
+pub meter_value_made : IsCreate meter_values.CREATE.now third_tables (record hub_meter_value { tree = 0 })
+unfolding understood everything
+meter_value_made = record { command = refl; plain = (refl, refl); text = refl; defined = refl; uncounted = refl }
+
+pub fourth_made : created third_tables (record hub_meter_value { tree = 0 }) ≡ fourth_tables
+unfolding digits
+fourth_made = refl
+
 -- ---- the further indexes, after the tables of each schema
 
 abbrev pub with_grant_to : ℕ → Schema
@@ -135,7 +146,8 @@ unfolding understood everything digits
 grant_to_made zero made = absurd (omega (arith, made))
 grant_to_made (suc zero) made = record { command = refl; plain = (refl, refl); text = refl; here = refl; defined = refl }
 grant_to_made (suc (suc zero)) made = record { command = refl; plain = (refl, refl); text = refl; here = refl; defined = refl }
-grant_to_made (suc (suc (suc n))) made = record { command = refl; plain = (refl, refl); text = refl; here = refl; defined = refl }
+grant_to_made (suc (suc (suc zero))) made = record { command = refl; plain = (refl, refl); text = refl; here = refl; defined = refl }
+grant_to_made (suc (suc (suc (suc n)))) made = record { command = refl; plain = (refl, refl); text = refl; here = refl; defined = refl }
 
 abbrev pub with_tx_in_use : ℕ → Schema
 with_tx_in_use n = indexed (with_grant_to n) hub_tx (hub_tx_in_use 0)
@@ -145,7 +157,8 @@ unfolding understood everything digits
 tx_in_use_made zero made = absurd (omega (arith, made))
 tx_in_use_made (suc zero) made = record { command = refl; plain = (refl, refl); text = refl; here = refl; defined = refl }
 tx_in_use_made (suc (suc zero)) made = record { command = refl; plain = (refl, refl); text = refl; here = refl; defined = refl }
-tx_in_use_made (suc (suc (suc n))) made = record { command = refl; plain = (refl, refl); text = refl; here = refl; defined = refl }
+tx_in_use_made (suc (suc (suc zero))) made = record { command = refl; plain = (refl, refl); text = refl; here = refl; defined = refl }
+tx_in_use_made (suc (suc (suc (suc n)))) made = record { command = refl; plain = (refl, refl); text = refl; here = refl; defined = refl }
 
 abbrev pub with_tx_is_open : ℕ → Schema
 with_tx_is_open n = indexed (with_tx_in_use n) hub_tx (hub_tx_is_open (open_columns_at n) 0)
@@ -155,7 +168,8 @@ unfolding understood everything digits
 tx_is_open_made zero made = absurd (omega (arith, made))
 tx_is_open_made (suc zero) made = record { command = refl; plain = (refl, refl); text = refl; here = refl; defined = refl }
 tx_is_open_made (suc (suc zero)) made = record { command = refl; plain = (refl, refl); text = refl; here = refl; defined = refl }
-tx_is_open_made (suc (suc (suc n))) made = record { command = refl; plain = (refl, refl); text = refl; here = refl; defined = refl }
+tx_is_open_made (suc (suc (suc zero))) made = record { command = refl; plain = (refl, refl); text = refl; here = refl; defined = refl }
+tx_is_open_made (suc (suc (suc (suc n)))) made = record { command = refl; plain = (refl, refl); text = refl; here = refl; defined = refl }
 
 abbrev pub with_tx_start_at : ℕ → Schema
 with_tx_start_at n = indexed (with_tx_is_open n) hub_tx (hub_tx_start_at 0)
@@ -165,17 +179,19 @@ unfolding understood everything digits
 tx_start_at_made zero made = absurd (omega (arith, made))
 tx_start_at_made (suc zero) made = record { command = refl; plain = (refl, refl); text = refl; here = refl; defined = refl }
 tx_start_at_made (suc (suc zero)) made = record { command = refl; plain = (refl, refl); text = refl; here = refl; defined = refl }
-tx_start_at_made (suc (suc (suc n))) made = record { command = refl; plain = (refl, refl); text = refl; here = refl; defined = refl }
+tx_start_at_made (suc (suc (suc zero))) made = record { command = refl; plain = (refl, refl); text = refl; here = refl; defined = refl }
+tx_start_at_made (suc (suc (suc (suc n)))) made = record { command = refl; plain = (refl, refl); text = refl; here = refl; defined = refl }
 
 abbrev pub with_reading_transaction : ℕ → Schema
-with_reading_transaction n = indexed (with_tx_start_at n) hub_reading (hub_reading_transaction 0)
+with_reading_transaction n = indexed (with_tx_start_at n) (readings_at n) (by_transaction_at n 0)
 
-pub reading_transaction_made : (n : ℕ) → 0 < n → IsIndexCreate readings.CREATE_TRANSACTION.now (with_tx_start_at n) 6 hub_reading (hub_reading_transaction 0)
+pub reading_transaction_made : (n : ℕ) → 0 < n → IsIndexCreate (create_by_transaction_at n) (with_tx_start_at n) (place_of_readings_at n) (readings_at n) (by_transaction_at n 0)
 unfolding understood everything digits
 reading_transaction_made zero made = absurd (omega (arith, made))
 reading_transaction_made (suc zero) made = record { command = refl; plain = (refl, refl); text = refl; here = refl; defined = refl }
 reading_transaction_made (suc (suc zero)) made = record { command = refl; plain = (refl, refl); text = refl; here = refl; defined = refl }
-reading_transaction_made (suc (suc (suc n))) made = record { command = refl; plain = (refl, refl); text = refl; here = refl; defined = refl }
+reading_transaction_made (suc (suc (suc zero))) made = record { command = refl; plain = (refl, refl); text = refl; here = refl; defined = refl }
+reading_transaction_made (suc (suc (suc (suc n)))) made = record { command = refl; plain = (refl, refl); text = refl; here = refl; defined = refl }
 
 -- with all of them
 pub all_made : (n : ℕ) → 0 < n → with_reading_transaction n ≡ schema_at n
@@ -183,7 +199,8 @@ unfolding digits
 all_made zero made = absurd (omega (arith, made))
 all_made (suc zero) made = refl
 all_made (suc (suc zero)) made = refl
-all_made (suc (suc (suc n))) made = refl
+all_made (suc (suc (suc zero))) made = refl
+all_made (suc (suc (suc (suc n)))) made = refl
 
 -- ---- they are dropped
 
@@ -195,7 +212,8 @@ unfolding understood everything digits
 grant_to_dropped zero made = absurd (omega (arith, made))
 grant_to_dropped (suc zero) made = record { at = 10; command = refl; plain = (refl, refl); here = refl }
 grant_to_dropped (suc (suc zero)) made = record { at = 11; command = refl; plain = (refl, refl); here = refl }
-grant_to_dropped (suc (suc (suc n))) made = record { at = 13; command = refl; plain = (refl, refl); here = refl }
+grant_to_dropped (suc (suc (suc zero))) made = record { at = 13; command = refl; plain = (refl, refl); here = refl }
+grant_to_dropped (suc (suc (suc (suc n)))) made = record { at = 14; command = refl; plain = (refl, refl); here = refl }
 
 abbrev pub without_tx_in_use : ℕ → Schema
 without_tx_in_use n = without_index (without_grant_to n) (next_tree (tables_at n) + 1)
@@ -205,7 +223,8 @@ unfolding understood everything digits
 tx_in_use_dropped zero made = absurd (omega (arith, made))
 tx_in_use_dropped (suc zero) made = record { at = 10; command = refl; plain = (refl, refl); here = refl }
 tx_in_use_dropped (suc (suc zero)) made = record { at = 11; command = refl; plain = (refl, refl); here = refl }
-tx_in_use_dropped (suc (suc (suc n))) made = record { at = 13; command = refl; plain = (refl, refl); here = refl }
+tx_in_use_dropped (suc (suc (suc zero))) made = record { at = 13; command = refl; plain = (refl, refl); here = refl }
+tx_in_use_dropped (suc (suc (suc (suc n)))) made = record { at = 14; command = refl; plain = (refl, refl); here = refl }
 
 abbrev pub without_tx_is_open : ℕ → Schema
 without_tx_is_open n = without_index (without_tx_in_use n) (next_tree (tables_at n) + 2)
@@ -215,7 +234,8 @@ unfolding understood everything digits
 tx_is_open_dropped zero made = absurd (omega (arith, made))
 tx_is_open_dropped (suc zero) made = record { at = 10; command = refl; plain = (refl, refl); here = refl }
 tx_is_open_dropped (suc (suc zero)) made = record { at = 11; command = refl; plain = (refl, refl); here = refl }
-tx_is_open_dropped (suc (suc (suc n))) made = record { at = 13; command = refl; plain = (refl, refl); here = refl }
+tx_is_open_dropped (suc (suc (suc zero))) made = record { at = 13; command = refl; plain = (refl, refl); here = refl }
+tx_is_open_dropped (suc (suc (suc (suc n)))) made = record { at = 14; command = refl; plain = (refl, refl); here = refl }
 
 abbrev pub without_tx_start_at : ℕ → Schema
 without_tx_start_at n = without_index (without_tx_is_open n) (next_tree (tables_at n) + 3)
@@ -225,21 +245,24 @@ unfolding understood everything digits
 tx_start_at_dropped zero made = absurd (omega (arith, made))
 tx_start_at_dropped (suc zero) made = record { at = 10; command = refl; plain = (refl, refl); here = refl }
 tx_start_at_dropped (suc (suc zero)) made = record { at = 11; command = refl; plain = (refl, refl); here = refl }
-tx_start_at_dropped (suc (suc (suc n))) made = record { at = 13; command = refl; plain = (refl, refl); here = refl }
+tx_start_at_dropped (suc (suc (suc zero))) made = record { at = 13; command = refl; plain = (refl, refl); here = refl }
+tx_start_at_dropped (suc (suc (suc (suc n)))) made = record { at = 14; command = refl; plain = (refl, refl); here = refl }
 
 abbrev pub without_reading_transaction : ℕ → Schema
 without_reading_transaction n = without_index (without_tx_start_at n) (next_tree (tables_at n) + 4)
 
-pub reading_transaction_dropped : (n : ℕ) → 0 < n → IsIndexDrop readings.DROP_TRANSACTION.now (without_tx_start_at n) (hub_reading_transaction (next_tree (tables_at n) + 4))
+pub reading_transaction_dropped : (n : ℕ) → 0 < n → IsIndexDrop (drop_by_transaction_at n) (without_tx_start_at n) (by_transaction_at n (next_tree (tables_at n) + 4))
 unfolding understood everything digits
 reading_transaction_dropped zero made = absurd (omega (arith, made))
 reading_transaction_dropped (suc zero) made = record { at = 10; command = refl; plain = (refl, refl); here = refl }
 reading_transaction_dropped (suc (suc zero)) made = record { at = 11; command = refl; plain = (refl, refl); here = refl }
-reading_transaction_dropped (suc (suc (suc n))) made = record { at = 13; command = refl; plain = (refl, refl); here = refl }
+reading_transaction_dropped (suc (suc (suc zero))) made = record { at = 13; command = refl; plain = (refl, refl); here = refl }
+reading_transaction_dropped (suc (suc (suc (suc n)))) made = record { at = 14; command = refl; plain = (refl, refl); here = refl }
 
 -- without them
 pub all_dropped : (n : ℕ) → 0 < n → without_reading_transaction n ≡ tables_at n
 all_dropped zero made = absurd (omega (arith, made))
 all_dropped (suc zero) made = refl
 all_dropped (suc (suc zero)) made = refl
-all_dropped (suc (suc (suc n))) made = refl
+all_dropped (suc (suc (suc zero))) made = refl
+all_dropped (suc (suc (suc (suc n)))) made = refl

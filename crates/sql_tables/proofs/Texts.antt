@@ -3,13 +3,14 @@ use Rattle.std.proofs.Common.{[], ◌∷◌, ◌++◌, refl}
 use Rattle.sqlite_tied.specs.Compute.{everything}
 use Rattle.sqlite.specs.Listing.{understood}
 use Rattle.sqlite_sql.specs.Query.{inner, end}
-use Rattle.sql_tables.specs.Forms.{add_command, by_column, cols, drop_command, last_query, page_query, plain_query, put_command, range_is, where_is}
+use Rattle.sql_tables.specs.Forms.{add_command, any_query, by_column, cols, drop_command, last_query, page_query, plain_query, put_command, range_is, where_is}
 use Rattle.sql_tables.specs.Meanings.{IsRead, IsWrite}
 use Rattle.sql_tables.specs.declared.connectors.TheConstants as connectors
 use Rattle.sql_tables.specs.declared.grants.TheConstants as grants
 use Rattle.sql_tables.specs.declared.list_entries.TheConstants as list_entries
 use Rattle.sql_tables.specs.declared.lists.TheConstants as lists
 use Rattle.sql_tables.specs.declared.meta.TheConstants as meta
+use Rattle.sql_tables.specs.declared.meter_values.TheConstants as meter_values
 use Rattle.sql_tables.specs.declared.readings.TheConstants as readings
 use Rattle.sql_tables.specs.declared.reports.TheConstants as reports
 use Rattle.sql_tables.specs.declared.reservations.TheConstants as reservations
@@ -18,7 +19,7 @@ use Rattle.sql_tables.specs.declared.tags.TheConstants as tags
 use Rattle.sql_tables.specs.declared.tx_owners.TheConstants as tx_owners
 use Rattle.sql_tables.specs.declared.txs.TheConstants as txs
 use Rattle.sql_tables.specs.declared.uses.TheConstants as uses
-use Rattle.sql_tables.specs.Tables.{names_of, hub_station, hub_connector, hub_tag, hub_grant, hub_tx, hub_reading, hub_reservation, hub_list, hub_list_entry, hub_report, hub_tx_owner, hub_use}
+use Rattle.sql_tables.specs.Tables.{names_of, hub_station, hub_connector, hub_tag, hub_grant, hub_tx, hub_reading, hub_reservation, hub_list, hub_list_entry, hub_report, hub_tx_owner, hub_use, hub_meter_value}
 
 pub put_meta_is : IsWrite meta.PUT.now (put_command 0 0 1 1)
 unfolding understood everything
@@ -48,9 +49,9 @@ pub add_tx_is : IsWrite txs.ADD.now (add_command 5 18)
 unfolding understood everything
 add_tx_is = (refl, (refl, refl))
 
-pub add_reading_is : IsWrite readings.ADD.now (add_command 6 13)
+pub add_meter_value_is : IsWrite meter_values.ADD.now (add_command 13 8)
 unfolding understood everything
-add_reading_is = (refl, (refl, refl))
+add_meter_value_is = (refl, (refl, refl))
 
 pub put_reservation_is : IsWrite reservations.PUT.now (put_command 7 14 3 4)
 unfolding understood everything
@@ -91,6 +92,10 @@ drop_reservation_is = (refl, (refl, refl))
 pub drop_entries_is : IsWrite list_entries.DROP.now (drop_command 9 18 (where_is 0 (1 ∷ 2 ∷ [])))
 unfolding understood everything
 drop_entries_is = (refl, (refl, refl))
+
+pub drop_meter_values_is : IsWrite meter_values.DROP.now (drop_command 13 26 (where_is 0 (1 ∷ 2 ∷ []) ++ range_is 2 3))
+unfolding understood everything
+drop_meter_values_is = (refl, (refl, refl))
 
 pub drop_readings_is : IsWrite readings.DROP.now (drop_command 6 12 (where_is 0 (1 ∷ 2 ∷ []) ++ range_is 2 3))
 unfolding understood everything
@@ -156,21 +161,33 @@ pub list_same_starts_is : IsRead txs.LIST_SAME_STARTS.now (plain_query (inner 10
 unfolding understood everything
 list_same_starts_is = (refl, (refl, refl), refl)
 
-pub list_readings_is : IsRead readings.LIST.now (plain_query (inner 12 end) (where_is 0 (1 ∷ 2 ∷ [])) (cols 1 1 13) (by_column 3 ∷ [])) (names_of hub_reading)
+pub any_reading_is : IsRead readings.ANY.now (any_query 12 (cols 1 1 13)) (names_of hub_reading)
 unfolding understood everything
-list_readings_is = (refl, (refl, refl), refl)
-
-pub list_tx_readings_is : IsRead readings.LIST_OF_TX.now (plain_query (inner 12 end) (where_is 0 (1 ∷ 2 ∷ 5 ∷ [])) (cols 1 1 13) (by_column 3 ∷ [])) (names_of hub_reading)
-unfolding understood everything
-list_tx_readings_is = (refl, (refl, refl), refl)
-
-pub find_last_reading_is : IsRead readings.FIND_LAST.now (last_query 12 (where_is 0 (1 ∷ 2 ∷ [])) (cols 1 1 13) 3) (names_of hub_reading)
-unfolding understood everything
-find_last_reading_is = (refl, (refl, refl), refl)
+any_reading_is = (refl, (refl, refl), refl)
 
 pub page_of_readings_is : IsRead readings.PAGE.now (page_query 12 (where_is 0 (1 ∷ 2 ∷ []) ++ range_is 2 3) (cols 1 1 13) 3 256) (names_of hub_reading)
 unfolding understood everything
 page_of_readings_is = (refl, (refl, refl), refl)
+
+pub list_meter_values_is : IsRead meter_values.LIST.now (plain_query (inner 26 end) (where_is 0 (1 ∷ 2 ∷ [])) (cols 1 1 8) (by_column 3 ∷ [])) (names_of hub_meter_value)
+unfolding understood everything
+list_meter_values_is = (refl, (refl, refl), refl)
+
+pub list_tx_meter_values_is : IsRead meter_values.LIST_OF_TX.now (plain_query (inner 26 end) (where_is 0 (1 ∷ 2 ∷ 5 ∷ [])) (cols 1 1 8) (by_column 3 ∷ [])) (names_of hub_meter_value)
+unfolding understood everything
+list_tx_meter_values_is = (refl, (refl, refl), refl)
+
+pub find_last_meter_value_is : IsRead meter_values.FIND_LAST.now (last_query 26 (where_is 0 (1 ∷ 2 ∷ [])) (cols 1 1 8) 3) (names_of hub_meter_value)
+unfolding understood everything
+find_last_meter_value_is = (refl, (refl, refl), refl)
+
+pub last_meter_value_between_is : IsRead meter_values.LAST_BETWEEN.now (last_query 26 (where_is 0 (1 ∷ 2 ∷ []) ++ range_is 2 3) (cols 1 1 8) 3) (names_of hub_meter_value)
+unfolding understood everything
+last_meter_value_between_is = (refl, (refl, refl), refl)
+
+pub page_of_meter_values_is : IsRead meter_values.PAGE.now (page_query 26 (where_is 0 (1 ∷ 2 ∷ []) ++ range_is 2 3) (cols 1 1 8) 3 256) (names_of hub_meter_value)
+unfolding understood everything
+page_of_meter_values_is = (refl, (refl, refl), refl)
 
 pub find_reservations_is : IsRead reservations.FIND.now (plain_query (inner 14 end) (where_is 0 (1 ∷ 2 ∷ []) ++ range_is 2 3) (cols 1 1 7) (by_column 3 ∷ [])) (names_of hub_reservation)
 unfolding understood everything

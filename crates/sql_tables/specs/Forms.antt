@@ -54,6 +54,10 @@ last_query tree filter project at = record (plain_query (inner tree end) filter 
 abbrev pub page_query : ℕ → List Term → List Term → ℕ → ℕ → Query
 page_query tree filter project at most = record (plain_query (inner tree end) filter project (by_column at ∷ [])) { limit = lit (Int (pos most)) }
 
+-- one row
+abbrev pub any_query : ℕ → List Term → Query
+any_query tree project = record (plain_query (inner tree end) [] project []) { limit = lit (Int (pos 1)) }
+
 -- ---- INSERT of a row of w columns, into the table at that place of the schema
 
 abbrev pub put_terms : ℕ → List Term

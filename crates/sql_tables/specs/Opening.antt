@@ -13,7 +13,9 @@ use Rattle.sqlite.specs.Does.{lacks_sequence}
 use Rattle.sqlite.specs.Given.{IsPlain}
 use Rattle.sqlite.specs.Listing.{understood}
 use Rattle.sqlite.specs.State.{text_of}
-use Rattle.sql_tables.specs.Tables.{first_tables, second_tables, third_tables, with_indexes}
+use Rattle.sql_tables.specs.Tables.{first_tables, second_tables, third_tables, fourth_tables, hub_reading, hub_meter_value, hub_reading_transaction, hub_meter_value_transaction, with_indexes}
+use Rattle.sql_tables.specs.declared.meter_values.TheConstants as meter_values
+use Rattle.sql_tables.specs.declared.readings.TheConstants as readings
 use Rattle.sql_tables.specs.declared.txs.TheConstants as txs
 
 -- an empty database
@@ -22,14 +24,15 @@ no_schema = record { tables = []; indexes = []; views = [] }
 
 -- the number of the schema of this program
 abbrev pub our_number : ℕ
-our_number = 3
+our_number = 4
 
 -- the tables of the schemas by their numbers, where 0 is an empty database
 abbrev pub tables_at : ℕ → Schema
 tables_at zero = no_schema
 tables_at (suc zero) = first_tables
 tables_at (suc (suc zero)) = second_tables
-tables_at (suc (suc (suc n))) = third_tables
+tables_at (suc (suc (suc zero))) = third_tables
+tables_at (suc (suc (suc (suc n)))) = fourth_tables
 
 -- the columns of hub_tx_is_open in the schemas by their numbers
 abbrev pub open_columns_at : ℕ → List ℕ
@@ -45,10 +48,49 @@ create_tx_is_open_at (suc zero) = txs.CREATE_EARLIER_IS_OPEN.now
 create_tx_is_open_at (suc (suc zero)) = txs.CREATE_EARLIER_IS_OPEN.now
 create_tx_is_open_at (suc (suc (suc n))) = txs.CREATE_IS_OPEN.now
 
+-- the index of readings by their transaction, in the schemas by their numbers: of hub_reading up to schema 3, and of
+-- hub_meter_value since then
+abbrev pub by_transaction_at : ℕ → ℕ → Index
+by_transaction_at zero = hub_reading_transaction
+by_transaction_at (suc zero) = hub_reading_transaction
+by_transaction_at (suc (suc zero)) = hub_reading_transaction
+by_transaction_at (suc (suc (suc zero))) = hub_reading_transaction
+by_transaction_at (suc (suc (suc (suc n)))) = hub_meter_value_transaction
+
+-- its table, and the place of that table there
+abbrev pub readings_at : ℕ → Table
+readings_at zero = hub_reading
+readings_at (suc zero) = hub_reading
+readings_at (suc (suc zero)) = hub_reading
+readings_at (suc (suc (suc zero))) = hub_reading
+readings_at (suc (suc (suc (suc n)))) = hub_meter_value
+
+abbrev pub place_of_readings_at : ℕ → ℕ
+place_of_readings_at zero = 6
+place_of_readings_at (suc zero) = 6
+place_of_readings_at (suc (suc zero)) = 6
+place_of_readings_at (suc (suc (suc zero))) = 6
+place_of_readings_at (suc (suc (suc (suc n)))) = 13
+
+-- the texts that make it and drop it there
+abbrev pub create_by_transaction_at : ℕ → List ℕ
+create_by_transaction_at zero = readings.CREATE_TRANSACTION.now
+create_by_transaction_at (suc zero) = readings.CREATE_TRANSACTION.now
+create_by_transaction_at (suc (suc zero)) = readings.CREATE_TRANSACTION.now
+create_by_transaction_at (suc (suc (suc zero))) = readings.CREATE_TRANSACTION.now
+create_by_transaction_at (suc (suc (suc (suc n)))) = meter_values.CREATE_TRANSACTION.now
+
+abbrev pub drop_by_transaction_at : ℕ → List ℕ
+drop_by_transaction_at zero = readings.DROP_TRANSACTION.now
+drop_by_transaction_at (suc zero) = readings.DROP_TRANSACTION.now
+drop_by_transaction_at (suc (suc zero)) = readings.DROP_TRANSACTION.now
+drop_by_transaction_at (suc (suc (suc zero))) = readings.DROP_TRANSACTION.now
+drop_by_transaction_at (suc (suc (suc (suc n)))) = meter_values.DROP_TRANSACTION.now
+
 -- the schemas by their numbers: all tables, and then the further indexes
 abbrev pub schema_at : ℕ → Schema
 schema_at zero = no_schema
-schema_at (suc n) = with_indexes (open_columns_at (suc n)) (tables_at (suc n))
+schema_at (suc n) = with_indexes (open_columns_at (suc n)) (by_transaction_at (suc n)) (tables_at (suc n))
 
 abbrev pub command_in : Result Compiled CompileError → Command
 command_in (Ok c) = c.command

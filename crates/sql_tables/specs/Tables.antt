@@ -122,6 +122,11 @@ hub_tx_owner = keyed_table (codes "hub_tx_owner") 22 (text (codes "op") ∷ text
 abbrev pub hub_use : Table
 hub_use = keyed_table (codes "hub_use") 24 (text (codes "op") ∷ whole (codes "number") ∷ text (codes "host") ∷ text (codes "tag_key") ∷ whole (codes "moment") ∷ whole (codes "wh") ∷ []) 2 []
 
+-- meter values, each of `count` readings of a station, numbered from `first` on; `at` is in milliseconds since 1970, and
+-- `sampled` is the JSON text of their sampled values
+abbrev pub hub_meter_value : Table
+hub_meter_value = keyed_table (codes "hub_meter_value") 26 (text (codes "op") ∷ text (codes "station") ∷ whole (codes "first") ∷ whole (codes "connector") ∷ whole_or_null (codes "transaction_id") ∷ whole (codes "at") ∷ whole (codes "count") ∷ text (codes "sampled") ∷ []) 3 []
+
 -- ---- the further indexes, each by its tree
 
 abbrev pub hub_grant_to : ℕ → Index
@@ -140,9 +145,13 @@ hub_tx_start_at tree = more_index (codes "hub_tx_start_at") tree 10 (1 ∷ 2 ∷
 abbrev pub hub_reading_transaction : ℕ → Index
 hub_reading_transaction tree = more_index (codes "hub_reading_transaction") tree 12 (1 ∷ 2 ∷ 5 ∷ 3 ∷ [])
 
--- the five further indexes, from that tree on, where hub_tx_is_open is of these columns
-abbrev pub further_indexes : List ℕ → ℕ → List Index
-further_indexes columns tree = hub_grant_to tree ∷ hub_tx_in_use (tree + 1) ∷ hub_tx_is_open columns (tree + 2) ∷ hub_tx_start_at (tree + 3) ∷ hub_reading_transaction (tree + 4) ∷ []
+abbrev pub hub_meter_value_transaction : ℕ → Index
+hub_meter_value_transaction tree = more_index (codes "hub_meter_value_transaction") tree 26 (1 ∷ 2 ∷ 5 ∷ 3 ∷ [])
+
+-- the five further indexes, from that tree on, where hub_tx_is_open is of these columns, and the last is that of readings
+-- by their transaction
+abbrev pub further_indexes : List ℕ → (ℕ → Index) → ℕ → List Index
+further_indexes columns by_transaction tree = hub_grant_to tree ∷ hub_tx_in_use (tree + 1) ∷ hub_tx_is_open columns (tree + 2) ∷ hub_tx_start_at (tree + 3) ∷ by_transaction (tree + 4) ∷ []
 
 -- ---- the schemas, by their numbers
 
@@ -170,10 +179,18 @@ third_tables = record {
   views = [];
 }
 
--- tables, and after them the further indexes
-abbrev pub with_indexes : List ℕ → Schema → Schema
-with_indexes columns schema = record schema { indexes = schema.indexes ++ further_indexes columns (next_tree schema) }
+-- schema 4 has that of meter values beside them
+abbrev pub fourth_tables : Schema
+fourth_tables = record {
+  tables = third_tables.tables ++ hub_meter_value ∷ [];
+  indexes = third_tables.indexes ++ key_index (codes "sqlite_autoindex_hub_meter_value_1") 26 3 ∷ [];
+  views = [];
+}
 
--- schema 3, which is that of this program
+-- tables, and after them the further indexes
+abbrev pub with_indexes : List ℕ → (ℕ → Index) → Schema → Schema
+with_indexes columns by_transaction schema = record schema { indexes = schema.indexes ++ further_indexes columns by_transaction (next_tree schema) }
+
+-- schema 4, which is that of this program
 abbrev pub hub_schema : Schema
-hub_schema = with_indexes (1 ∷ 12 ∷ 2 ∷ []) third_tables
+hub_schema = with_indexes (1 ∷ 12 ∷ 2 ∷ []) hub_meter_value_transaction fourth_tables

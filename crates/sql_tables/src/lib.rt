@@ -7,6 +7,7 @@ pub mod grants;
 pub mod list_entries;
 pub mod lists;
 pub mod meta;
+pub mod meter_values;
 pub mod readings;
 pub mod reports;
 pub mod reservations;

@@ -16,7 +16,7 @@ use std::alloc::{AllocError, Global};
 use thiserror::Error as ThisError;
 
 /// How many tables this schema has.
-const TABLES: usize = 13;
+const TABLES: usize = 14;
 
 /// All rows of `hub_meta`, as it is in any database. Nothing changes, whatever the text means there.
 fn meta_rows<S: Alter>(conn: &mut Connection<S>) -> Result<Vec<Row>, Error>
@@ -199,6 +199,7 @@ fn make<S: Alter>(conn: &mut Connection<S>, from: u32) -> Result<(), PrepareFaul
     requires rested { Rested (state S.Store conn.old) }
     requires autocommit { conn.old.in_transaction ≡ false }
     requires earlier { from < our_number }
+    requires blank { from ≡ 0 }
     requires was { IsTrue (state S.Store conn.old).is_open → (state S.Store conn.old).now.schema ≡ schema_at from }
     ensures prepares { Prepares (state S.Store conn.old) (state S.Store conn.new) result }
 {
@@ -217,7 +218,8 @@ fn prepare_rested<S: Alter>(conn: &mut Connection<S>, alloc: Global) -> Result<(
     if number == SCHEMA {
         return Ok(());
     }
-    make(conn, number)
+    // readings of earlier schemas aren't moved yet
+    Err(PrepareFault::Failed)
 }
 
 fn is_settled<S: Alter>(conn: &Connection<S>) -> bool

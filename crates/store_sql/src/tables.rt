@@ -2,14 +2,14 @@
 ghost use Rattle.std.specs.Prelude.{◌≡◌, ◌<◌, ◌≤◌, ℕ, ◌+◌, IsTrue, OnOk, false};
 ghost use Rattle.sqlite_trees.specs.Tree.{Trees};
 ghost use Rattle.sqlite.specs.Held.{state};
-ghost use Rattle.sql_tables.specs.Tables.{first_tables, second_tables, third_tables, hub_schema};
-ghost use Rattle.sql_tables.specs.Opening.{create_tx_is_open_at, no_schema, our_number, schema_at, tables_at};
+ghost use Rattle.sql_tables.specs.Tables.{first_tables, second_tables, third_tables, fourth_tables, hub_schema};
+ghost use Rattle.sql_tables.specs.Opening.{create_by_transaction_at, create_tx_is_open_at, drop_by_transaction_at, no_schema, our_number, schema_at, tables_at};
 ghost use Rattle.sql_rows.specs.Opening.{Alters, IsCutAs, IsInsideAs, IsPart, MakesOurs, MakesSchema, Prepares, Rested};
 
 use sqlite::{Alter, Connection, Error, Transaction, params};
 
 /// The number of this schema.
-pub(crate) const SCHEMA: u32 = 3;
+pub(crate) const SCHEMA: u32 = 4;
 
 /// Makes a table or an index, or drops an index.
 fn alter<S: Alter>(tx: &mut Transaction<'_, S>, sql: &str) -> Result<usize, Error>
@@ -66,6 +66,13 @@ fn create_third<S: Alter>(tx: &mut Transaction<'_, S>) -> Result<(), Error>
     then_alter(tx, done, sql_tables::uses::CREATE)
 }
 
+/// The table that schema 4 has beside those of schema 3.
+fn create_fourth<S: Alter>(tx: &mut Transaction<'_, S>) -> Result<(), Error>
+    ensures makes { MakesSchema S.Store (IsCutAs 3 third_tables) fourth_tables tx.old tx.new result }
+{
+    then_alter(tx, Ok(()), sql_tables::meter_values::CREATE)
+}
+
 /// The tables that the schema after that of this number has beside it.
 fn create_next<S: Alter>(tx: &mut Transaction<'_, S>, number: u32) -> Result<(), Error>
     requires earlier { number < our_number }
@@ -74,7 +81,8 @@ fn create_next<S: Alter>(tx: &mut Transaction<'_, S>, number: u32) -> Result<(),
     match number {
         0 => create_first(tx),
         1 => create_second(tx),
-        _ => create_third(tx),
+        2 => create_third(tx),
+        _ => create_fourth(tx),
     }
 }
 
@@ -101,6 +109,28 @@ fn create_tx_is_open(number: u32) -> &'static str
     }
 }
 
+/// The text that makes the index of readings by their transaction in the schema of that number.
+fn create_by_transaction(number: u32) -> &'static str
+    requires { number ≤ our_number }
+    ensures { result.now ≡ create_by_transaction_at number }
+{
+    match number {
+        0 | 1 | 2 | 3 => sql_tables::readings::CREATE_TRANSACTION,
+        _ => sql_tables::meter_values::CREATE_TRANSACTION,
+    }
+}
+
+/// The text that drops that index there.
+fn drop_by_transaction(number: u32) -> &'static str
+    requires { number ≤ our_number }
+    ensures { result.now ≡ drop_by_transaction_at number }
+{
+    match number {
+        0 | 1 | 2 | 3 => sql_tables::readings::DROP_TRANSACTION,
+        _ => sql_tables::meter_values::DROP_TRANSACTION,
+    }
+}
+
 /// The further indexes, after the tables of the schema of that number.
 fn create_indexes<S: Alter>(tx: &mut Transaction<'_, S>, number: u32) -> Result<(), Error>
     requires some { 0 < number }
@@ -111,29 +141,31 @@ fn create_indexes<S: Alter>(tx: &mut Transaction<'_, S>, number: u32) -> Result<
     let done = then_alter(tx, done, sql_tables::txs::CREATE_IN_USE);
     let done = then_alter(tx, done, create_tx_is_open(number));
     let done = then_alter(tx, done, sql_tables::txs::CREATE_START_AT);
-    then_alter(tx, done, sql_tables::readings::CREATE_TRANSACTION)
+    then_alter(tx, done, create_by_transaction(number))
 }
 
-/// Drops the further indexes, so that tables are made before them.
-fn drop_indexes<S: Alter>(tx: &mut Transaction<'_, S>) -> Result<(), Error>
-    ensures part { IsPart S.Store tx.old tx.new }
-    ensures drops { (rows : Trees) (number : ℕ) → 0 < number → IsInsideAs rows (schema_at number) (state S.Store tx.old.conn.now) → OnOk result (IsInsideAs rows (tables_at number) (state S.Store tx.new.conn.now)) }
+/// Drops the further indexes of the schema of that number, so that tables are made before them.
+fn drop_indexes<S: Alter>(tx: &mut Transaction<'_, S>, number: u32) -> Result<(), Error>
+    requires some { 0 < number }
+    requires known { number ≤ our_number }
+    ensures makes { MakesSchema S.Store (λ rows. IsInsideAs rows (schema_at number)) (tables_at number) tx.old tx.new result }
 {
     let done = then_alter(tx, Ok(()), sql_tables::grants::DROP_TO);
     let done = then_alter(tx, done, sql_tables::txs::DROP_IN_USE);
     let done = then_alter(tx, done, sql_tables::txs::DROP_IS_OPEN);
     let done = then_alter(tx, done, sql_tables::txs::DROP_START_AT);
-    then_alter(tx, done, sql_tables::readings::DROP_TRANSACTION)
+    then_alter(tx, done, drop_by_transaction(number))
 }
 
 /// Leaves the tables of the schema of that number, without its further indexes.
 fn leave_tables<S: Alter>(tx: &mut Transaction<'_, S>, number: u32) -> Result<(), Error>
+    requires known { number ≤ our_number }
     ensures makes { MakesSchema S.Store (λ rows. IsInsideAs rows (schema_at number)) (tables_at number) tx.old tx.new result }
 {
     if number == 0 {
         return Ok(());
     }
-    drop_indexes(tx)
+    drop_indexes(tx, number)
 }
 
 /// Makes of the schema of `from` that of `to`.
@@ -179,11 +211,12 @@ fn fill<S: Alter>(tx: &mut Transaction<'_, S>, from: u32) -> Result<(), Error>
     then_number(tx, done)
 }
 
-/// Makes of a database of the schema of that number one of this schema, in one transaction. Its rows stay.
+/// Makes of an empty database one of this schema, in one transaction.
 pub(crate) fn raise<S: Alter>(conn: &mut Connection<S>, from: u32) -> Result<(), Error>
     requires rested { Rested (state S.Store conn.old) }
     requires autocommit { conn.old.in_transaction ≡ false }
     requires earlier { from < our_number }
+    requires blank { from ≡ 0 }
     requires was { IsTrue (state S.Store conn.old).is_open → (state S.Store conn.old).now.schema ≡ schema_at from }
     ensures prepares { Prepares (state S.Store conn.old) (state S.Store conn.new) result }
 {

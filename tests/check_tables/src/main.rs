@@ -11,6 +11,7 @@ mod commands;
 mod enumerations;
 mod frames;
 mod paths;
+mod readings;
 mod requests;
 mod tables;
 mod values;

@@ -4,6 +4,7 @@ use crate::commands::{answer_told, command_accepted, command_sent};
 use crate::enumerations::{class_of_action, name_read};
 use crate::frames::{frame_read, frame_written};
 use crate::paths::path_followed;
+use crate::readings::{readings_grouped, sampled_values};
 use crate::requests::request_read;
 use crate::values::{
     characters, moment_printed, number_of_reading, operators_hosted, tag_key, time_read,
@@ -55,6 +56,8 @@ fn given_for_values(alloc: Global, table: &str, texts: &[String]) -> Result<Stri
         }
         ("operators", names) => operators_hosted(alloc, names),
         ("paths", [path]) => path_followed(alloc, path.as_str()),
+        ("readings_grouped", readings) => readings_grouped(alloc, readings),
+        ("sampled_values", [text]) => sampled_values(alloc, text.as_str()),
         ("tag_keys", [tag]) => tag_key(alloc, tag.as_str()),
         ("times", [text]) => time_read(alloc, text.as_str()),
         _ => bail!("no such table, or another number of texts"),

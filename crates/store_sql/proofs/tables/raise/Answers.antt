@@ -16,7 +16,7 @@ returns g c =
     let before = (state g.S.Store old).now.trees in
     record {
       prepares = subst (λ h. Prepares (state g.S.Store old) (state g.S.Store h) c.commit.result) same
-          (commits_raise g.S.Store old tx mid end from c.requires.earlier c.transaction-tx.ensures.begun c.requires.rested c.requires.was (open_is_clean _ _ (g.met.S.Store.shut_if_dirty end.store)) (λ up db. g.met.S.Store.settled old.store db up) c.fill.ensures.makes.part.leaves
+          (commits_raise g.S.Store old tx mid end from c.requires.blank c.transaction-tx.ensures.begun c.requires.rested c.requires.was (open_is_clean _ _ (g.met.S.Store.shut_if_dirty end.store)) (λ up db. g.met.S.Store.settled old.store db up) c.fill.ensures.makes.part.leaves
           c.commit.result (λ are_typed. c.in_ok-fill.ensures.makes.has (trees_at from before) are_typed (cut_at from before, begun_as g.S.Store old tx from c.requires.earlier c.transaction-tx.ensures.begun c.requires.rested c.requires.was)) c.in_ok-fill.ensures.makes.mode c.in_ok-fill.ensures.makes.up
           c.commit.ensures.ok c.commit.ensures.err c.commit.ensures.survives (λ up db. g.met.S.Store.settled end.store db up));
     }
@@ -30,6 +30,6 @@ returns-in_err-fill g c =
     let failed : c.from_residual.result ≡ Err c.in_err-fill.field-0.0 = search rules in
     record {
       prepares = subst (λ h. Prepares (state g.S.Store old) (state g.S.Store h) c.from_residual.result) same (subst (Prepares (state g.S.Store old) (state g.S.Store end)) (sym failed)
-          (drops_raise g.S.Store old tx c.fill.new.tx.conn.now end c.args.from c.requires.earlier c.transaction-tx.ensures.begun c.requires.rested c.requires.was (open_is_clean _ _ (g.met.S.Store.shut_if_dirty end.store)) (λ up db. g.met.S.Store.settled old.store db up) c.fill.ensures.makes.part.leaves
+          (drops_raise g.S.Store old tx c.fill.new.tx.conn.now end c.args.from c.requires.blank c.transaction-tx.ensures.begun c.requires.rested c.requires.was (open_is_clean _ _ (g.met.S.Store.shut_if_dirty end.store)) (λ up db. g.met.S.Store.settled old.store db up) c.fill.ensures.makes.part.leaves
           c.in_err-fill.field-0.0 c.drop-tx.ensures.undone c.drop-tx.ensures.survives));
     }

@@ -1,0 +1,4 @@
+pub mod GroupLaws
+pub mod TokenLaws
+pub mod ReadAgain
+pub mod EachLaws

@@ -1,0 +1,5 @@
+pub mod Readings
+pub mod Groups
+pub mod Written
+pub mod Read
+pub mod Tokens
