@@ -89,7 +89,7 @@ module _ {S : Type 0} {g : Ghosts S} where
         goes = λ inside. goes_if IsSame before (state g new.conn.now) r q ok (shows.goes inside);
       }
     where
-      abbrev all : List T
+      all : List T
       all = rows_in s (state g old.conn.now).now.trees
 
       any_row : (xs : List T) (o : Option T) → IsAny all xs → o ≡ first (put_all (cmp s) xs []) → IsAnyRow all o

@@ -72,8 +72,8 @@ filled_if all a b (Err e) with_rows done = tt
 -- an error after a part that commits nothing
 pub ours_fails : {S A E : Type 0} {g : Ghosts S} {MayBegin : State → Type 0} {Begins : Rows → State → Type 0} {old new : Transaction S} {r : Result A E} → new.conn.ghost_name ≡ old.conn.ghost_name → (MayBegin (state g old.conn.now) → Leaves (state g old.conn.now) (state g new.conn.now)) → IsErr r
     → MakesOurs g MayBegin Begins old new r
-ours_fails {S} {A} {E} {g} {MayBegin} {Begins} {old} {new} {Ok x} same leaves failed = absurd cc
-ours_fails {S} {A} {E} {g} {MayBegin} {Begins} {old} {new} {Err e} same leaves failed = record { same_reference = same; leaves = leaves; has = λ all begins. tt; mode = tt; up = λ sure. tt }
+ours_fails {r = Ok x} same leaves failed = absurd cc
+ours_fails {r = Err e} same leaves failed = record { same_reference = same; leaves = leaves; has = λ all begins. tt; mode = tt; up = λ sure. tt }
 
 -- the tables of the whole schema have the rows that were there
 kept_tables : (ts : List Table) (rows db : Trees) (t : Table) → KeepsRows ts rows db → Has ts t → db t.tree ≡ rows t.tree
