@@ -27,7 +27,8 @@ use Rattle.sql_rows.proofs.LastLaws.{greatest_above}
 use Rattle.sql_rows.proofs.MemberLaws.{is_arranged, put_all_adds, same_elements, sorted_filter, sorted_single, spares_each}
 use Rattle.sql_rows.proofs.MeterValueLaws.{across, front_sorted, has_front, has_part, key_of, no_groups, number_rises, put_all-unfolded, put_all_has, rows_have}
 use Rattle.sql_rows.proofs.TxTables.{on_meter_values, on_readings}
-use Rattle.sql_edits.specs.Moving.{AreApart, AreMoved, AreMoving, AreNumberedFrom, IsKept, IsRun, is_in_range}
+use Rattle.sql_edits.specs.Moving.{AreApart, AreMoved, AreMoving, AreNumberedFrom, IsFirstRun, IsKept, IsRun, is_in_range}
+use Rattle.sql_edits.specs.declared.moving.MovedRun.{MovedRun}
 
 abbrev InOrder : List ReadingRow → Type 0
 InOrder = IsStrictlySortedBy (by_key reading_key)
@@ -301,6 +302,15 @@ module _ (op station : List ℕ) where
       };
       others = new_rows ∙ mid_rows ∙ ap (λ rs. record (rows_of old) { readings = rs }) (sym (ap (λ (rows : Rows). rows.readings) new_rows));
     }
+
+  -- the first run of a page is moved
+  pub first_moved : (high : ℕ) (page : List ReadingRow) (m : MovedRun) (old mid new : Trees) → AreApart old → IsPage (λ r. r.number) (is_in_range op station 0 high) (rows_in readings old) page → IsFirstRun page m
+      → ArePutIn meter_values (value_rows op station m.first m.values) old mid → IsDropped readings (is_in_range op station m.first m.last) mid new → AreMoving old new
+  first_moved high page m old mid new apart is f put dropped =
+      let rows : List ReadingRow = rows_in readings old in
+      run_moved m.first m.last m.values f.groups old mid new apart put dropped
+      ((λ i. reading_rows op station (f.first i) (f.readings i)) ∙ run_is rows page (left_up old) high is f.head f.is_head f.count f.run f.end f.is_end ∙ (λ i. filter (is_in_range op station (sym f.first i) (sym f.last i)) rows))
+      (λ y h p q. subst (λ n. n ≤ y.number) (sym f.first) (least rows page (left_up old) high is f.head f.is_head f.count f.run f.end f.is_end y h p q))
 
 -- ---- one run after another
 

@@ -1,5 +1,6 @@
 -- How the readings of hub_reading become meter values.
-use Rattle.std.specs.Prelude.{◌≡◌, ◌⊎◌, ◌≤◌, ◌<◌, ◌+◌, ℕ, nat_le, ◌&&◌, Bool, List, [], ◌∷◌, length, take, map, Option, Some, None, IsTrue, ⊤}
+use Rattle.std.specs.Prelude.{◌≡◌, ◌⊎◌, ◌≤◌, ◌<◌, ◌+◌, ◌-◌, ℕ, nat_le, ◌&&◌, Bool, List, [], ◌∷◌, length, take, map, Option, Some, None, IsTrue, ⊤}
+use Rattle.std.specs.List.{slice_get}
 use Rattle.std.specs.List.Sorted.{IsStrictlySortedBy}
 use Rattle.std.specs.Str.{bytes_eq}
 use Rattle.sqlite_rules.specs.Lists.{Has}
@@ -8,9 +9,12 @@ use Rattle.sqlite.specs.State.{State}
 use Rattle.hub_rows.specs.declared.reading_row.ReadingRow.{ReadingRow}
 use Rattle.hub_rows.specs.Keyed.{by_key}
 use Rattle.hub_rows.specs.Rows.{reading_key}
+use Rattle.meter_values.specs.Groups.{AreGroups}
+use Rattle.meter_values.specs.Readings.{all_readings}
 use Rattle.sql_rows.specs.Kept.{Within}
 use Rattle.sql_rows.specs.TypedTable.{rows_in}
 use Rattle.sql_rows.specs.TypedTables.{meter_values, readings, rows_of}
+use Rattle.sql_edits.specs.declared.moving.MovedRun.{MovedRun}
 
 -- a reading of a station whose number lies in a range
 abbrev pub is_in_range : List ℕ → List ℕ → ℕ → ℕ → ReadingRow → Bool
@@ -29,6 +33,19 @@ AreNumberedFrom n (r ∷ rows) = (r.number ≡ n) × AreNumberedFrom (n + 1) row
 -- so many rows of a page follow one another
 abbrev pub IsRun : ℕ → List ReadingRow → ℕ → Type 0
 IsRun first page n = (n ≤ length page) × AreNumberedFrom first (take n page)
+
+-- the meter values are those of the first readings of a page that follow one another
+pub record IsFirstRun (page : List ReadingRow) (m : MovedRun) : Type 0 where
+  pub count : ℕ
+  pub head : ReadingRow
+  pub is_head : Some head ≡ slice_get page 0
+  pub first : m.first ≡ head.number
+  pub run : IsRun head.number page count
+  pub end : ReadingRow
+  pub is_end : Some end ≡ slice_get (take count page) (length (take count page) - 1)
+  pub last : m.last ≡ end.number
+  pub readings : all_readings m.values ≡ map (λ r. r.reading) (take count page)
+  pub groups : AreGroups m.values
 
 -- a station's readings that are left in hub_reading follow those that meter values stand for
 pub record AreApart (db : Trees) : Type 0 where

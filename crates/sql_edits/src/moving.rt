@@ -5,12 +5,12 @@ ghost use Rattle.sql_rows.specs.Kept.{AsksInsideIn, IsDropped, IsPage, MakesIf, 
 ghost use Rattle.sql_rows.specs.Opening.{StaysInside};
 ghost use Rattle.sql_rows.specs.TypedTable.{rows_in};
 ghost use Rattle.sql_rows.specs.TypedTables.{readings};
-ghost use Rattle.sql_edits.specs.Moving.{AreMoved, AreMoving, IsAnyRow, IsMoving, IsRun, IsUnmoved, is_in_range};
+ghost use Rattle.sql_edits.specs.Moving.{AreMoved, AreMoving, IsAnyRow, IsFirstRun, IsMoving, IsRun, IsUnmoved, is_in_range};
 
 use crate::binds::done;
 use crate::readings::put_values;
 use hub_rows::{LAST_NUMBER, Reading, ReadingRow, StoreFault};
-use meter_values::group;
+use meter_values::{MeterValue, group};
 use ocpp_types::{Listed, Mem};
 use sql_rows::{first_row, listed};
 use sqlite::{Alter, Error, Row, Transaction, params};
@@ -101,7 +101,30 @@ fn drop_range<S: Alter>(
     ))
 }
 
-/// Moves the first readings of a station whose numbers follow one another. A station that has none left answers Failed.
+/// Readings of a station whose numbers follow one another, as meter values.
+#[derive(Drop)]
+struct MovedRun {
+    first: u32,
+    last: u32,
+    values: Listed<MeterValue>,
+}
+
+/// The first readings of a page that follow one another. A page without rows answers Failed.
+fn first_run(alloc: Global, page: &[ReadingRow]) -> Result<MovedRun, StoreFault>
+    ensures { IfOk result (IsFirstRun page.now) }
+{
+    let first = page.first().ok_or(StoreFault::Failed)?.number;
+    let rows = &page[..run_length(first, page)];
+    let last = rows.last().ok_or(StoreFault::Failed)?.number;
+    let values = group(alloc, readings_of(alloc, rows)?)?;
+    Ok(MovedRun {
+        first,
+        last,
+        values,
+    })
+}
+
+/// Moves the first readings of a station that follow one another. A station that has none left answers Failed.
 fn move_run<S: Alter>(
     tx: &mut Transaction<'_, S>,
     alloc: Global,
@@ -112,13 +135,9 @@ fn move_run<S: Alter>(
     ensures stays { StaysInside S.Store tx.old tx.new result }
 {
     let page = readings_page(tx, op, station)?;
-    let page = page.as_slice();
-    let first = page.first().ok_or(StoreFault::Failed)?.number;
-    let run = &page[..run_length(first, page)];
-    let last = run.last().ok_or(StoreFault::Failed)?.number;
-    let values = group(alloc, readings_of(alloc, run)?)?;
-    put_values(tx, alloc, op, station, first, values.as_slice())?;
-    drop_range(tx, op, station, first, last)
+    let run = first_run(alloc, page.as_slice())?;
+    put_values(tx, alloc, op, station, run.first, run.values.as_slice())?;
+    drop_range(tx, op, station, run.first, run.last)
 }
 
 /// Moves all readings of hub_reading to meter values, where there are none yet: inside a transaction, which is rolled
