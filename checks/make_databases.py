@@ -28,8 +28,9 @@ META = TEXTS["meta.CREATE"]
 NUMBER = "INSERT INTO hub_meta VALUES ('schema', %d)"
 # the tables and indexes of each schema, in their order
 EARLIER_INDEX = "txs.CREATE_EARLIER_IS_OPEN"
+EARLIER_HAS = ("txs.CREATE_EARLIER_START_AT", "readings.CREATE_TRANSACTION")
 THIRD_HAS = ("tx_owners.CREATE", "uses.CREATE", "txs.CREATE_IS_OPEN")
-OURS_HAS = ("meter_values.CREATE", "meter_values.CREATE_TRANSACTION")
+OURS_HAS = ("meter_values.CREATE", "txs.CREATE_START_AT", "meter_values.CREATE_TRANSACTION")
 
 
 def tables_without(*names):
@@ -40,7 +41,7 @@ def tables_without(*names):
 FIRST_TABLES = tables_without("reports.CREATE", *THIRD_HAS, *OURS_HAS)
 SECOND_TABLES = tables_without(*THIRD_HAS, *OURS_HAS)
 THIRD_TABLES = tables_without(EARLIER_INDEX, *OURS_HAS)
-TABLES = tables_without(EARLIER_INDEX, "readings.CREATE_TRANSACTION")
+TABLES = tables_without(EARLIER_INDEX, *EARLIER_HAS)
 FIRST = FIRST_TABLES + [NUMBER % 1]
 SECOND = SECOND_TABLES + [NUMBER % 2]
 THIRD = THIRD_TABLES + [NUMBER % 3]
@@ -128,6 +129,7 @@ database("ours_with_another_table", OURS + ["CREATE TABLE person (name TEXT)"])
 database("ours_with_another_column", [text.replace("until INTEGER", "until INTEGER, note TEXT") for text in OURS])
 database("ours_with_an_earlier_index", with_text(OURS, "txs.CREATE_IS_OPEN", EARLIER_INDEX))
 database("ours_with_the_index_of_readings", with_text(OURS, "meter_values.CREATE_TRANSACTION", "readings.CREATE_TRANSACTION"))
+database("ours_with_an_earlier_index_of_starts", with_text(OURS, "txs.CREATE_START_AT", "txs.CREATE_EARLIER_START_AT"))
 database("ours_with_the_number_1", TABLES + [NUMBER % 1])
 database("ours_with_the_number_2", TABLES + [NUMBER % 2])
 database("ours_with_the_number_3", TABLES + [NUMBER % 3])

@@ -3,7 +3,7 @@ ghost use Rattle.std.specs.Prelude.{◌≡◌, ◌<◌, ◌≤◌, ℕ, ◌+◌,
 ghost use Rattle.sqlite_trees.specs.Tree.{Trees};
 ghost use Rattle.sqlite.specs.Held.{state};
 ghost use Rattle.sql_tables.specs.Tables.{first_tables, second_tables, third_tables, fourth_tables, hub_schema};
-ghost use Rattle.sql_tables.specs.Opening.{create_by_transaction_at, create_tx_is_open_at, drop_by_transaction_at, no_schema, our_number, schema_at, tables_at};
+ghost use Rattle.sql_tables.specs.Opening.{create_by_transaction_at, create_tx_is_open_at, create_tx_start_at, drop_by_transaction_at, no_schema, our_number, schema_at, tables_at};
 ghost use Rattle.sql_rows.specs.Opening.{Alters, IsCutAs, IsCutTo, IsEarlier, IsInsideAs, IsInsideWith, IsPart, MakesOurs, MakesSchema, Prepares, Rested};
 
 use crate::fault::{PrepareFault, told};
@@ -112,6 +112,17 @@ fn create_tx_is_open(number: u32) -> &'static str
     }
 }
 
+/// The text that makes the index of starts in the schema of that number.
+fn create_tx_start_at(number: u32) -> &'static str
+    requires { number ≤ our_number }
+    ensures { result.now ≡ create_tx_start_at number }
+{
+    match number {
+        0 | 1 | 2 | 3 => sql_tables::txs::CREATE_EARLIER_START_AT,
+        _ => sql_tables::txs::CREATE_START_AT,
+    }
+}
+
 /// The text that makes the index of readings by their transaction in the schema of that number.
 fn create_by_transaction(number: u32) -> &'static str
     requires { number ≤ our_number }
@@ -143,7 +154,7 @@ fn create_indexes<S: Alter>(tx: &mut Transaction<'_, S>, number: u32) -> Result<
     let done = then_alter(tx, Ok(()), sql_tables::grants::CREATE_TO);
     let done = then_alter(tx, done, sql_tables::txs::CREATE_IN_USE);
     let done = then_alter(tx, done, create_tx_is_open(number));
-    let done = then_alter(tx, done, sql_tables::txs::CREATE_START_AT);
+    let done = then_alter(tx, done, create_tx_start_at(number));
     then_alter(tx, done, create_by_transaction(number))
 }
 
