@@ -5,11 +5,10 @@ use Rattle.sqlite_value.specs.Order.{Row}
 use Rattle.std.specs.Prelude.{ℕ, pos}
 use Rattle.sqlite_trees.specs.Tree.{Trees}
 use Rattle.sqlite_schema.specs.Rules.{Obeys}
-use Rattle.sqlite_sql.specs.Term.{Term, lit, eval_all}
+use Rattle.sqlite_sql.specs.Term.{Term, lit}
 use Rattle.sqlite_sql.specs.Query.{IsAnswer, Output, output}
 use Rattle.sqlite_sql.specs.Program.{overlay}
 use Rattle.sqlite_rules.specs.Lists.{Has}
-use Rattle.sqlite_rules.proofs.ProbeLemmas.{mapped_has}
 use Rattle.sql_tables.specs.Tables.{hub_schema}
 use Rattle.sql_tables.specs.Forms.{any_query}
 use Rattle.sql_rows.specs.Kept.{IsAny}
