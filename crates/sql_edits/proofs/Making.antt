@@ -8,10 +8,8 @@ use Rattle.sqlite.specs.Held.{state}
 use Rattle.sqlite.specs.State.{State}
 use Rattle.sqlite.specs.Store.{Ghosts}
 use Rattle.hub_rows.specs.Keyed.{first, greatest, put_all}
-use Rattle.hub_rows.specs.Rows.{Rows}
-use Rattle.sql_rows.specs.Kept.{AsksInside, Goes, Inside, IsInside, IsSame, Leaves, MakesIf, MakesIn, ShowsInside, ShowsLastInside}
+use Rattle.sql_rows.specs.Kept.{AsksInsideIn, Goes, Inside, IsInside, IsSame, Leaves, MakesIf, MakesIn, ShowsInside, ShowsLastInside}
 use Rattle.sql_rows.specs.TypedTable.{TypedTable, cmp, rows_in}
-use Rattle.sql_rows.specs.TypedTables.{rows_of}
 use Rattle.sql_rows.specs.Values.{count_in}
 use Rattle.sql_rows.proofs.Calls.{first_finds, last_finds}
 use Rattle.sql_rows.proofs.RowEdits.{goes_if}
@@ -38,8 +36,8 @@ module _ {S : Type 0} {g : Ghosts S} where
   makes_if {A} {E} {Begins} {Edit} {old} {new} {r} part inside = record { same_reference = part.same_reference; goes = λ begins. part.goes (inside (state g old.conn.now) begins) }
 
   -- a look-up, by the first of the rows that are shown
-  pub asks_first : {V T F : Type 0} {items : V → List Row} {s : TypedTable T} {p : T → Bool} {old new : Transaction S} {r : Result V Error} {q : Result (Option T) F} {P : Rows → Option T → Type 0} → ShowsInside g items s p old new r → OnOk q (IsOk r)
-      → IfOk r (λ v. IfOk q (λ o. o ≡ first (put_all (cmp s) (map s.read (items v)) []))) → ((db : Trees) (o : Option T) → o ≡ find p (rows_in s db) → P (rows_of db) o) → AsksInside g old new q P
+  pub asks_first : {V T F : Type 0} {items : V → List Row} {s : TypedTable T} {p : T → Bool} {old new : Transaction S} {r : Result V Error} {q : Result (Option T) F} {P : Trees → Option T → Type 0} → ShowsInside g items s p old new r → OnOk q (IsOk r)
+      → IfOk r (λ v. IfOk q (λ o. o ≡ first (put_all (cmp s) (map s.read (items v)) []))) → ((db : Trees) (o : Option T) → o ≡ find p (rows_in s db) → P db o) → AsksInsideIn g old new q P
   asks_first {V} {T} {F} {items} {s} {p} {old} {new} {r} {q} {P} shows ok row means =
       let before = state g old.conn.now in
       record {
@@ -49,8 +47,8 @@ module _ {S : Type 0} {g : Ghosts S} where
       }
 
   -- by the number of the last row, which stands at that place
-  pub asks_last : {V T F : Type 0} {items : V → List Row} {s : TypedTable T} {number : T → ℕ} {p : T → Bool} {old new : Transaction S} {r : Result V Error} {q : Result ℕ F} {P : Rows → ℕ → Type 0} (at : ℕ) → ((x : Row) → count_in (column x at) ≡ number (s.read x)) → ShowsLastInside g items s number p old new r → OnOk q (IsOk r)
-      → IfOk r (λ v. IfOk q (λ n. n ≡ greatest (map (λ x. count_in (column x at)) (items v)))) → ((db : Trees) (n : ℕ) → n ≡ greatest (map number (filter p (rows_in s db))) → P (rows_of db) n) → AsksInside g old new q P
+  pub asks_last : {V T F : Type 0} {items : V → List Row} {s : TypedTable T} {number : T → ℕ} {p : T → Bool} {old new : Transaction S} {r : Result V Error} {q : Result ℕ F} {P : Trees → ℕ → Type 0} (at : ℕ) → ((x : Row) → count_in (column x at) ≡ number (s.read x)) → ShowsLastInside g items s number p old new r → OnOk q (IsOk r)
+      → IfOk r (λ v. IfOk q (λ n. n ≡ greatest (map (λ x. count_in (column x at)) (items v)))) → ((db : Trees) (n : ℕ) → n ≡ greatest (map number (filter p (rows_in s db))) → P db n) → AsksInsideIn g old new q P
   asks_last {V} {T} {F} {items} {s} {number} {p} {old} {new} {r} {q} {P} at same shows ok last means =
       let before = state g old.conn.now in
       record {
@@ -60,7 +58,7 @@ module _ {S : Type 0} {g : Ghosts S} where
       }
 
   -- a look-up changes nothing
-  pub makes_same : {A E : Type 0} {old new : Transaction S} {r : Result A E} {P : Rows → A → Type 0} → AsksInside g old new r P → MakesIn g IsSame old new r
+  pub makes_same : {A E : Type 0} {old new : Transaction S} {r : Result A E} {P : Trees → A → Type 0} → AsksInsideIn g old new r P → MakesIn g IsSame old new r
   makes_same asks = record { same_reference = asks.same_reference; goes = asks.goes }
 
   -- what follows of what is made

@@ -61,7 +61,7 @@ fn put_value<S: Alter>(
 
 /// Puts meter values of a station, whose readings are numbered from the first number on. The last
 /// number is within 32 bits, or else this answers Failed.
-fn put_values<S: Alter>(
+pub(crate) fn put_values<S: Alter>(
     tx: &mut Transaction<'_, S>,
     alloc: Global,
     op: &str,
