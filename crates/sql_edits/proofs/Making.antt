@@ -1,5 +1,5 @@
 -- What a part of a transaction makes, and what a look-up inside it says, by the parts of which they consist.
-use Rattle.std.proofs.Common.{◌≡◌, ◌∙◌, ℕ, List, [], Bool, Option, Result, Ok, Err, IfOk, IsErr, IsOk, IsTrue, OnOk, filter, find, map, refl}
+use Rattle.std.proofs.Common.{◌≡◌, ◌∙◌, ap, subst, sym, ◌∷◌, ℕ, List, [], Bool, Option, Result, Ok, Err, IfOk, IsErr, IsOk, IsTrue, OnOk, filter, find, map, refl}
 use Rattle.sqlite_trees.specs.Tree.{Trees}
 use Rattle.sqlite_value.specs.Order.{Row, column}
 use Rattle.sqlite.specs.declared.error.Error.{Error}
@@ -8,9 +8,12 @@ use Rattle.sqlite.specs.Held.{state}
 use Rattle.sqlite.specs.State.{State}
 use Rattle.sqlite.specs.Store.{Ghosts}
 use Rattle.hub_rows.specs.Keyed.{first, greatest, put_all}
-use Rattle.sql_rows.specs.Kept.{AsksInsideIn, Goes, Inside, IsInside, IsSame, Leaves, MakesIf, MakesIn, ShowsInside, ShowsLastInside}
+use Rattle.hub_rows.specs.Rows.{Rows}
+use Rattle.sql_rows.specs.Kept.{AsksInside, AsksInsideIn, Goes, Inside, IsInside, IsSame, Leaves, MakesIf, MakesIn, IsAny, IsPage, ShowsAnyInside, ShowsInside, ShowsLastInside, ShowsPageInside}
 use Rattle.sql_rows.specs.TypedTable.{TypedTable, cmp, rows_in}
+use Rattle.sql_rows.specs.TypedTables.{rows_of}
 use Rattle.sql_rows.specs.Values.{count_in}
+use Rattle.sql_edits.specs.Moving.{IsAnyRow}
 use Rattle.sql_rows.proofs.Calls.{first_finds, last_finds}
 use Rattle.sql_rows.proofs.RowEdits.{goes_if}
 use Rattle.sql_rows.proofs.TxLemmas.{goes_then, inside_self, leaves_then}
@@ -36,8 +39,8 @@ module _ {S : Type 0} {g : Ghosts S} where
   makes_if {A} {E} {Begins} {Edit} {old} {new} {r} part inside = record { same_reference = part.same_reference; goes = λ begins. part.goes (inside (state g old.conn.now) begins) }
 
   -- a look-up, by the first of the rows that are shown
-  pub asks_first : {V T F : Type 0} {items : V → List Row} {s : TypedTable T} {p : T → Bool} {old new : Transaction S} {r : Result V Error} {q : Result (Option T) F} {P : Trees → Option T → Type 0} → ShowsInside g items s p old new r → OnOk q (IsOk r)
-      → IfOk r (λ v. IfOk q (λ o. o ≡ first (put_all (cmp s) (map s.read (items v)) []))) → ((db : Trees) (o : Option T) → o ≡ find p (rows_in s db) → P db o) → AsksInsideIn g old new q P
+  pub asks_first : {V T F : Type 0} {items : V → List Row} {s : TypedTable T} {p : T → Bool} {old new : Transaction S} {r : Result V Error} {q : Result (Option T) F} {P : Rows → Option T → Type 0} → ShowsInside g items s p old new r → OnOk q (IsOk r)
+      → IfOk r (λ v. IfOk q (λ o. o ≡ first (put_all (cmp s) (map s.read (items v)) []))) → ((db : Trees) (o : Option T) → o ≡ find p (rows_in s db) → P (rows_of db) o) → AsksInside g old new q P
   asks_first {V} {T} {F} {items} {s} {p} {old} {new} {r} {q} {P} shows ok row means =
       let before = state g old.conn.now in
       record {
@@ -47,8 +50,8 @@ module _ {S : Type 0} {g : Ghosts S} where
       }
 
   -- by the number of the last row, which stands at that place
-  pub asks_last : {V T F : Type 0} {items : V → List Row} {s : TypedTable T} {number : T → ℕ} {p : T → Bool} {old new : Transaction S} {r : Result V Error} {q : Result ℕ F} {P : Trees → ℕ → Type 0} (at : ℕ) → ((x : Row) → count_in (column x at) ≡ number (s.read x)) → ShowsLastInside g items s number p old new r → OnOk q (IsOk r)
-      → IfOk r (λ v. IfOk q (λ n. n ≡ greatest (map (λ x. count_in (column x at)) (items v)))) → ((db : Trees) (n : ℕ) → n ≡ greatest (map number (filter p (rows_in s db))) → P db n) → AsksInsideIn g old new q P
+  pub asks_last : {V T F : Type 0} {items : V → List Row} {s : TypedTable T} {number : T → ℕ} {p : T → Bool} {old new : Transaction S} {r : Result V Error} {q : Result ℕ F} {P : Rows → ℕ → Type 0} (at : ℕ) → ((x : Row) → count_in (column x at) ≡ number (s.read x)) → ShowsLastInside g items s number p old new r → OnOk q (IsOk r)
+      → IfOk r (λ v. IfOk q (λ n. n ≡ greatest (map (λ x. count_in (column x at)) (items v)))) → ((db : Trees) (n : ℕ) → n ≡ greatest (map number (filter p (rows_in s db))) → P (rows_of db) n) → AsksInside g old new q P
   asks_last {V} {T} {F} {items} {s} {number} {p} {old} {new} {r} {q} {P} at same shows ok last means =
       let before = state g old.conn.now in
       record {
@@ -57,9 +60,54 @@ module _ {S : Type 0} {g : Ghosts S} where
         goes = λ inside. goes_if IsSame before (state g new.conn.now) r q ok (shows.goes inside);
       }
 
+  -- a look-up, by the rows of a page
+  pub asks_page : {V T F : Type 0} {items : V → List Row} {s : TypedTable T} {number : T → ℕ} {p : T → Bool} {old new : Transaction S} {r : Result V Error} {q : Result (List T) F} → ShowsPageInside g items s number p old new r → OnOk q (IsOk r)
+      → IfOk r (λ v. IfOk q (λ page. page ≡ put_all (cmp s) (map s.read (items v)) [])) → AsksInsideIn g old new q (λ db page. IsPage number p (rows_in s db) page)
+  asks_page {V} {T} {F} {items} {s} {number} {p} {old} {new} {r} {q} shows ok rows =
+      let before = state g old.conn.now in
+      record {
+        same_reference = shows.same_reference;
+        found = λ inside up. page_found r q ok rows (shows.ok inside up);
+        goes = λ inside. goes_if IsSame before (state g new.conn.now) r q ok (shows.goes inside);
+      }
+    where
+      page_found : (r : Result V Error) (q : Result (List T) F) → OnOk q (IsOk r) → IfOk r (λ v. IfOk q (λ page. page ≡ put_all (cmp s) (map s.read (items v)) []))
+          → IfOk r (λ v. IsPage number p (rows_in s (state g old.conn.now).now.trees) (put_all (cmp s) (map s.read (items v)) [])) → IfOk q (IsPage number p (rows_in s (state g old.conn.now).now.trees))
+      page_found (Ok v) (Ok page) ok is shown = subst (IsPage number p (rows_in s (state g old.conn.now).now.trees)) (sym is) shown
+      page_found (Ok v) (Err e) ok is shown = tt
+      page_found (Err x) (Ok page) ok is shown = absurd cc
+      page_found (Err x) (Err e) ok is shown = tt
+
+  -- by one of all rows
+  pub asks_any : {V T F : Type 0} {items : V → List Row} {s : TypedTable T} {old new : Transaction S} {r : Result V Error} {q : Result (Option T) F} → ShowsAnyInside g items s old new r → OnOk q (IsOk r)
+      → IfOk r (λ v. IfOk q (λ o. o ≡ first (put_all (cmp s) (map s.read (items v)) []))) → AsksInsideIn g old new q (λ db o. IsAnyRow (rows_in s db) o)
+  asks_any {V} {T} {F} {items} {s} {old} {new} {r} {q} shows ok row =
+      let before = state g old.conn.now in
+      record {
+        same_reference = shows.same_reference;
+        found = λ inside up. any_found r q ok row (shows.ok inside up);
+        goes = λ inside. goes_if IsSame before (state g new.conn.now) r q ok (shows.goes inside);
+      }
+    where
+      all : List T
+      all = rows_in s (state g old.conn.now).now.trees
+
+      any_row : (xs : List T) (o : Option T) → IsAny all xs → o ≡ first (put_all (cmp s) xs []) → IsAnyRow all o
+      any_row [] o none is = subst (IsAnyRow all) (sym is) none
+      any_row (x ∷ xs) o one is = subst (IsAnyRow all) (sym (is ∙ ap (λ l. first (put_all (cmp s) (x ∷ l) [])) one.0)) one.1
+
+      any_found : (r : Result V Error) (q : Result (Option T) F) → OnOk q (IsOk r) → IfOk r (λ v. IfOk q (λ o. o ≡ first (put_all (cmp s) (map s.read (items v)) []))) → IfOk r (λ v. IsAny all (map s.read (items v))) → IfOk q (IsAnyRow all)
+      any_found (Ok v) (Ok o) ok is shown = any_row (map s.read (items v)) o shown is
+      any_found (Ok v) (Err e) ok is shown = tt
+      any_found (Err x) (Ok o) ok is shown = absurd cc
+      any_found (Err x) (Err e) ok is shown = tt
+
   -- a look-up changes nothing
-  pub makes_same : {A E : Type 0} {old new : Transaction S} {r : Result A E} {P : Trees → A → Type 0} → AsksInsideIn g old new r P → MakesIn g IsSame old new r
+  pub makes_same : {A E : Type 0} {old new : Transaction S} {r : Result A E} {P : Rows → A → Type 0} → AsksInside g old new r P → MakesIn g IsSame old new r
   makes_same asks = record { same_reference = asks.same_reference; goes = asks.goes }
+
+  pub makes_same_in : {A E : Type 0} {old new : Transaction S} {r : Result A E} {P : Trees → A → Type 0} → AsksInsideIn g old new r P → MakesIn g IsSame old new r
+  makes_same_in asks = record { same_reference = asks.same_reference; goes = asks.goes }
 
   -- what follows of what is made
   pub makes_also : {A B E F : Type 0} {Begins : State → Type 0} {One Two : Trees → Trees → Type 0} {old new : Transaction S} {x : A} {y : B} → MakesIf {E = E} g Begins One old new (Ok x)
@@ -91,6 +139,13 @@ module _ {S : Type 0} {g : Ghosts S} where
   makes_stops {A} {B} {E} {F} {Begins} {One} {Two} {old} {new} {x} {q} one failed = record {
     same_reference = one.same_reference;
     goes = λ begins. goes_err Two (state g old.conn.now) (state g new.conn.now) q failed (one.goes begins).ok.leaves;
+  }
+
+  -- an error, whatever it was to make
+  pub makes_err : {A B E F : Type 0} {Begins : State → Type 0} {One Two : Trees → Trees → Type 0} {old new : Transaction S} {e : E} {q : Result B F} → MakesIf {A = A} g Begins One old new (Err e) → IsErr q → MakesIf g Begins Two old new q
+  makes_err {A} {B} {E} {F} {Begins} {One} {Two} {old} {new} {e} {q} one failed = record {
+    same_reference = one.same_reference;
+    goes = λ begins. goes_err Two (state g old.conn.now) (state g new.conn.now) q failed (one.goes begins).err;
   }
 
   -- one part after the other, where what the first makes lets the other begin

@@ -8,6 +8,7 @@ mod cuts;
 mod forget;
 mod grants;
 mod local_lists;
+mod moving;
 mod readings;
 mod reports;
 mod reservations;
@@ -17,3 +18,4 @@ mod txs;
 mod uses;
 
 pub use changes::apply;
+pub use moving::move_readings;
