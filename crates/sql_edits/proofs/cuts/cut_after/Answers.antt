@@ -18,7 +18,7 @@ returns-in-Some g c =
     let new = (state g.S.Store c.cut_value.new.tx.conn.now).now.trees in
     let row = c.in-Some.row in
     record {
-      makes = makes_then (makes_found c.in_ok-value_up_to.ensures.asks) c.cut_value.ensures.makes
+      makes = makes_then (makes_found c.in_ok-row.ensures.asks) c.cut_value.ensures.makes
           (λ inside up found cuts. subst (λ (db : Trees). IsLastUpTo op station last (rows_in meter_values db) (Some row) → InOrder (CutsAt op station (last + 1)) db new) found.0 cuts
           (subst (IsLastUpTo op station last (rows_in meter_values old)) c.in-Some.is found.1));
     }
@@ -30,6 +30,6 @@ returns-in-None g c =
     let last = c.args.last in
     let old = (state g.S.Store c.args.tx.now.conn.now).now.trees in
     record {
-      makes = makes_also (makes_found c.in_ok-value_up_to.ensures.asks)
+      makes = makes_also (makes_found c.in_ok-row.ensures.asks)
           (λ inside up found order. subst (CutsAt op station (last + 1) old) (sym found.0) (cut_before_all op station last old (subst (IsLastUpTo op station last (rows_in meter_values old)) c.in-None.is found.1)));
     }

@@ -1,12 +1,12 @@
-use Rattle.std.proofs.Common.{◌≡◌, ◌+◌, ap, length, subst, sym, ◌∙◌, Some, None}
+use Rattle.std.proofs.Common.{rules, ◌≡◌, ◌+◌, ap, length, subst, sym, ◌∙◌, Some, None}
 use Rattle.sqlite.specs.Held.{state}
 use Rattle.sql_rows.specs.Cuts.{split_value, IsCutAfter, IsReplaced}
 use Rattle.sql_rows.proofs.CutLaws.{cut_behind, cut_inside}
 use Rattle.sql_edits.proofs.Making.{makes_also, makes_as, makes_none}
 use Rattle.sql_edits.proofs.cuts.cut_value.Goals as goal
 
-pub returns-in-Some : goal.returns-in-Some
-returns-in-Some g c =
+pub returns-in_ok-values-in-Some : goal.returns-in_ok-values-in-Some
+returns-in_ok-values-in-Some g c =
     let op = c.args.op.now in
     let station = c.args.station.now in
     let row = c.args.row in
@@ -15,7 +15,7 @@ returns-in-Some g c =
     let old = (state g.S.Store c.args.tx.now.conn.now).now.trees in
     let new = (state g.S.Store c.replace.new.tx.conn.now).now.trees in
     let place : IsCutAfter row.first (length row.value.sampled) (last + 1) (Some kept) = search rules in
-    let two : c.as_slice-2.result.now ≡ split_value kept row.value = c.as_slice-2.ensures ∙ c.in_ok-values.ensures in
+    let two : c.as_slice.result.now ≡ split_value kept row.value = c.as_slice.ensures ∙ c.in_ok-values-in-Some.ensures in
     record {
       makes = makes_as c.replace.ensures.makes
           (λ inside was made is_last up. cut_inside op station last old row is_last up kept new place (subst (λ vs. IsReplaced op station row.first vs old new) two made));
