@@ -1,30 +1,23 @@
 -- What a station's history is without the rows of several runs.
-use Rattle.std.proofs.Common.{◌≡◌, ◌∙◌, ◌&&◌, ◌||◌, ◌==◌, ◌+◌, ◌++◌, ◌∷◌, ◌≤◌, ℕ, nat_le, Bool, true, false, List, [], arith, ap, ap₂, cond, filter, not, pos, refl, sym}
+use Rattle.std.proofs.Common.{◌≡◌, ◌∙◌, ◌&&◌, ◌||◌, ◌==◌, ◌+◌, ◌++◌, ◌∷◌, ◌≤◌, ℕ, nat_le, Bool, true, false, List, [], arith, ap, ap₂, cond, filter, not, refl, subst, sym}
 use Rattle.std.specs.Str.{bytes_eq}
 use Rattle.std.proofs.lemmas.Bool.Decides.{nat_tests}
 use Rattle.std.proofs.lemmas.List.Folds.{list_any-append}
-use Rattle.sqlite_value.specs.declared.value.Value.TheVariants.{Int, Text}
+use Rattle.std.proofs.lemmas.List.Kept.{IsStrictlySortedBy-filter}
 use Rattle.sqlite_trees.specs.Tree.{Trees}
 use Rattle.hub_rows.specs.declared.reading_row.ReadingRow.{ReadingRow}
 use Rattle.hub_rows.specs.declared.tx_row.TxOwnerRow.{TxOwnerRow}
 use Rattle.hub_rows.specs.declared.tx_row.TxRow.{TxRow}
 use Rattle.hub_rows.specs.Forgetting.{has_number}
-use Rattle.hub_rows.specs.Keyed.{without}
-use Rattle.hub_rows.specs.Rows.{Rows}
+use Rattle.hub_rows.specs.Keyed.{by_key, without}
+use Rattle.hub_rows.specs.Rows.{Rows, reading_key}
+use Rattle.sql_rows.specs.Cuts.{AreOrdered, InOrder}
 use Rattle.sql_rows.specs.Kept.{IsMade}
 use Rattle.sql_rows.specs.TypedTables.{rows_of}
-use Rattle.sql_rows.proofs.StoreLemmas.{Means}
-use Rattle.sql_rows.proofs.TxTables.{drops_readings, drops_tx_owners, drops_txs}
-use Rattle.sql_edits.specs.Forget.{drop_text, dropped, is_in}
+use Rattle.sql_edits.specs.Forget.{dropped, is_in}
 use Rattle.sql_edits.specs.declared.forget.HistoryTable.{HistoryTable}
 use Rattle.sql_edits.specs.declared.forget.HistoryTable.TheVariants.{Readings, Transactions, Owners}
 use Rattle.sql_edits.specs.declared.forget.Run.{Run}
-
--- what the statement of a table means
-pub drops_run : (history : HistoryTable) (op station : List ℕ) (run : Run) → Means (drop_text history) (Text op ∷ Text station ∷ Int (pos run.first) ∷ Int (pos run.last) ∷ []) (IsMade (dropped history op station (is_in run)))
-drops_run Readings op station run = drops_readings op station run.first run.last
-drops_run Transactions op station run = drops_txs op station run.first run.last
-drops_run Owners op station run = drops_tx_owners op station run.first run.last
 
 -- ---- one test after another
 
@@ -71,6 +64,12 @@ dropped_none Readings op station rows = λ i. record rows { readings = filter_al
 dropped_none Transactions op station rows = λ i. record rows { transactions = filter_all _ rows.transactions (λ r. none_passes (bytes_eq r.op op) (bytes_eq r.station station)) i }
 dropped_none Owners op station rows = λ i. record rows { tx_owners = filter_all _ rows.tx_owners (λ r. none_passes (bytes_eq r.op op) (bytes_eq r.station station)) i }
 
+-- readings stay in order
+pub still_ordered : (history : HistoryTable) (op station : List ℕ) (gone : ℕ → Bool) (rows : Rows) → AreOrdered rows → AreOrdered (dropped history op station gone rows)
+still_ordered Readings op station gone rows up = IsStrictlySortedBy-filter (by_key reading_key) (λ r. not (bytes_eq r.op op && (bytes_eq r.station station && gone r.number))) rows.readings up
+still_ordered Transactions op station gone rows up = up
+still_ordered Owners op station gone rows up = up
+
 -- ---- the runs of a list of numbers
 
 -- the run of one number
@@ -90,25 +89,33 @@ is_longer run x n some next = grind (arith, nat_tests)
 one_more : (numbers : List ℕ) (x n : ℕ) → has_number (numbers ++ x ∷ []) n ≡ has_number numbers n || is_in (alone x) n
 one_more numbers x n = list_any-append (λ m. m == n) numbers (x ∷ []) ∙ ap (λ b. has_number numbers n || b) (or_false (x == n) ∙ sym (is_alone x n))
 
--- once the rows of the run are gone too, those of the numbers are
+-- where readings are in order they still are, and once the rows of the run are gone too, those of the numbers are
 abbrev pub AreButRun : HistoryTable → List ℕ → List ℕ → Run → List ℕ → Trees → Trees → Type 0
-AreButRun history op station run numbers old new = dropped history op station (is_in run) (rows_of new) ≡ dropped history op station (has_number numbers) (rows_of old)
+AreButRun history op station run numbers old new = AreOrdered (rows_of old) → AreOrdered (rows_of new) × (dropped history op station (is_in run) (rows_of new) ≡ dropped history op station (has_number numbers) (rows_of old))
 
 module _ (history : HistoryTable) (op station : List ℕ) where
   pub begins : (x : ℕ) (db : Trees) → AreButRun history op station (alone x) (x ∷ []) db db
-  begins x db = dropped_as history op station (is_in (alone x)) (has_number (x ∷ [])) (rows_of db) (λ n. is_alone x n ∙ sym (or_false (x == n)))
+  begins x db up = (up, dropped_as history op station (is_in (alone x)) (has_number (x ∷ [])) (rows_of db) (λ n. is_alone x n ∙ sym (or_false (x == n))))
 
   adds : (numbers : List ℕ) (x : ℕ) (rows : Rows) → dropped history op station (is_in (alone x)) (dropped history op station (has_number numbers) rows) ≡ dropped history op station (has_number (numbers ++ x ∷ [])) rows
   adds numbers x rows = dropped_twice history op station (has_number numbers) (is_in (alone x)) rows ∙ dropped_as history op station (λ n. has_number numbers n || is_in (alone x) n) (has_number (numbers ++ x ∷ [])) rows (λ n. sym (one_more numbers x n))
 
   -- the run goes on
   pub goes_on : (run : Run) (numbers : List ℕ) (x : ℕ) (old new : Trees) → run.first ≤ run.last → x ≡ run.last + 1 → AreButRun history op station run numbers old new → AreButRun history op station (record run { last = x }) (numbers ++ x ∷ []) old new
-  goes_on run numbers x old new some next so_far =
-      dropped_as history op station (is_in (record run { last = x })) (λ n. is_in run n || is_in (alone x) n) (rows_of new) (λ n. is_longer run x n some next ∙ ap (λ b. is_in run n || b) (sym (is_alone x n)))
-      ∙ sym (dropped_twice history op station (is_in run) (is_in (alone x)) (rows_of new))
-      ∙ ap (λ rows. dropped history op station (is_in (alone x)) rows) so_far
-      ∙ adds numbers x (rows_of old)
+  goes_on run numbers x old new some next so_far up =
+      let was = so_far up in (
+        was.0,
+        dropped_as history op station (is_in (record run { last = x })) (λ n. is_in run n || is_in (alone x) n) (rows_of new) (λ n. is_longer run x n some next ∙ ap (λ b. is_in run n || b) (sym (is_alone x n)))
+        ∙ sym (dropped_twice history op station (is_in run) (is_in (alone x)) (rows_of new))
+        ∙ ap (λ rows. dropped history op station (is_in (alone x)) rows) was.1
+        ∙ adds numbers x (rows_of old),
+      )
 
   -- the run is dropped, and another begins
-  pub begins_again : (run : Run) (numbers : List ℕ) (x : ℕ) (old mid new : Trees) → AreButRun history op station run numbers old mid → IsMade (dropped history op station (is_in run)) mid new → AreButRun history op station (alone x) (numbers ++ x ∷ []) old new
-  begins_again run numbers x old mid new so_far made = ap (λ rows. dropped history op station (is_in (alone x)) rows) (made ∙ so_far) ∙ adds numbers x (rows_of old)
+  pub begins_again : (run : Run) (numbers : List ℕ) (x : ℕ) (old mid new : Trees) → AreButRun history op station run numbers old mid → InOrder (IsMade (dropped history op station (is_in run))) mid new → AreButRun history op station (alone x) (numbers ++ x ∷ []) old new
+  begins_again run numbers x old mid new so_far drops up =
+      let was = so_far up in
+      let made = drops was.0 in (
+        subst AreOrdered (sym made) (still_ordered history op station (is_in run) (rows_of mid) was.0),
+        ap (λ rows. dropped history op station (is_in (alone x)) rows) (made ∙ was.1) ∙ adds numbers x (rows_of old),
+      )

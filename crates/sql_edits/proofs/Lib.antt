@@ -1,3 +1,4 @@
+pub mod Cutting
 pub mod Forgotten
 pub mod Making
 pub mod MovingLaws

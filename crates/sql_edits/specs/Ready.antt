@@ -13,9 +13,9 @@ use Rattle.sql_rows.specs.TypedTables.{rows_of}
 abbrev pub IsReady : List ℕ → Edit → State → Type 0
 IsReady op change s = IsTrue s.is_open → Serves s × WellFormedRows (rows_of s.now.trees) × EditFits op change (rows_of s.now.trees)
 
--- an edit fits, inside a transaction
+-- the edit of an operator fits, inside a transaction
 abbrev pub MayMake : List ℕ → Edit → State → Type 0
-MayMake op change s = IsTrue s.is_open → Within s × EditFits op change (rows_of s.now.trees)
+MayMake op change s = IsTrue s.is_open → Within s × WellFormedRows (rows_of s.now.trees) × EditFits op change (rows_of s.now.trees)
 
 -- a part of a transaction makes an edit, if it fits
 abbrev pub MakesFitting : {S A E : Type 0} → Ghosts S → List ℕ → Edit → Transaction S → Transaction S → Result A E → Type 0

@@ -4,6 +4,7 @@
 mod binds;
 mod changes;
 mod connectors;
+mod cuts;
 mod forget;
 mod grants;
 mod local_lists;

@@ -29,6 +29,7 @@ pub mod ChangedLaws
 pub mod TxReads
 pub mod RowEdits
 pub mod MeterValueLaws
+pub mod CutLaws
 pub mod ListEdits
 pub mod ValueEdits
 pub mod OrderedLaws

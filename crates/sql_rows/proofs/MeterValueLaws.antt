@@ -54,14 +54,14 @@ module _ {X : Type 0} where
   none_there (x ∷ xs) none = absurd (none x (inl refl))
 
 module _ {X Y : Type 0} (f : X → List Y) where
-  has_flat : (xs : List X) (y : Y) → Has (flat_map f xs) y → (x : X) × Has xs x × Has (f x) y
+  pub has_flat : (xs : List X) (y : Y) → Has (flat_map f xs) y → (x : X) × Has xs x × Has (f x) y
   has_flat [] y none = absurd none
   has_flat (x ∷ xs) y h = elim (has_part (f x) (flat_map f xs) y h) [
     | inl here ↦ (x, inl refl, here)
     | inr there ↦ let w = has_flat xs y there in (w.0, inr w.1, w.2)
   ]
 
-  flat_has : (xs : List X) (x : X) (y : Y) → Has xs x → Has (f x) y → Has (flat_map f xs) y
+  pub flat_has : (xs : List X) (x : X) (y : Y) → Has xs x → Has (f x) y → Has (flat_map f xs) y
   flat_has [] x y none h = absurd none
   flat_has (w ∷ xs) x y (inl same) h = has_front (f w) (flat_map f xs) y (subst (λ z. Has (f z) y) same h)
   flat_has (w ∷ xs) x y (inr later) h = has_back (f w) (flat_map f xs) y (flat_has xs x y later h)
@@ -156,7 +156,7 @@ below_from m n e = elim (cases_lt m n) [
   ]
 ]
 
-same_station : (op station : List ℕ) (m n : ℕ) → m < n → key_cmp (key_at op station m) (key_at op station n) ≡ Less
+pub same_station : (op station : List ℕ) (m n : ℕ) → m < n → key_cmp (key_at op station m) (key_at op station n) ≡ Less
 same_station op station m n low =
     ap (λ o. ordering_then o (ordering_then (text_cmp station station) (number_cmp m n))) (tied_itself nat_list_cmp_total op)
     ∙ ap (λ o. ordering_then o (number_cmp m n)) (tied_itself nat_list_cmp_total station)
@@ -167,7 +167,7 @@ abbrev IsApartOrRises : List ℕ → List ℕ → ℕ → List ℕ → List ℕ 
 IsApartOrRises a b m c d n = ((i j : ℕ) → key_cmp (key_at a b i) (key_at c d j) ≡ Less) ⊎ ((a ≡ c) × (b ≡ d) × (m < n))
 
 -- so it is where one key is below another
-apart_or_rising : (a b : List ℕ) (m : ℕ) (c d : List ℕ) (n : ℕ) → key_cmp (key_at a b m) (key_at c d n) ≡ Less → IsApartOrRises a b m c d n
+pub apart_or_rising : (a b : List ℕ) (m : ℕ) (c d : List ℕ) (n : ℕ) → key_cmp (key_at a b m) (key_at c d n) ≡ Less → IsApartOrRises a b m c d n
 apart_or_rising a b m c d n e = by_op (text_cmp a c) refl e
   where
     by_station : (o : Ordering) → text_cmp b d ≡ o → text_cmp a c ≡ Equal → ordering_then o (number_cmp m n) ≡ Less → IsApartOrRises a b m c d n
@@ -205,7 +205,7 @@ module _ (op station : List ℕ) where
       let there = t.4 in
       (t.0, inr t.1, t.2, t.3, omega (arith, there))
 
-  rising : (n : ℕ) (rs : List Reading) → IsStrictlySortedBy (by_key reading_key) (reading_rows op station n rs)
+  pub rising : (n : ℕ) (rs : List Reading) → IsStrictlySortedBy (by_key reading_key) (reading_rows op station n rs)
   unfolding IsStrictlySortedBy
   rising n [] = tt
   rising n (r ∷ rs) = (
@@ -216,7 +216,7 @@ module _ (op station : List ℕ) where
     rising (n + 1) rs,
   )
 
-  reading_rows-append : (n : ℕ) (rs qs : List Reading) → reading_rows op station n (rs ++ qs) ≡ reading_rows op station n rs ++ reading_rows op station (n + length rs) qs
+  pub reading_rows-append : (n : ℕ) (rs qs : List Reading) → reading_rows op station n (rs ++ qs) ≡ reading_rows op station n rs ++ reading_rows op station (n + length rs) qs
   reading_rows-append n [] qs = let here : n ≡ n + 0 = omega arith in ap (λ k. reading_rows op station k qs) here
   reading_rows-append n (r ∷ rs) qs =
       let next : (n + 1) + length rs ≡ n + suc (length rs) = omega arith in
@@ -224,14 +224,14 @@ module _ (op station : List ℕ) where
 
 -- ---- the readings of one meter value
 
-in_unfold : (m : MeterValueRow) (x : ReadingRow) → Has (unfolded m) x → (x.op ≡ m.op) × (x.station ≡ m.station) × (m.first ≤ x.number) × (x.number < m.first + length m.value.sampled)
+pub in_unfold : (m : MeterValueRow) (x : ReadingRow) → Has (unfolded m) x → (x.op ≡ m.op) × (x.station ≡ m.station) × (m.first ≤ x.number) × (x.number < m.first + length m.value.sampled)
 in_unfold m x h =
     let t = in_rows m.op m.station m.first (readings_of m.value) x h in
     let high = t.3 in
     let many = length-map m.value.sampled (reading_of m.value) in
     (t.0, t.1, t.2, omega (arith, high, many))
 
-unfold_has : (m : MeterValueRow) (i : ℕ) → i < length m.value.sampled → (x : ReadingRow) × Has (unfolded m) x × (x.op ≡ m.op) × (x.station ≡ m.station) × (x.number ≡ m.first + i)
+pub unfold_has : (m : MeterValueRow) (i : ℕ) → i < length m.value.sampled → (x : ReadingRow) × Has (unfolded m) x × (x.op ≡ m.op) × (x.station ≡ m.station) × (x.number ≡ m.first + i)
 unfold_has m i within =
     let many = length-map m.value.sampled (reading_of m.value) in
     rows_have m.op m.station m.first (readings_of m.value) i (omega (arith, within, many))
@@ -412,7 +412,7 @@ unfolded_put op station n vs ms up groups (inr follow) = put_all-unfolded op sta
 -- ---- the last number
 
 -- meter values that have a reading of one number are one
-one_row : (ms : List MeterValueRow) → IsStrictlySortedBy (by_key reading_key) (flat_map unfolded ms) → (m w : MeterValueRow) → Has ms m → Has ms w → (x y : ReadingRow) → Has (unfolded m) x → Has (unfolded w) y → by_key reading_key x y ≡ Equal → m ≡ w
+pub one_row : (ms : List MeterValueRow) → IsStrictlySortedBy (by_key reading_key) (flat_map unfolded ms) → (m w : MeterValueRow) → Has ms m → Has ms w → (x y : ReadingRow) → Has (unfolded m) x → Has (unfolded w) y → by_key reading_key x y ≡ Equal → m ≡ w
 one_row [] up m w none k x y i j tie = absurd none
 one_row (v ∷ ms) up m w (inl a) (inl b) x y i j tie = a ∙ sym b
 one_row (v ∷ ms) up m w (inl a) (inr b) x y i j tie =

@@ -2,5 +2,6 @@ pub mod TypedTable
 pub mod Values
 pub mod TypedTables
 pub mod Kept
+pub mod Cuts
 pub mod Opening
 pub mod Told

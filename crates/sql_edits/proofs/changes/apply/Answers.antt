@@ -1,6 +1,7 @@
 use Rattle.std.proofs.Common.{◌≡◌, Err, IsTrue, Ok, rules, subst, sym}
 use Rattle.sqlite.specs.Held.{state}
 use Rattle.hub_rows.specs.Changes.{edit, EditFits}
+use Rattle.hub_rows.specs.WellFormed.{WellFormedRows}
 use Rattle.hub_rows.specs.declared.store.StoreFault.{StoreFault}
 use Rattle.sql_rows.specs.Kept.{Changes, Goes, IsInside, IsMade, IsServing}
 use Rattle.sql_rows.specs.TypedTables.{rows_of}
@@ -22,7 +23,9 @@ returns g c = record {
       let fits : (IsTrue (state g.S.Store tx).is_open → EditFits c.as_str.result.now c.args.change.now.edit.now (rows_of (state g.S.Store tx).now.trees)) =
       subst (λ o. IsTrue (state g.S.Store tx).is_open → EditFits o c.args.change.now.edit.now (rows_of (state g.S.Store tx).now.trees)) (sym c.as_str.ensures)
       (subst (λ h. IsTrue (state g.S.Store h).is_open → EditFits c.args.change.now.op.now c.args.change.now.edit.now (rows_of (state g.S.Store h).now.trees)) (sym c.transaction-tx.ensures.begun) (λ up. (ready up).2)) in
-      let may : MayMake c.as_str.result.now c.args.change.now.edit.now (state g.S.Store tx) = (λ up. (inside up, fits up)) in
+      let good : (IsTrue (state g.S.Store tx).is_open → WellFormedRows (rows_of (state g.S.Store tx).now.trees)) =
+      subst (λ h. IsTrue (state g.S.Store h).is_open → WellFormedRows (rows_of (state g.S.Store h).now.trees)) (sym c.transaction-tx.ensures.begun) (λ up. (ready up).1) in
+      let may : MayMake c.as_str.result.now c.args.change.now.edit.now (state g.S.Store tx) = (λ up. (inside up, good up, fits up)) in
       let same : end ≡ c.conn-2-1.given.0 = search rules in
       subst (λ h. Changes whole (state g.S.Store old) (state g.S.Store h) c.committed.result) same
       (changes_as whole (state g.S.Store old) (state g.S.Store end) c.commit.result c.committed.result c.committed.ensures.ok c.committed.ensures.err
@@ -44,7 +47,9 @@ returns-in_err-make g c = record {
       let fits : (IsTrue (state g.S.Store tx).is_open → EditFits c.as_str.result.now c.args.change.now.edit.now (rows_of (state g.S.Store tx).now.trees)) =
       subst (λ o. IsTrue (state g.S.Store tx).is_open → EditFits o c.args.change.now.edit.now (rows_of (state g.S.Store tx).now.trees)) (sym c.as_str.ensures)
       (subst (λ h. IsTrue (state g.S.Store h).is_open → EditFits c.args.change.now.op.now c.args.change.now.edit.now (rows_of (state g.S.Store h).now.trees)) (sym c.transaction-tx.ensures.begun) (λ up. (ready up).2)) in
-      let may : MayMake c.as_str.result.now c.args.change.now.edit.now (state g.S.Store tx) = (λ up. (inside up, fits up)) in
+      let good : (IsTrue (state g.S.Store tx).is_open → WellFormedRows (rows_of (state g.S.Store tx).now.trees)) =
+      subst (λ h. IsTrue (state g.S.Store h).is_open → WellFormedRows (rows_of (state g.S.Store h).now.trees)) (sym c.transaction-tx.ensures.begun) (λ up. (ready up).1) in
+      let may : MayMake c.as_str.result.now c.args.change.now.edit.now (state g.S.Store tx) = (λ up. (inside up, good up, fits up)) in
       let same : end ≡ c.conn-1.given.0 = search rules in
       let failed : c.from_residual.result ≡ Err c.in_err-make.field-0.0 = search rules in
       subst (λ h. Changes whole (state g.S.Store old) (state g.S.Store h) c.from_residual.result) same (subst (Changes whole (state g.S.Store old) (state g.S.Store end)) (sym failed)

@@ -8,7 +8,7 @@ use Rattle.hub_rows.specs.declared.change.Edit.TheVariants.{Transactions}
 use Rattle.hub_rows.specs.declared.change.TransactionEdit.TheVariants.{TxStarted, TxStopped, ReadingsAdded, Forgotten}
 use Rattle.sql_rows.specs.Kept.{Makes}
 use Rattle.sql_edits.specs.Ready.{MakesFitting}
-use Rattle.sql_edits.proofs.Making.{makes_if, makes_next, makes_then, makes_when}
+use Rattle.sql_edits.proofs.Making.{makes_as, makes_if, makes_next, makes_then, makes_when}
 use Rattle.sql_edits.proofs.changes.edit_transactions.Goals as goal
 
 rest : {A B : Type 0} → A × B → B
@@ -42,7 +42,7 @@ returns-in_ok-stop_tx-in-TxStopped g c =
     makes_next (makes_if c.in_ok-stop_tx-in-TxStopped.ensures.makes (λ s may up. (may up).0)) c.add_readings.ensures.makes
     (λ may done up. (
       done.within up,
-      subst (λ (rows : Rows). AreNext (last_reading_in op station rows.readings) stopped.first (length readings)) (sym (done.edit up)) (rest (rest (may (done.leaves.was_open up)))),
+      subst (λ (rows : Rows). AreNext (last_reading_in op station rows.readings) stopped.first (length readings)) (sym (done.edit up)) (rest (rest (rest (may (done.leaves.was_open up))))),
     ))
     (λ may up made added. added ∙ ap {A = Rows} (λ rows. record rows { readings = with_readings op station stopped.first readings rows.readings }) made) in
     record {
@@ -58,7 +58,7 @@ returns-in-ReadingsAdded g c =
     let added = c.in-ReadingsAdded in
     let station = c.as_str.result.now in
     let readings = c.as_slice-in-ReadingsAdded.result.now in
-    let fitting : MakesFitting g.S.Store op (Transactions (ReadingsAdded station added.first readings)) old new c.add_readings-in-ReadingsAdded.result = makes_when c.add_readings-in-ReadingsAdded.ensures.makes (λ s may up. ((may up).0, rest (rest (may up)))) in
+    let fitting : MakesFitting g.S.Store op (Transactions (ReadingsAdded station added.first readings)) old new c.add_readings-in-ReadingsAdded.result = makes_when c.add_readings-in-ReadingsAdded.ensures.makes (λ s may up. ((may up).0, rest (rest (rest (may up))))) in
     record {
       makes = subst (λ (e : TransactionEdit). MakesFitting g.S.Store op (Transactions e) old new c.add_readings-in-ReadingsAdded.result) (sym added.is)
           (subst₂ (λ s r. MakesFitting g.S.Store op (Transactions (ReadingsAdded s added.first r)) old new c.add_readings-in-ReadingsAdded.result) c.as_str.ensures c.as_slice-in-ReadingsAdded.ensures fitting);
@@ -70,7 +70,10 @@ returns-in-Forgotten g c =
     let old = c.args.tx.now in
     let new = c.forget.new.tx in
     let forgotten = c.in-Forgotten in
+    let station = c.as_str-station-in-Forgotten.result.now in
+    let fitting : MakesFitting g.S.Store op (Transactions (Forgotten station forgotten.rows)) old new c.forget.result =
+    makes_as (makes_if c.forget.ensures.makes (λ s may up. (may up).0)) (λ may up made. made (may up).1.readings.sorted) in
     record {
-      makes = subst (λ (e : TransactionEdit). Makes g.S.Store (edit op (Transactions e)) old new c.forget.result) (sym forgotten.is)
-          (subst (λ s. Makes g.S.Store (edit op (Transactions (Forgotten s forgotten.rows))) old new c.forget.result) c.as_str-in-Forgotten.ensures c.forget.ensures.makes);
+      makes = subst (λ (e : TransactionEdit). MakesFitting g.S.Store op (Transactions e) old new c.forget.result) (sym forgotten.is)
+          (subst (λ s. MakesFitting g.S.Store op (Transactions (Forgotten s forgotten.rows)) old new c.forget.result) c.as_str-station-in-Forgotten.ensures fitting);
     }

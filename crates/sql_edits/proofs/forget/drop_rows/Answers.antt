@@ -17,4 +17,4 @@ returns-in-None g c =
     let op = c.args.op.now in
     let station = c.args.station.now in
     let all = rows_of (state g.S.Store c.args.tx.now.conn.now).now.trees in
-    record { makes = makes_none (sym (subst (λ ns. dropped history op station (has_number ns) all ≡ all) (sym (is_empty c.args.numbers.now c.in-None.ensures.cases)) (dropped_none history op station all))) }
+    record { makes = makes_none (λ order. sym (subst (λ ns. dropped history op station (has_number ns) all ≡ all) (sym (is_empty c.args.numbers.now c.in-None.ensures.cases)) (dropped_none history op station all))) }

@@ -50,7 +50,11 @@ returns g c =
     let all = c.args.others.now in
     let old = (state g.S.Store c.args.tx.now.conn.now).now.trees in
     let whole : take c.others.number-index all ≡ all = search (rules, take_all) in
-    record { makes = makes_then c.others.invariant.1 c.drop_run-2.ensures.makes (λ inside up so_far made. made ∙ so_far ∙ ap (λ l. dropped history op station (has_number (first ∷ l)) (rows_of old)) whole) }
+    record {
+      makes = makes_then c.others.invariant.1 c.drop_run-2.ensures.makes (λ inside up so_far drops order.
+          let was = so_far order in
+          drops was.0 ∙ was.1 ∙ ap (λ l. dropped history op station (has_number (first ∷ l)) (rows_of old)) whole);
+    }
 
 pub returns-in_err-drop_run : goal.returns-in_err-drop_run
 returns-in_err-drop_run g c = record { makes = makes_fails c.others.invariant.1 c.in_err-drop_run.ensures.makes c.from_residual.ensures.0 }
