@@ -49,8 +49,7 @@ def filled(program, db, tags, readings):
         "INSERT INTO hub_tag VALUES ('ACME', ?, ?, NULL, NULL, 0, NULL)", ((f"k{n}", f"K{n}") for n in range(tags))
     )
     database.executemany(
-        "INSERT INTO hub_reading VALUES ('ACME', 'CP01', ?, 1, NULL, 0, 'Sample.Periodic', 'Raw',"
-        " 'Energy.Active.Import.Register', NULL, 'Outlet', NULL, '1')",
+        """INSERT INTO hub_meter_value VALUES ('ACME', 'CP01', ?, 1, NULL, 0, 1, '[{"value":"1"}]')""",
         ((n,) for n in range(1, readings + 1)),
     )
     database.commit()

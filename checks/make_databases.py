@@ -3,9 +3,9 @@
 shapes.
 
 Run it at the top of the repository, after a change of the tables. It reads their texts from
-crates/sql_tables/src. The files are written by SQLite itself, all but records_in_each_list.db and
-records_of_schema_2.db. Those have schema 1 and 2: each is what `central replay --db` of that version made of the script
-of its name, with rows in each table. They are never made anew.
+crates/sql_tables/src. The files are written by SQLite itself, all but records_in_each_list.db, records_of_schema_2.db
+and records_of_schema_3.db. Those have schema 1, 2 and 3: each is what `central replay --db` of that version made of the
+script of its name, with rows in each table. They are never made anew.
 """
 import os
 import re
@@ -14,7 +14,7 @@ import sqlite3
 FOLDER = "crates/check_scripts/data/databases"
 SUBJECTS = (
     "meta", "stations", "connectors", "tags", "grants", "txs", "readings", "reservations", "lists", "list_entries",
-    "reports", "tx_owners", "uses",
+    "reports", "tx_owners", "uses", "meter_values",
 )
 CONSTANT = re.compile(r'^pub const (CREATE\w*): &str =\s+"(.*)";$', re.M)
 MADE = {
@@ -27,14 +27,25 @@ TEXTS = dict(sorted(MADE.items(), key=lambda made: not made[0].endswith(".CREATE
 META = TEXTS["meta.CREATE"]
 NUMBER = "INSERT INTO hub_meta VALUES ('schema', %d)"
 # the tables and indexes of each schema, in their order
-EARLIER = ("txs.CREATE_EARLIER_IS_OPEN",)
-THIRD = ("tx_owners.CREATE", "uses.CREATE", "txs.CREATE_IS_OPEN")
-FIRST_TABLES = [text for name, text in TEXTS.items() if name not in ("reports.CREATE", *THIRD)]
-SECOND_TABLES = [text for name, text in TEXTS.items() if name not in THIRD]
-TABLES = [text for name, text in TEXTS.items() if name not in EARLIER]
+EARLIER_INDEX = "txs.CREATE_EARLIER_IS_OPEN"
+EARLIER_HAS = ("txs.CREATE_EARLIER_START_AT", "readings.CREATE_TRANSACTION")
+THIRD_HAS = ("tx_owners.CREATE", "uses.CREATE", "txs.CREATE_IS_OPEN")
+OURS_HAS = ("meter_values.CREATE", "txs.CREATE_START_AT", "meter_values.CREATE_TRANSACTION")
+
+
+def tables_without(*names):
+    """The texts of all tables and indexes but these."""
+    return [text for name, text in TEXTS.items() if name not in names]
+
+
+FIRST_TABLES = tables_without("reports.CREATE", *THIRD_HAS, *OURS_HAS)
+SECOND_TABLES = tables_without(*THIRD_HAS, *OURS_HAS)
+THIRD_TABLES = tables_without(EARLIER_INDEX, *OURS_HAS)
+TABLES = tables_without(EARLIER_INDEX, *EARLIER_HAS)
 FIRST = FIRST_TABLES + [NUMBER % 1]
 SECOND = SECOND_TABLES + [NUMBER % 2]
-OURS = TABLES + [NUMBER % 3]
+THIRD = THIRD_TABLES + [NUMBER % 3]
+OURS = TABLES + [NUMBER % 4]
 STATION = (
     "INSERT INTO hub_station VALUES"
     " ('ACME', 'CP01', 'Accepted', 300, 'Fresh', NULL, NULL, NULL, NULL, NULL, NULL, NULL, NULL, NULL, NULL)"
@@ -47,8 +58,19 @@ TX = (
 )
 OWNER = "INSERT INTO hub_tx_owner VALUES ('ACME', 'CP01', 1, 'BETA')"
 USE = "INSERT INTO hub_use VALUES ('BETA', 1, 'ACME', 'k2', 1704067200, 1500)"
+READING = (
+    "INSERT INTO hub_reading VALUES ('ACME', 'CP01', %d, 1, NULL, 1704067200000, 'Sample.Periodic', 'Raw',"
+    " 'Energy.Active.Import.Register', NULL, 'Outlet', NULL, '1')"
+)
+METER_VALUE = "INSERT INTO hub_meter_value VALUES ('ACME', 'CP01', 1, 1, NULL, 1704067200000, 1, '[{\"value\":\"1\"}]')"
 SECOND_ROWS = [STATION, TAG, REPORT]
-ROWS = SECOND_ROWS + [TX, OWNER, USE]
+THIRD_ROWS = SECOND_ROWS + [TX, OWNER, USE, *(READING % number for number in (1, 2, 4, 2147483647))]
+ROWS = SECOND_ROWS + [TX, OWNER, USE, METER_VALUE]
+
+
+def with_text(texts, old, new):
+    """The statements with one text in place of another."""
+    return [TEXTS[new] if text == TEXTS[old] else text for text in texts]
 
 
 def database(name, statements, vacuum=False):
@@ -86,8 +108,8 @@ database("report_without_meta", [TEXTS["reports.CREATE"]])
 database("use_without_meta", [TEXTS["uses.CREATE"]])
 database("other_program", ["CREATE TABLE person (name TEXT)", "INSERT INTO person VALUES ('A')"])
 database("later_version", [META, NUMBER % 9])
-database("later_version_with_other_tables", [META, NUMBER % 4, "CREATE TABLE person (name TEXT)"])
-database("later_version_with_our_tables", TABLES + [NUMBER % 4])
+database("later_version_with_other_tables", [META, NUMBER % 5, "CREATE TABLE person (name TEXT)"])
+database("later_version_with_our_tables", TABLES + [NUMBER % 5])
 database("meta_without_row", [META])
 database("meta_with_two_rows", meta("'schema', 2", "'other', 2"))
 database("meta_with_0", meta("'schema', 0"))
@@ -100,21 +122,34 @@ database("meta_as_a_view", ["CREATE TABLE t (number INTEGER)", "INSERT INTO t VA
 database("ours", OURS)
 database("ours_with_rows", OURS + ROWS)
 database("ours_after_vacuum", OURS + ROWS, vacuum=True)
-database("ours_with_a_table_last", [text for text in OURS if text != TEXTS["uses.CREATE"]] + [TEXTS["uses.CREATE"]])
+database("ours_with_a_table_last", [text for text in OURS if text != TEXTS["meter_values.CREATE"]][:-2] + [TEXTS["meter_values.CREATE"], TEXTS["meter_values.CREATE_TRANSACTION"], NUMBER % 4])
 database("ours_without_a_table", [text for text in OURS if text != TEXTS["reservations.CREATE"]])
 database("ours_without_an_index", [text for text in OURS if text != TEXTS["txs.CREATE_IN_USE"]])
 database("ours_with_another_table", OURS + ["CREATE TABLE person (name TEXT)"])
 database("ours_with_another_column", [text.replace("until INTEGER", "until INTEGER, note TEXT") for text in OURS])
-database("ours_with_an_earlier_index", [TEXTS["txs.CREATE_EARLIER_IS_OPEN"] if text == TEXTS["txs.CREATE_IS_OPEN"] else text for text in OURS])
+database("ours_with_an_earlier_index", with_text(OURS, "txs.CREATE_IS_OPEN", EARLIER_INDEX))
+database("ours_with_the_index_of_readings", with_text(OURS, "meter_values.CREATE_TRANSACTION", "readings.CREATE_TRANSACTION"))
+database("ours_with_an_earlier_index_of_starts", with_text(OURS, "txs.CREATE_START_AT", "txs.CREATE_EARLIER_START_AT"))
 database("ours_with_the_number_1", TABLES + [NUMBER % 1])
 database("ours_with_the_number_2", TABLES + [NUMBER % 2])
+database("ours_with_the_number_3", TABLES + [NUMBER % 3])
+database("third", THIRD)
+database("third_with_rows", THIRD + THIRD_ROWS)
+database("third_after_vacuum", THIRD + THIRD_ROWS, vacuum=True)
+database("third_with_a_number_past_the_last", THIRD + [STATION, READING % 2147483648])
+database("third_with_a_reading_of_no_station", THIRD + [READING % 1])
+database("third_without_a_table", [text for text in THIRD if text != TEXTS["uses.CREATE"]])
+database("third_with_a_table_of_ours", THIRD + [TEXTS["meter_values.CREATE"]])
+database("third_with_an_earlier_index", with_text(THIRD, "txs.CREATE_IS_OPEN", EARLIER_INDEX))
+database("third_with_the_index_of_ours", THIRD_TABLES[:-1] + [TEXTS["meter_values.CREATE"], TEXTS["meter_values.CREATE_TRANSACTION"], NUMBER % 3])
+database("third_with_the_number_4", THIRD_TABLES + [NUMBER % 4])
 database("second", SECOND)
 database("second_with_rows", SECOND + SECOND_ROWS)
 database("second_after_vacuum", SECOND + SECOND_ROWS, vacuum=True)
 database("second_with_tables_last", FIRST_TABLES + [TEXTS["reports.CREATE"], NUMBER % 2])
 database("second_without_a_table", [text for text in SECOND if text != TEXTS["reports.CREATE"]])
 database("second_with_a_table_of_ours", SECOND + [TEXTS["tx_owners.CREATE"]])
-database("second_with_a_later_index", [TEXTS["txs.CREATE_IS_OPEN"] if text == TEXTS["txs.CREATE_EARLIER_IS_OPEN"] else text for text in SECOND])
+database("second_with_a_later_index", with_text(SECOND, EARLIER_INDEX, "txs.CREATE_IS_OPEN"))
 database("second_with_the_number_3", SECOND_TABLES + [NUMBER % 3])
 database("first", FIRST)
 database("first_with_rows", FIRST + [STATION, TAG])

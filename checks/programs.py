@@ -26,10 +26,19 @@ from peer import BOOT, HEAD, HEARTBEAT, Peer, frame
 SCRIPTS = Path(__file__).resolve().parent.parent / "crates" / "check_scripts" / "data"
 OPERATIONS = Path(__file__).resolve().parent.parent / "docs" / "OPERATIONS.md"
 # The number of the schema, and a file of each earlier one, in SCRIPTS.
-SCHEMA = 3
-EARLIER = {1: "databases/records_in_each_list", 2: "databases/records_of_schema_2"}
-# The tables that each schema has beside those of schema 1.
-MORE = {1: [], 2: ["hub_report"], 3: ["hub_report", "hub_tx_owner", "hub_use"]}
+SCHEMA = 4
+EARLIER = {
+    1: "databases/records_in_each_list",
+    2: "databases/records_of_schema_2",
+    3: "databases/records_of_schema_3",
+}
+# The tables that each schema has beside those of schema 1, by name.
+MORE = {
+    1: [],
+    2: ["hub_report"],
+    3: ["hub_report", "hub_tx_owner", "hub_use"],
+    4: ["hub_meter_value", "hub_report", "hub_tx_owner", "hub_use"],
+}
 
 PORT = 9281
 # What the second lines of faults say, and the warning of an address.
@@ -385,13 +394,13 @@ def check_mended(checks):
     """A file of schema 3 with an index of schema 2 is refused, and taken once it is mended as OPERATIONS says."""
     words, db, new = ["replay", "--operators", "ACME", "--db"], checks.new_file(), checks.new_file()
     checks.check("a new file", checks.run(*words, new), (0, "", ""))
-    shutil.copy(SCRIPTS / "databases" / "ours_with_an_earlier_index.db", db)
+    shutil.copy(SCRIPTS / "databases" / "third_with_an_earlier_index.db", db)
     checks.check("the earlier index", checks.run(*words, db), (2, "", "fault Store: the database failed\n"))
     mend = re.search(r'sqlite3 FILE "(DROP INDEX hub_tx_is_open;.*?)"', OPERATIONS.read_text(), re.S)[1]
     with contextlib.closing(sqlite3.connect(db)) as database:
         database.executescript(mend)
-    checks.check("its indexes", schema_in(db), schema_in(new))
     checks.check("the mended file", checks.run(*words, db, lines=b"1 ACME list open\n"), (0, "ACME ok\n", ""))
+    checks.check("its tables and indexes", schema_in(db), schema_in(new))
 
 
 def check_pages(checks):

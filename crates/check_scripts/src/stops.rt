@@ -27,6 +27,7 @@ const SCRIPTS: &[&str] = &[
 const EARLIER: &[(u32, &str)] = &[
     (1, "databases/records_in_each_list.db"),
     (2, "databases/records_of_schema_2.db"),
+    (3, "databases/records_of_schema_3.db"),
 ];
 
 /// What is tried of each script.

@@ -1,2 +1,3 @@
 pub mod Forgotten
 pub mod Making
+pub mod MovingLaws

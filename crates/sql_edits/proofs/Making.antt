@@ -1,5 +1,5 @@
 -- What a part of a transaction makes, and what a look-up inside it says, by the parts of which they consist.
-use Rattle.std.proofs.Common.{◌≡◌, ◌∙◌, ℕ, List, [], Bool, Option, Result, Ok, Err, IfOk, IsErr, IsOk, IsTrue, OnOk, filter, find, map, refl}
+use Rattle.std.proofs.Common.{◌≡◌, ◌∙◌, ap, subst, sym, ◌∷◌, ℕ, List, [], Bool, Option, Result, Ok, Err, IfOk, IsErr, IsOk, IsTrue, OnOk, filter, find, map, refl}
 use Rattle.sqlite_trees.specs.Tree.{Trees}
 use Rattle.sqlite_value.specs.Order.{Row, column}
 use Rattle.sqlite.specs.declared.error.Error.{Error}
@@ -9,10 +9,11 @@ use Rattle.sqlite.specs.State.{State}
 use Rattle.sqlite.specs.Store.{Ghosts}
 use Rattle.hub_rows.specs.Keyed.{first, greatest, put_all}
 use Rattle.hub_rows.specs.Rows.{Rows}
-use Rattle.sql_rows.specs.Kept.{AsksInside, Goes, Inside, IsInside, IsSame, Leaves, MakesIf, MakesIn, ShowsInside, ShowsLastInside}
+use Rattle.sql_rows.specs.Kept.{AsksInside, AsksInsideIn, Goes, Inside, IsInside, IsSame, Leaves, MakesIf, MakesIn, IsAny, IsPage, ShowsAnyInside, ShowsInside, ShowsLastInside, ShowsPageInside}
 use Rattle.sql_rows.specs.TypedTable.{TypedTable, cmp, rows_in}
 use Rattle.sql_rows.specs.TypedTables.{rows_of}
 use Rattle.sql_rows.specs.Values.{count_in}
+use Rattle.sql_edits.specs.Moving.{IsAnyRow}
 use Rattle.sql_rows.proofs.Calls.{first_finds, last_finds}
 use Rattle.sql_rows.proofs.RowEdits.{goes_if}
 use Rattle.sql_rows.proofs.TxLemmas.{goes_then, inside_self, leaves_then}
@@ -59,8 +60,50 @@ module _ {S : Type 0} {g : Ghosts S} where
         goes = λ inside. goes_if IsSame before (state g new.conn.now) r q ok (shows.goes inside);
       }
 
+  -- a look-up, by the rows of a page
+  pub asks_page : {V T F : Type 0} {items : V → List Row} {s : TypedTable T} {number : T → ℕ} {p : T → Bool} {old new : Transaction S} {r : Result V Error} {q : Result (List T) F} → ShowsPageInside g items s number p old new r → OnOk q (IsOk r)
+      → IfOk r (λ v. IfOk q (λ page. page ≡ put_all (cmp s) (map s.read (items v)) [])) → AsksInsideIn g old new q (λ db page. IsPage number p (rows_in s db) page)
+  asks_page {V} {T} {F} {items} {s} {number} {p} {old} {new} {r} {q} shows ok rows =
+      let before = state g old.conn.now in
+      record {
+        same_reference = shows.same_reference;
+        found = λ inside up. page_found r q ok rows (shows.ok inside up);
+        goes = λ inside. goes_if IsSame before (state g new.conn.now) r q ok (shows.goes inside);
+      }
+    where
+      page_found : (r : Result V Error) (q : Result (List T) F) → OnOk q (IsOk r) → IfOk r (λ v. IfOk q (λ page. page ≡ put_all (cmp s) (map s.read (items v)) []))
+          → IfOk r (λ v. IsPage number p (rows_in s (state g old.conn.now).now.trees) (put_all (cmp s) (map s.read (items v)) [])) → IfOk q (IsPage number p (rows_in s (state g old.conn.now).now.trees))
+      page_found (Ok v) (Ok page) ok is shown = subst (IsPage number p (rows_in s (state g old.conn.now).now.trees)) (sym is) shown
+      page_found (Ok v) (Err e) ok is shown = tt
+      page_found (Err x) (Ok page) ok is shown = absurd cc
+      page_found (Err x) (Err e) ok is shown = tt
+
+  -- by one of all rows
+  pub asks_any : {V T F : Type 0} {items : V → List Row} {s : TypedTable T} {old new : Transaction S} {r : Result V Error} {q : Result (Option T) F} → ShowsAnyInside g items s old new r → OnOk q (IsOk r)
+      → IfOk r (λ v. IfOk q (λ o. o ≡ first (put_all (cmp s) (map s.read (items v)) []))) → AsksInsideIn g old new q (λ db o. IsAnyRow (rows_in s db) o)
+  asks_any {V} {T} {F} {items} {s} {old} {new} {r} {q} shows ok row =
+      let before = state g old.conn.now in
+      record {
+        same_reference = shows.same_reference;
+        found = λ inside up. any_found r q ok row (shows.ok inside up);
+        goes = λ inside. goes_if IsSame before (state g new.conn.now) r q ok (shows.goes inside);
+      }
+    where
+      all : List T
+      all = rows_in s (state g old.conn.now).now.trees
+
+      any_row : (xs : List T) (o : Option T) → IsAny all xs → o ≡ first (put_all (cmp s) xs []) → IsAnyRow all o
+      any_row [] o none is = subst (IsAnyRow all) (sym is) none
+      any_row (x ∷ xs) o one is = subst (IsAnyRow all) (sym (is ∙ ap (λ l. first (put_all (cmp s) (x ∷ l) [])) one.0)) one.1
+
+      any_found : (r : Result V Error) (q : Result (Option T) F) → OnOk q (IsOk r) → IfOk r (λ v. IfOk q (λ o. o ≡ first (put_all (cmp s) (map s.read (items v)) []))) → IfOk r (λ v. IsAny all (map s.read (items v))) → IfOk q (IsAnyRow all)
+      any_found (Ok v) (Ok o) ok is shown = any_row (map s.read (items v)) o shown is
+      any_found (Ok v) (Err e) ok is shown = tt
+      any_found (Err x) (Ok o) ok is shown = absurd cc
+      any_found (Err x) (Err e) ok is shown = tt
+
   -- a look-up changes nothing
-  pub makes_same : {A E : Type 0} {old new : Transaction S} {r : Result A E} {P : Rows → A → Type 0} → AsksInside g old new r P → MakesIn g IsSame old new r
+  pub makes_same : {A E : Type 0} {old new : Transaction S} {r : Result A E} {P : Trees → A → Type 0} → AsksInsideIn g old new r P → MakesIn g IsSame old new r
   makes_same asks = record { same_reference = asks.same_reference; goes = asks.goes }
 
   -- what follows of what is made

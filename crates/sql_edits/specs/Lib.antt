@@ -1,2 +1,3 @@
 pub mod Forget
 pub mod Ready
+pub mod Moving

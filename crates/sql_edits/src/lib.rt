@@ -7,6 +7,7 @@ mod connectors;
 mod forget;
 mod grants;
 mod local_lists;
+mod moving;
 mod readings;
 mod reports;
 mod reservations;
@@ -16,3 +17,4 @@ mod txs;
 mod uses;
 
 pub use changes::apply;
+pub use moving::move_readings;

@@ -4,6 +4,7 @@ ghost use Rattle.hub_rows.specs.Changes.{with_readings};
 ghost use Rattle.hub_rows.specs.Transactions.{last_reading_in, AreNext};
 ghost use Rattle.meter_values.specs.Written.{text_of};
 ghost use Rattle.sql_rows.specs.Kept.{ArePutIn, IsMade, IsPutIn, MakesIf, MakesIn, Within};
+ghost use Rattle.sql_rows.specs.Opening.{StaysInside};
 ghost use Rattle.sql_rows.specs.TypedTables.{meter_values, rows_of, value_rows};
 
 use crate::binds::done;
@@ -26,6 +27,7 @@ fn put_row<S: Alter>(
     requires count { count ≡ length value.now.sampled }
     requires text { sampled.now ≡ text_of value.now.sampled }
     ensures makes { MakesIn S.Store (IsPutIn meter_values (record { op = op.now; station = station.now; first = first; value = value.now })) tx.old tx.new result }
+    ensures stays { StaysInside S.Store tx.old tx.new result }
 {
     done(tx.execute(
         sql_tables::meter_values::ADD,
@@ -54,6 +56,7 @@ fn put_value<S: Alter>(
 ) -> Result<(), StoreFault>
     requires count { count ≡ length value.now.sampled }
     ensures makes { MakesIn S.Store (IsPutIn meter_values (record { op = op.now; station = station.now; first = first; value = value.now })) tx.old tx.new result }
+    ensures stays { StaysInside S.Store tx.old tx.new result }
 {
     let text = write_sampled(alloc, value.sampled.as_slice())?;
     put_row(tx, op, station, first, value, count, text.as_str())
@@ -61,7 +64,7 @@ fn put_value<S: Alter>(
 
 /// Puts meter values of a station, whose readings are numbered from the first number on. The last
 /// number is within 32 bits, or else this answers Failed.
-fn put_values<S: Alter>(
+pub(crate) fn put_values<S: Alter>(
     tx: &mut Transaction<'_, S>,
     alloc: Global,
     op: &str,
@@ -70,6 +73,7 @@ fn put_values<S: Alter>(
     values: &[MeterValue],
 ) -> Result<(), StoreFault>
     ensures makes { MakesIn S.Store (ArePutIn meter_values (value_rows op.now station.now first values.now)) tx.old tx.new result }
+    ensures stays { StaysInside S.Store tx.old tx.new result }
 {
     let mut number = first;
     'values: for value in values {

@@ -43,4 +43,4 @@ module _ {T : Type 0} (at : ℕ) (s : TypedTable T) (is : IsTypedTable hub_schem
           let r = ordered_from [] project [] (lit (Int (pos 1))) (overlay db []) s.table.tree params rows answer o (subst (λ l. Has l o) (sym e) (inl refl)) in
           let there = under r.0 r.1 in
           let same : s.read o.1 ≡ typed s r.0 = ap (λ (x : Output). s.read x.1) r.3 ∙ read_is hub_schema hub_good at s is [] params (λ t. true) each db kept project whole r.0 there in
-          subst (λ (l : List Row). IsAny (rows_in s db) (map s.read l)) (sym one) (subst (Has (rows_in s db)) (sym same) (typed_table.rows_have hub_schema hub_good at s is db kept obeys r.0 there))
+          subst (λ (l : List Row). IsAny (rows_in s db) (map s.read l)) (sym one) (refl, subst (Has (rows_in s db)) (sym same) (typed_table.rows_have hub_schema hub_good at s is db kept obeys r.0 there))

@@ -33,6 +33,7 @@ pub mod ListEdits
 pub mod ValueEdits
 pub mod OrderedLaws
 pub mod CreateLemmas
+pub mod StayLaws
 pub mod RaisingLemmas
 pub mod OpeningLemmas
 pub mod Calls

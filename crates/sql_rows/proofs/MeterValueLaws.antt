@@ -35,12 +35,12 @@ use Rattle.sql_rows.proofs.LastLaws.{greatest_is}
 -- ---- what a list has
 
 module _ {X : Type 0} where
-  has_part : (front back : List X) (x : X) → Has (front ++ back) x → Has front x ⊎ Has back x
+  pub has_part : (front back : List X) (x : X) → Has (front ++ back) x → Has front x ⊎ Has back x
   has_part [] back x h = inr h
   has_part (y ∷ front) back x (inl same) = inl (inl same)
   has_part (y ∷ front) back x (inr later) = elim (has_part front back x later) [ inl here ↦ inl (inr here) | inr there ↦ inr there ]
 
-  has_front : (front back : List X) (x : X) → Has front x → Has (front ++ back) x
+  pub has_front : (front back : List X) (x : X) → Has front x → Has (front ++ back) x
   has_front [] back x none = absurd none
   has_front (y ∷ front) back x (inl same) = inl same
   has_front (y ∷ front) back x (inr later) = inr (has_front front back x later)
@@ -82,7 +82,7 @@ module _ {R : Type 0} (c : R → R → Ordering) where
       go Greater (inl same) later = inr (inl same)
       go Greater (inr there) later = elim (later there) [ inl new ↦ inl new | inr old ↦ inr (inr old) ]
 
-  put_all_has : (rs xs : List R) (y : R) → Has (put_all c rs xs) y → Has rs y ⊎ Has xs y
+  pub put_all_has : (rs xs : List R) (y : R) → Has (put_all c rs xs) y → Has rs y ⊎ Has xs y
   put_all_has [] xs y h = inr h
   put_all_has (r ∷ rs) xs y h = elim (put_all_has rs (put c r xs) y h) [
     | inl later ↦ inl (inr later)
@@ -117,20 +117,25 @@ module _ {R : Type 0} (c : R → R → Ordering) where
         ∙ ap (λ l. r ∷ l) (put_all-front rs xs up.1 (λ q h. below q (inr h)))
 
     -- what stands before something in a list in order is below it
-    across : (front back : List R) → IsStrictlySortedBy c (front ++ back) → (x y : R) → Has front x → Has back y → c x y ≡ Less
+    pub across : (front back : List R) → IsStrictlySortedBy c (front ++ back) → (x y : R) → Has front x → Has back y → c x y ≡ Less
     unfolding IsStrictlySortedBy
     across [] back up x y none k = absurd none
     across (z ∷ front) back up x y (inl same) k = ap (λ w. c w y) same ∙ all_has (λ w. c z w ≡ Less) (front ++ back) y up.0 (has_back front back y k)
     across (z ∷ front) back up x y (inr later) k = across front back up.1 x y later k
 
-    back_sorted : (front back : List R) → IsStrictlySortedBy c (front ++ back) → IsStrictlySortedBy c back
+    pub front_sorted : (front back : List R) → IsStrictlySortedBy c (front ++ back) → IsStrictlySortedBy c front
+    unfolding IsStrictlySortedBy
+    front_sorted [] back up = tt
+    front_sorted (z ∷ front) back up = (all_from (λ w. c z w ≡ Less) front (λ w h. all_has (λ w. c z w ≡ Less) (front ++ back) w up.0 (has_front front back w h)), front_sorted front back up.1)
+
+    pub back_sorted : (front back : List R) → IsStrictlySortedBy c (front ++ back) → IsStrictlySortedBy c back
     unfolding IsStrictlySortedBy
     back_sorted [] back up = up
     back_sorted (z ∷ front) back up = back_sorted front back up.1
 
 -- ---- the keys of a station's numbers
 
-abbrev key_at : List ℕ → List ℕ → ℕ → List (List ℕ)
+abbrev pub key_at : List ℕ → List ℕ → ℕ → List (List ℕ)
 key_at op station n = op ∷ station ∷ (n ∷ []) ∷ []
 
 abbrev number_cmp : ℕ → ℕ → Ordering
@@ -192,7 +197,7 @@ module _ (op station : List ℕ) where
       let high = t.3 in
       (t.0, t.1, omega (arith, low), omega (arith, high))
 
-  rows_have : (n : ℕ) (rs : List Reading) (i : ℕ) → i < length rs → (x : ReadingRow) × Has (reading_rows op station n rs) x × (x.op ≡ op) × (x.station ≡ station) × (x.number ≡ n + i)
+  pub rows_have : (n : ℕ) (rs : List Reading) (i : ℕ) → i < length rs → (x : ReadingRow) × Has (reading_rows op station n rs) x × (x.op ≡ op) × (x.station ≡ station) × (x.number ≡ n + i)
   rows_have n [] i within = absurd (omega (arith, within))
   rows_have n (r ∷ rs) zero within = (row_at n r, inl refl, refl, refl, omega arith)
   rows_have n (r ∷ rs) (suc i) within =
@@ -231,7 +236,7 @@ unfold_has m i within =
     let many = length-map m.value.sampled (reading_of m.value) in
     rows_have m.op m.station m.first (readings_of m.value) i (omega (arith, within, many))
 
-key_of : (x : ReadingRow) (op station : List ℕ) → x.op ≡ op → x.station ≡ station → reading_key x ≡ key_at op station x.number
+pub key_of : (x : ReadingRow) (op station : List ℕ) → x.op ≡ op → x.station ≡ station → reading_key x ≡ key_at op station x.number
 key_of x op station p q = ap₂ (λ a b. key_at a b x.number) p q
 
 -- ---- which of them pass
@@ -359,7 +364,7 @@ below_more op station n v rows low x h p q = elim (put_all_has (by_key reading_k
   | inr old ↦ let under = low x old p q in omega (arith, under)
 ]
 
-put_all-unfolded : (op station : List ℕ) (n : ℕ) (vs : List MeterValue) (ms : List MeterValueRow) → IsStrictlySortedBy (cmp meter_values) ms → AreBelow op station n (flat_map unfolded ms)
+pub put_all-unfolded : (op station : List ℕ) (n : ℕ) (vs : List MeterValue) (ms : List MeterValueRow) → IsStrictlySortedBy (cmp meter_values) ms → AreBelow op station n (flat_map unfolded ms)
     → flat_map unfolded (put_all (cmp meter_values) (value_rows op station n vs) ms) ≡ put_all (by_key reading_key) (reading_rows op station n (all_readings vs)) (flat_map unfolded ms)
 put_all-unfolded op station n [] ms up low = refl
 put_all-unfolded op station n (v ∷ vs) ms up low =
@@ -377,7 +382,7 @@ some_there : (xs : List Sampled) → xs ≢ [] → 0 < length xs
 some_there [] some = absurd (some refl)
 some_there (x ∷ xs) some = omega arith
 
-no_groups : (vs : List MeterValue) → AreGroups vs → length (all_readings vs) ≡ 0 → vs ≡ []
+pub no_groups : (vs : List MeterValue) → AreGroups vs → length (all_readings vs) ≡ 0 → vs ≡ []
 no_groups [] groups none = refl
 no_groups (v ∷ vs) groups none =
     let here = some_there v.sampled groups.0 in
@@ -487,7 +492,7 @@ run_values r = value_rows r.op r.station r.first r.values
 abbrev pub run_readings : Run → List ReadingRow
 run_readings r = reading_rows r.op r.station r.first (all_readings r.values)
 
-number_rises : (op station : List ℕ) (m n : ℕ) → key_cmp (key_at op station m) (key_at op station n) ≡ Less → m < n
+pub number_rises : (op station : List ℕ) (m n : ℕ) → key_cmp (key_at op station m) (key_at op station n) ≡ Less → m < n
 number_rises op station m n e = elim (apart_or_rising op station m op station n e) [
   | inl apart ↦ (let clash = sym (apart m m) ∙ tied_itself keys_total (key_at op station m) in absurd (cc))
   | inr one ↦ one.2

@@ -1,5 +1,5 @@
 -- An earlier schema is raised in one transaction: it gets the tables that it lacks, and the number.
-use Rattle.std.proofs.Common.{◌≡◌, ◌≤◌, ◌⊎◌, ℕ, List, [], ◌∷◌, ◌++◌, true, false, Ok, Err, Result, IsTrue, IfErr, OnOk, refl, sym, ap, ◌∙◌, subst, inl, inr, true≢false, arith, nat_lt, Less, Equal, Greater, Ordering, zero, suc, ◌+◌, ◌<◌}
+use Rattle.std.proofs.Common.{◌≡◌, ◌≤◌, ◌⊎◌, ℕ, List, [], ◌∷◌, ◌++◌, map, true, false, Ok, Err, Result, IsTrue, IfErr, IsErr, OnOk, refl, sym, ap, ◌∙◌, subst, inl, inr, true≢false, arith, nat_lt, Less, Equal, Greater, Ordering, zero, suc, ◌+◌, ◌<◌}
 use Rattle.std.specs.Ordering.{match_ordering}
 use Rattle.std.proofs.lemmas.Bool.Decides.{nat_tests}
 use Rattle.std.specs.List.{AllByRecursion}
@@ -10,6 +10,7 @@ use Rattle.sqlite_schema.specs.declared.schema.Table.{Table}
 use Rattle.sqlite_schema.specs.declared.schema.Schema.{Schema}
 use Rattle.sqlite_catalog.specs.Change.{next_tree, KeepsRows}
 use Rattle.sqlite.specs.declared.error.Error.{Error}
+use Rattle.sqlite.specs.declared.transaction.Transaction.{Transaction}
 use Rattle.sqlite.specs.Effect.{Database, IsDatabase}
 use Rattle.sqlite.specs.State.{State, HasCleanDisk, Survives, IsRolledBack, Shows, KeepsCounts}
 use Rattle.sqlite.specs.Steps.{FailsToCommit}
@@ -17,15 +18,17 @@ use Rattle.sqlite.specs.Held.{Held, state}
 use Rattle.sqlite.specs.Store.{Ghosts}
 use Rattle.sql_tables.specs.Opening.{our_number, tables_at, schema_at}
 use Rattle.sql_tables.specs.Tables.{hub_schema, first_tables, second_tables, third_tables, hub_report, hub_tx_owner, hub_use, hub_meter_value}
-use Rattle.hub_rows.specs.Keyed.{put}
+use Rattle.hub_rows.specs.Keyed.{put, put_all}
+use Rattle.hub_rows.specs.Rows.{Rows}
 use Rattle.hub_rows.specs.WellFormed.{WellFormedRows}
-use Rattle.sql_rows.specs.TypedTable.{cmp, rows_in, AreTyped, Spares}
-use Rattle.sql_rows.specs.TypedTables.{metas, hub_good, rows_of}
+use Rattle.sql_rows.specs.TypedTable.{cmp, rows_in, typed, AreTyped, Spares}
+use Rattle.sql_rows.specs.TypedTables.{metas, meter_values, hub_good, rows_of}
 use Rattle.sql_rows.specs.Kept.{Leaves, IsInside, Inside, IsPutIn}
-use Rattle.sql_rows.specs.Opening.{IsInsideAs, HasTables, Rested, Prepares, our_meta, rows_at, trees_at, IsCut, Holds, IsRaised}
+use Rattle.sql_rows.specs.Opening.{IsInsideAs, IsInsideWith, HasTables, MakesOurs, Rested, Prepares, our_meta, rows_at, rows_before, trees_at, IsCut, Holds, IsRaised}
 use Rattle.sql_rows.proofs.HubTables.{rest_is, spared}
 use Rattle.sqlite_rules.specs.Lists.{Has}
 use Rattle.sql_rows.proofs.CreateLemmas.{more_tables}
+use Rattle.sql_rows.proofs.TxTables.{on_meter_values}
 
 -- ---- the row of hub_meta, and all tables
 
@@ -40,18 +43,14 @@ put_there : {R : Type 0} (cmp : R → R → Ordering) (r : R) (xs : List R) → 
 put_there cmp r [] = inl refl
 put_there cmp r (x ∷ xs) = elim (cmp r x) as (λ o. Has (match_ordering o (r ∷ x ∷ xs) (r ∷ xs) (x ∷ put cmp r xs)) r) [ Less ↦ inl refl | Equal ↦ inl refl | Greater ↦ inr (put_there cmp r xs) ]
 
-spares_kept : (ts : List Table) (rows old new : Trees) → AllByRecursion (λ t. (t.tree ≡ 0 → ⊥) → new t.tree ≡ old t.tree) ts → KeepsRows ts rows old → AllByRecursion (λ t. (t.tree ≡ 0 → ⊥) → new t.tree ≡ rows t.tree) ts
-spares_kept [] rows old new frame kept = tt
-spares_kept (t ∷ ts) rows old new frame kept = (λ other. frame.0 other ∙ kept.0, spares_kept ts rows old new frame.1 kept.1)
-
 -- hub_meta has no rows of the hub
 metas_made : (old new : Trees) → Spares hub_schema 0 old new → rows_of new ≡ rows_of old
 metas_made old new frame = ap rows_of (rest_is (0 ∷ []) old new (spared 0 old new frame))
 
--- the number is put, and the other tables have the rows that they had
-filled : (rows : Trees) (a b : State) → IsInsideAs rows hub_schema a → Inside (IsPutIn metas our_meta) a b → IsTrue b.is_open → HasTables (rows_of rows) b
-filled rows a b empty done up =
-    let was = empty (done.leaves.was_open up) in
+-- the number is put
+filled : (all : Rows) (a b : State) → IsInsideWith all a → Inside (IsPutIn metas our_meta) a b → IsTrue b.is_open → HasTables all b
+filled all a b with_rows done up =
+    let was = with_rows (done.leaves.was_open up) in
     let now = done.within up in
     let edit = done.edit up in
     record {
@@ -59,23 +58,41 @@ filled rows a b empty done up =
       holds = record {
         whole = subst (λ s. IsDatabase (record { schema = s; trees = b.now.trees })) now.schema now.sound;
         are_typed = now.rows;
-        rows = metas_made rows b.now.trees (spares_kept hub_schema.tables rows a.now.trees b.now.trees edit.frame was.kept);
+        rows = metas_made a.now.trees b.now.trees edit.frame ∙ was.1;
         numbered = subst (λ l. Has l our_meta) (sym edit.rows) (put_there (cmp metas) our_meta (rows_in metas a.now.trees));
       };
       mode = now.mode;
       limit = now.limit;
     }
 
-pub filled_if : (rows : Trees) (a b : State) (r : Result ℕ Error) → IsInsideAs rows hub_schema a → OnOk r (Inside (IsPutIn metas our_meta) a b) → OnOk r (IsTrue b.is_open → HasTables (rows_of rows) b)
-filled_if rows a b (Ok n) empty done = filled rows a b empty done
-filled_if rows a b (Err e) empty done = tt
+pub filled_if : (all : Rows) (a b : State) (r : Result ℕ Error) → IsInsideWith all a → OnOk r (Inside (IsPutIn metas our_meta) a b) → OnOk r (IsTrue b.is_open → HasTables all b)
+filled_if all a b (Ok n) with_rows done = filled all a b with_rows done
+filled_if all a b (Err e) with_rows done = tt
+
+-- an error after a part that commits nothing
+pub ours_fails : {S A E : Type 0} {g : Ghosts S} {MayBegin : State → Type 0} {Begins : Rows → State → Type 0} {old new : Transaction S} {r : Result A E} → new.conn.ghost_name ≡ old.conn.ghost_name → (MayBegin (state g old.conn.now) → Leaves (state g old.conn.now) (state g new.conn.now)) → IsErr r
+    → MakesOurs g MayBegin Begins old new r
+ours_fails {r = Ok x} same leaves failed = absurd cc
+ours_fails {r = Err e} same leaves failed = record { same_reference = same; leaves = leaves; has = λ all begins. tt; mode = tt; up = λ sure. tt }
+
+-- the tables of the whole schema have the rows that were there
+kept_tables : (ts : List Table) (rows db : Trees) (t : Table) → KeepsRows ts rows db → Has ts t → db t.tree ≡ rows t.tree
+kept_tables [] rows db t same none = absurd none
+kept_tables (u ∷ ts) rows db t same (inl here) = ap (λ (k : Table). db k.tree) here ∙ same.0 ∙ sym (ap (λ (k : Table). rows k.tree) here)
+kept_tables (u ∷ ts) rows db t same (inr later) = kept_tables ts rows db t same.1 later
+
+pub before_is : (rows db : Trees) → KeepsRows hub_schema.tables rows db → rows_before db ≡ rows_before rows
+before_is rows db kept = ap rows_before (rest_is [] rows db (λ t listed apart. kept_tables hub_schema.tables rows db t kept listed))
+
+pub no_values : (rows db : Trees) → KeepsRows hub_schema.tables rows db → rows meter_values.table.tree ≡ [] → rows_in meter_values db ≡ []
+no_values rows db kept none = ap (λ (l : List Row). put_all (cmp meter_values) (map (typed meter_values) l) []) (kept_tables hub_schema.tables rows db hub_meter_value kept on_meter_values.listed ∙ none)
 
 -- ---- the rows of a schema
 
 abbrev IsTypedAt : ℕ → Trees → Table → Type 0
 IsTypedAt n db t = IsTable (trees_at n db t.tree) × AllByRecursion (hub_good t.tree) (trees_at n db t.tree)
 
-typed_at : (n : ℕ) → n < our_number → (db : Trees) → AreTyped (schema_at n) hub_good db → AreTyped hub_schema hub_good (trees_at n db)
+pub typed_at : (n : ℕ) → n < our_number → (db : Trees) → AreTyped (schema_at n) hub_good db → AreTyped hub_schema hub_good (trees_at n db)
 typed_at zero earlier db are_typed = ((tt, tt), ((tt, tt), ((tt, tt), ((tt, tt), ((tt, tt), ((tt, tt), ((tt, tt), ((tt, tt), ((tt, tt), ((tt, tt), ((tt, tt), ((tt, tt), ((tt, tt), ((tt, tt), tt))))))))))))))
 typed_at (suc zero) earlier db are_typed = more_tables (IsTypedAt 1 db) third_tables.tables hub_meter_value
     (more_tables (IsTypedAt 1 db) (second_tables.tables ++ hub_tx_owner ∷ []) hub_use
@@ -85,10 +102,12 @@ typed_at (suc (suc zero)) earlier db are_typed = more_tables (IsTypedAt 2 db) th
 typed_at (suc (suc (suc zero))) earlier db are_typed = more_tables (IsTypedAt 3 db) third_tables.tables hub_meter_value are_typed (tt, tt)
 typed_at (suc (suc (suc (suc n)))) earlier db are_typed = absurd (omega (arith, earlier))
 
--- of an empty database; those of earlier schemas have their readings in hub_reading
-rows_at_is : (n : ℕ) → n ≡ 0 → (db : Trees) → rows_of (trees_at n db) ≡ rows_at n db
-rows_at_is zero blank db = refl
-rows_at_is (suc n) blank db = absurd (omega (arith, blank))
+pub rows_at_is : (n : ℕ) → n < our_number → (db : Trees) → rows_before (trees_at n db) ≡ rows_at n db
+rows_at_is zero earlier db = refl
+rows_at_is (suc zero) earlier db = refl
+rows_at_is (suc (suc zero)) earlier db = refl
+rows_at_is (suc (suc (suc zero))) earlier db = refl
+rows_at_is (suc (suc (suc (suc n)))) earlier db = absurd (omega (arith, earlier))
 
 kept_at : (n : ℕ) → n < our_number → (db : Trees) → KeepsRows (schema_at n).tables (trees_at n db) db
 kept_at zero earlier db = tt
@@ -102,6 +121,14 @@ not_below t k over = grind (arith, nat_tests)
 
 pub cut_at : (n : ℕ) (db : Trees) → IsCut n (trees_at n db)
 cut_at n db t over = rw (not_below t (next_tree (tables_at n)) over) refl
+
+-- there is no meter value yet
+pub cut_values : (n : ℕ) → n < our_number → (rows : Trees) → IsCut n rows → rows meter_values.table.tree ≡ []
+cut_values zero earlier rows cut = cut 26 (omega arith)
+cut_values (suc zero) earlier rows cut = cut 26 (omega arith)
+cut_values (suc (suc zero)) earlier rows cut = cut 26 (omega arith)
+cut_values (suc (suc (suc zero))) earlier rows cut = cut 26 (omega arith)
+cut_values (suc (suc (suc (suc n)))) earlier rows cut = absurd (omega (arith, earlier))
 
 pub cut_later : (n : ℕ) → n < our_number → (rows : Trees) → IsCut n rows → IsCut (n + 1) rows
 cut_later zero earlier rows cut t over = cut t (omega arith)
@@ -117,12 +144,9 @@ pub begun_as : {S : Type 0} (g : Ghosts S) (old tx : Held S) (n : ℕ) → n < o
 begun_as g old tx n earlier begun rested was =
     subst (λ k. IsInsideAs (trees_at n (state g old).now.trees) (schema_at n) (state g k)) (sym begun) (λ up. record { schema_is = was up; sound = rested.sound up; kept = kept_at n earlier (state g old).now.trees; mode = refl; limit = rested.limit })
 
-module _ {S : Type 0} (g : Ghosts S) (old tx mid end : Held S) (n : ℕ) (blank : n ≡ 0) (begun : tx ≡ record old { in_transaction = true }) (rested : Rested (state g old)) (was : IsTrue (state g old).is_open → (state g old).now.schema ≡ schema_at n)
+module _ {S : Type 0} (g : Ghosts S) (old tx mid end : Held S) (n : ℕ) (lower : n < our_number) (begun : tx ≡ record old { in_transaction = true }) (rested : Rested (state g old)) (was : IsTrue (state g old).is_open → (state g old).now.schema ≡ schema_at n)
     (clean : IsTrue (state g end).is_open → HasCleanDisk (state g end)) (before : IsTrue (state g old).is_open → (db : Trees) → (state g old).may_leave db → db ≡ (state g old).committed.trees)
     (left : Leaves (state g tx) (state g mid)) where
-  lower : n < our_number
-  lower = omega (arith, blank)
-
   abbrev starts : Held S
   starts = record old { in_transaction = true }
 
@@ -138,8 +162,9 @@ module _ {S : Type 0} (g : Ghosts S) (old tx mid end : Held S) (n : ℕ) (blank 
   crash_mid : IsTrue (state g old).is_open → HasCleanDisk (state g mid) → (db : Trees) → (state g mid).may_leave db → db ≡ (state g old).committed.trees
   crash_mid up sure db may = elim (leaves.survives.crash sure db may) [ inl was ↦ before up db was | inr none ↦ absurd none ]
 
-  pub drops_raise : {A : Type 0} (e : Error) → (HasCleanDisk (state g end) → IsRolledBack (state g mid) (state g end)) → Survives (state g mid) (state g end) (λ _. ⊥) → Prepares {A = A} {E = Error} (state g old) (state g end) (Err e)
-  drops_raise e undone survives = record {
+  pub drops_raise : {A E : Type 0} (r : Result A E) → IsErr r → (HasCleanDisk (state g end) → IsRolledBack (state g mid) (state g end)) → Survives (state g mid) (state g end) (λ _. ⊥) → Prepares (state g old) (state g end) r
+  drops_raise (Ok x) failed undone survives = absurd cc
+  drops_raise (Err e) failed undone survives = record {
     serves = λ ours up. tt;
     taken = λ up. tt;
     refused = λ up. rolled up (undone (clean up));
@@ -152,7 +177,7 @@ module _ {S : Type 0} (g : Ghosts S) (old tx mid end : Held S) (n : ℕ) (blank 
   }
 
   pub commits_raise : (r : Result (Unit {0}) Error)
-      → (AreTyped hub_schema hub_good (trees_at n (state g old).now.trees) → IsTrue (state g mid).is_open → HasTables (rows_of (trees_at n (state g old).now.trees)) (state g mid))
+      → (AreTyped hub_schema hub_good (trees_at n (state g old).now.trees) → IsTrue (state g mid).is_open → HasTables (rows_at n (state g old).now.trees) (state g mid))
       → (IsTrue (state g mid).is_open → (state g mid).in_transaction ≡ true) → (HasCleanDisk (state g mid) → IsTrue (state g mid).is_open)
       → (HasCleanDisk (state g end) → OnOk r (IsTrue (state g mid).in_transaction × Shows (state g mid) (state g end) (state g mid).now (state g mid).now false × KeepsCounts (state g mid) (state g end) × ((state g end).marks ≡ [])))
       → (HasCleanDisk (state g end) → IfErr r (FailsToCommit (state g mid) (state g end))) → Survives (state g mid) (state g end) (λ db. db ≡ (state g mid).now.trees)
@@ -160,7 +185,7 @@ module _ {S : Type 0} (g : Ghosts S) (old tx mid end : Held S) (n : ℕ) (blank 
   commits_raise r has mode mid_up ok err survives after = go r ok err
     where
       tables : AreTyped (schema_at n) hub_good (state g old).now.trees → IsTrue (state g mid).is_open → HasTables (rows_at n (state g old).now.trees) (state g mid)
-      tables are_typed up = subst (λ rows. HasTables rows (state g mid)) (rows_at_is n blank (state g old).now.trees) (has (typed_at n lower (state g old).now.trees are_typed) up)
+      tables are_typed up = has (typed_at n lower (state g old).now.trees are_typed) up
 
       raised : IsTrue (state g mid).is_open → (db : Trees) → db ≡ (state g mid).now.trees → IsRaised (state g old).now db
       raised up db same = record { from = n; earlier = lower; was = was (leaves.was_open up); holds = λ are_typed. subst (Holds (rows_at n (state g old).now.trees)) (sym same) (tables are_typed up).holds }

@@ -184,13 +184,17 @@ Makes g f old new r = MakesIn g (IsMade f) old new r
 abbrev pub IsSame : Trees → Trees → Type 0
 IsSame old new = new ≡ old
 
--- what a look-up inside a transaction says, of the rows of the hub
-pub record AsksInside {S A E : Type 0} (g : Ghosts S) (old new : Transaction S) (r : Result A E) (P : Rows → A → Type 0) : Type 0 where
+-- what a look-up inside a transaction says, of the tables
+pub record AsksInsideIn {S A E : Type 0} (g : Ghosts S) (old new : Transaction S) (r : Result A E) (P : Trees → A → Type 0) : Type 0 where
   pub same_reference : new.conn.ghost_name ≡ old.conn.ghost_name
   -- what it answers
-  pub found : IsInside (state g old.conn.now) → IsTrue (state g new.conn.now).is_open → IfOk r (P (rows_of (state g old.conn.now).now.trees))
+  pub found : IsInside (state g old.conn.now) → IsTrue (state g new.conn.now).is_open → IfOk r (P (state g old.conn.now).now.trees)
   -- nothing changes
   pub goes : IsInside (state g old.conn.now) → Goes IsSame (state g old.conn.now) (state g new.conn.now) r
+
+-- what a look-up inside a transaction says, of the rows of the hub
+abbrev pub AsksInside : {S A E : Type 0} → Ghosts S → Transaction S → Transaction S → Result A E → (Rows → A → Type 0) → Type 0
+AsksInside g old new r P = AsksInsideIn g old new r (λ db. P (rows_of db))
 
 -- the rows of an answer inside a transaction are those that pass, and nothing changes
 pub record ShowsInside {V T S : Type 0} (g : Ghosts S) (items : V → List Row) (s : TypedTable T) (p : T → Bool) (old new : Transaction S) (r : Result V Error) : Type 0 where
@@ -213,7 +217,7 @@ pub record ShowsPageInside {V T S : Type 0} (g : Ghosts S) (items : V → List R
 -- one row that is there, or none of none
 abbrev pub IsAny : {T : Type 0} → List T → List T → Type 0
 IsAny rows [] = rows ≡ []
-IsAny rows (t ∷ ts) = Has rows t
+IsAny rows (t ∷ ts) = (ts ≡ []) × Has rows t
 
 -- one of all rows is shown inside a transaction, and nothing changes
 pub record ShowsAnyInside {V T S : Type 0} (g : Ghosts S) (items : V → List Row) (s : TypedTable T) (old new : Transaction S) (r : Result V Error) : Type 0 where

@@ -18,18 +18,22 @@ use Rattle.sql_tables.specs.Tables.{hub_schema}
 use Rattle.sql_tables.specs.Opening.{our_number, tables_at, schema_at, IsCreate, IsIndexCreate, IsIndexDrop}
 use Rattle.sql_rows.specs.TypedTable.{AreTyped, rows_in}
 use Rattle.sql_rows.specs.TypedTables.{MetaRow, metas, readings, hub_good, rows_of}
-use Rattle.sql_rows.specs.Kept.{Serves, Leaves}
+use Rattle.sql_rows.specs.Kept.{Serves, Leaves, Within}
 
 -- the row of hub_meta that has the number of our schema
 abbrev pub our_meta : MetaRow
 our_meta = record { name = codes "schema"; number = our_number }
 
+-- the rows of the hub, where its readings are those of hub_reading
+abbrev pub rows_before : Trees → Rows
+rows_before db = record (rows_of db) { readings = rows_in readings db }
+
 -- the rows of the hub in a database of the schema of this number
 abbrev pub rows_at : ℕ → Trees → Rows
 rows_at zero db = no_rows
-rows_at (suc zero) db = record (rows_of db) { readings = rows_in readings db; reports = []; tx_owners = []; uses = [] }
-rows_at (suc (suc zero)) db = record (rows_of db) { readings = rows_in readings db; tx_owners = []; uses = [] }
-rows_at (suc (suc (suc zero))) db = record (rows_of db) { readings = rows_in readings db }
+rows_at (suc zero) db = record (rows_before db) { reports = []; tx_owners = []; uses = [] }
+rows_at (suc (suc zero)) db = record (rows_before db) { tx_owners = []; uses = [] }
+rows_at (suc (suc (suc zero))) db = rows_before db
 rows_at (suc (suc (suc (suc n)))) db = rows_of db
 
 -- the rows of a database that has our tables, of this schema or an earlier one, were written by this project
@@ -75,6 +79,18 @@ IsInsideAs rows schema s = IsTrue s.is_open → WithinAs rows schema s
 abbrev pub IsCutAs : ℕ → Schema → Trees → State → Type 0
 IsCutAs n schema rows s = IsCut n rows × IsInsideAs rows schema s
 
+-- an earlier schema, with no row of a later table
+abbrev pub IsCutTo : ℕ → State → Type 0
+IsCutTo n s = (rows : Trees) × IsCutAs n (schema_at n) rows s
+
+-- with these rows of the hub
+abbrev pub IsEarlier : ℕ → Rows → State → Type 0
+IsEarlier n all s = (rows : Trees) × AreTyped hub_schema hub_good rows × (rows_before rows ≡ all) × IsCutAs n (schema_at n) rows s
+
+-- our schema, with these rows of the hub
+abbrev pub IsInsideWith : Rows → State → Type 0
+IsInsideWith all s = IsTrue s.is_open → Within s × (rows_of s.now.trees ≡ all)
+
 -- with all tables
 pub record HasTables (rows : Rows) (s : State) : Type 0 where
   pub schema_is : s.now.schema ≡ hub_schema
@@ -100,11 +116,24 @@ pub record MakesSchema {S A E : Type 0} (g : Ghosts S) (Begins : Trees → State
   pub part : IsPart g old new
   pub makes : (rows : Trees) → Begins rows (state g old.conn.now) → OnOk r (IsInsideAs rows to (state g new.conn.now))
 
--- a part of the transaction makes our schema with its number, if this holds where it begins
-pub record MakesOurs {S A E : Type 0} (g : Ghosts S) (Begins : Trees → State → Type 0) (old new : Transaction S) (r : Result A E) : Type 0 where
-  pub part : IsPart g old new
-  pub has : (rows : Trees) → AreTyped hub_schema hub_good rows → Begins rows (state g old.conn.now) → OnOk r (IsTrue (state g new.conn.now).is_open → HasTables (rows_of rows) (state g new.conn.now))
-  pub mode : OnOk r (IsTrue (state g new.conn.now).is_open → (state g new.conn.now).in_transaction ≡ true)
+-- in a transaction
+abbrev pub IsBegun : State → Type 0
+IsBegun s = IsTrue s.is_open → s.in_transaction ≡ true
+
+-- A part of the transaction commits nothing, whatever the tables have. Where it succeeds the transaction goes on. The
+-- connection is the one that was lent.
+pub record StaysInside {S A E : Type 0} (g : Ghosts S) (old new : Transaction S) (r : Result A E) : Type 0 where
+  pub same_reference : new.conn.ghost_name ≡ old.conn.ghost_name
+  pub leaves : IsBegun (state g old.conn.now) → Leaves (state g old.conn.now) (state g new.conn.now)
+  pub begun : IsBegun (state g old.conn.now) → OnOk r (IsBegun (state g new.conn.now))
+
+-- a part of the transaction leaves our schema, its number and these rows of the hub, if this holds where it begins; it
+-- commits nothing, whatever rows there were
+pub record MakesOurs {S A E : Type 0} (g : Ghosts S) (MayBegin : State → Type 0) (Begins : Rows → State → Type 0) (old new : Transaction S) (r : Result A E) : Type 0 where
+  pub same_reference : new.conn.ghost_name ≡ old.conn.ghost_name
+  pub leaves : MayBegin (state g old.conn.now) → Leaves (state g old.conn.now) (state g new.conn.now)
+  pub has : (all : Rows) → Begins all (state g old.conn.now) → OnOk r (IsTrue (state g new.conn.now).is_open → HasTables all (state g new.conn.now))
+  pub mode : OnOk r (IsBegun (state g new.conn.now))
   pub up : HasCleanDisk (state g new.conn.now) → OnOk r (IsTrue (state g new.conn.now).is_open)
 
 -- ---- the call

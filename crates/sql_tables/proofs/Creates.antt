@@ -20,7 +20,7 @@ use Rattle.sql_tables.specs.declared.tags.TheConstants as tags
 use Rattle.sql_tables.specs.declared.tx_owners.TheConstants as tx_owners
 use Rattle.sql_tables.specs.declared.txs.TheConstants as txs
 use Rattle.sql_tables.specs.declared.uses.TheConstants as uses
-use Rattle.sql_tables.specs.Opening.{no_schema, tables_at, open_columns_at, create_tx_is_open_at, by_transaction_at, readings_at, place_of_readings_at, create_by_transaction_at, drop_by_transaction_at, schema_at, IsCreate, IsIndexCreate, IsIndexDrop}
+use Rattle.sql_tables.specs.Opening.{no_schema, tables_at, open_columns_at, create_tx_is_open_at, start_columns_at, create_tx_start_at, by_transaction_at, readings_at, place_of_readings_at, create_by_transaction_at, drop_by_transaction_at, schema_at, IsCreate, IsIndexCreate, IsIndexDrop}
 
 -- ---- the tables of schema 1
 
@@ -172,9 +172,9 @@ tx_is_open_made (suc (suc (suc zero))) made = record { command = refl; plain = (
 tx_is_open_made (suc (suc (suc (suc n)))) made = record { command = refl; plain = (refl, refl); text = refl; here = refl; defined = refl }
 
 abbrev pub with_tx_start_at : ℕ → Schema
-with_tx_start_at n = indexed (with_tx_is_open n) hub_tx (hub_tx_start_at 0)
+with_tx_start_at n = indexed (with_tx_is_open n) hub_tx (hub_tx_start_at (start_columns_at n) 0)
 
-pub tx_start_at_made : (n : ℕ) → 0 < n → IsIndexCreate txs.CREATE_START_AT.now (with_tx_is_open n) 5 hub_tx (hub_tx_start_at 0)
+pub tx_start_at_made : (n : ℕ) → 0 < n → IsIndexCreate (create_tx_start_at n) (with_tx_is_open n) 5 hub_tx (hub_tx_start_at (start_columns_at n) 0)
 unfolding understood everything digits
 tx_start_at_made zero made = absurd (omega (arith, made))
 tx_start_at_made (suc zero) made = record { command = refl; plain = (refl, refl); text = refl; here = refl; defined = refl }
@@ -240,7 +240,7 @@ tx_is_open_dropped (suc (suc (suc (suc n)))) made = record { at = 14; command = 
 abbrev pub without_tx_start_at : ℕ → Schema
 without_tx_start_at n = without_index (without_tx_is_open n) (next_tree (tables_at n) + 3)
 
-pub tx_start_at_dropped : (n : ℕ) → 0 < n → IsIndexDrop txs.DROP_START_AT.now (without_tx_is_open n) (hub_tx_start_at (next_tree (tables_at n) + 3))
+pub tx_start_at_dropped : (n : ℕ) → 0 < n → IsIndexDrop txs.DROP_START_AT.now (without_tx_is_open n) (hub_tx_start_at (start_columns_at n) (next_tree (tables_at n) + 3))
 unfolding understood everything digits
 tx_start_at_dropped zero made = absurd (omega (arith, made))
 tx_start_at_dropped (suc zero) made = record { at = 10; command = refl; plain = (refl, refl); here = refl }

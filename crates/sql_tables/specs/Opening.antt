@@ -48,6 +48,22 @@ create_tx_is_open_at (suc zero) = txs.CREATE_EARLIER_IS_OPEN.now
 create_tx_is_open_at (suc (suc zero)) = txs.CREATE_EARLIER_IS_OPEN.now
 create_tx_is_open_at (suc (suc (suc n))) = txs.CREATE_IS_OPEN.now
 
+-- the columns of hub_tx_start_at in the schemas by their numbers
+abbrev pub start_columns_at : ℕ → List ℕ
+start_columns_at zero = []
+start_columns_at (suc zero) = 1 ∷ 2 ∷ 7 ∷ []
+start_columns_at (suc (suc zero)) = 1 ∷ 2 ∷ 7 ∷ []
+start_columns_at (suc (suc (suc zero))) = 1 ∷ 2 ∷ 7 ∷ []
+start_columns_at (suc (suc (suc (suc n)))) = 1 ∷ 2 ∷ 7 ∷ 4 ∷ 6 ∷ 5 ∷ []
+
+-- the text that makes it there
+abbrev pub create_tx_start_at : ℕ → List ℕ
+create_tx_start_at zero = txs.CREATE_EARLIER_START_AT.now
+create_tx_start_at (suc zero) = txs.CREATE_EARLIER_START_AT.now
+create_tx_start_at (suc (suc zero)) = txs.CREATE_EARLIER_START_AT.now
+create_tx_start_at (suc (suc (suc zero))) = txs.CREATE_EARLIER_START_AT.now
+create_tx_start_at (suc (suc (suc (suc n)))) = txs.CREATE_START_AT.now
+
 -- the index of readings by their transaction, in the schemas by their numbers: of hub_reading up to schema 3, and of
 -- hub_meter_value since then
 abbrev pub by_transaction_at : ℕ → ℕ → Index
@@ -90,7 +106,7 @@ drop_by_transaction_at (suc (suc (suc (suc n)))) = meter_values.DROP_TRANSACTION
 -- the schemas by their numbers: all tables, and then the further indexes
 abbrev pub schema_at : ℕ → Schema
 schema_at zero = no_schema
-schema_at (suc n) = with_indexes (open_columns_at (suc n)) (by_transaction_at (suc n)) (tables_at (suc n))
+schema_at (suc n) = with_indexes (open_columns_at (suc n)) (start_columns_at (suc n)) (by_transaction_at (suc n)) (tables_at (suc n))
 
 abbrev pub command_in : Result Compiled CompileError → Command
 command_in (Ok c) = c.command

@@ -139,8 +139,8 @@ hub_tx_in_use tree = more_index (codes "hub_tx_in_use") tree 10 (1 ∷ 5 ∷ 13 
 abbrev pub hub_tx_is_open : List ℕ → ℕ → Index
 hub_tx_is_open columns tree = more_index (codes "hub_tx_is_open") tree 10 columns
 
-abbrev pub hub_tx_start_at : ℕ → Index
-hub_tx_start_at tree = more_index (codes "hub_tx_start_at") tree 10 (1 ∷ 2 ∷ 7 ∷ [])
+abbrev pub hub_tx_start_at : List ℕ → ℕ → Index
+hub_tx_start_at columns tree = more_index (codes "hub_tx_start_at") tree 10 columns
 
 abbrev pub hub_reading_transaction : ℕ → Index
 hub_reading_transaction tree = more_index (codes "hub_reading_transaction") tree 12 (1 ∷ 2 ∷ 5 ∷ 3 ∷ [])
@@ -148,10 +148,10 @@ hub_reading_transaction tree = more_index (codes "hub_reading_transaction") tree
 abbrev pub hub_meter_value_transaction : ℕ → Index
 hub_meter_value_transaction tree = more_index (codes "hub_meter_value_transaction") tree 26 (1 ∷ 2 ∷ 5 ∷ 3 ∷ [])
 
--- the five further indexes, from that tree on, where hub_tx_is_open is of these columns, and the last is that of readings
--- by their transaction
-abbrev pub further_indexes : List ℕ → (ℕ → Index) → ℕ → List Index
-further_indexes columns by_transaction tree = hub_grant_to tree ∷ hub_tx_in_use (tree + 1) ∷ hub_tx_is_open columns (tree + 2) ∷ hub_tx_start_at (tree + 3) ∷ by_transaction (tree + 4) ∷ []
+-- the five further indexes, from that tree on, where hub_tx_is_open and hub_tx_start_at are of these columns, and the
+-- last is that of readings by their transaction
+abbrev pub further_indexes : List ℕ → List ℕ → (ℕ → Index) → ℕ → List Index
+further_indexes open_columns start_columns by_transaction tree = hub_grant_to tree ∷ hub_tx_in_use (tree + 1) ∷ hub_tx_is_open open_columns (tree + 2) ∷ hub_tx_start_at start_columns (tree + 3) ∷ by_transaction (tree + 4) ∷ []
 
 -- ---- the schemas, by their numbers
 
@@ -188,9 +188,9 @@ fourth_tables = record {
 }
 
 -- tables, and after them the further indexes
-abbrev pub with_indexes : List ℕ → (ℕ → Index) → Schema → Schema
-with_indexes columns by_transaction schema = record schema { indexes = schema.indexes ++ further_indexes columns by_transaction (next_tree schema) }
+abbrev pub with_indexes : List ℕ → List ℕ → (ℕ → Index) → Schema → Schema
+with_indexes open_columns start_columns by_transaction schema = record schema { indexes = schema.indexes ++ further_indexes open_columns start_columns by_transaction (next_tree schema) }
 
 -- schema 4, which is that of this program
 abbrev pub hub_schema : Schema
-hub_schema = with_indexes (1 ∷ 12 ∷ 2 ∷ []) hub_meter_value_transaction fourth_tables
+hub_schema = with_indexes (1 ∷ 12 ∷ 2 ∷ []) (1 ∷ 2 ∷ 7 ∷ 4 ∷ 6 ∷ 5 ∷ []) hub_meter_value_transaction fourth_tables

@@ -25,7 +25,12 @@ pub const CREATE_EARLIER_IS_OPEN: &str =
     "CREATE INDEX hub_tx_is_open ON hub_tx (op, station, is_open)";
 
 /// The index by the moment of the start.
-pub const CREATE_START_AT: &str = "CREATE INDEX hub_tx_start_at ON hub_tx (op, station, start_at)";
+pub const CREATE_START_AT: &str =
+    "CREATE INDEX hub_tx_start_at ON hub_tx (op, station, start_at, connector, meter_start, tag_key)";
+
+/// The same index up to schema 3.
+pub const CREATE_EARLIER_START_AT: &str =
+    "CREATE INDEX hub_tx_start_at ON hub_tx (op, station, start_at)";
 
 pub const DROP_IN_USE: &str = "DROP INDEX hub_tx_in_use";
 

@@ -1,12 +1,14 @@
 //! The store of the records of all operators in SQLite, in memory or in a file.
 #![tactic(auto)]
 
+mod fault;
 mod opening;
 mod same;
 mod sql_store;
 mod stopping;
 mod tables;
 
-pub use opening::{PrepareFault, prepare};
+pub use fault::PrepareFault;
+pub use opening::prepare;
 pub use sql_store::SqlStore;
 pub use stopping::stopped_and_opened;

@@ -1,6 +1,6 @@
 //! How a connection is made ready: the tables of a database are taken, those that it lacks of this schema are made, and
 //! what isn't ours is refused.
-ghost use Rattle.std.specs.Prelude.{◌≡◌, ◌≢◌, ◌↔◌, ℕ, ◌<◌, ◌≤◌, Err, IfOk, IsTrue, OnOk, OnErr, IsOk, IsErr, None, false};
+ghost use Rattle.std.specs.Prelude.{◌≡◌, ◌≢◌, ◌↔◌, ℕ, ◌<◌, ◌≤◌, IfOk, IsTrue, OnOk, None, false};
 ghost use Rattle.sqlite.specs.Held.{state};
 ghost use Rattle.sqlite.specs.Steps.{over_memory};
 ghost use Rattle.sqlite.specs.State.{HasCleanDisk};
@@ -8,12 +8,12 @@ ghost use Rattle.sqlite.specs.Effect.{IsDatabase};
 ghost use Rattle.sql_tables.specs.Opening.{no_schema, our_number, schema_at};
 ghost use Rattle.sql_rows.specs.Opening.{Rested, IsSpared, Prepares};
 
+use crate::fault::{PrepareFault, fault};
 use crate::same::{is_blank, same_schema};
 use crate::tables::{SCHEMA, make_tables, raise};
-use sqlite::{Alter, Connection, Error, ErrorCode, MemStore, Row};
+use sqlite::{Alter, Connection, Error, MemStore, Row};
 use sqlite_value::value::ValueRef;
-use std::alloc::{AllocError, Global};
-use thiserror::Error as ThisError;
+use std::alloc::Global;
 
 /// How many tables this schema has.
 const TABLES: usize = 14;
@@ -57,49 +57,6 @@ fn model(alloc: Global, number: u32) -> Result<Connection<MemStore>, Error>
     let mut conn = Connection::open_in_memory(alloc)?;
     make_tables(&mut conn, number)?;
     Ok(conn)
-}
-
-/// Why a database isn't taken. Nothing in it has changed, but where the disk failed on the way.
-#[derive(Clone, Copy, Debug, PartialEq, Eq, Drop, ThisError)]
-pub enum PrepareFault {
-    #[error("out of memory")]
-    NoMemory,
-    /// No file can be opened or made at the path.
-    #[error("the file can't be opened")]
-    CannotOpen,
-    /// Another process has the database open.
-    #[error("another process has the database open")]
-    InUse,
-    /// The file is no database, or it failed, or tables of its schema are missing, or others stand beside them.
-    #[error("the database failed")]
-    Failed,
-    /// It has tables, and no `hub_meta` with one row of one whole number from 1 on.
-    #[error("the database is not one of this program")]
-    NotOurs,
-    /// A later version of the program made it: the number of its schema is greater.
-    #[error("a later version of the program made the database")]
-    Newer,
-}
-
-pub(crate) fn fault(error: Error) -> PrepareFault
-    ensures { (result ≢ PrepareFault.NotOurs) × (result ≢ PrepareFault.Newer) }
-{
-    match error {
-        Error::SqliteFailure(ErrorCode::OutOfMemory) => PrepareFault::NoMemory,
-        Error::SqliteFailure(ErrorCode::CannotOpen) => PrepareFault::CannotOpen,
-        Error::SqliteFailure(ErrorCode::DatabaseBusy) => PrepareFault::InUse,
-        _ => PrepareFault::Failed,
-    }
-}
-
-fn told(done: Result<(), Error>) -> Result<(), PrepareFault>
-    ensures ok { OnOk result (IsOk done) }
-    ensures err { OnErr result (IsErr done) }
-{
-    match done {
-        Ok(()) => Ok(()),
-        Err(e) => Err(fault(e)),
-    }
 }
 
 /// The one number of the one row, if that is what there is.
@@ -195,31 +152,19 @@ fn look<S: Alter>(conn: &mut Connection<S>, alloc: Global) -> Result<u32, Prepar
     Ok(number)
 }
 
-fn make<S: Alter>(conn: &mut Connection<S>, from: u32) -> Result<(), PrepareFault>
-    requires rested { Rested (state S.Store conn.old) }
-    requires autocommit { conn.old.in_transaction ≡ false }
-    requires earlier { from < our_number }
-    requires blank { from ≡ 0 }
-    requires was { IsTrue (state S.Store conn.old).is_open → (state S.Store conn.old).now.schema ≡ schema_at from }
-    ensures prepares { Prepares (state S.Store conn.old) (state S.Store conn.new) result }
-{
-    told(raise(conn, from))
-}
-
 fn prepare_rested<S: Alter>(conn: &mut Connection<S>, alloc: Global) -> Result<(), PrepareFault>
     requires rested { Rested (state S.Store conn.old) }
     requires autocommit { conn.old.in_transaction ≡ false }
     ensures prepares { Prepares (state S.Store conn.old) (state S.Store conn.new) result }
 {
     if is_new(conn) {
-        return make(conn, 0);
+        return raise(conn, alloc, 0);
     }
     let number = look(conn, alloc)?;
     if number == SCHEMA {
         return Ok(());
     }
-    // readings of earlier schemas aren't moved yet
-    Err(PrepareFault::Failed)
+    raise(conn, alloc, number)
 }
 
 fn is_settled<S: Alter>(conn: &Connection<S>) -> bool
@@ -243,10 +188,4 @@ pub fn prepare<S: Alter>(conn: &mut Connection<S>, alloc: Global) -> Result<(), 
     }
     conn.set_step_limit(None);
     prepare_rested(conn, alloc)
-}
-
-impl From<AllocError> for PrepareFault {
-    fn from(_: AllocError) -> PrepareFault {
-        PrepareFault::NoMemory
-    }
 }

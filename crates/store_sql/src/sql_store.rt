@@ -3,7 +3,8 @@ ghost use Rattle.std.specs.Prelude.{◌≡◌, ◌≤◌, Err, IsTrue};
 ghost use Rattle.hub_rows.specs.Failures.{Rose};
 ghost use Rattle.hub_rows.specs.declared.store.StoreFault.TheVariants as store_fault;
 
-use crate::opening::{PrepareFault, fault, prepare};
+use crate::fault::{PrepareFault, fault};
+use crate::opening::prepare;
 use hub_rows::{
     Change, ConnectorRow, GrantRow, GrantedTag, History, Info, LocalList, ReadingRow, Registration,
     ReportRow, ReservationId, ReservationRow, StartKey, StationRow, Store, StoreFault, TagRow,
@@ -88,7 +89,7 @@ impl<A: Alter> SqlStore<A> {
 
 impl<A: Alter + Drop> SqlStore<A> {
     ghost use Rattle.std.specs.Prelude.{Ok, IfOk, IsTrue, ⊤};
-    ghost use Rattle.store_sql.specs.declared.opening.PrepareFault.{PrepareFault as Unfit};
+    ghost use Rattle.store_sql.specs.declared.fault.PrepareFault.{PrepareFault as Unfit};
     ghost use Rattle.hub_rows.specs.Stops.{IsKept};
     ghost use Rattle.store_sql.specs.Store.{IsCleanSql, sql_view};
     ghost use Rattle.sql_rows.specs.Opening.{IsOurs, Prepares};
@@ -135,7 +136,7 @@ impl SqlStore<MemStore> {
 
 impl<S: Start> SqlStore<FileStore<FileFrom<S>>> {
     ghost use Rattle.std.specs.Prelude.{Ok, IfOk, IsTrue, ⊤};
-    ghost use Rattle.store_sql.specs.declared.opening.PrepareFault.{PrepareFault as Unfit};
+    ghost use Rattle.store_sql.specs.declared.fault.PrepareFault.{PrepareFault as Unfit};
     ghost use Rattle.hub_rows.specs.Stops.{IsKept};
     ghost use Rattle.store_sql.specs.Store.{IsCleanSql, sql_view};
     ghost use Rattle.sql_rows.specs.Opening.{IsOurs, Prepares};

@@ -5,7 +5,8 @@ ghost use Rattle.sql_rows.specs.Opening.{IsOurs};
 ghost use Rattle.hub_rows.specs.Stops.{IsKept};
 ghost use Rattle.store_sql.specs.Store.{IsCleanSql, sql_rows, sql_may_find, sql_view};
 
-use crate::opening::{PrepareFault, fault, has_all_tables};
+use crate::fault::{PrepareFault, fault};
+use crate::opening::has_all_tables;
 use crate::sql_store::SqlStore;
 use sqlite::{Alter, Connection};
 use sqlite_trees::error::StoreError;

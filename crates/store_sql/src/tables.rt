@@ -1,12 +1,15 @@
 //! The tables, and how a database of an earlier schema gets those that it lacks.
-ghost use Rattle.std.specs.Prelude.{◌≡◌, ◌<◌, ◌≤◌, ℕ, ◌+◌, IsTrue, OnOk, false};
+ghost use Rattle.std.specs.Prelude.{◌≡◌, ◌<◌, ◌≤◌, ℕ, ◌+◌, IsTrue, OnOk, false, ⊤};
 ghost use Rattle.sqlite_trees.specs.Tree.{Trees};
 ghost use Rattle.sqlite.specs.Held.{state};
 ghost use Rattle.sql_tables.specs.Tables.{first_tables, second_tables, third_tables, fourth_tables, hub_schema};
-ghost use Rattle.sql_tables.specs.Opening.{create_by_transaction_at, create_tx_is_open_at, drop_by_transaction_at, no_schema, our_number, schema_at, tables_at};
-ghost use Rattle.sql_rows.specs.Opening.{Alters, IsCutAs, IsInsideAs, IsPart, MakesOurs, MakesSchema, Prepares, Rested};
+ghost use Rattle.sql_tables.specs.Opening.{create_by_transaction_at, create_tx_is_open_at, create_tx_start_at, drop_by_transaction_at, no_schema, our_number, schema_at, tables_at};
+ghost use Rattle.sql_rows.specs.Opening.{Alters, IsCutAs, IsCutTo, IsEarlier, IsInsideAs, IsInsideWith, IsPart, MakesOurs, MakesSchema, Prepares, Rested};
 
+use crate::fault::{PrepareFault, told};
+use sql_edits::move_readings;
 use sqlite::{Alter, Connection, Error, Transaction, params};
+use std::alloc::Global;
 
 /// The number of this schema.
 pub(crate) const SCHEMA: u32 = 4;
@@ -109,6 +112,17 @@ fn create_tx_is_open(number: u32) -> &'static str
     }
 }
 
+/// The text that makes the index of starts in the schema of that number.
+fn create_tx_start_at(number: u32) -> &'static str
+    requires { number ≤ our_number }
+    ensures { result.now ≡ create_tx_start_at number }
+{
+    match number {
+        0 | 1 | 2 | 3 => sql_tables::txs::CREATE_EARLIER_START_AT,
+        _ => sql_tables::txs::CREATE_START_AT,
+    }
+}
+
 /// The text that makes the index of readings by their transaction in the schema of that number.
 fn create_by_transaction(number: u32) -> &'static str
     requires { number ≤ our_number }
@@ -140,7 +154,7 @@ fn create_indexes<S: Alter>(tx: &mut Transaction<'_, S>, number: u32) -> Result<
     let done = then_alter(tx, Ok(()), sql_tables::grants::CREATE_TO);
     let done = then_alter(tx, done, sql_tables::txs::CREATE_IN_USE);
     let done = then_alter(tx, done, create_tx_is_open(number));
-    let done = then_alter(tx, done, sql_tables::txs::CREATE_START_AT);
+    let done = then_alter(tx, done, create_tx_start_at(number));
     then_alter(tx, done, create_by_transaction(number))
 }
 
@@ -184,45 +198,44 @@ fn make_schema<S: Alter>(tx: &mut Transaction<'_, S>, from: u32, to: u32) -> Res
 
 /// The number of the schema.
 fn put_number<S: Alter>(tx: &mut Transaction<'_, S>) -> Result<usize, Error>
-    ensures makes { MakesOurs S.Store (λ rows. IsInsideAs rows hub_schema) tx.old tx.new result }
+    ensures makes { MakesOurs S.Store (λ s. ⊤) IsInsideWith tx.old tx.new result }
 {
     tx.execute(sql_tables::meta::PUT, params!["schema", SCHEMA])
 }
 
-/// The number, if all went well so far.
-fn then_number<S: Alter>(tx: &mut Transaction<'_, S>, done: Result<(), Error>) -> Result<(), Error>
-    ensures makes { MakesOurs S.Store (λ rows s. OnOk done (IsInsideAs rows hub_schema s)) tx.old tx.new result }
-{
-    match done {
-        Ok(()) => match put_number(tx) {
-            Ok(_) => Ok(()),
-            Err(e) => Err(e),
-        },
-        Err(e) => Err(e),
-    }
-}
-
-/// Makes of the schema of that number this one, with its number.
-fn fill<S: Alter>(tx: &mut Transaction<'_, S>, from: u32) -> Result<(), Error>
+/// Makes of the schema of that number the tables of this one.
+fn reach<S: Alter>(tx: &mut Transaction<'_, S>, from: u32) -> Result<(), PrepareFault>
     requires known { from ≤ our_number }
-    ensures makes { MakesOurs S.Store (IsCutAs from (schema_at from)) tx.old tx.new result }
+    ensures makes { MakesSchema S.Store (IsCutAs from (schema_at from)) hub_schema tx.old tx.new result }
 {
-    let done = make_schema(tx, from, SCHEMA);
-    then_number(tx, done)
+    told(make_schema(tx, from, SCHEMA))
 }
 
-/// Makes of an empty database one of this schema, in one transaction.
-pub(crate) fn raise<S: Alter>(conn: &mut Connection<S>, from: u32) -> Result<(), Error>
+/// Makes of the schema of that number this one, with its number. Readings become meter values.
+fn fill<S: Alter>(tx: &mut Transaction<'_, S>, alloc: Global, from: u32) -> Result<(), PrepareFault>
+    requires earlier { from < our_number }
+    ensures makes { MakesOurs S.Store (IsCutTo from) (IsEarlier from) tx.old tx.new result }
+{
+    reach(tx, from)?;
+    move_readings(tx, alloc)?;
+    told(put_number(tx))
+}
+
+/// Makes of a database of an earlier schema one of this schema, in one transaction.
+pub(crate) fn raise<S: Alter>(
+    conn: &mut Connection<S>,
+    alloc: Global,
+    from: u32,
+) -> Result<(), PrepareFault>
     requires rested { Rested (state S.Store conn.old) }
     requires autocommit { conn.old.in_transaction ≡ false }
     requires earlier { from < our_number }
-    requires blank { from ≡ 0 }
     requires was { IsTrue (state S.Store conn.old).is_open → (state S.Store conn.old).now.schema ≡ schema_at from }
     ensures prepares { Prepares (state S.Store conn.old) (state S.Store conn.new) result }
 {
     let mut tx = conn.transaction();
-    fill(&mut tx, from)?;
-    tx.commit()
+    fill(&mut tx, alloc, from)?;
+    told(tx.commit())
 }
 
 /// Makes the tables of the schema of that number in an empty database.

@@ -3,6 +3,7 @@ use Rattle.std.proofs.lemmas.List.{take_all, take_more}
 use Rattle.sqlite.specs.Held.{state}
 use Rattle.sql_rows.specs.Kept.{ArePutIn}
 use Rattle.sql_rows.specs.TypedTables.{meter_values, value_rows}
+use Rattle.sql_rows.proofs.StayLaws.{stays_as, stays_fails, stays_then}
 use Rattle.sql_rows.proofs.ValueEdits.{count_more, values_more}
 use Rattle.sql_edits.proofs.Making.{makes_also, makes_fails, makes_stops, makes_then}
 use Rattle.sql_edits.proofs.readings.put_values.Goals as goal
@@ -21,6 +22,7 @@ values-preserved g c =
       omega (arith, c.values.invariant.0, longer, lent),
       makes_then c.values.invariant.1 c.in_ok-put_value.ensures.makes
           (λ inside up so_far one. values_more c.args.op.now c.args.station.now c.args.first (take k all) (take (k + 1) all) x c.values.number c.values.invariant.0 more old mid new so_far one),
+      stays_then c.values.invariant.2 c.in_ok-put_value.ensures.stays,
     )
 
 pub returns : goal.returns
@@ -29,7 +31,11 @@ returns g c =
     record {
       makes = makes_also c.values.invariant.1
           (λ inside up put. subst (λ vs. ArePutIn meter_values (value_rows c.args.op.now c.args.station.now c.args.first vs) (state g.S.Store c.args.tx.now.conn.now).now.trees (state g.S.Store c.values.tx.conn.now).now.trees) whole put);
+      stays = stays_as c.values.invariant.2 tt;
     }
 
 pub returns-in_err-put_value : goal.returns-in_err-put_value
-returns-in_err-put_value g c = record { makes = makes_fails c.values.invariant.1 c.in_err-put_value.ensures.makes c.from_residual.ensures.0 }
+returns-in_err-put_value g c = record {
+  makes = makes_fails c.values.invariant.1 c.in_err-put_value.ensures.makes c.from_residual.ensures.0;
+  stays = stays_fails (stays_then c.values.invariant.2 c.in_err-put_value.ensures.stays) c.from_residual.ensures.0;
+}

@@ -7,7 +7,7 @@ use Rattle.sqlite_wal.specs.Files.{image_at}
 use Rattle.sql_rows.specs.Opening.{IsOurs, Prepares}
 use Rattle.hub_rows.specs.Stops.{IsKept}
 use Rattle.store_sql.specs.Store.{IsCleanSql, sql_view}
-use Rattle.store_sql.specs.declared.opening.PrepareFault.{PrepareFault as Unfit}
+use Rattle.store_sql.specs.declared.fault.PrepareFault.{PrepareFault as Unfit}
 use Rattle.store_sql.proofs.StopLaws.{along, under}
 use Rattle.store_sql.proofs.sql_store.SqlStore+FileStore+FileFrom+S.open.Goals as goal
 

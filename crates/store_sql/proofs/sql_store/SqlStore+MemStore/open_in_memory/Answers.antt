@@ -6,7 +6,7 @@ use Rattle.sqlite.specs.Steps.{over_memory}
 use Rattle.sql_rows.specs.Opening.{IsOurs, Prepares}
 use Rattle.sql_rows.proofs.OpeningLemmas.{ours_empty}
 use Rattle.store_sql.specs.Store.{IsCleanSql}
-use Rattle.store_sql.specs.declared.opening.PrepareFault.{PrepareFault as Unfit}
+use Rattle.store_sql.specs.declared.fault.PrepareFault.{PrepareFault as Unfit}
 use Rattle.store_sql.proofs.sql_store.SqlStore+MemStore.open_in_memory.Goals as goal
 
 both : {V E : Type 0} (P Q R : V → Type 0) (r : Result V E) → ((v : V) → P v → Q v → R v) → IfOk r P → IfOk r Q → IfOk r R

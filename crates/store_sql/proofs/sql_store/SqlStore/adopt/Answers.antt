@@ -3,7 +3,7 @@ use Rattle.std.specs.Prelude.{⊤}
 use Rattle.sqlite.specs.Held.{state}
 use Rattle.sql_rows.specs.Opening.{IsOurs, Prepares}
 use Rattle.store_sql.specs.Store.{ServesIfOurs}
-use Rattle.store_sql.specs.declared.opening.PrepareFault.{PrepareFault as Unfit}
+use Rattle.store_sql.specs.declared.fault.PrepareFault.{PrepareFault as Unfit}
 use Rattle.store_sql.proofs.StopLaws.{leaves_last, prepared_kept}
 use Rattle.store_sql.proofs.sql_store.SqlStore.adopt.Goals as goal
 

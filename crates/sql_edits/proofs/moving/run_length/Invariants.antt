@@ -1,0 +1,6 @@
+use Rattle.std.proofs.Common.{◌≤◌, length, take}
+use Rattle.sql_edits.specs.Moving.{IsRun}
+use Rattle.sql_edits.proofs.moving.run_length.Given as goal
+
+abbrev pub invariant-rows : goal.invariant-rows
+invariant-rows l = IsRun l.first l.page l.count

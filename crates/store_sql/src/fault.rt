@@ -1,0 +1,66 @@
+//! Why a database isn't taken.
+ghost use Rattle.std.specs.Prelude.{◌≢◌, OnErr, OnOk, IsErr, IsOk};
+
+use hub_rows::StoreFault;
+use sqlite::{Error, ErrorCode};
+use std::alloc::AllocError;
+use thiserror::Error as ThisError;
+
+/// Why a database isn't taken. Nothing in it has changed, but where the disk failed on the way.
+#[derive(Clone, Copy, Debug, PartialEq, Eq, Drop, ThisError)]
+pub enum PrepareFault {
+    #[error("out of memory")]
+    NoMemory,
+    /// No file can be opened or made at the path.
+    #[error("the file can't be opened")]
+    CannotOpen,
+    /// Another process has the database open.
+    #[error("another process has the database open")]
+    InUse,
+    /// The file is no database, or it failed, or tables of its schema are missing, or others stand beside them.
+    #[error("the database failed")]
+    Failed,
+    /// It has tables, and no `hub_meta` with one row of one whole number from 1 on.
+    #[error("the database is not one of this program")]
+    NotOurs,
+    /// A later version of the program made it: the number of its schema is greater.
+    #[error("a later version of the program made the database")]
+    Newer,
+}
+
+pub(crate) fn fault(error: Error) -> PrepareFault
+    ensures { (result ≢ PrepareFault.NotOurs) × (result ≢ PrepareFault.Newer) }
+{
+    match error {
+        Error::SqliteFailure(ErrorCode::OutOfMemory) => PrepareFault::NoMemory,
+        Error::SqliteFailure(ErrorCode::CannotOpen) => PrepareFault::CannotOpen,
+        Error::SqliteFailure(ErrorCode::DatabaseBusy) => PrepareFault::InUse,
+        _ => PrepareFault::Failed,
+    }
+}
+
+/// The same answer, with why the database is not taken.
+pub(crate) fn told<A: Drop>(done: Result<A, Error>) -> Result<(), PrepareFault>
+    ensures ok { OnOk result (IsOk done) }
+    ensures err { OnErr result (IsErr done) }
+{
+    match done {
+        Ok(_) => Ok(()),
+        Err(error) => Err(fault(error)),
+    }
+}
+
+impl From<AllocError> for PrepareFault {
+    fn from(_: AllocError) -> PrepareFault {
+        PrepareFault::NoMemory
+    }
+}
+
+impl From<StoreFault> for PrepareFault {
+    fn from(fault: StoreFault) -> PrepareFault {
+        match fault {
+            StoreFault::NoMemory => PrepareFault::NoMemory,
+            StoreFault::Failed => PrepareFault::Failed,
+        }
+    }
+}
