@@ -1,5 +1,6 @@
 -- The readings of a station, by its meter values.
 use Rattle.std.proofs.Common.{◌≡◌, ◌∙◌, ◌&&◌, ◌++◌, ◌+◌, ℕ, nat_le, nat_lt, ◌<◌, ◌≤◌, List, [], ◌∷◌, Option, Some, None, cond, length, filter, flat_map, true, false, refl, sym, ap, subst, append-nil, inl, inr, arith, Less}
+use Rattle.std.specs.Cmp.{IsTotalOrder}
 use Rattle.std.specs.List.{AllByRecursion}
 use Rattle.std.specs.List.Sorted.{IsStrictlySortedBy}
 use Rattle.std.specs.Str.{bytes_eq}
@@ -9,7 +10,7 @@ use Rattle.std.proofs.lemmas.List.{length-map}
 use Rattle.std.proofs.lemmas.List.Elements.{filter-append}
 use Rattle.sqlite_trees.proofs.ListLemmas.{flat_map-filter}
 use Rattle.sqlite_rules.specs.Lists.{Has}
-use Rattle.sqlite_rules.proofs.ListLemmas.{all_has, has_left, has_right}
+use Rattle.sqlite_rules.proofs.ListLemmas.{all_from, has_left, has_right}
 use Rattle.hub_rows.specs.declared.reading_row.Reading.{Reading}
 use Rattle.hub_rows.specs.declared.reading_row.ReadingRow.{ReadingRow}
 use Rattle.hub_rows.specs.declared.tx_row.TxRow.{TxRow}
@@ -18,14 +19,14 @@ use Rattle.hub_rows.specs.Keyed.{by_key, first, number_key}
 use Rattle.hub_rows.specs.Rows.{reading_key}
 use Rattle.hub_rows.specs.Transactions.{reading_rows, readings_in}
 use Rattle.hub_rows.proofs.FilterLaws.{filter-no}
-use Rattle.hub_rows.proofs.ListLaws.{all-weaker, and-true}
+use Rattle.hub_rows.proofs.ListLaws.{all-weaker, and-true, by_key_total}
 use Rattle.hub_rows.proofs.NumberLaws.{less-number}
 use Rattle.meter_values.specs.Readings.{reading_of, readings_of}
 use Rattle.sql_rows.specs.declared.meter_value_rows.MeterValueRow.{MeterValueRow}
 use Rattle.sql_rows.specs.Kept.{IsTop}
 use Rattle.sql_rows.specs.TypedTable.{cmp}
 use Rattle.sql_rows.specs.TypedTables.{meter_values, is_meter_value, unfolded, IsLastOf}
-use Rattle.sql_rows.proofs.MeterValueLaws.{filter-unfolded}
+use Rattle.sql_rows.proofs.MeterValueLaws.{across, back_sorted, filter-unfolded, rows_have}
 use Rattle.sql_lookups.specs.Asks.{IsTopRow}
 use Rattle.sql_lookups.specs.Forgotten.{is_old, its_readings, its_values, readings_from}
 use Rattle.sql_lookups.specs.Pages.{below}
@@ -70,35 +71,21 @@ module _ (until end : ℕ) (txs : List TxRow) where
       ∙ flat_map-filter each (λ m. nat_lt m.first end) (λ m past. none_past m.op m.station m.first (readings_of m.value) (ltb-false m.first end past)) values
       ∙ sym (found_each values)
 
--- ---- lists in the order of a number
+-- ---- the last reading
 
-module _ {R : Type 0} (number : R → ℕ) where
-  abbrev IsInOrder : List R → Type 0
-  IsInOrder rows = IsStrictlySortedBy (by_key (number_key number)) rows
+abbrev IsInOrder : {R : Type 0} → (R → ℕ) → List R → Type 0
+IsInOrder number rows = IsStrictlySortedBy (by_key (number_key number)) rows
 
-  before : (front back : List R) → IsInOrder (front ++ back) → (y : R) → Has back y → AllByRecursion (λ x. number x < number y) front
-  unfolding IsStrictlySortedBy
-  before [] back up y h = tt
-  before (x ∷ front) back up y h = (
-    less-number (number x) (number y) (all_has (λ z. by_key (number_key number) x z ≡ Less) (front ++ back) y up.0 (has_right front back y h)),
-    before front back up.1 y h,
-  )
+numbers_total : IsTotalOrder (by_key (number_key (λ (r : ReadingRow). r.number)))
+numbers_total = by_key_total (number_key (λ r. r.number))
 
-  behind : (front back : List R) → IsInOrder (front ++ back) → IsInOrder back
-  unfolding IsStrictlySortedBy
-  behind [] back up = up
-  behind (x ∷ front) back up = behind front back up.1
+before : (front back : List ReadingRow) → IsInOrder (λ r. r.number) (front ++ back) → (y : ReadingRow) → Has back y → AllByRecursion (λ x. x.number < y.number) front
+before front back up y h = all_from (λ x. x.number < y.number) front (λ x k. less-number x.number y.number (across (by_key (number_key (λ r. r.number))) numbers_total front back up x y k h))
 
 flat_has : {X Y : Type 0} (f : X → List Y) (xs : List X) (x : X) (y : Y) → Has xs x → Has (f x) y → Has (flat_map f xs) y
 flat_has f [] x y none h = absurd none
 flat_has f (w ∷ xs) x y (inl same) h = has_left (f w) (flat_map f xs) y (subst (λ z. Has (f z) y) same h)
 flat_has f (w ∷ xs) x y (inr later) h = has_right (f w) (flat_map f xs) y (flat_has f xs x y later h)
-
--- ---- the last reading
-
-first_there : (op station : List ℕ) (n : ℕ) (rs : List Reading) → 0 < length rs → (x : ReadingRow) × Has (reading_rows op station n rs) x × (x.number ≡ n)
-first_there op station n [] some = absurd (omega (arith, some))
-first_there op station n (r ∷ rs) some = (record { op = op; station = station; number = n; reading = r }, inl refl, refl)
 
 -- readings from a number on are of the meter value that begins last, if it has a reading up to that number
 of_last : (n : ℕ) (values : List MeterValueRow) → IsInOrder (λ m. m.first) values → IsInOrder (λ r. r.number) (flat_map unfolded values) → (m : MeterValueRow) → Has values m → ((w : MeterValueRow) → Has values w → w.first ≤ m.first)
@@ -116,8 +103,8 @@ of_last n (v ∷ w ∷ values) rises up m (inr later) most y h low =
     let rest : List ReadingRow = flat_map unfolded (w ∷ values) in
     filter-append (λ r. nat_le n r.number) (unfolded v) rest
     ∙ ap (λ l. l ++ filter (λ r. nat_le n r.number) rest) (filter-no (λ r. nat_le n r.number) (unfolded v)
-    (all-weaker (λ x. x.number < y.number) (λ x. nat_le n x.number ≡ false) (λ x under. lt-leb n x.number (omega (arith, under, low))) (unfolded v) (before (λ r. r.number) (unfolded v) rest up y (flat_has unfolded (w ∷ values) m y later h))))
-    ∙ of_last n (w ∷ values) rises.1 (behind (λ r. r.number) (unfolded v) rest up) m later (λ u k. most u (inr k)) y h low
+    (all-weaker (λ x. x.number < y.number) (λ x. nat_le n x.number ≡ false) (λ x under. lt-leb n x.number (omega (arith, under, low))) (unfolded v) (before (unfolded v) rest up y (flat_has unfolded (w ∷ values) m y later h))))
+    ∙ of_last n (w ∷ values) rises.1 (back_sorted (by_key (number_key (λ r. r.number))) numbers_total (unfolded v) rest up) m later (λ u k. most u (inr k)) y h low
 
 -- the last reading of a station is that of its last meter value
 pub left_is : (b station : List ℕ) (values : List MeterValueRow) → IsStrictlySortedBy (cmp meter_values) values → IsStrictlySortedBy (by_key reading_key) (flat_map unfolded values)
@@ -134,8 +121,8 @@ left_is b station values rises up row top n last =
         let low = last.0 in
         let end = last.1 in
         let many = length-map m.value.sampled (reading_of m.value) in
-        let y = first_there m.op m.station m.first (readings_of m.value) (omega (arith, low, end, many)) in
-        let begins : y.0.number ≡ m.first = y.2 in
+        let y = rows_have m.op m.station m.first (readings_of m.value) 0 (omega (arith, low, end, many)) in
+        let begins = y.4 in
         sym (ap (filter (λ r. nat_le n r.number)) (its_unfolded b station values)
         ∙ of_last n (its_values b station values) (own_in_order (λ m. m.op) (λ m. m.station) (λ m. m.first) b station values rises)
         (subst (IsStrictlySortedBy (by_key (number_key (λ r. r.number)))) (its_unfolded b station values) (own_in_order (λ r. r.op) (λ r. r.station) (λ r. r.number) b station (flat_map unfolded values) up))
