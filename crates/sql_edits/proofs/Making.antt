@@ -103,8 +103,11 @@ module _ {S : Type 0} {g : Ghosts S} where
       any_found (Err x) (Err e) ok is shown = tt
 
   -- a look-up changes nothing
-  pub makes_same : {A E : Type 0} {old new : Transaction S} {r : Result A E} {P : Trees → A → Type 0} → AsksInsideIn g old new r P → MakesIn g IsSame old new r
+  pub makes_same : {A E : Type 0} {old new : Transaction S} {r : Result A E} {P : Rows → A → Type 0} → AsksInside g old new r P → MakesIn g IsSame old new r
   makes_same asks = record { same_reference = asks.same_reference; goes = asks.goes }
+
+  pub makes_same_in : {A E : Type 0} {old new : Transaction S} {r : Result A E} {P : Trees → A → Type 0} → AsksInsideIn g old new r P → MakesIn g IsSame old new r
+  makes_same_in asks = record { same_reference = asks.same_reference; goes = asks.goes }
 
   -- what follows of what is made
   pub makes_also : {A B E F : Type 0} {Begins : State → Type 0} {One Two : Trees → Trees → Type 0} {old new : Transaction S} {x : A} {y : B} → MakesIf {E = E} g Begins One old new (Ok x)
@@ -136,6 +139,13 @@ module _ {S : Type 0} {g : Ghosts S} where
   makes_stops {A} {B} {E} {F} {Begins} {One} {Two} {old} {new} {x} {q} one failed = record {
     same_reference = one.same_reference;
     goes = λ begins. goes_err Two (state g old.conn.now) (state g new.conn.now) q failed (one.goes begins).ok.leaves;
+  }
+
+  -- an error, whatever it was to make
+  pub makes_err : {A B E F : Type 0} {Begins : State → Type 0} {One Two : Trees → Trees → Type 0} {old new : Transaction S} {e : E} {q : Result B F} → MakesIf {A = A} g Begins One old new (Err e) → IsErr q → MakesIf g Begins Two old new q
+  makes_err {A} {B} {E} {F} {Begins} {One} {Two} {old} {new} {e} {q} one failed = record {
+    same_reference = one.same_reference;
+    goes = λ begins. goes_err Two (state g old.conn.now) (state g new.conn.now) q failed (one.goes begins).err;
   }
 
   -- one part after the other, where what the first makes lets the other begin

@@ -1,5 +1,5 @@
 -- The readings of hub_reading that become meter values: none is lost.
-use Rattle.std.proofs.Common.{◌≡◌, ◌⊎◌, ◌&&◌, ◌++◌, ◌+◌, ◌-◌, ◌<◌, ◌≤◌, ℕ, nat_le, Bool, true, false, not, List, [], ◌∷◌, length, map, filter, flat_map, take, drop, Some, Less, Equal, refl, sym, ap, ap₂, ◌∙◌, subst, inl, inr, arith}
+use Rattle.std.proofs.Common.{◌≡◌, ◌⊎◌, ◌&&◌, ◌++◌, ◌+◌, ◌-◌, ◌<◌, ◌≤◌, ℕ, zero, suc, nat_le, Bool, true, false, not, List, [], ◌∷◌, length, map, filter, flat_map, take, drop, Some, Less, Equal, refl, sym, ap, ap₂, ◌∙◌, subst, inl, inr, arith}
 use Rattle.std.specs.List.{slice_get, AllByRecursion}
 use Rattle.std.specs.List.Sorted.{IsStrictlySortedBy}
 use Rattle.std.specs.Str.{bytes_eq}
@@ -59,8 +59,14 @@ numbered_last n (r ∷ []) follow l is =
     let here : l.number ≡ n = ap (λ (y : ReadingRow). y.number) same ∙ follow.0 in
     omega (arith, here)
 numbered_last n (r ∷ q ∷ rows) follow l is =
-    let more = numbered_last (n + 1) (q ∷ rows) follow.1 l is in
+    let here : length (r ∷ q ∷ rows) - 1 ≡ suc (length (q ∷ rows) - 1) = omega arith in
+    let more = numbered_last (n + 1) (q ∷ rows) follow.1 l (is ∙ ap (slice_get (r ∷ q ∷ rows)) here) in
     omega (arith, more)
+
+-- one more
+pub numbered_more : (n : ℕ) (rows : List ReadingRow) (x : ReadingRow) → AreNumberedFrom n rows → x.number ≡ n + length rows → AreNumberedFrom n (rows ++ x ∷ [])
+numbered_more n [] x follow is = (omega (arith, is), tt)
+numbered_more n (r ∷ rows) x follow is = (follow.0, numbered_more (n + 1) rows x follow.1 (omega (arith, is)))
 
 got_has : (xs : List ReadingRow) (i : ℕ) (x : ReadingRow) → Some x ≡ slice_get xs i → Has xs x
 got_has [] i x is = absurd (cc)

@@ -112,13 +112,7 @@ fn edit_transactions<S: Alter>(
             first,
             readings,
         } => add_readings(tx, alloc, op, station.as_str(), *first, readings.as_slice()),
-        TransactionEdit::Forgotten { station, rows } => forget(
-            tx,
-            alloc,
-            op,
-            station.as_str(),
-            rows,
-        ),
+        TransactionEdit::Forgotten { station, rows } => forget(tx, op, station.as_str(), rows),
     }
 }
 

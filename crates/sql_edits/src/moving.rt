@@ -1,5 +1,5 @@
 //! Readings that an earlier schema kept one by one in hub_reading, and that become meter values.
-ghost use Rattle.std.specs.Prelude.{◌≡◌, map, IfOk};
+ghost use Rattle.std.specs.Prelude.{◌≡◌, ◌+◌, map, IfOk, IsTrue};
 ghost use Rattle.hub_rows.specs.Transactions.{last_of_all};
 ghost use Rattle.sql_rows.specs.Kept.{AsksInsideIn, IsDropped, IsPage, MakesIf, MakesIn, ShowsAnyInside, ShowsPageInside};
 ghost use Rattle.sql_rows.specs.Opening.{StaysInside};
@@ -58,7 +58,9 @@ fn readings_page<S: Alter>(
 }
 
 /// Whether a row has the number that is so many after the first.
-fn is_nth(row: &ReadingRow, first: u32, count: usize) -> bool {
+fn is_nth(row: &ReadingRow, first: u32, count: usize) -> bool
+    ensures { IsTrue result → row.now.number ≡ first + count }
+{
     row.number >= first && (row.number - first) as usize == count
 }
 
@@ -135,9 +137,9 @@ fn move_run<S: Alter>(
     ensures stays { StaysInside S.Store tx.old tx.new result }
 {
     let page = readings_page(tx, op, station)?;
-    let run = first_run(alloc, page.as_slice())?;
-    put_values(tx, alloc, op, station, run.first, run.values.as_slice())?;
-    drop_range(tx, op, station, run.first, run.last)
+    let moved = first_run(alloc, page.as_slice())?;
+    put_values(tx, alloc, op, station, moved.first, moved.values.as_slice())?;
+    drop_range(tx, op, station, moved.first, moved.last)
 }
 
 /// Moves all readings of hub_reading to meter values, where there are none yet: inside a transaction, which is rolled
@@ -147,10 +149,10 @@ pub fn move_readings<S: Alter>(tx: &mut Transaction<'_, S>, alloc: Global) -> Re
     ensures stays { StaysInside S.Store tx.old tx.new result }
 {
     'runs: for _ in 0..u64::MAX {
-        let Some(row) = any_reading(tx)? else {
-            return Ok(());
-        };
-        move_run(tx, alloc, row.op.as_str(), row.station.as_str())?;
+        match any_reading(tx)? {
+            Some(row) => move_run(tx, alloc, row.op.as_str(), row.station.as_str())?,
+            None => return Ok(()),
+        }
     }
     Err(StoreFault::Failed)
 }

@@ -5,11 +5,10 @@ use Rattle.sqlite_value.specs.Order.{Row}
 use Rattle.std.specs.Prelude.{ℕ, pos}
 use Rattle.sqlite_trees.specs.Tree.{Trees}
 use Rattle.sqlite_schema.specs.Rules.{Obeys}
-use Rattle.sqlite_sql.specs.Term.{Term, lit, eval_all}
-use Rattle.sqlite_sql.specs.Query.{IsAnswer, Output}
+use Rattle.sqlite_sql.specs.Term.{Term, lit}
+use Rattle.sqlite_sql.specs.Query.{IsAnswer, Output, output}
 use Rattle.sqlite_sql.specs.Program.{overlay}
 use Rattle.sqlite_rules.specs.Lists.{Has}
-use Rattle.sqlite_rules.proofs.ProbeLemmas.{mapped_has}
 use Rattle.sql_tables.specs.Tables.{hub_schema}
 use Rattle.sql_tables.specs.Forms.{any_query}
 use Rattle.sql_rows.specs.Kept.{IsAny}
@@ -37,7 +36,7 @@ module _ {T : Type 0} (at : ℕ) (s : TypedTable T) (is : IsTypedTable hub_schem
           let none : rows ≡ [] = answer.shown ∙ ap (λ (l : List Output). take 1 (map (λ o. o.1) l)) e in
           subst (λ (l : List Row). IsAny (rows_in s db) (map s.read l)) (sym none) (none_left (rows_in s db) (λ t h.
           let r = typed_table.rows_from hub_schema hub_good at s is db kept obeys t h in
-          subst (λ l. Has l _) e (ordered_has [] project [] (lit (Int (pos 1))) (overlay db []) s.table.tree params rows answer r.0 (based hub_schema hub_good at s is [] params (λ t. true) each db kept r.0 r.1) refl)))
+          subst (λ l. Has l (output (any_query s.table.tree project) (params ∷ r.0 ∷ []))) e (ordered_has [] project [] (lit (Int (pos 1))) (overlay db []) s.table.tree params rows answer r.0 (based hub_schema hub_good at s is [] params (λ t. true) each db kept r.0 r.1) refl)))
       go (o ∷ os) e =
           let one : rows ≡ o.1 ∷ [] = answer.shown ∙ ap (λ (l : List Output). take 1 (map (λ o. o.1) l)) e in
           let r = ordered_from [] project [] (lit (Int (pos 1))) (overlay db []) s.table.tree params rows answer o (subst (λ l. Has l o) (sym e) (inl refl)) in

@@ -104,7 +104,7 @@ module _ {R : Type 0} (cmp : R → R → Ordering) (o : IsTotalOrder cmp) where
     ]
   ]
 
-  spares_each : (xs ys : List R) (y : R) → Has ys y → ((x : R) → Has xs x → cmp y x ≡ Equal → ⊥) → Has (put_all cmp xs ys) y
+  pub spares_each : (xs ys : List R) (y : R) → Has ys y → ((x : R) → Has xs x → cmp y x ≡ Equal → ⊥) → Has (put_all cmp xs ys) y
   spares_each [] ys y h apart = h
   spares_each (x ∷ xs) ys y h apart = spares_each xs (put cmp x ys) y (put_spares x ys y h (apart x (inl refl))) (λ m k. apart m (inr k))
 

@@ -1,5 +1,5 @@
 -- Readings that are kept as meter values: which of them pass a test, what it makes of them to put more, and their last number.
-use Rattle.std.proofs.Common.{◌≡◌, ◌≢◌, ◌⊎◌, ℕ, zero, suc, ◌+◌, ◌-◌, ◌<◌, ◌≤◌, List, [], ◌∷◌, ◌++◌, length, map, filter, flat_map, Bool, true, false, cond, ◌&&◌, Option, Some, None, Ordering, Less, Equal, Greater, refl, sym, ap, ap₂, ◌∙◌, append-nil, append_assoc, subst, inl, inr, arith}
+use Rattle.std.proofs.Common.{◌≡◌, ◌≢◌, ◌⊎◌, ℕ, zero, suc, ◌+◌, ◌-◌, ◌<◌, ◌≤◌, List, [], ◌∷◌, ◌++◌, length, map, filter, flat_map, Bool, true, false, cond, ◌&&◌, Option, None, Ordering, Less, Equal, Greater, refl, sym, ap, ap₂, ◌∙◌, append-nil, append_assoc, subst, inl, inr, arith}
 use Rattle.std.specs.Str.{bytes_eq}
 use Rattle.std.specs.Cmp.{IsTotalOrder, nat_cmp_is}
 use Rattle.std.specs.FinMap.{slice_cmp-IsAntisymmetric}
@@ -19,7 +19,7 @@ use Rattle.hub_rows.specs.declared.reading_row.ReadingRow.{ReadingRow}
 use Rattle.hub_rows.specs.Changes.{with_readings}
 use Rattle.hub_rows.specs.Keyed.{by_key, first, greatest, key_cmp, put, put_all, text_cmp}
 use Rattle.hub_rows.specs.Rows.{reading_key}
-use Rattle.hub_rows.specs.Transactions.{is_reading, is_sent_with, last_reading_in, reading_rows, AreNext, Follow}
+use Rattle.hub_rows.specs.Transactions.{is_reading, last_reading_in, reading_rows, AreNext}
 use Rattle.hub_rows.proofs.ListLaws.{by_key_total, keys_total, number_after, put-front, same_key, same_text, sorted-put, sorted-put_all, text_itself, under_greatest}
 use Rattle.hub_rows.proofs.PlaceLaws.{put-passed}
 use Rattle.meter_values.specs.declared.meter_value.MeterValue.{MeterValue}

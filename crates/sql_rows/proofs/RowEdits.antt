@@ -10,12 +10,11 @@ use Rattle.hub_rows.specs.declared.tx_row.Stop.{Stop}
 use Rattle.hub_rows.specs.declared.tx_row.TxRow.{TxRow}
 use Rattle.hub_rows.specs.declared.reservation_row.ReservationRow.{ReservationRow}
 use Rattle.hub_rows.specs.declared.reading_row.Reading.{Reading}
-use Rattle.hub_rows.specs.declared.reading_row.ReadingRow.{ReadingRow}
 use Rattle.hub_rows.specs.declared.use_row.UseRow.{UseRow}
-use Rattle.hub_rows.specs.Changes.{with_readings, with_stop}
-use Rattle.hub_rows.specs.Keyed.{by_key, changed, found, put, put_all}
+use Rattle.hub_rows.specs.Changes.{with_stop}
+use Rattle.hub_rows.specs.Keyed.{by_key, changed, found, put}
 use Rattle.hub_rows.specs.Reservations.{without_named}
-use Rattle.hub_rows.specs.Rows.{Rows, station_in, station_key, tx_key, reading_key, use_key}
+use Rattle.hub_rows.specs.Rows.{Rows, station_in, station_key, tx_key, use_key}
 use Rattle.hub_rows.specs.Transactions.{is_tx, last_of_all, reading_rows}
 use Rattle.hub_rows.specs.Uses.{last_use_in, next_use, owner_in, settled_use, use_by, use_row, with_use}
 use Rattle.hub_rows.proofs.ListLaws.{by_key_total, same_text}
@@ -23,7 +22,7 @@ use Rattle.sql_rows.specs.TypedTable.{typed, rows_in}
 use Rattle.sql_rows.specs.TypedTables.{stations, txs, rows_of}
 use Rattle.sql_rows.specs.Kept.{IsSame, Goes}
 use Rattle.sql_rows.proofs.ChangedLaws.{found_changed}
-use Rattle.sql_rows.proofs.MemberLaws.{is_arranged, put_all-last}
+use Rattle.sql_rows.proofs.MemberLaws.{is_arranged}
 
 -- what a part answers that may fail after it
 pub goes_if : {A B E F : Type 0} (Edit : Trees → Trees → Type 0) (a b : State) (r : Result A E) (q : Result B F) → OnOk q (IsOk r) → Goes Edit a b r → Goes Edit a b q

@@ -1,5 +1,5 @@
 -- Parts of a transaction that commit nothing, whatever the tables have.
-use Rattle.std.proofs.Common.{◌≡◌, ◌⊎◌, ℕ, List, Option, Some, None, Ok, Err, Result, IsTrue, IfOk, IfErr, IsErr, IsOk, OnOk, true, false, if◌then◌else◌, refl, sym, ap, ◌∙◌, subst, inl, inr}
+use Rattle.std.proofs.Common.{◌≡◌, ◌⊎◌, ℕ, List, Option, Some, None, Ok, Err, Result, IsTrue, IfOk, IfErr, IsErr, IsOk, OnOk, true, false, if◌then◌else◌, refl, ap, ◌∙◌, inl, inr}
 use Rattle.sqlite_value.specs.Order.{Row}
 use Rattle.sqlite_schema.specs.declared.command.Returning.{Returning}
 use Rattle.sqlite.specs.declared.error.Error.{Error}
@@ -7,7 +7,6 @@ use Rattle.sqlite.specs.declared.error.Error.TheVariants.{SqliteFailure}
 use Rattle.sqlite.specs.declared.error.ErrorCode.TheVariants.{TransactionState}
 use Rattle.sqlite.specs.declared.transaction.Transaction.{Transaction}
 use Rattle.sqlite.specs.Clock.{timed}
-use Rattle.sqlite.specs.Effect.{Database}
 use Rattle.sqlite.specs.Held.{state}
 use Rattle.sqlite.specs.State.{State, HasCleanDisk, Survives, Shown, ShowsRows, FailsToQuery, IsTooLate, ExecutesInside}
 use Rattle.sqlite.specs.Store.{Ghosts}
@@ -54,29 +53,29 @@ module _ (sql : List ℕ) (params : Row) (old new : State) (begun : IsBegun old)
     asked_begun (Ok v) ok = λ up. (shown_goes_on (items v) (ok (clean up))).2
     asked_begun (Err e) ok = tt
 
-pub on_ok : {A B E F : Type 0} {P : Type 0} (r : Result A E) (q : Result B F) → OnOk q (IsOk r) → OnOk r P → OnOk q P
-on_ok (Ok x) (Ok y) ok is = is
-on_ok (Ok x) (Err e) ok is = tt
-on_ok (Err d) (Ok y) ok is = absurd cc
-on_ok (Err d) (Err e) ok is = tt
+pub on_ok : {A B E F : Type 0} (P : Type 0) (r : Result A E) (q : Result B F) → OnOk q (IsOk r) → OnOk r P → OnOk q P
+on_ok P (Ok x) (Ok y) ok is = is
+on_ok P (Ok x) (Err e) ok is = tt
+on_ok P (Err d) (Ok y) ok is = absurd cc
+on_ok P (Err d) (Err e) ok is = tt
 
 module _ {S : Type 0} {g : Ghosts S} where
   -- a SELECT
-  pub stays_asked : {V : Type 0} {items : V → List Row} {sql : List ℕ} {params : Row} {old new : Transaction S} {r : Result V Error} → new.conn.ghost_name ≡ old.conn.ghost_name → (HasCleanDisk (state g new.conn.now) → IfOk r (λ v. Shown sql params (state g old.conn.now) (state g new.conn.now) (items v)))
+  pub stays_asked : {V : Type 0} (items : V → List Row) (sql : List ℕ) (params : Row) {old new : Transaction S} {r : Result V Error} → new.conn.ghost_name ≡ old.conn.ghost_name → (HasCleanDisk (state g new.conn.now) → IfOk r (λ v. Shown sql params (state g old.conn.now) (state g new.conn.now) (items v)))
       → (HasCleanDisk (state g new.conn.now) → IfErr r (λ e. FailsToQuery sql params (state g old.conn.now) (state g new.conn.now) e ⊎ IsTooLate sql params (state g old.conn.now) (state g new.conn.now) e)) → Survives (state g old.conn.now) (state g new.conn.now) (λ _. ⊥)
       → (IsTrue (state g new.conn.now).is_open → HasCleanDisk (state g new.conn.now)) → StaysInside g old new r
-  stays_asked {V} {items} {sql} {params} {old} {new} {r} same ok err survives clean = record {
+  stays_asked {V} items sql params {old} {new} {r} same ok err survives clean = record {
     same_reference = same;
     leaves = λ begun. asked_leaves sql params (state g old.conn.now) (state g new.conn.now) begun items survives clean r ok err;
     begun = λ begun. asked_begun sql params (state g old.conn.now) (state g new.conn.now) begun items survives clean r ok;
   }
 
   -- a statement that writes
-  pub stays_ran : {sql : List ℕ} {params : Row} {old new : Transaction S} {r : Result ℕ Error} → new.conn.ghost_name ≡ old.conn.ghost_name
+  pub stays_ran : (sql : List ℕ) (params : Row) {old new : Transaction S} {r : Result ℕ Error} → new.conn.ghost_name ≡ old.conn.ghost_name
       → (HasCleanDisk (state g new.conn.now) → IsTrue (state g old.conn.now).in_transaction → ExecutesInside 0 sql params (state g old.conn.now) (state g new.conn.now) r)
       → ((state g old.conn.now).in_transaction ≡ false → (r ≡ Err (SqliteFailure TransactionState)) × (new.conn.now ≡ old.conn.now)) → Survives (state g old.conn.now) (state g new.conn.now) (λ _. ⊥)
       → (IsTrue (state g new.conn.now).is_open → HasCleanDisk (state g new.conn.now)) → StaysInside g old new r
-  stays_ran {sql} {params} {old} {new} {r} same ran ended survives clean = record {
+  stays_ran sql params {old} {new} {r} same ran ended survives clean = record {
     same_reference = same;
     leaves = λ begun. made_leaves (state g) old.conn.now new.conn.now sql params r ran ended survives clean;
     begun = λ begun. made_mode (state g) old.conn.now new.conn.now sql params r ran ended survives clean;
@@ -92,7 +91,7 @@ module _ {S : Type 0} {g : Ghosts S} where
 
   -- another answer, which is no success where the one wasn't
   pub stays_as : {A B E F : Type 0} {old new : Transaction S} {r : Result A E} {q : Result B F} → StaysInside g old new r → OnOk q (IsOk r) → StaysInside g old new q
-  stays_as {A} {B} {E} {F} {old} {new} {r} {q} part ok = record { same_reference = part.same_reference; leaves = part.leaves; begun = λ begun. on_ok r q ok (part.begun begun) }
+  stays_as {A} {B} {E} {F} {old} {new} {r} {q} part ok = record { same_reference = part.same_reference; leaves = part.leaves; begun = λ begun. on_ok (IsBegun (state g new.conn.now)) r q ok (part.begun begun) }
 
   -- an error
   pub stays_fails : {A B E F : Type 0} {old new : Transaction S} {r : Result A E} {q : Result B F} → StaysInside g old new r → IsErr q → StaysInside g old new q

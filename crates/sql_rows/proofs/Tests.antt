@@ -20,7 +20,7 @@ use Rattle.sqlite_sql.specs.declared.ops.CompareOp.TheVariants.{Eq, Ge, Le}
 use Rattle.sqlite_sql.specs.Ops.{binary, is_true, from_truth}
 use Rattle.hub_rows.specs.Grants.{is_grant}
 use Rattle.hub_rows.specs.Reservations.{shifted, unshifted, is_reservation}
-use Rattle.hub_rows.specs.Transactions.{is_open, counts, is_tx, is_started, is_reading, is_sent_with}
+use Rattle.hub_rows.specs.Transactions.{is_open, counts, is_tx, is_started, is_sent_with}
 use Rattle.hub_rows.specs.Uses.{is_owner_of}
 use Rattle.hub_rows.specs.declared.tx_row.StartKey.{StartKey}
 use Rattle.sql_tables.specs.Forms.{where_is, range_is}

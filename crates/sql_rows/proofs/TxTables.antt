@@ -19,7 +19,7 @@ use Rattle.sql_rows.proofs.ReadLaws.{IsWhole}
 use Rattle.hub_rows.specs.declared.tx_row.TxRow.{TxRow}
 use Rattle.hub_rows.specs.declared.tx_row.TxOwnerRow.{TxOwnerRow}
 use Rattle.hub_rows.specs.declared.tx_row.Stop.{Stop}
-use Rattle.hub_rows.specs.Transactions.{is_open, counts, is_tx, is_started, is_reading}
+use Rattle.hub_rows.specs.Transactions.{is_open, counts, is_tx, is_started}
 use Rattle.sqlite_rules.specs.Cast.{cast_all}
 use Rattle.ocpp_types.specs.Phase.{phase_name}
 use Rattle.ocpp_types.specs.Reason.{reason_name}
@@ -28,11 +28,10 @@ use Rattle.sql_rows.proofs.NameLaws.{judged_back, reason_back, context_back, for
 use Rattle.std.specs.Str.{bytes_eq}
 use Rattle.sqlite_value.specs.declared.value.Value.TheVariants.{Int, Text, Blob}
 use Rattle.sqlite_trees.specs.Tree.{Trees}
-use Rattle.hub_rows.specs.declared.reading_row.ReadingRow.{ReadingRow}
 use Rattle.hub_rows.specs.declared.use_row.UseRow.{UseRow}
 use Rattle.hub_rows.specs.Keyed.{by_key, key_cmp, numbered_key, put, without}
 use Rattle.hub_rows.proofs.ListLaws.{keys_total, same_text}
-use Rattle.hub_rows.specs.Rows.{tx_key, tx_owner_key, reading_key, use_key}
+use Rattle.hub_rows.specs.Rows.{tx_key, tx_owner_key, use_key}
 use Rattle.hub_rows.specs.Uses.{is_owner_of}
 use Rattle.sql_tables.specs.declared.meter_values.TheConstants as sql_meter_values
 use Rattle.sql_tables.specs.declared.readings.TheConstants as sql_readings

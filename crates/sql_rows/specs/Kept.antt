@@ -193,8 +193,12 @@ pub record AsksInsideIn {S A E : Type 0} (g : Ghosts S) (old new : Transaction S
   pub goes : IsInside (state g old.conn.now) → Goes IsSame (state g old.conn.now) (state g new.conn.now) r
 
 -- what a look-up inside a transaction says, of the rows of the hub
-abbrev pub AsksInside : {S A E : Type 0} → Ghosts S → Transaction S → Transaction S → Result A E → (Rows → A → Type 0) → Type 0
-AsksInside g old new r P = AsksInsideIn g old new r (λ db. P (rows_of db))
+pub record AsksInside {S A E : Type 0} (g : Ghosts S) (old new : Transaction S) (r : Result A E) (P : Rows → A → Type 0) : Type 0 where
+  pub same_reference : new.conn.ghost_name ≡ old.conn.ghost_name
+  -- what it answers
+  pub found : IsInside (state g old.conn.now) → IsTrue (state g new.conn.now).is_open → IfOk r (P (rows_of (state g old.conn.now).now.trees))
+  -- nothing changes
+  pub goes : IsInside (state g old.conn.now) → Goes IsSame (state g old.conn.now) (state g new.conn.now) r
 
 -- the rows of an answer inside a transaction are those that pass, and nothing changes
 pub record ShowsInside {V T S : Type 0} (g : Ghosts S) (items : V → List Row) (s : TypedTable T) (p : T → Bool) (old new : Transaction S) (r : Result V Error) : Type 0 where

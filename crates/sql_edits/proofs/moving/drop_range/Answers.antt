@@ -12,5 +12,5 @@ returns g c =
     record {
       makes = makes_step (drops_readings c.args.op.now c.args.station.now c.args.first c.args.last) ran.same_reference ran.runs ran.ended ran.survives
           (rw (c.params-to_sql.ensures, c.params-to_sql-2.ensures, c.params-to_sql-3.ensures, c.params-to_sql-4.ensures) refl) clean c.done.ensures.ok c.done.ensures.err;
-      stays = stays_as (stays_ran ran.same_reference ran.runs ran.ended ran.survives clean) c.done.ensures.ok;
+      stays = stays_as (stays_ran _ _ ran.same_reference ran.runs ran.ended ran.survives clean) c.done.ensures.ok;
     }

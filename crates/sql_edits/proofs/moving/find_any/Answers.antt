@@ -11,5 +11,5 @@ returns g c =
     let asked = c.query_all.ensures in
     record {
       shows = shows_any_inside any_reading asked.same_reference asked.ok asked.err asked.survives refl clean;
-      stays = stays_asked asked.same_reference asked.ok asked.err asked.survives clean;
+      stays = stays_asked (λ v. v.items) _ _ asked.same_reference asked.ok asked.err asked.survives clean;
     }

@@ -13,5 +13,5 @@ returns g c =
     record {
       shows = shows_page_inside (pages_of_readings c.args.op.now c.args.station.now 0 last_of_all) asked.same_reference asked.ok asked.err asked.survives
           (rw (c.params-to_sql.ensures, c.params-to_sql-2.ensures, c.params-to_sql-3.ensures, c.params-to_sql-4.ensures) refl) clean;
-      stays = stays_asked asked.same_reference asked.ok asked.err asked.survives clean;
+      stays = stays_asked (λ v. v.items) _ _ asked.same_reference asked.ok asked.err asked.survives clean;
     }

@@ -12,5 +12,5 @@ returns g c =
     record {
       makes = makes_step (adds_meter_value (record { op = c.args.op.now; station = c.args.station.now; first = c.args.first; value = c.args.value.now })) c.execute.ensures.same_reference c.execute.ensures.runs c.execute.ensures.ended c.execute.ensures.survives
           (rw (c.params-to_sql.ensures, c.params-to_sql-2.ensures, c.params-to_sql-3.ensures, c.params-to_sql-4.ensures, c.params-to_sql-5.ensures, c.params-to_sql-6.ensures, c.params-to_sql-7.ensures, c.params-to_sql-8.ensures, c.from.ensures, to_z-of_z w64 c.args.value.now.at at, c.requires.count, c.requires.text) refl) (open_is_clean _ _ (g.met.S.Store.shut_if_dirty c.execute.new.self.conn.now.store)) c.done.ensures.ok c.done.ensures.err;
-      stays = stays_as (stays_ran c.execute.ensures.same_reference c.execute.ensures.runs c.execute.ensures.ended c.execute.ensures.survives (open_is_clean _ _ (g.met.S.Store.shut_if_dirty c.execute.new.self.conn.now.store))) c.done.ensures.ok;
+      stays = stays_as (stays_ran _ _ c.execute.ensures.same_reference c.execute.ensures.runs c.execute.ensures.ended c.execute.ensures.survives (open_is_clean _ _ (g.met.S.Store.shut_if_dirty c.execute.new.self.conn.now.store))) c.done.ensures.ok;
     }

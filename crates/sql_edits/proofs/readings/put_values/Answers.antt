@@ -1,4 +1,4 @@
-use Rattle.std.proofs.Common.{rules, ◌≡◌, ◌+◌, ◌++◌, [], ◌∷◌, ap, arith, length, subst, take}
+use Rattle.std.proofs.Common.{refl, rules, ◌≡◌, ◌+◌, ◌++◌, [], ◌∷◌, ap, arith, length, subst, take}
 use Rattle.std.proofs.lemmas.List.{take_all, take_more}
 use Rattle.sqlite.specs.Held.{state}
 use Rattle.sql_rows.specs.Kept.{ArePutIn}
@@ -31,7 +31,7 @@ returns g c =
     record {
       makes = makes_also c.values.invariant.1
           (λ inside up put. subst (λ vs. ArePutIn meter_values (value_rows c.args.op.now c.args.station.now c.args.first vs) (state g.S.Store c.args.tx.now.conn.now).now.trees (state g.S.Store c.values.tx.conn.now).now.trees) whole put);
-      stays = stays_as c.values.invariant.2 tt;
+      stays = stays_as c.values.invariant.2 refl;
     }
 
 pub returns-in_err-put_value : goal.returns-in_err-put_value

@@ -26,9 +26,9 @@ returns g c =
             let unmoved : IsUnmoved b = λ up. (inside_as early.0 b early.1 reached up, no_values early.0 b.now.trees (reached up).kept (cut_values c.args.from c.requires.earlier early.0 early.3.0)) in
             let it = (moved.makes.goes unmoved).ok in
             let with_rows : IsInsideWith all d = λ up. (it.within up, it.edit up ∙ before_is early.0 b.now.trees (reached (it.leaves.was_open up)).kept ∙ early.2) in
-            on_ok c.put_number.result c.told.result c.told.ensures.ok (put.has all with_rows);
-        mode = on_ok c.put_number.result c.told.result c.told.ensures.ok put.mode;
-        up = λ sure. on_ok c.put_number.result c.told.result c.told.ensures.ok (put.up sure);
+            on_ok _ c.put_number.result c.told.result c.told.ensures.ok (put.has all with_rows);
+        mode = on_ok _ c.put_number.result c.told.result c.told.ensures.ok put.mode;
+        up = λ sure. on_ok _ c.put_number.result c.told.result c.told.ensures.ok (put.up sure);
       };
     }
 

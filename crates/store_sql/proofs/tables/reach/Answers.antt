@@ -5,6 +5,6 @@ pub returns : goal.returns
 returns g c = record {
   makes = record {
     part = c.make_schema.ensures.makes.part;
-    makes = λ rows begins. on_ok c.make_schema.result c.told.result c.told.ensures.ok (c.make_schema.ensures.makes.makes rows begins);
+    makes = λ rows begins. on_ok _ c.make_schema.result c.told.result c.told.ensures.ok (c.make_schema.ensures.makes.makes rows begins);
   };
 }
