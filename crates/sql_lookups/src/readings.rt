@@ -1,5 +1,5 @@
 //! Look-ups of readings, which are kept as meter values.
-ghost use Rattle.std.specs.Prelude.{◌≡◌, ◌&&◌, ◌++◌, ◌<◌, ◌^◌, None, Some, IfOk, OnOk, filter, flat_map};
+ghost use Rattle.std.specs.Prelude.{◌≡◌, ◌&&◌, ◌+◌, ◌++◌, ◌<◌, ◌≤◌, ◌^◌, None, Some, IfOk, OnOk, filter, flat_map};
 ghost use Rattle.std.specs.List.Sorted.{IsStrictlySortedBy};
 ghost use Rattle.std.specs.Str.{bytes_eq};
 ghost use Rattle.sqlite.specs.Held.{state};
@@ -268,18 +268,24 @@ pub(crate) fn last_value<S: Alter>(
     first_row(find_last(conn, op, station))
 }
 
+/// The last of so many numbers from the first on. There is one, or else this answers Failed.
+fn last_of(first: u32, count: usize) -> Result<u32, StoreFault>
+    ensures { IfOk result (λ n. (first ≤ n) × (n + 1 ≡ first + count)) }
+{
+    if count == 0 || count - 1 > (u32::MAX - first) as usize {
+        return Err(StoreFault::Failed);
+    }
+    Ok(first + (count - 1) as u32)
+}
+
 /// The number of the last reading of a meter value, which has some; 0 where there is none.
 pub(crate) fn last_number(row: &Option<MeterValueRow>) -> Result<u32, StoreFault>
     ensures { IfOk result (IsLastOf row.now) }
 {
-    let Some(row) = row else {
-        return Ok(0);
-    };
-    let count = row.value.sampled.as_slice().len();
-    if count == 0 || count - 1 > (u32::MAX - row.first) as usize {
-        return Err(StoreFault::Failed);
+    match row {
+        Some(row) => last_of(row.first, row.value.sampled.as_slice().len()),
+        None => Ok(0),
     }
-    Ok(row.first + (count - 1) as u32)
 }
 
 /// The readings of a meter value from a number on; none where there is none.
