@@ -1,5 +1,5 @@
 -- The readings of a station, by its meter values.
-use Rattle.std.proofs.Common.{◌≡◌, ◌∙◌, ◌&&◌, ◌++◌, ◌+◌, ℕ, nat_le, nat_lt, ◌<◌, ◌≤◌, List, [], ◌∷◌, Option, Some, None, cond, length, filter, flat_map, true, false, refl, sym, ap, subst, append-nil, inl, inr, arith, Less}
+use Rattle.std.proofs.Common.{◌≡◌, ◌∙◌, ◌&&◌, ◌++◌, ◌+◌, ℕ, nat_le, nat_lt, ◌<◌, ◌≤◌, List, [], ◌∷◌, Option, None, cond, filter, flat_map, false, refl, sym, ap, subst, append-nil, inl, inr, arith}
 use Rattle.std.specs.Cmp.{IsTotalOrder}
 use Rattle.std.specs.List.{AllByRecursion}
 use Rattle.std.specs.List.Sorted.{IsStrictlySortedBy}

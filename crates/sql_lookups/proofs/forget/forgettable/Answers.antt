@@ -1,4 +1,4 @@
-use Rattle.std.proofs.Common.{◌≡◌, ◌∙◌, ◌-◌, ℕ, List, Ok, ap, arith, length, map, subst, sym, take}
+use Rattle.std.proofs.Common.{◌≡◌, ◌∙◌, ◌-◌, List, Ok, ap, arith, length, map, subst, sym, take}
 use Rattle.hub_rows.specs.declared.forgettable.TheConstants.{MAX_FORGOTTEN}
 use Rattle.hub_rows.specs.declared.store.StoreFault.{StoreFault}
 use Rattle.hub_rows.specs.declared.tx_row.TxRow.{TxRow}
