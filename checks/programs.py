@@ -266,7 +266,7 @@ def check_first_schema(checks):
 
 def check_replays(checks):
     """Each script gives over a file what it gives in memory."""
-    scripts = sorted(SCRIPTS.glob("*/*.script"))
+    scripts = sorted(path for path in SCRIPTS.glob("*/*.script") if path.with_suffix(".expected").exists())
     checks.check("scripts", len(scripts) > 100, True)
     for script in scripts:
         operators = script.with_suffix(".operators")
@@ -487,6 +487,62 @@ def check_forget(checks):
     for days in ("90", "d", "-1d", "1.5d", "90days", "100000d"):
         checks.ends(f"--before {days}", f"{' '.join(forget)}={days}", 1, f"invalid value '{days}' for '--before <DAYS>'")
     checks.ends("no --before", " ".join(forget[:-1]), 1, "--before")
+
+
+class Between(threading.Thread):
+    """A proxy before the server, for one client. Before it passes a text on that begins so, it does something once."""
+
+    def __init__(self, word, act):
+        super().__init__(daemon=True)
+        self.word, self.act = word.encode(), act
+        self.listener = socket.create_server(("127.0.0.1", 0))
+        self.port = self.listener.getsockname()[1]
+        self.start()
+
+    def run(self):
+        client = self.listener.accept()[0]
+        server = socket.create_connection(("127.0.0.1", PORT))
+        back = threading.Thread(target=self.passes_on, args=(server, client, lambda data: None), daemon=True)
+        back.start()
+        self.passes_on(client, server, self.looks)
+        back.join()
+
+    def passes_on(self, source, target, look):
+        with contextlib.suppress(OSError):
+            while data := source.recv(65536):
+                look(data)
+                target.sendall(data)
+            target.shutdown(socket.SHUT_WR)
+
+    def looks(self, data):
+        """Each text of this client is one frame of its own, under 126 bytes long (RFC 6455, section 5.2)."""
+        if data[0] == 0x81 and self.act:
+            text = bytes(byte ^ data[2 + place % 4] for place, byte in enumerate(data[6:]))
+            if self.word in text:
+                act, self.act = self.act, None
+                act()
+
+
+def check_unwritten(checks):
+    """A reading that comes after its listing and goes with the order is told, where it takes a transaction's place too."""
+    db, begin, at = checks.new_file(), 1704067200, '"timestamp":"2024-01-01T00:00:00Z"'
+    start = f'[2,"s","StartTransaction",{{"connectorId":1,"idTag":"K1","meterStart":0,{at}}}]'
+
+    def values(count, words=""):
+        sampled = ",".join(['{"value":"1"}'] * count)
+        return f'[2,"m","MeterValues",{{"connectorId":1,{words}"meterValue":[{{{at},"sampledValue":[{sampled}]}}]}}]'
+
+    stop = f'[2,"e","StopTransaction",{{"meterStop":1,"transactionId":1,{at}}}]'
+    texts = [BOOT, start, values(999, '"transactionId":1,'), stop, start, values(1, '"transactionId":2,')]
+    lines = ["tag put K1 - 0 -", "station add CP01 Accepted 300", "connect CP01", *(f"frame CP01 {text}" for text in texts)]
+    filled = checks.run("replay", "--operators", "ACME", "--db", db, lines="".join(f"{begin} ACME {line}\n" for line in lines).encode())
+    checks.check("999 readings and a transaction", (filled[0], filled[2]), (0, ""))
+    with checks.serve("--operators", "ACME", db=db):
+        station = Peer(PORT, "/ocpp/ACME/CP01")
+        between = Between("forget CP01", lambda: [station.ask(values(1)) for _ in range(2)])
+        words = ["forget", "--port", str(between.port), "--operator", "ACME", "--before", "90d", "--export", os.path.join(checks.folder, "late")]
+        told = "fault Export\n--export: 1 rows went that were not written\n"
+        checks.check("a reading comes between", checks.run(*words), (2, "", told))
 
 
 def check_ask_beside(checks):
@@ -847,6 +903,7 @@ def check_all(checks):
     check_vacuum(checks)
     check_ask(checks)
     check_forget(checks)
+    check_unwritten(checks)
     check_ask_beside(checks)
     check_words(checks)
     check_log(checks)
