@@ -106,9 +106,9 @@ module _ (history : HistoryTable) (op station : List ℕ) where
       let was = so_far up in (
         was.0,
         dropped_as history op station (is_in (record run { last = x })) (λ n. is_in run n || is_in (alone x) n) (rows_of new) (λ n. is_longer run x n some next ∙ ap (λ b. is_in run n || b) (sym (is_alone x n)))
-        ∙ sym (dropped_twice history op station (is_in run) (is_in (alone x)) (rows_of new))
-        ∙ ap (λ rows. dropped history op station (is_in (alone x)) rows) was.1
-        ∙ adds numbers x (rows_of old),
+            ∙ sym (dropped_twice history op station (is_in run) (is_in (alone x)) (rows_of new))
+            ∙ ap (λ rows. dropped history op station (is_in (alone x)) rows) was.1
+            ∙ adds numbers x (rows_of old),
       )
 
   -- the run is dropped, and another begins

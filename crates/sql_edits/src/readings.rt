@@ -1,5 +1,5 @@
 //! Edits of readings, which are kept as meter values.
-ghost use Rattle.std.specs.Prelude.{◌≡◌, IfOk, IsTrue, length};
+ghost use Rattle.std.specs.Prelude.{◌≡◌, IsTrue, length};
 ghost use Rattle.hub_rows.specs.Changes.{with_readings};
 ghost use Rattle.hub_rows.specs.Transactions.{last_reading_in, AreNext};
 ghost use Rattle.meter_values.specs.Written.{text_of};
@@ -9,8 +9,7 @@ ghost use Rattle.sql_rows.specs.TypedTables.{meter_values, rows_of, value_rows};
 
 use crate::binds::done;
 use hub_rows::{Reading, StoreFault};
-use meter_values::{MeterValue, group, write_sampled};
-use ocpp_types::{Listed, Mem};
+use meter_values::{MeterValue, group_copies, write_sampled};
 use sqlite::{Alter, Transaction, params};
 use std::alloc::Global;
 
@@ -87,16 +86,6 @@ pub(crate) fn put_values<S: Alter>(
     Ok(())
 }
 
-fn copied(alloc: Global, readings: &[Reading]) -> Mem<Listed<Reading>>
-    ensures { IfOk result (λ list. list ≡ readings.now) }
-{
-    let mut list = Listed::new(alloc);
-    for reading in readings {
-        list.push(reading.clone()?)?;
-    }
-    Ok(list)
-}
-
 /// Puts readings of a station that follow its last, numbered from the first number on. Neighbours
 /// of one time become one meter value.
 pub(crate) fn add_readings<S: Alter>(
@@ -109,7 +98,6 @@ pub(crate) fn add_readings<S: Alter>(
 ) -> Result<(), StoreFault>
     ensures makes { MakesIf S.Store (λ s. IsTrue s.is_open → Within s × AreNext (last_reading_in op.now station.now (rows_of s.now.trees).readings) first (length readings.now)) (IsMade (λ rows. record rows { readings = with_readings op.now station.now first readings.now rows.readings })) tx.old tx.new result }
 {
-    let list = copied(alloc, readings)?;
-    let values = group(alloc, list)?;
+    let values = group_copies(alloc, readings)?;
     put_values(tx, alloc, op, station, first, values.as_slice())
 }

@@ -1,7 +1,6 @@
--- What of a station's history may go, by the pages that are shown.
-use Rattle.std.proofs.Common.{◌≡◌, ◌∙◌, ◌&&◌, ◌++◌, ◌+◌, ◌-◌, ℕ, ◌<◌, ◌≤◌, List, [], None, length, map, filter, take, refl, sym, ap, arith}
+-- What of a station's history may go, by the meter values and the transactions that are shown.
+use Rattle.std.proofs.Common.{◌≡◌, ◌∙◌, ◌&&◌, ◌++◌, ◌-◌, ℕ, nat_le, nat_lt, List, [], ◌∷◌, None, Bool, true, false, cond, length, map, filter, take, refl, sym, ap}
 use Rattle.std.specs.List.Sorted.{IsStrictlySortedBy}
-use Rattle.std.specs.Str.{bytes_eq}
 use Rattle.std.proofs.lemmas.List.{length-map}
 use Rattle.sqlite_trees.specs.Tree.{Trees}
 use Rattle.hub_rows.specs.declared.forgettable.TheConstants.{MAX_FORGOTTEN}
@@ -13,30 +12,35 @@ use Rattle.hub_rows.specs.Lookups.{forgettable_in}
 use Rattle.hub_rows.specs.Rows.{Rows, reading_key, tx_key}
 use Rattle.hub_rows.specs.Transactions.{last_reading_in, last_tx_in, readings_in, txs_in}
 use Rattle.hub_rows.proofs.LastReadingLaws.{by-room}
-use Rattle.hub_rows.proofs.ListLaws.{and-true, by_key_total}
-use Rattle.sql_rows.specs.Kept.{IsPage}
-use Rattle.sql_rows.specs.TypedTable.{cmp, typed}
-use Rattle.sql_rows.specs.TypedTables.{readings, rows_of, txs}
+use Rattle.hub_rows.proofs.ListLaws.{by_key_total}
+use Rattle.sql_rows.specs.TypedTable.{cmp, rows_in, typed}
+use Rattle.sql_rows.specs.TypedTables.{meter_values, rows_of, txs}
 use Rattle.sql_rows.proofs.MemberLaws.{is_arranged}
 use Rattle.sql_lookups.specs.Forgotten.{its_readings, old_readings_below, old_txs_below}
-use Rattle.sql_lookups.specs.Pages.{after_page, below, is_between}
-use Rattle.sql_lookups.proofs.PageLaws.{all_below, but_last_is, follows_to, own_in_order}
+use Rattle.sql_lookups.specs.Pages.{below}
+use Rattle.sql_lookups.proofs.PageLaws.{but_last_is, own_in_order, parted}
+use Rattle.sql_lookups.proofs.UnfoldLaws.{readings_are}
 
 pub txs_up : (db : Trees) → IsStrictlySortedBy (by_key tx_key) (rows_of db).transactions
 txs_up db = is_arranged (cmp txs) (by_key_total txs.key) (map (typed txs) (db txs.table.tree))
 
-pub readings_up : (db : Trees) → IsStrictlySortedBy (by_key reading_key) (rows_of db).readings
-readings_up db = is_arranged (cmp readings) (by_key_total readings.key) (map (typed readings) (db readings.table.tree))
+pub values_up : (db : Trees) → IsStrictlySortedBy (cmp meter_values) (rows_in meter_values db)
+values_up db = is_arranged (cmp meter_values) (by_key_total meter_values.key) (map (typed meter_values) (db meter_values.table.tree))
 
-readings_are : (b station : List ℕ) (rows : Rows) → its_readings b station rows ≡ readings_in b station None rows.readings
-readings_are b station rows = λ i. filter (λ r. bytes_eq r.op b && sym (and-true (bytes_eq r.station station)) i) rows.readings
+both_pass : {R : Type 0} (p q : R → Bool) (rows : List R) → filter (λ r. p r && q r) rows ≡ filter q (filter p rows)
+both_pass p q [] = refl
+both_pass p q (x ∷ rows) =
+    elim (p x) as (λ b. cond (b && q x) (x ∷ filter (λ r. p r && q r) rows) (filter (λ r. p r && q r) rows) ≡ filter q (cond b (x ∷ filter p rows) (filter p rows))) [
+      | true ↦ ap (λ l. cond (q x) (x ∷ l) l) (both_pass p q rows)
+      | false ↦ both_pass p q rows
+    ]
 
 module _ (b station : List ℕ) (until : ℕ) (rows : Rows) (tx_order : IsStrictlySortedBy (by_key tx_key) rows.transactions) (reading_order : IsStrictlySortedBy (by_key reading_key) rows.readings) where
   abbrev its_txs : List TxRow
   its_txs = txs_in b station rows.transactions
 
   abbrev own : List ReadingRow
-  own = its_readings b station rows
+  own = its_readings b station rows.readings
 
   own_order : IsStrictlySortedBy (by_key (number_key (λ r. r.number))) own
   own_order = own_in_order (λ r. r.op) (λ r. r.station) (λ r. r.number) b station rows.readings reading_order
@@ -47,12 +51,15 @@ module _ (b station : List ℕ) (until : ℕ) (rows : Rows) (tx_order : IsStrict
   abbrev numbers : List ReadingRow → List ℕ
   numbers rows = map (λ r. r.number) rows
 
-  module _ (last : ℕ) (is_last : last ≡ last_reading_in b station rows.readings) (gone : List ReadingRow) (is_gone : gone ≡ take MAX_FORGOTTEN (old_readings_below b station until last rows)) where
+  module _ (last : ℕ) (is_last : last ≡ last_reading_in b station rows.readings) (gone : List ReadingRow) (are_old : gone ≡ take MAX_FORGOTTEN (old_readings_below b station until last rows)) where
     is_greatest : last ≡ greatest (map (λ r. r.number) own)
-    is_greatest = is_last ∙ ap (λ l. greatest (map (λ r. r.number) l)) (sym (readings_are b station rows))
+    is_greatest = is_last ∙ ap (λ l. greatest (map (λ r. r.number) l)) (sym (readings_are b station rows.readings))
+
+    is_gone : gone ≡ gone_of (below (λ r. r.number) last own)
+    is_gone = are_old ∙ ap (take MAX_FORGOTTEN) (both_pass (λ r. nat_lt r.number last) (may_go until its_txs) own)
 
     front : below (λ r. r.number) last own ≡ but_last (readings_in b station None rows.readings)
-    front = ap (λ n. below (λ r. r.number) n own) is_greatest ∙ sym (but_last_is (λ r. r.number) own own_order) ∙ ap but_last (readings_are b station rows)
+    front = ap (λ n. below (λ r. r.number) n own) is_greatest ∙ sym (but_last_is (λ r. r.number) own own_order) ∙ ap but_last (readings_are b station rows.readings)
 
     same : gone_of (below (λ r. r.number) last own) ≡ gone_of (but_last (readings_in b station None rows.readings))
     same = ap gone_of front
@@ -70,15 +77,13 @@ module _ (b station : List ℕ) (until : ℕ) (rows : Rows) (tx_order : IsStrict
         }
 
     -- the last reading is all that follows those before it
-    module _ (left : List ReadingRow) (page : IsPage (λ r. r.number) (is_between (λ r. r.op) (λ r. r.station) (λ r. r.number) b station last last) rows.readings left) where
+    module _ (left : List ReadingRow) (is_left : left ≡ filter (λ r. nat_le last r.number) own) where
       whole : below (λ r. r.number) last own ++ left ≡ readings_in b station None rows.readings
       whole =
-          let next : ℕ = after_page (last + 1) (map (λ r. r.number) left) in
-          let f = follows_to (λ r. r.op) (λ r. r.station) (λ r. r.number) b station rows.readings reading_order last last (omega arith) left page (last + 1) refl in
-          let forward : last < next = f.forward in
-          let within : next ≤ last + 1 = f.within_end in
-          let next_is : next ≡ last + 1 = omega (arith, forward, within) in
-          f.rows_are ∙ ap (λ n. below (λ r. r.number) n own) (next_is ∙ ap (λ n. n + 1) is_greatest) ∙ all_below (λ r. r.number) own ∙ readings_are b station rows
+          ap (λ l. below (λ r. r.number) last own ++ l) is_left
+          ∙ ap (λ n. below (λ r. r.number) n own ++ filter (λ r. nat_le n r.number) own) is_greatest
+          ∙ parted (λ r. r.number) own own_order
+          ∙ readings_are b station rows.readings
 
       pub forgettable_is : (end : ℕ) → end ≡ last_tx_in b station rows.transactions → (old : List ℕ) → old ≡ numbers gone → (ended : List TxRow) → ended ≡ take (MAX_FORGOTTEN - length old) (old_txs_below b station until end left old rows)
           → record { readings = gone; transactions = ended } ≡ forgettable_in b station until rows

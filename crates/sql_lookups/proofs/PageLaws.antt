@@ -24,6 +24,9 @@ same_range first last top n high = grind (arith, nat_tests)
 same_end : (first last n : ℕ) → nat_le first n && nat_le n last ≡ nat_le first n && nat_lt n (last + 1)
 same_end first last n = grind (arith, nat_tests)
 
+from_top : (top n : ℕ) → n ≤ top → nat_le top n ≡ nat_le top n && nat_lt n (top + 1)
+from_top top n low = grind (arith, nat_tests)
+
 grouped : (a s w v : Bool) → (a && (s && w)) && v ≡ a && (s && (w && v))
 grouped true true w v = refl
 grouped true false w v = refl
@@ -90,20 +93,31 @@ module _ {R : Type 0} (number : R → ℕ) where
       let top : ℕ = greatest (map number rows) in
       filter-all (λ r. nat_lt (number r) (top + 1)) rows (all-weaker (λ r. number r ≤ top) (λ r. nat_lt (number r) (top + 1) ≡ true) (λ r low. lt-ltb (number r) (top + 1) (omega (arith, low))) rows (under_greatest number rows))
 
-  -- what is found among the rows below a number is all that is wanted, where it is enough or no more rows are wanted
-  pub first_found : (most : ℕ) (p : R → Bool) (first end : ℕ) (rows : List R) → IsInOrder rows → first ≤ end → (first ≡ end) ⊎ (most ≤ length (filter p (below number first rows)))
-      → take most (filter p (below number first rows)) ≡ take most (filter p (below number end rows))
-  first_found most p first end rows sorted up (inl same) = ap (λ n. take most (filter p (below number n rows))) same
-  first_found most p first end rows sorted up (inr enough) =
-      let more : List R = filter (λ r. nat_le first (number r) && nat_lt (number r) end) rows in
-      sym (take-append-le most (filter p (below number first rows)) (filter p more) enough)
-      ∙ ap (take most) (sym (filter-append p (below number first rows) more) ∙ ap (filter p) (joined first end up rows sorted))
+  -- the last row follows those below its number
+  pub parted : (rows : List R) → IsInOrder rows → below number (greatest (map number rows)) rows ++ filter (λ r. nat_le (greatest (map number rows)) (number r)) rows ≡ rows
+  parted rows sorted =
+      let top : ℕ = greatest (map number rows) in
+      ap (λ l. below number top rows ++ l) (filter-alike (λ r. nat_le top (number r)) (λ r. nat_le top (number r) && nat_lt (number r) (top + 1)) rows
+      (all-weaker (λ r. number r ≤ top) (λ r. nat_le top (number r) ≡ nat_le top (number r) && nat_lt (number r) (top + 1)) (λ r low. from_top top (number r) low) rows (under_greatest number rows)))
+      ∙ joined top (top + 1) (omega arith) rows sorted
+      ∙ all_below rows
 
-  -- what is found on the page that follows
-  pub more_found : (p : R → Bool) (first next : ℕ) (rows page : List R) → below number first rows ++ page ≡ below number next rows → (found more : List R) → found ≡ filter p (below number first rows) → more ≡ found ++ filter p page
-      → more ≡ filter p (below number next rows)
-  more_found p first next rows page follow found more so_far new =
-      new ∙ ap (λ l. l ++ filter p page) so_far ∙ sym (filter-append p (below number first rows) page) ∙ ap (filter p) follow
+  -- what is found in rows, part by part
+  module _ {S : Type 0} (found_in : List R → List S) (parts : (xs ys : List R) → found_in (xs ++ ys) ≡ found_in xs ++ found_in ys) where
+    -- what is found in the rows below a number is all that is wanted, where it is enough or no more rows are wanted
+    pub first_found : (most first end : ℕ) (rows : List R) → IsInOrder rows → first ≤ end → (first ≡ end) ⊎ (most ≤ length (found_in (below number first rows)))
+        → take most (found_in (below number first rows)) ≡ take most (found_in (below number end rows))
+    first_found most first end rows sorted up (inl same) = ap (λ n. take most (found_in (below number n rows))) same
+    first_found most first end rows sorted up (inr enough) =
+        let more : List R = filter (λ r. nat_le first (number r) && nat_lt (number r) end) rows in
+        sym (take-append-le most (found_in (below number first rows)) (found_in more) enough)
+        ∙ ap (take most) (sym (parts (below number first rows) more) ∙ ap found_in (joined first end up rows sorted))
+
+    -- what is found on the page that follows
+    pub more_found : (first next : ℕ) (rows page : List R) → below number first rows ++ page ≡ below number next rows → (found more : List S) → found ≡ found_in (below number first rows) → more ≡ found ++ found_in page
+        → more ≡ found_in (below number next rows)
+    more_found first next rows page follow found more so_far new =
+        new ∙ ap (λ l. l ++ found_in page) so_far ∙ sym (parts (below number first rows) page) ∙ ap found_in follow
 
   -- one more row of a list
   pub one_found : (p : R → Bool) (front next : List R) (x : R) (start found more : List R) (goes : Bool) → next ≡ front ++ x ∷ [] → found ≡ start ++ filter p front → goes ≡ p x → more ≡ found ++ cond goes (x ∷ []) []
@@ -224,14 +238,15 @@ module _ {R : Type 0} (op station : R → List ℕ) (number : R → ℕ) (b st :
       follows_to end e = subst (λ n. Follows n (after_page n (map number page))) e follows
 
     -- what is found on a page that is shown after those before it, where the next page begins
-    pub next_found : (p : R → Bool) (first end : ℕ) → first < end → (page : List R) → IsPage number (is_between op station number b st first (end - 1)) rows page
-        → (found more : List R) → found ≡ filter p (below number first own_rows) → more ≡ found ++ filter p page
+    pub next_found : {S : Type 0} (found_in : List R → List S) → ((xs ys : List R) → found_in (xs ++ ys) ≡ found_in xs ++ found_in ys)
+        → (first end : ℕ) → first < end → (page : List R) → IsPage number (is_between op station number b st first (end - 1)) rows page
+        → (found more : List S) → found ≡ found_in (below number first own_rows) → more ≡ found ++ found_in page
         → (next : ℕ) → (IsStrictlySortedBy (by_key (number_key number)) page → first < after_page end (map number page) → after_page end (map number page) ≤ end → next ≡ after_page end (map number page))
-        → (next ≤ end) × (more ≡ filter p (below number next own_rows))
-    next_found p first end under page is found more so_far new next goes_on =
+        → (next ≤ end) × (more ≡ found_in (below number next own_rows))
+    next_found found_in parts first end under page is found more so_far new next goes_on =
         let up : first ≤ end - 1 = omega (arith, under) in
         let last : end - 1 + 1 ≡ end = omega (arith, under) in
         let f = follows_to first (end - 1) up page is end last in
         let within : after_page end (map number page) ≤ end = f.within_end in
         let same : next ≡ after_page end (map number page) = goes_on (page_in_order first (end - 1) up page is) f.forward within in
-        (omega (arith, same, within), more_found number p first next own_rows page (f.rows_are ∙ ap (λ n. below number n own_rows) (sym same)) found more so_far new)
+        (omega (arith, same, within), more_found number found_in parts first next own_rows page (f.rows_are ∙ ap (λ n. below number n own_rows) (sym same)) found more so_far new)

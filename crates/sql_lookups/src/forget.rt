@@ -1,21 +1,23 @@
 //! What of a station's history may go. Its rows are looked up page by page, so that few are held at once.
-ghost use Rattle.std.specs.Prelude.{◌≡◌, ◌<◌, ◌≤◌, ◌+◌, ◌-◌, ◌++◌, [], ◌∷◌, cond, filter, map, take, length, option_map, OnOk};
+ghost use Rattle.std.specs.Prelude.{◌≡◌, ◌<◌, ◌≤◌, ◌-◌, ◌++◌, ◌&&◌, nat_lt, [], ◌∷◌, cond, filter, map, take, length, OnOk};
 ghost use Rattle.std.specs.List.Sorted.{IsStrictlySortedBy};
 ghost use Rattle.sqlite.specs.Held.{state};
-ghost use Rattle.hub_rows.specs.Forgetting.{goes_with, may_go, named_tx, tx_goes};
+ghost use Rattle.hub_rows.specs.Forgetting.{goes_with, named_tx, tx_goes};
 ghost use Rattle.hub_rows.specs.Keyed.{by_key, number_key};
 ghost use Rattle.hub_rows.specs.Lookups.{forgettable_in};
+ghost use Rattle.hub_rows.specs.Rows.{reading_key};
 ghost use Rattle.hub_rows.specs.Transactions.{txs_in};
 ghost use Rattle.sql_lookups.specs.Asks.{Asks};
-ghost use Rattle.sql_lookups.specs.Forgotten.{IsNamed, old_readings_below, old_txs_below};
+ghost use Rattle.sql_lookups.specs.Forgotten.{IsNamed, is_old, old_readings_below, old_txs_below};
 ghost use Rattle.sql_lookups.specs.Pages.{after_page};
 
-use crate::readings::{last_reading, readings_page};
+use crate::readings::{last_number, last_value, readings_from, unfold, values_page};
 use crate::txs::{find_tx, last_tx, txs_page};
 use hub_rows::{
     History, MAX_FORGOTTEN, ReadingRow, StoreFault, TxRow, goes_with, reading_numbers, tx_goes,
 };
 use ocpp_types::{Listed, Mem, Moment};
+use sql_rows::MeterValueRow;
 use sqlite::{Alter, Connection};
 use std::alloc::Global;
 
@@ -59,10 +61,11 @@ fn named_now<S: Alter>(
     Ok(Named { transaction, tx })
 }
 
-fn goes(until: Moment, row: &ReadingRow, named: &Named) -> bool
-    ensures { result ≡ goes_with until row.now.reading.at named.now.tx }
+/// Whether a reading's number is below the end, and it goes with what it names.
+fn goes(until: Moment, end: u32, row: &ReadingRow, named: &Named) -> bool
+    ensures { result ≡ nat_lt row.now.number end && goes_with until row.now.reading.at named.now.tx }
 {
-    goes_with(until, row.reading.at, named.tx.as_ref())
+    row.number < end && goes_with(until, row.reading.at, named.tx.as_ref())
 }
 
 /// Adds a row, if it goes.
@@ -88,14 +91,14 @@ fn first_of<R: Drop>(rows: Listed<R>, most: usize) -> Listed<R>
 
 // ---- pages
 
-/// Where the page of readings after this one begins: after its last row, or at the end where it has none.
-fn after_readings(first: u32, end: u32, page: &[ReadingRow]) -> u32
+/// Where the page of meter values after this one begins: after its last row, or at the end where it has none.
+fn after_values(first: u32, end: u32, page: &[MeterValueRow]) -> u32
     requires { first < end }
     ensures forward { first < result }
-    ensures next { IsStrictlySortedBy (by_key (number_key (λ r. r.number))) page.now → first < after_page end (map (λ r. r.number) page.now) → after_page end (map (λ r. r.number) page.now) ≤ end → result ≡ after_page end (map (λ r. r.number) page.now) }
+    ensures next { IsStrictlySortedBy (by_key (number_key (λ m. m.first))) page.now → first < after_page end (map (λ m. m.first) page.now) → after_page end (map (λ m. m.first) page.now) ≤ end → result ≡ after_page end (map (λ m. m.first) page.now) }
 {
     match page.last() {
-        Some(row) => row.number.max(first).saturating_add(1),
+        Some(row) => row.first.max(first).saturating_add(1),
         None => end,
     }
 }
@@ -114,16 +117,17 @@ fn after_txs(first: u32, end: u32, page: &[TxRow]) -> u32
 
 // ---- readings
 
-/// Adds those of some readings that may go.
+/// Adds those of some readings below the end that may go.
 fn add_old_readings<S: Alter>(
     conn: &mut Connection<S>,
     op: &str,
     station: &str,
     until: Moment,
+    end: u32,
     readings: &[ReadingRow],
     gone: &mut Listed<ReadingRow>,
 ) -> Result<(), StoreFault>
-    ensures asks { Asks (state S.Store conn.old) (state S.Store conn.new) result (λ rows done. gone.new ≡ gone.old ++ filter (may_go until (txs_in op.now station.now rows.transactions)) readings.now) }
+    ensures asks { Asks (state S.Store conn.old) (state S.Store conn.new) result (λ rows done. gone.new ≡ gone.old ++ filter (is_old until end (txs_in op.now station.now rows.transactions)) readings.now) }
 {
     let mut last = Named {
         transaction: None,
@@ -131,12 +135,13 @@ fn add_old_readings<S: Alter>(
     };
     'readings: for row in readings {
         last = named_now(conn, op, station, last, row.reading.transaction)?;
-        add_if(gone, goes(until, row, &last), row)?;
+        add_if(gone, goes(until, end, row, &last), row)?;
     }
     Ok(())
 }
 
-/// The first readings of a station below the end that may go, as many as go at once.
+/// The first readings of a station below the end that may go, as many as go at once. They are those of meter values that
+/// begin below it.
 fn old_readings<S: Alter>(
     conn: &mut Connection<S>,
     alloc: Global,
@@ -150,9 +155,18 @@ fn old_readings<S: Alter>(
     let mut gone = Listed::new(alloc);
     let mut next = 0;
     'pages: while next < end && gone.as_slice().len() < MAX_FORGOTTEN {
-        let page = readings_page(conn, op, station, next, end - 1)?;
-        add_old_readings(conn, op, station, until, page.as_slice(), &mut gone)?;
-        next = after_readings(next, end, page.as_slice());
+        let page = values_page(conn, op, station, next, end - 1)?;
+        next = after_values(next, end, page.as_slice());
+        let readings = unfold(alloc, page)?;
+        add_old_readings(
+            conn,
+            op,
+            station,
+            until,
+            end,
+            readings.as_slice(),
+            &mut gone,
+        )?;
     }
     Ok(first_of(gone, MAX_FORGOTTEN))
 }
@@ -201,7 +215,7 @@ fn old_txs<S: Alter>(
 
 /// What of a station's history may go before a moment. Where as many readings go as may at once, no transaction does.
 /// Where fewer do, all go that may, so that of those that name a transaction that is over the last reading alone can be
-/// left.
+/// left. So it is if the readings are in the order of their keys.
 pub fn forgettable<S: Alter>(
     conn: &mut Connection<S>,
     alloc: Global,
@@ -209,9 +223,10 @@ pub fn forgettable<S: Alter>(
     station: &str,
     until: Moment,
 ) -> Result<History, StoreFault>
-    ensures asks { Asks (state S.Store conn.old) (state S.Store conn.new) result (λ rows f. f ≡ forgettable_in op.now station.now until rows) }
+    ensures asks { Asks (state S.Store conn.old) (state S.Store conn.new) result (λ rows f. IsStrictlySortedBy (by_key reading_key) rows.readings → f ≡ forgettable_in op.now station.now until rows) }
 {
-    let last = last_reading(conn, op, station)?;
+    let row = last_value(conn, op, station)?;
+    let last = last_number(&row)?;
     let readings = old_readings(conn, alloc, op, station, until, last)?;
     if readings.as_slice().len() == MAX_FORGOTTEN {
         return Ok(History {
@@ -219,7 +234,7 @@ pub fn forgettable<S: Alter>(
             transactions: Listed::new(alloc),
         });
     }
-    let left = readings_page(conn, op, station, last, last)?;
+    let left = readings_from(alloc, row, last)?;
     let end = last_tx(conn, op, station)?;
     let gone = reading_numbers(alloc, readings.as_slice())?;
     let (left, gone) = (left.as_slice(), gone.as_slice());

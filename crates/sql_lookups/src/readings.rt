@@ -1,5 +1,5 @@
 //! Look-ups of readings, which are kept as meter values.
-ghost use Rattle.std.specs.Prelude.{◌≡◌, ◌&&◌, ◌++◌, ◌<◌, ◌^◌, None, Some, IfOk, OnOk, filter, flat_map};
+ghost use Rattle.std.specs.Prelude.{◌≡◌, ◌&&◌, ◌+◌, ◌++◌, ◌<◌, ◌≤◌, ◌^◌, None, Some, IfOk, OnOk, filter, flat_map};
 ghost use Rattle.std.specs.List.Sorted.{IsStrictlySortedBy};
 ghost use Rattle.std.specs.Str.{bytes_eq};
 ghost use Rattle.sqlite.specs.Held.{state};
@@ -10,6 +10,7 @@ ghost use Rattle.sql_rows.specs.Kept.{IsPage, IsServing, Shows, ShowsPage, Shows
 ghost use Rattle.sql_rows.specs.TypedTable.{rows_in};
 ghost use Rattle.sql_rows.specs.TypedTables.{meter_values, is_meter_value, sampled_row, sampled_rows, unfolded, IsLastOf};
 ghost use Rattle.sql_lookups.specs.Asks.{Asks, AsksIn, IsTopRow};
+ghost use Rattle.sql_lookups.specs.Forgotten.{readings_from};
 ghost use Rattle.sql_lookups.specs.Pages.{is_between};
 
 use hub_rows::{Reading, ReadingRow, StoreFault, is_sent_with};
@@ -149,7 +150,10 @@ fn add_each(
 }
 
 /// The readings that meter values stand for.
-fn unfold(alloc: Global, rows: Listed<MeterValueRow>) -> Result<Listed<ReadingRow>, StoreFault>
+pub(crate) fn unfold(
+    alloc: Global,
+    rows: Listed<MeterValueRow>,
+) -> Result<Listed<ReadingRow>, StoreFault>
     ensures { IfOk result (λ list. list ≡ flat_map unfolded rows) }
 {
     let mut readings = Vec::new(alloc);
@@ -166,23 +170,23 @@ fn page<S: Alter>(
     first: u32,
     last: u32,
 ) -> Result<Vec<Row>, Error>
-    ensures shows { IsServing (state S.Store conn.old) → ShowsPage (λ v. v.items) readings (λ r. r.number) (is_between (λ r. r.op) (λ r. r.station) (λ r. r.number) op.now station.now first last) (state S.Store conn.old) (state S.Store conn.new) result }
+    ensures shows { IsServing (state S.Store conn.old) → ShowsPage (λ v. v.items) meter_values (λ m. m.first) (is_between (λ m. m.op) (λ m. m.station) (λ m. m.first) op.now station.now first last) (state S.Store conn.old) (state S.Store conn.new) result }
 {
     conn.query_all(
-        sql_tables::readings::PAGE,
+        sql_tables::meter_values::PAGE,
         params![op, station, first, last],
     )
 }
 
-/// The first readings of a station whose numbers lie in a range: all up to the last one of them.
-pub(crate) fn readings_page<S: Alter>(
+/// The first meter values of a station whose first numbers lie in a range: all up to the last one of them.
+pub(crate) fn values_page<S: Alter>(
     conn: &mut Connection<S>,
     op: &str,
     station: &str,
     first: u32,
     last: u32,
-) -> Result<Listed<ReadingRow>, StoreFault>
-    ensures asks { Asks (state S.Store conn.old) (state S.Store conn.new) result (λ rows page. IsPage (λ r. r.number) (is_between (λ r. r.op) (λ r. r.station) (λ r. r.number) op.now station.now first last) rows.readings page) }
+) -> Result<Listed<MeterValueRow>, StoreFault>
+    ensures asks { AsksIn (state S.Store conn.old) (state S.Store conn.new) result (λ db page. IsPage (λ m. m.first) (is_between (λ m. m.op) (λ m. m.station) (λ m. m.first) op.now station.now first last) (rows_in meter_values db) page) }
 {
     listed(page(conn, op, station, first, last))
 }
@@ -254,7 +258,7 @@ pub fn readings<S: Alter>(
 }
 
 /// The last meter value of a station.
-fn last_value<S: Alter>(
+pub(crate) fn last_value<S: Alter>(
     conn: &mut Connection<S>,
     op: &str,
     station: &str,
@@ -264,18 +268,43 @@ fn last_value<S: Alter>(
     first_row(find_last(conn, op, station))
 }
 
-/// The number of the last reading of a meter value, which has some; 0 where there is none.
-fn last_number(row: Option<MeterValueRow>) -> Result<u32, StoreFault>
-    ensures { IfOk result (IsLastOf row) }
+/// The last of so many numbers from the first on. There is one, or else this answers Failed.
+fn last_of(first: u32, count: usize) -> Result<u32, StoreFault>
+    ensures { IfOk result (λ n. (first ≤ n) × (n + 1 ≡ first + count)) }
 {
-    let Some(row) = row else {
-        return Ok(0);
-    };
-    let count = row.value.sampled.as_slice().len();
-    if count == 0 || count - 1 > (u32::MAX - row.first) as usize {
+    if count == 0 || count - 1 > (u32::MAX - first) as usize {
         return Err(StoreFault::Failed);
     }
-    Ok(row.first + (count - 1) as u32)
+    Ok(first + (count - 1) as u32)
+}
+
+/// The number of the last reading of a meter value, which has some; 0 where there is none.
+pub(crate) fn last_number(row: &Option<MeterValueRow>) -> Result<u32, StoreFault>
+    ensures { IfOk result (IsLastOf row.now) }
+{
+    match row {
+        Some(row) => last_of(row.first, row.value.sampled.as_slice().len()),
+        None => Ok(0),
+    }
+}
+
+/// The readings of a meter value from a number on; none where there is none.
+pub(crate) fn readings_from(
+    alloc: Global,
+    row: Option<MeterValueRow>,
+    first: u32,
+) -> Result<Listed<ReadingRow>, StoreFault>
+    ensures { IfOk result (λ list. list ≡ readings_from first row) }
+{
+    let mut readings = Vec::new(alloc);
+    if let Some(row) = row {
+        add_each(alloc, &mut readings, row)?;
+    }
+    let left: Vec<ReadingRow> = readings
+        .into_iter()
+        .filter(|row| row.number >= first)
+        .collect(alloc)?;
+    Ok(Listed::from(left))
 }
 
 /// The number of a station's last reading, 0 where it has none, if the readings are in the order of
@@ -288,5 +317,5 @@ pub fn last_reading<S: Alter>(
     ensures asks { Asks (state S.Store conn.old) (state S.Store conn.new) result (λ rows n. IsStrictlySortedBy (by_key reading_key) rows.readings → n ≡ last_reading_in op.now station.now rows.readings) }
 {
     let row = last_value(conn, op, station)?;
-    last_number(row)
+    last_number(&row)
 }

@@ -20,7 +20,7 @@ returns g c =
     let values = c.as_slice.result.now in
     let old = (state g.S.Store c.args.tx.now.conn.now).now.trees in
     let new = (state g.S.Store c.put_values.new.tx.conn.now).now.trees in
-    let same : all_readings values ≡ c.args.readings.now = ap all_readings c.as_slice.ensures ∙ c.in_ok-values.ensures.readings ∙ c.in_ok-list.ensures in
+    let same : all_readings values ≡ c.args.readings.now = ap all_readings c.as_slice.ensures ∙ c.in_ok-values.ensures.readings in
     let Made : (List Reading → Type 0) = (λ rs. AreNext (last_reading_in op station (rows_of old).readings) first (length rs) → IsMade (λ (rows : Rows). record rows { readings = with_readings op station first rs rows.readings }) old new) in
     record {
       makes = makes_as (makes_if c.put_values.ensures.makes (λ s begins up. (begins up).0))

@@ -1,4 +1,4 @@
-use Rattle.std.proofs.Common.{rules, ◌≡◌, ◌∙◌, ◌+◌, ◌++◌, [], ◌∷◌, length, ap, ap₂, append_assoc, arith, of_z, sym, to_z, w64}
+use Rattle.std.proofs.Common.{rules, ◌≡◌, ◌∙◌, ◌+◌, ◌++◌, [], ◌∷◌, ap, ap₂, append_assoc, arith, of_z, sym, to_z, w64}
 use Rattle.std.proofs.lemmas.List.{length-append}
 use Rattle.sql_rows.specs.TypedTables.{sampled_row, sampled_rows}
 use Rattle.sql_lookups.proofs.ValueLaws.{sampled_more}
