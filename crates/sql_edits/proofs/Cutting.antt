@@ -1,6 +1,5 @@
 -- The row that a look-up inside a transaction finds, and the run of readings that goes.
-use Rattle.std.proofs.Common.{◌≡◌, ◌∙◌, ◌+◌, ◌&&◌, ℕ, nat_le, List, [], ◌∷◌, Bool, Option, Some, Result, Ok, Err, IfOk, IsOk, OnOk, filter, map, refl, subst, sym, ap}
-use Rattle.std.specs.Str.{bytes_eq}
+use Rattle.std.proofs.Common.{◌≡◌, ◌∙◌, ◌+◌, ℕ, List, [], ◌∷◌, Bool, Option, Result, Ok, Err, IfOk, IsOk, OnOk, filter, map, subst, sym, ap}
 use Rattle.sqlite_trees.specs.Tree.{Trees}
 use Rattle.sqlite_value.specs.Order.{Row}
 use Rattle.sqlite.specs.declared.error.Error.{Error}

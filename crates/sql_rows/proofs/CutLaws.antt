@@ -1,5 +1,5 @@
 -- What it makes of the readings to cut meter values in two, and to drop those that begin between two cuts.
-use Rattle.std.proofs.Common.{◌≡◌, ◌⊎◌, ◌∙◌, ℕ, ◌+◌, ◌-◌, ◌==◌, ◌<◌, ◌≤◌, nat_le, List, [], ◌∷◌, ◌++◌, length, map, filter, flat_map, take, drop, Bool, true, false, cond, not, ◌&&◌, Option, None, Some, Ordering, Less, Equal, refl, sym, ap, ap₂, subst, subst₂, inl, inr, arith, eqb-true, true≢false}
+use Rattle.std.proofs.Common.{◌≡◌, ◌⊎◌, ◌∙◌, ℕ, ◌+◌, ◌-◌, ◌==◌, ◌<◌, ◌≤◌, nat_le, List, [], ◌∷◌, ◌++◌, length, map, filter, flat_map, take, drop, Bool, true, false, cond, not, ◌&&◌, None, Some, Ordering, Less, Equal, refl, sym, ap, ap₂, subst, subst₂, inl, inr, arith, eqb-true, true≢false}
 use Rattle.std.specs.List.Sorted.{IsStrictlySortedBy}
 use Rattle.std.specs.Str.{bytes_eq}
 use Rattle.std.proofs.lemmas.Bool.{and_parts, cases_Bool, cases_lt}
@@ -10,15 +10,12 @@ use Rattle.std.proofs.lemmas.List.Elements.{filter-append}
 use Rattle.sqlite_rules.specs.Lists.{Has}
 use Rattle.sqlite_rules.proofs.ListLemmas.{all_from, all_has, has_either, has_filtered, has_kept, has_left, has_right}
 use Rattle.sqlite_trees.specs.Tree.{Trees}
-use Rattle.hub_rows.specs.declared.reading_row.Reading.{Reading}
 use Rattle.hub_rows.specs.declared.reading_row.ReadingRow.{ReadingRow}
 use Rattle.hub_rows.specs.Keyed.{by_key, key_cmp, put, without}
 use Rattle.hub_rows.specs.Rows.{reading_key}
 use Rattle.hub_rows.specs.Transactions.{reading_rows}
 use Rattle.hub_rows.proofs.FilterLaws.{filter-all, filter-no}
 use Rattle.hub_rows.proofs.ListLaws.{by_key_total, keys_total, same_key, same_text, sorted-put, text_itself}
-use Rattle.meter_values.specs.declared.meter_value.MeterValue.{MeterValue}
-use Rattle.meter_values.specs.declared.meter_value.Sampled.{Sampled}
 use Rattle.meter_values.specs.Readings.{reading_of, readings_of}
 use Rattle.sql_rows.specs.declared.meter_value_rows.MeterValueRow.{MeterValueRow}
 use Rattle.sql_rows.specs.Cuts.{begins_in, split_value, AreCutAt, AreOrdered, CutsAt, IsCutAfter, IsLastUpTo, IsReplaced}

@@ -42,7 +42,7 @@ returns-in_ok-stop_tx-in-TxStopped g c =
     makes_next (makes_if c.in_ok-stop_tx-in-TxStopped.ensures.makes (λ s may up. (may up).0)) c.add_readings.ensures.makes
     (λ may done up. (
       done.within up,
-      subst (λ (rows : Rows). AreNext (last_reading_in op station rows.readings) stopped.first (length readings)) (sym (done.edit up)) (rest (rest (rest (may (done.leaves.was_open up))))),
+      subst (λ (rows : Rows). AreNext (last_reading_in op station rows.readings) stopped.first (length readings)) (sym (done.edit up)) (rest (may (done.leaves.was_open up)).2),
     ))
     (λ may up made added. added ∙ ap {A = Rows} (λ rows. record rows { readings = with_readings op station stopped.first readings rows.readings }) made) in
     record {
@@ -58,7 +58,7 @@ returns-in-ReadingsAdded g c =
     let added = c.in-ReadingsAdded in
     let station = c.as_str.result.now in
     let readings = c.as_slice-in-ReadingsAdded.result.now in
-    let fitting : MakesFitting g.S.Store op (Transactions (ReadingsAdded station added.first readings)) old new c.add_readings-in-ReadingsAdded.result = makes_when c.add_readings-in-ReadingsAdded.ensures.makes (λ s may up. ((may up).0, rest (rest (rest (may up))))) in
+    let fitting : MakesFitting g.S.Store op (Transactions (ReadingsAdded station added.first readings)) old new c.add_readings-in-ReadingsAdded.result = makes_when c.add_readings-in-ReadingsAdded.ensures.makes (λ s may up. ((may up).0, rest (may up).2)) in
     record {
       makes = subst (λ (e : TransactionEdit). MakesFitting g.S.Store op (Transactions e) old new c.add_readings-in-ReadingsAdded.result) (sym added.is)
           (subst₂ (λ s r. MakesFitting g.S.Store op (Transactions (ReadingsAdded s added.first r)) old new c.add_readings-in-ReadingsAdded.result) c.as_str.ensures c.as_slice-in-ReadingsAdded.ensures fitting);

@@ -1,4 +1,4 @@
-use Rattle.std.proofs.Common.{◌+◌, Some, None, subst, sym}
+use Rattle.std.proofs.Common.{◌+◌, Some, subst, sym}
 use Rattle.sqlite.specs.Held.{state}
 use Rattle.sqlite_trees.specs.Tree.{Trees}
 use Rattle.sql_rows.specs.Cuts.{CutsAt, InOrder, IsLastUpTo}

@@ -1,9 +1,6 @@
-use Rattle.std.proofs.Common.{◌≡◌, ◌+◌, ◌-◌, ℕ, arith, subst, sym}
-use Rattle.sqlite.specs.Held.{state}
+use Rattle.std.proofs.Common.{◌≡◌, ◌+◌, ◌-◌, ℕ, arith, subst}
 use Rattle.sql_rows.specs.Cuts.{CutsAt, InOrder}
 use Rattle.sql_rows.specs.Kept.{MakesIn}
-use Rattle.sql_rows.proofs.CutLaws.{cut_nowhere}
-use Rattle.sql_edits.proofs.Making.{makes_none}
 use Rattle.sql_edits.proofs.cuts.cut_before.Goals as goal
 
 pub returns : goal.returns

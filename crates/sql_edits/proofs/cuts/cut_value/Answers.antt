@@ -1,8 +1,8 @@
-use Rattle.std.proofs.Common.{rules, ◌≡◌, ◌+◌, ap, length, subst, sym, ◌∙◌, Some, None}
+use Rattle.std.proofs.Common.{rules, ◌≡◌, ◌+◌, length, subst, ◌∙◌, Some, None}
 use Rattle.sqlite.specs.Held.{state}
 use Rattle.sql_rows.specs.Cuts.{split_value, IsCutAfter, IsReplaced}
 use Rattle.sql_rows.proofs.CutLaws.{cut_behind, cut_inside}
-use Rattle.sql_edits.proofs.Making.{makes_also, makes_as, makes_none}
+use Rattle.sql_edits.proofs.Making.{makes_as, makes_none}
 use Rattle.sql_edits.proofs.cuts.cut_value.Goals as goal
 
 pub returns-in_ok-values-in-Some : goal.returns-in_ok-values-in-Some

@@ -1,11 +1,11 @@
-use Rattle.std.proofs.Common.{◌≡◌, [], refl, subst, sym, ap, ◌∙◌}
+use Rattle.std.proofs.Common.{◌≡◌, [], refl, subst, sym}
 use Rattle.sqlite_trees.specs.Tree.{Trees}
 use Rattle.sqlite.specs.Held.{state}
 use Rattle.sqlite.specs.State.{State}
 use Rattle.sql_rows.specs.Kept.{Inside}
 use Rattle.sql_rows.specs.TypedTable.{rows_in}
 use Rattle.sql_rows.specs.TypedTables.{readings}
-use Rattle.sql_rows.proofs.StayLaws.{stays_as, stays_fails, stays_self, stays_then}
+use Rattle.sql_rows.proofs.StayLaws.{stays_as, stays_self, stays_then}
 use Rattle.sql_edits.specs.Moving.{AreMoving, IsAnyRow, IsMoving}
 use Rattle.sql_edits.proofs.Making.{makes_also, makes_as, makes_err, makes_fails, makes_if, makes_next, makes_none, makes_same_in, makes_then}
 use Rattle.sql_edits.proofs.MovingLaws.{all_moved, more_moved, none_moved}

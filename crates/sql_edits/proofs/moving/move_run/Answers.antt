@@ -5,9 +5,9 @@ use Rattle.hub_rows.specs.Transactions.{last_of_all}
 use Rattle.sql_rows.specs.Kept.{ArePutIn, IsDropped, IsPage}
 use Rattle.sql_rows.specs.TypedTable.{rows_in}
 use Rattle.sql_rows.specs.TypedTables.{meter_values, readings, value_rows}
-use Rattle.sql_rows.proofs.StayLaws.{stays_fails, stays_then}
+use Rattle.sql_rows.proofs.StayLaws.{stays_then}
 use Rattle.sql_edits.specs.Moving.{IsFirstRun, is_in_range}
-use Rattle.sql_edits.proofs.Making.{makes_as, makes_fails, makes_if, makes_same_in, makes_stops, makes_then}
+use Rattle.sql_edits.proofs.Making.{makes_as, makes_fails, makes_if, makes_same_in, makes_then}
 use Rattle.sql_edits.proofs.MovingLaws.{first_moved}
 use Rattle.sql_edits.proofs.moving.move_run.Goals as goal
 

@@ -1,4 +1,4 @@
-use Rattle.std.proofs.Common.{rules, ◌≡◌, ◌+◌, ◌++◌, ◌∙◌, [], ◌∷◌, arith, length, subst, sym, take}
+use Rattle.std.proofs.Common.{rules, ◌≡◌, ◌+◌, ◌++◌, [], ◌∷◌, arith, length, subst, sym, take}
 use Rattle.std.proofs.lemmas.List.{length-take-le, take_more}
 use Rattle.sql_edits.specs.Moving.{AreNumberedFrom}
 use Rattle.sql_edits.proofs.MovingLaws.{numbered_more}

@@ -5,7 +5,7 @@ use Rattle.sql_rows.specs.Kept.{ArePutIn}
 use Rattle.sql_rows.specs.TypedTables.{meter_values, value_rows}
 use Rattle.sql_rows.proofs.StayLaws.{stays_as, stays_fails, stays_then}
 use Rattle.sql_rows.proofs.ValueEdits.{count_more, values_more}
-use Rattle.sql_edits.proofs.Making.{makes_also, makes_fails, makes_stops, makes_then}
+use Rattle.sql_edits.proofs.Making.{makes_also, makes_fails, makes_then}
 use Rattle.sql_edits.proofs.readings.put_values.Goals as goal
 
 pub values-preserved : goal.values-preserved
