@@ -248,6 +248,13 @@ tx_start_at_dropped (suc (suc zero)) made = record { at = 11; command = refl; pl
 tx_start_at_dropped (suc (suc (suc zero))) made = record { at = 13; command = refl; plain = (refl, refl); here = refl }
 tx_start_at_dropped (suc (suc (suc (suc n)))) made = record { at = 14; command = refl; plain = (refl, refl); here = refl }
 
+pub by_transaction_tree : (n tree : ℕ) → (by_transaction_at n tree).tree ≡ tree
+by_transaction_tree zero tree = refl
+by_transaction_tree (suc zero) tree = refl
+by_transaction_tree (suc (suc zero)) tree = refl
+by_transaction_tree (suc (suc (suc zero))) tree = refl
+by_transaction_tree (suc (suc (suc (suc n)))) tree = refl
+
 abbrev pub without_reading_transaction : ℕ → Schema
 without_reading_transaction n = without_index (without_tx_start_at n) (next_tree (tables_at n) + 4)
 

@@ -42,4 +42,4 @@ returns-in_err-move_readings g c =
     let d = state g.S.Store c.move_readings.new.tx.conn.now in
     let made = c.in_ok-reach.ensures.makes in
     let moved = c.in_err-move_readings.ensures.stays in
-    record { makes = ours_fails (moved.same_reference ∙ made.part.same_reference) (λ may. leaves_then a b d made.part.leaves (moved.leaves (λ up. (made.makes may.0 may.1 up).mode))) c.from_residual.ensures.0 }
+    record { makes = ours_fails (moved.same_reference ∙ made.part.same_reference) (λ may. leaves_then a b d made.part.leaves (moved.leaves (λ up. (made.makes may.0 may.1 up).mode))) c.from_residual-in_err-move_readings.ensures.0 }

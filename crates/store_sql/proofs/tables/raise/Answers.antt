@@ -1,6 +1,7 @@
 use Rattle.std.proofs.Common.{◌≡◌, Err, rules, sym, subst}
 use Rattle.sqlite.specs.Held.{state}
-use Rattle.sql_rows.specs.Opening.{Prepares, rows_at, trees_at}
+use Rattle.sql_rows.specs.Opening.{IsCutAs, Prepares, rows_at, trees_at}
+use Rattle.sql_tables.specs.Opening.{schema_at}
 use Rattle.sql_rows.proofs.OpeningLemmas.{prepares_as}
 use Rattle.sql_rows.proofs.StoreLemmas.{open_is_clean}
 use Rattle.sql_rows.proofs.RaisingLemmas.{begun_as, cut_at, drops_raise, commits_raise, rows_at_is}
@@ -15,7 +16,7 @@ returns g c =
     let mid = c.fill.new.tx.conn.now in
     let same : end ≡ c.conn-2-1.given.0 = search rules in
     let before = (state g.S.Store old).now.trees in
-    let cut = (cut_at from before, begun_as g.S.Store old tx from c.requires.earlier c.transaction-tx.ensures.begun c.requires.rested c.requires.was) in
+    let cut : IsCutAs from (schema_at from) (trees_at from before) (state g.S.Store tx) = (cut_at from before, begun_as g.S.Store old tx from c.requires.earlier c.transaction-tx.ensures.begun c.requires.rested c.requires.was) in
     record {
       prepares = subst (λ h. Prepares (state g.S.Store old) (state g.S.Store h) c.told.result) same
           (prepares_as (state g.S.Store old) (state g.S.Store end) c.commit.result c.told.result
@@ -33,7 +34,7 @@ returns-in_err-fill g c =
     let tx = c.transaction-tx.result.conn.now in
     let same : end ≡ c.conn-1.given.0 = search rules in
     let before = (state g.S.Store old).now.trees in
-    let cut = (cut_at from before, begun_as g.S.Store old tx from c.requires.earlier c.transaction-tx.ensures.begun c.requires.rested c.requires.was) in
+    let cut : IsCutAs from (schema_at from) (trees_at from before) (state g.S.Store tx) = (cut_at from before, begun_as g.S.Store old tx from c.requires.earlier c.transaction-tx.ensures.begun c.requires.rested c.requires.was) in
     record {
       prepares = subst (λ h. Prepares (state g.S.Store old) (state g.S.Store h) c.from_residual.result) same
           (drops_raise g.S.Store old tx c.fill.new.tx.conn.now end from c.requires.earlier c.transaction-tx.ensures.begun c.requires.rested c.requires.was (open_is_clean _ _ (g.met.S.Store.shut_if_dirty end.store)) (λ up db. g.met.S.Store.settled old.store db up) (c.fill.ensures.makes.leaves (trees_at from before, cut))
