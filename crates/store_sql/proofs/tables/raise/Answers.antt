@@ -1,4 +1,4 @@
-use Rattle.std.proofs.Common.{◌≡◌, Err, rules, sym, subst}
+use Rattle.std.proofs.Common.{◌≡◌, rules, subst}
 use Rattle.sqlite.specs.Held.{state}
 use Rattle.sql_rows.specs.Opening.{IsCutAs, Prepares, rows_at, trees_at}
 use Rattle.sql_tables.specs.Opening.{schema_at}
