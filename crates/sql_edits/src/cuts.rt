@@ -40,9 +40,9 @@ fn value_up_to<S: Alter>(
     first_row(find_up_to(tx, op, station, last))
 }
 
-/// After how many sampled values a meter value is cut, so that its first part ends with that
-/// number. `None` where it goes no further. One without sampled values isn't cut, and answers
-/// Failed: one before it may go past the number.
+/// After how many sampled values a meter value is cut, so that its first part ends with the last
+/// number. `None` where it goes no further. It answers Failed for one that begins later, and for
+/// one without sampled values, since another before that may go past the number.
 fn cut_place(first: u32, count: usize, last: u32) -> Result<Option<usize>, StoreFault>
     ensures { IfOk result (IsCutAfter first count (last + 1)) }
 {
@@ -113,7 +113,7 @@ fn replace<S: Alter>(
     put_values(tx, alloc, op, station, first, values)
 }
 
-/// Cuts the last meter value of a station that begins up to a number, behind it.
+/// Cuts a meter value behind a number, where it is the last one of the station that begins up to it.
 fn cut_value<S: Alter>(
     tx: &mut Transaction<'_, S>,
     alloc: Global,
