@@ -62,7 +62,7 @@ def spent_on_copy(program, db, lines):
     copy = db + ".copy"
     shutil.copyfile(db, copy)
     found = spent(program, copy, lines)
-    for path in (copy, copy + "-wal"):
+    for path in (copy, copy + "-wal", copy + "-count"):
         os.remove(path)
     return found
 

@@ -126,7 +126,7 @@ def spread(first, last, count):
 
 
 def remove(db):
-    for path in (db, f"{db}-wal", f"{db}-shm", f"{db}.new"):
+    for path in (db, f"{db}-wal", f"{db}-shm", f"{db}-count", f"{db}.new"):
         Path(path).unlink(missing_ok=True)
 
 

@@ -13,7 +13,7 @@ import sys
 import tempfile
 import time
 
-from peer import BOOT, HEARTBEAT, Peer
+from peer import BOOT, HEARTBEAT, Peer, close_code, health
 from programs import TIME, Checks, listening
 
 PORT = 9288
@@ -118,10 +118,12 @@ def records():
 
 
 def refused(checks, server, what, peer, text):
-    """A change ends its connection, and a fault is named."""
+    """A change ends its connection with 1011, a fault is named, and the health check fails."""
     server.errors()
-    checks.check(f"{what} while the disk is full", answer(peer, text), "ended")
+    peer.send(text)
+    checks.check(f"{what} while the disk is full", close_code(peer), (0x88, 1011))
     checks.check(f"{what}: the fault", set(server.errors()), {"fault Store"})
+    checks.check(f"{what}: the health", health(PORT), "HTTP/1.1 503 Service Unavailable")
 
 
 def check_full(checks, server, size):

@@ -28,10 +28,14 @@ FILES = [
 ]
 TESTS = [["rt", "ci"], ["python3", "tests/run.py"]]
 OF_PROGRAM = [
+    # the scripts over files, files of earlier versions, and which databases are taken
+    ["python3", "checks/files.py", PROGRAM],
     # how frames of hostile stations are answered
     ["python3", "checks/hostile.py", PROGRAM],
     # what is served over a full disk
     ["python3", "checks/full_disk.py", PROGRAM],
+    # what is told where the disk fails, and where changes are gone
+    ["python3", "checks/hurt.py", PROGRAM],
     # what is on record after kills
     ["python3", "checks/kills.py", PROGRAM, "20"],
     # what one operator's connections cost another's stations

@@ -372,7 +372,7 @@ def schema(db, folder):
     """The number of the schema of a database, and its tables beside those of schema 1."""
     with copied(db, folder) as database:
         tables = [name for (name,) in database.execute("SELECT name FROM sqlite_master WHERE type = 'table' ORDER BY name")]
-        number = database.execute("SELECT number FROM hub_meta").fetchone()[0]
+        number = database.execute("SELECT number FROM hub_meta WHERE name = 'schema'").fetchone()[0]
         return number, [name for name in tables if name in MORE[SCHEMA]]
 
 

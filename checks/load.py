@@ -194,7 +194,7 @@ class Run:
         if ran.returncode or any(wrong in ran.stdout for wrong in (b" refused ", b"bad line", b" send [4,")):
             sys.exit(f"replay: status {ran.returncode}, {ran.stderr.decode()}")
         path = os.path.join(self.folder, name)
-        for end in ("", "-wal"):
+        for end in ("", "-wal", "-count"):
             if os.path.exists(draft + end):
                 shutil.move(draft + end, path + end)
         return path
@@ -230,7 +230,7 @@ class Run:
         finally:
             server.kill()
             server.wait()
-            for end in ("", "-wal"):
+            for end in ("", "-wal", "-count"):
                 with contextlib.suppress(FileNotFoundError):
                     os.remove(db + end)
 

@@ -27,6 +27,10 @@ def frame(text, first=0x81):
     return bytes([first]) + length + b"\0\0\0\0" + payload
 
 
+# The first byte of a close frame.
+CLOSE = 0x88
+
+
 class Peer:
     """One connection. Its texts are read whole. A read in which nothing comes for the seconds of its patience fails."""
 
@@ -61,7 +65,9 @@ class Peer:
             size = int.from_bytes(self.data[2:start], "big")
         if len(self.data) < start + size:
             return None
-        text, self.data = self.data[start : start + size], self.data[start + size :]
+        first, text, self.data = self.data[0], self.data[start : start + size], self.data[start + size :]
+        if first == CLOSE:
+            sys.exit("the server closed a connection")
         return text.decode()
 
     def lines(self, word, text):
@@ -84,3 +90,17 @@ class Peer:
     def ask(self, text):
         self.send(text)
         return self.next()
+
+
+def close_code(peer):
+    """The first byte of the next frame, and the code of a close frame in it."""
+    while len(peer.data) < 4:
+        peer.read()
+    return peer.data[0], int.from_bytes(peer.data[2:4], "big")
+
+
+def health(port):
+    """The status line of a health check."""
+    with socket.create_connection(("127.0.0.1", port), timeout=5) as stream:
+        stream.sendall(b"GET /health HTTP/1.1\r\nHost: 127.0.0.1\r\n\r\n")
+        return stream.recv(4096).decode().split("\r\n")[0]

@@ -40,6 +40,8 @@ pub struct ReplayOptions {
     pub operators: Vec<Text>,
     /// The path of the file with the records; without it they are in memory.
     pub db: Option<Text>,
+    /// A file that lacks changes is taken.
+    pub accepts_loss: bool,
 }
 
 /// What a server is to do.
@@ -50,6 +52,8 @@ pub struct ServeOptions {
     pub operators: Vec<Text>,
     /// The path of the file with the records.
     pub db: Text,
+    /// A file that lacks changes is taken.
+    pub accepts_loss: bool,
     /// It ends after so many turns; without them it serves until it is ended.
     pub turns: Option<u32>,
     /// Which lines its log has.
@@ -89,6 +93,7 @@ fn replay_options(alloc: Global, found: &ArgMatches) -> Result<ReplayOptions, Al
     Ok(ReplayOptions {
         operators: parts(alloc, found.get_str("operators"))?,
         db: text_if_any(alloc, found.get_str("db"))?,
+        accepts_loss: found.get_flag("accept-loss"),
     })
 }
 
@@ -105,6 +110,7 @@ fn serve_options(alloc: Global, found: &ArgMatches) -> Result<ServeOptions, Erro
         address: SocketAddr::new(bind_of(alloc, found)?, port_of(found)),
         operators: parts(alloc, found.get_str("operators"))?,
         db: Text::from(found.get_str("db").unwrap_or("").to_string(alloc)?),
+        accepts_loss: found.get_flag("accept-loss"),
         turns: found.get_one::<u32>("turns"),
         log: level_of(found.get_str("log").unwrap_or("connections")),
     })
@@ -192,7 +198,8 @@ fn replay_command<'a>(alloc: Global) -> Result<Command<'a>, AllocError> {
         .arg(db_arg(
             alloc,
             "The file with the records, made if there is none; else they are in memory",
-        ))
+        ))?
+        .arg(accept_loss_arg(alloc))
 }
 
 fn serve_command<'a>(alloc: Global) -> Result<Command<'a>, AllocError> {
@@ -221,6 +228,7 @@ fn serve_command<'a>(alloc: Global) -> Result<Command<'a>, AllocError> {
         .arg(port_arg(alloc, "The port to listen on, from 1 to 65535"))?
         .arg(bind)?
         .arg(db_arg(alloc, "The file with the records, made if there is none").required(true))?
+        .arg(accept_loss_arg(alloc))?
         .arg(operators_arg(alloc))?
         .arg(turns)?
         .arg(log)
@@ -305,6 +313,13 @@ fn db_arg<'a>(alloc: Global, help: &'a str) -> Arg<'a> {
         .value_name("FILE")
         .help(help)
         .allow_hyphen_values(true)
+}
+
+fn accept_loss_arg<'a>(alloc: Global) -> Arg<'a> {
+    Arg::new(alloc, "accept-loss")
+        .long("accept-loss")
+        .help("Takes a file that lacks changes which were synced, as FILE-count says")
+        .action(ArgAction::SetTrue)
 }
 
 fn operators_arg<'a>(alloc: Global) -> Arg<'a> {

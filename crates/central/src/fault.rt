@@ -8,7 +8,7 @@ use replay::ReplayFault;
 use std::alloc::{AllocError, AllocFailed};
 use std::io;
 use std::net::SocketAddr;
-use store_sql::PrepareFault;
+use store_sql::{MarkFault, PrepareFault};
 use thiserror::Error;
 
 /// Why a run stops.
@@ -17,6 +17,12 @@ pub enum RunFault {
     /// The database can't be opened, or isn't one of this program.
     #[error("Store: {0}")]
     Database(PrepareFault),
+    /// The database lacks changes that were synced, or its mark can't be used.
+    #[error("Store: {0}")]
+    Mark(MarkFault),
+    /// The database failed while it was served, and is shut.
+    #[error("Store: the database failed")]
+    Store,
     /// A replay ended before its input.
     #[error("{0}")]
     Replay(ReplayFault),
@@ -56,9 +62,12 @@ impl RunFault {
             RunFault::Client(fault) => fault.write_detail(rt),
             RunFault::Listener(address, error) => eprintln!(rt; "{address}: {error}"),
             RunFault::Console(error) => eprintln!(rt; "standard input or output: {error}"),
-            RunFault::Database(_) | RunFault::Replay(_) | RunFault::NoMemory | RunFault::Clock => {
-                Ok(())
-            }
+            RunFault::Database(_)
+            | RunFault::Mark(_)
+            | RunFault::Store
+            | RunFault::Replay(_)
+            | RunFault::NoMemory
+            | RunFault::Clock => Ok(()),
         }
     }
 }
@@ -68,6 +77,15 @@ impl From<PrepareFault> for RunFault {
         match fault {
             PrepareFault::NoMemory => RunFault::NoMemory,
             other => RunFault::Database(other),
+        }
+    }
+}
+
+impl From<MarkFault> for RunFault {
+    fn from(fault: MarkFault) -> RunFault {
+        match fault {
+            MarkFault::NoMemory => RunFault::NoMemory,
+            other => RunFault::Mark(other),
         }
     }
 }

@@ -20,6 +20,20 @@ pub fn level_of(word: &str) -> LevelFilter {
     }
 }
 
+/// The bytes of a file that are read in a second, as it is opened, on a slow machine.
+const READ_IN_A_SECOND: u64 = 15_000_000;
+
+/// What a log tells of a large file before it is opened: how large it is, and about what that takes.
+pub fn opening_text(alloc: Global, path: &str, size: u64) -> Mem<String> {
+    let db = path.escape_debug();
+    let megabytes = size / 1_000_000;
+    let seconds = size / READ_IN_A_SECOND;
+    let memory = megabytes.saturating_add(megabytes / 2);
+    Ok(format!(in alloc;
+        "central {VERSION} opens {db}, {megabytes} MB: some {seconds} s, and up to {memory} MB of memory meanwhile"
+    )?)
+}
+
 /// What a log tells of a server as it starts: its version, its operators, its address, its file, how long that took to
 /// open, and how many stations it has.
 pub fn start_text(

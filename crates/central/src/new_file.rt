@@ -1,8 +1,12 @@
 //! A new file for records.
 
-use std::fs::File;
+use std::fs::{File, OpenOptions};
 use std::io::Write;
+use std::os::unix::fs::OpenOptionsExt;
 use std::{fs, io};
+
+/// Who may read and write a new file: its owner alone, since id tags are credentials. Its log gets the same mode.
+const MODE: u32 = 0o600;
 
 /// The size of a page of a new file, in bytes. Most changes write a row in each of a few pages, and a page is written
 /// whole. So small pages make a change cheaper.
@@ -17,7 +21,11 @@ pub fn make_if_new(rt: &HostRuntime, path: &str) -> io::Result<()> {
         return Ok(());
     }
     let draft = format!(in rt.alloc(); "{path}.new")?;
-    let mut file = File::create_new(rt, draft.as_str())?;
+    let mut file = OpenOptions::new()
+        .write(true)
+        .create_new(true)
+        .mode(MODE)
+        .open(rt, draft.as_str())?;
     let made = write_page(&mut file)
         .and_then(|()| fs::hard_link(rt, draft.as_str(), path))
         // so that a power cut leaves the new name too

@@ -3,8 +3,8 @@
 use crate::command::ServeOptions;
 use crate::fault::RunFault;
 use crate::hosted::hub_of;
-use crate::journal::{start_text, write_notes, write_start};
-use crate::records::{ANSWERS, open};
+use crate::journal::{opening_text, start_text, write_notes, write_start};
+use crate::records::{ANSWERS, open, size_of};
 use cached::Cached;
 use clients::now;
 use hub::{Fault, Hub};
@@ -27,6 +27,12 @@ const MAX_WAIT: u64 = 1;
 
 /// The milliseconds after a turn that ended in a fault, if nothing is reported meanwhile.
 const PAUSE: u64 = 10;
+
+/// The bytes of a file whose opening takes long.
+const LARGE: u64 = 10_000_000;
+
+/// The seconds after a fault of the store in which health checks are answered 503.
+const HURT: u64 = 60;
 
 /// The seconds of silence after which a peer is sent a Ping.
 const PING_AFTER: u64 = 120;
@@ -62,53 +68,83 @@ struct Server<S, V> {
     failed_accept: bool,
     /// The last turn ended in a fault.
     has_faulted: bool,
+    /// When the store failed last, though it still answers.
+    hurt: Option<Moment>,
+    /// The store answers no more. Nothing is handed to the hub.
+    is_store_shut: bool,
     /// Memory that is set aside. It is given up after an event that found none, so that connections can end, and no
     /// connection is accepted until it is set aside again.
     reserve: Option<Vec<u8>>,
 }
 
 /// Serves, by the records of a file and by those handlers of vendors' messages. A fault of a turn is written to
-/// standard error as `fault NAME`, and the next turn follows. Errors: a file that can't be opened or isn't ours,
-/// operators that can't be hosted, an address that can't be listened on, a wait that fails, a clock without a moment, no
-/// memory at the start.
+/// standard error as `fault NAME`, and the next turn follows. Errors: a file that can't be opened or isn't ours, or that
+/// fails later, operators that can't be hosted, an address that can't be listened on, a wait that fails, a clock without
+/// a moment, no memory at the start.
 pub fn serve<V: VendorHandler>(
     rt: &HostRuntime,
     options: ServeOptions,
     vendors: Vec<V>,
 ) -> Result<(), RunFault> {
+    let streams = listen(rt, options.address)?;
+    tell_opening(rt, &options)?;
     let began = Instant::now(rt)?;
-    let store = open(rt, options.db.as_str())?;
+    let store = open(rt, options.db.as_str(), options.accepts_loss)?;
     let opening = began.elapsed(rt)?;
-    serve_database(rt, store, options, vendors, opening)
+    serve_database(rt, store, streams, options, vendors, opening)
+}
+
+/// Listens at an address. Until the file is open, who connects waits in the system's queue.
+fn listen(rt: &HostRuntime, address: SocketAddr) -> Result<Streams, RunFault> {
+    match Streams::listen(rt.alloc(), rt, address) {
+        Ok(streams) => Ok(streams),
+        Err(error) => Err(RunFault::at(address, error)),
+    }
+}
+
+/// Writes to the log how large the file is and what its opening takes, where that is long.
+fn tell_opening(rt: &HostRuntime, options: &ServeOptions) -> Result<(), RunFault> {
+    let size = size_of(rt, options.db.as_str());
+    if size < LARGE {
+        return Ok(());
+    }
+    let text = opening_text(rt.alloc(), options.db.as_str(), size)?;
+    let log = Logged::new(*rt, options.log, Console(*rt));
+    let moment = now(rt).ok_or(RunFault::Clock)?;
+    write_start(&log, rt.alloc(), moment, text.as_str());
+    Ok(())
 }
 
 /// Serves by the records of a database.
 fn serve_database<A: Alter + Drop, V: VendorHandler>(
     rt: &HostRuntime,
     store: SqlStore<A>,
+    streams: Streams,
     options: ServeOptions,
     vendors: Vec<V>,
     opening: Duration,
 ) -> Result<(), RunFault> {
-    serve_cached(rt, store, options, vendors, opening)
+    serve_cached(rt, store, streams, options, vendors, opening)
 }
 
 /// Serves by the records of a store, behind a cache.
 fn serve_cached<S: Store + Drop, V: VendorHandler>(
     rt: &HostRuntime,
     store: S,
+    streams: Streams,
     options: ServeOptions,
     vendors: Vec<V>,
     opening: Duration,
 ) -> Result<(), RunFault> {
     let store = Cached::new(rt.alloc(), store, ANSWERS)?;
-    serve_over(rt, store, options, vendors, opening)
+    serve_over(rt, store, streams, options, vendors, opening)
 }
 
 /// Serves by the records of a store, whose opening took so long.
 fn serve_over<S: Store + Drop, V: VendorHandler>(
     rt: &HostRuntime,
     mut store: S,
+    streams: Streams,
     options: ServeOptions,
     vendors: Vec<V>,
     opening: Duration,
@@ -118,7 +154,7 @@ fn serve_over<S: Store + Drop, V: VendorHandler>(
     let turns = options.turns;
     let level = options.log;
     let address = options.address;
-    let mut server = Server::new(rt, store, options, vendors)?;
+    let mut server = Server::new(rt, store, streams, options, vendors)?;
     if level != LevelFilter::Off {
         server.lobby.keep_notes();
         server.gateway.keep_notes();
@@ -158,6 +194,7 @@ impl<S: Store + Drop, V: VendorHandler> Server<S, V> {
     fn new(
         rt: &HostRuntime,
         store: S,
+        mut streams: Streams,
         options: ServeOptions,
         vendors: Vec<V>,
     ) -> Result<Server<S, V>, RunFault> {
@@ -165,10 +202,6 @@ impl<S: Store + Drop, V: VendorHandler> Server<S, V> {
         let second = now(rt).ok_or(RunFault::Clock)?;
         let hub = hub_of(alloc, store, options.operators, vendors)?;
         let address = options.address;
-        let mut streams = match Streams::listen(alloc, rt, address) {
-            Ok(streams) => streams,
-            Err(error) => return Err(RunFault::at(address, error)),
-        };
         streams.set_second(second.seconds());
         Ok(Server {
             alloc,
@@ -183,11 +216,14 @@ impl<S: Store + Drop, V: VendorHandler> Server<S, V> {
             last_operator: 0,
             failed_accept: false,
             has_faulted: false,
+            hurt: None,
+            is_store_shut: false,
             reserve: set_aside(alloc).ok(),
         })
     }
 
-    /// Makes that many turns, without waiting, or goes on until it is ended.
+    /// Makes that many turns, without waiting, or goes on until it is ended. It ends where the database is shut, as it is
+    /// after a failed sync until it is opened anew.
     fn run<L: Log>(
         &mut self,
         rt: &HostRuntime,
@@ -199,6 +235,9 @@ impl<S: Store + Drop, V: VendorHandler> Server<S, V> {
             self.tick(rt)?;
             self.turn(rt);
             self.write_log(log);
+            if self.is_store_shut {
+                return Err(RunFault::Store);
+            }
         }
         Ok(())
     }
@@ -234,6 +273,7 @@ impl<S: Store + Drop, V: VendorHandler> Server<S, V> {
         }
         if second > self.moment {
             self.moment = second;
+            self.lobby.set_hurt(is_recent(self.hurt, second));
             self.probe();
         }
         Ok(())
@@ -248,8 +288,8 @@ impl<S: Store + Drop, V: VendorHandler> Server<S, V> {
         self.gateway.end_silent(self.streams.to_end());
     }
 
-    /// One turn: accepts connections, polls those that wait, and serves each peer whose stream may be read. What was
-    /// written is then given to the system.
+    /// One turn: accepts connections, polls those that wait, and serves each peer whose stream may be read. Where the
+    /// database is shut, all connections are closed. What was written is then given to the system.
     fn turn(&mut self, rt: &HostRuntime) {
         if let Err(fault) = self.accept() {
             self.failed_accept = true;
@@ -261,18 +301,31 @@ impl<S: Store + Drop, V: VendorHandler> Server<S, V> {
             .serve(&mut self.gateway, &mut self.hub, self.moment);
         self.has_faulted = false;
         self.report(rt, welcomed);
-        self.choose();
-        let served = self
-            .gateway
-            .turn(&mut self.hub, self.moment, self.places.as_slice());
-        self.report(rt, served);
+        if !self.is_store_shut {
+            self.choose();
+            let served = self
+                .gateway
+                .turn(&mut self.hub, self.moment, self.places.as_slice());
+            self.report(rt, served);
+        }
+        if self.is_store_shut {
+            self.gateway.fail_all();
+        }
         self.streams.end_turn();
     }
 
-    /// Tells the fault of a turn, if it ended in one.
+    /// Tells the fault of a turn, if it ended in one. That of a store that is shut is told as the server ends.
     fn report(&mut self, rt: &HostRuntime, answer: Result<(), Fault>) {
-        if let Err(fault) = answer {
-            self.has_faulted = true;
+        let Err(fault) = answer else {
+            return;
+        };
+        self.has_faulted = true;
+        if matches!(fault, Fault::Store) {
+            self.hurt = Some(self.moment);
+            self.lobby.set_hurt(true);
+            self.is_store_shut = matches!(self.hub.probe(), Err(Fault::Store));
+        }
+        if !self.is_store_shut {
             self.tell_fault(rt, &fault, matches!(fault, Fault::NoMemory));
         }
     }
@@ -348,6 +401,11 @@ fn next_operator(gateway: &Gateway<ReadyStream>, places: &[usize], last: usize) 
         }
     }
     first
+}
+
+/// Whether a fault was a short time ago.
+fn is_recent(fault: Option<Moment>, moment: Moment) -> bool {
+    fault.is_some_and(|fault| moment.seconds() < fault.seconds().saturating_add(HURT))
 }
 
 /// Sets memory aside.

@@ -1,12 +1,17 @@
 //! What a cache takes, and that it asks its store once.
 
+use crate::runs::{events, take_all};
 use anyhow::Result;
 use cached::Cached;
 use failing_store::Failing;
-use hub_rows::{Store, StoreFault};
-use ocpp_types::TagKey;
+use hub_rows::{Info, Registration, Store, StoreFault};
+use ocpp_types::{TagKey, Text};
 use std::alloc::Global;
+use std::fs;
 use store_mem::MemStore;
+
+/// A script of which BETA has a tag that it granted to ACME, and ACME a station.
+const RECORDED: &str = "stopped/use_of_a_granted_tag.script";
 
 /// Prints what caches of several capacities answer, and what look-ups are answered whose second asking would fail.
 pub fn try_caches(rt: &HostRuntime) -> Result<()> {
@@ -17,25 +22,68 @@ pub fn try_caches(rt: &HostRuntime) -> Result<()> {
             Err(fault) => println!(rt; "a cache of {capacity}: {fault}")?,
         }
     }
-    println!(rt; "asked twice: {}", asked_twice(alloc)?)?;
+    let lines = fs::read(rt, RECORDED)?;
+    println!(rt; "asked twice: {}", asked_twice(alloc, lines.as_slice())?)?;
     Ok(())
 }
 
 /// Whether each look-up that is kept is answered alike when it is asked again of a store that then fails.
-fn asked_twice(alloc: Global) -> Result<bool> {
-    let key = TagKey::of(alloc, "K1")?;
-    let mut own = failing(alloc)?;
-    let mut granted = failing(alloc)?;
-    let mut station = failing(alloc)?;
-    let first = own.own_tag("ACME", &key).is_ok() && own.own_tag("ACME", &key).is_ok();
-    let second = granted.granted_tag("ACME", &key).is_ok()
-        && granted.granted_tag("ACME", &key).is_ok();
-    let third = station.station("ACME", "CP01").is_ok() && station.station("ACME", "CP01").is_ok();
-    let other = matches!(own.own_tag("BETA", &key), Err(StoreFault::Failed));
+fn asked_twice(alloc: Global, lines: &[u8]) -> Result<bool> {
+    let key = TagKey::of(alloc, "K2")?;
+    let mut own = failing(alloc, lines)?;
+    let mut granted = failing(alloc, lines)?;
+    let mut station = failing(alloc, lines)?;
+    let first = same_tags(own.own_tag("BETA", &key), own.own_tag("BETA", &key));
+    let second = same_tags(
+        granted.granted_tag("ACME", &key),
+        granted.granted_tag("ACME", &key),
+    );
+    let third = same_stations(
+        station.station("ACME", "CP01"),
+        station.station("ACME", "CP01"),
+    );
+    let other = matches!(own.own_tag("ACME", &key), Err(StoreFault::Failed));
     Ok(first && second && third && other)
 }
 
-/// A cache before a store whose second call fails.
-fn failing(alloc: Global) -> Result<Cached<Failing<MemStore>>> {
-    Ok(Cached::new(alloc, Failing::new(MemStore::new(alloc), 1), 8)?)
+/// Whether both answers are the same tag.
+fn same_tags(
+    first: Result<Option<Info>, StoreFault>,
+    second: Result<Option<Info>, StoreFault>,
+) -> bool {
+    match (first, second) {
+        (Ok(Some(first)), Ok(Some(second))) => {
+            first.text.as_str() == second.text.as_str()
+                && first.blocked == second.blocked
+                && first.expiry == second.expiry
+                && same_texts(&first.parent, &second.parent)
+                && same_texts(&first.owner, &second.owner)
+        }
+        _ => false,
+    }
+}
+
+fn same_texts(first: &Option<Text>, second: &Option<Text>) -> bool {
+    match (first, second) {
+        (Some(first), Some(second)) => first.as_str() == second.as_str(),
+        (None, None) => true,
+        _ => false,
+    }
+}
+
+/// Whether both answers are of the same station on record.
+fn same_stations(
+    first: Result<Option<Registration>, StoreFault>,
+    second: Result<Option<Registration>, StoreFault>,
+) -> bool {
+    match (first, second) {
+        (Ok(Some(first)), Ok(Some(second))) => first == second,
+        _ => false,
+    }
+}
+
+/// A cache before a store with those records, whose second call fails.
+fn failing(alloc: Global, lines: &[u8]) -> Result<Cached<Failing<MemStore>>> {
+    let (_, store) = take_all(alloc, MemStore::new(alloc), &events(alloc, lines)?)?;
+    Ok(Cached::new(alloc, Failing::new(store, 1), 8)?)
 }

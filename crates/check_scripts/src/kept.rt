@@ -1,8 +1,7 @@
-//! Records that are found again: over a file that is closed and opened, a replay writes what it writes over a store in
-//! memory.
+//! Many records: over a database, a replay writes what it writes over a store in memory.
 
 use crate::script::parts;
-use crate::stores::{InDatabase, InFile, InMemory, Replays, written_over_file};
+use crate::stores::{InDatabase, InMemory, Replays};
 use anyhow::Result;
 use std::alloc::Global;
 
@@ -21,27 +20,14 @@ const LISTS: &str = "1704067200 ACME list stations
 1704067200 ACME list readings CP01 7
 ";
 
-/// Fills a database in memory, and then a file, which is closed and opened before its records are listed. Prints
-/// whether the replays write what they write over a store in memory.
-pub fn fill(rt: &HostRuntime, path: &str) -> Result<()> {
+/// Fills a database. Prints whether the replay writes what it writes over a store in memory.
+pub fn fill(rt: &HostRuntime) -> Result<()> {
     let alloc = rt.alloc();
     let lines = filling(alloc, 1000, 2000)?;
     let wanted = listed(alloc, &InMemory { alloc }, lines.as_str())?;
     let got = listed(alloc, &InDatabase { alloc }, lines.as_str())?;
     println!(rt;
         "1000 tags and 2000 transactions in a database: {}",
-        compared(&wanted, &got)
-    )?;
-    fill_file(rt, path)
-}
-
-fn fill_file(rt: &HostRuntime, path: &str) -> Result<()> {
-    let alloc = rt.alloc();
-    let lines = filling(alloc, 100, 1000)?;
-    let wanted = listed(alloc, &InMemory { alloc }, lines.as_str())?;
-    let got = closed_and_opened(rt, path, lines.as_str())?;
-    println!(rt;
-        "100 tags and 1000 transactions in a file: {}",
         compared(&wanted, &got)
     )?;
     Ok(())
@@ -80,15 +66,6 @@ fn time_of(alloc: Global, second: u32) -> Result<String> {
 fn listed<M: Replays>(alloc: Global, stores: &M, lines: &str) -> Result<String> {
     let all = format!(in alloc; "{lines}{LISTS}")?;
     stores.written(parts(alloc, "ACME")?, all.as_bytes())
-}
-
-/// The same over a file, which is closed and opened after the lines.
-fn closed_and_opened(rt: &HostRuntime, path: &str, lines: &str) -> Result<String> {
-    let alloc = rt.alloc();
-    let mut text = InFile { rt, path }.written(parts(alloc, "ACME")?, lines.as_bytes())?;
-    let lists = written_over_file(rt, path, parts(alloc, "ACME")?, LISTS.as_bytes())?;
-    text.push_str(lists.as_str())?;
-    Ok(text)
 }
 
 /// What is said of two texts.

@@ -4,11 +4,11 @@
 //! `NAME.expected`. The operators are those of `NAME.operators`, or else ACME and BETA. A fault is the last line,
 //! `fault NAME`. Each script is replayed over a new store of each kind.
 //!
-//! `NAME.later` has the lines of a script over the file that `NAME.script` has left, and `NAME.between` statements of SQL
-//! that are run over the file before it.
-//!
-//! `data/databases` has databases too, `NAME.db`, which are opened. `NAME.opened` has the lines of a script over a copy of
-//! one that an earlier version of the program made, and `NAME.again` those of a script after it.
+//! The other files of `data/` are of checks/files.py, which runs the program itself over files: `NAME.later` has the lines
+//! of a script over the file that `NAME.script` has left, and `NAME.between` statements of SQL that are run over the file
+//! before it. `data/databases` has databases, `NAME.db`, which are opened, and `opened.txt` what is said of each.
+//! `NAME.opened` has the lines of a script over a copy of one that an earlier version of the program made, and `NAME.again`
+//! those of a script after it.
 //!
 //! Some of the scripts are tried over stores of which each call fails in turn. `check_scripts memory NAME` and
 //! `check_scripts cache NAME` print what one script is answered over a store in memory, and over a cache before a database.
@@ -20,15 +20,12 @@
 
 mod caches;
 mod checked;
-mod databases;
 mod difference;
 mod disks;
 mod failures;
 mod handed_again;
 mod kept;
-mod later;
 mod migration;
-mod opened;
 mod replayed;
 mod run_and_stop;
 mod runs;
@@ -41,18 +38,12 @@ mod tries;
 
 use caches::try_caches;
 use checked::{Tally, check_all};
-use databases::open_all;
 use failures::{Kind, Met, answered, try_failures};
 use kept::fill;
-use later::check_later;
-use opened::check_opened;
 use std::env;
 use std::process::ExitCode;
 use stops::try_stops;
-use stores::{InCache, InCachedDatabase, InDatabase, InFile, InMemory, Replays};
-
-/// The file of the stores in a file.
-const PATH: &str = "worked.db";
+use stores::{InCache, InCachedDatabase, InDatabase, InMemory, Replays};
 
 /// Checks the scripts over stores of one kind. Whether all passed.
 fn checks<M: Replays>(rt: &HostRuntime, kind: &str, stores: &M) -> anyhow::Result<bool> {
@@ -102,24 +93,16 @@ fn hand_again(rt: &HostRuntime, kind: Kind, name: &str) -> anyhow::Result<()> {
 /// Checks all. Whether all is as it is to be.
 fn check(rt: &HostRuntime) -> anyhow::Result<bool> {
     let alloc = rt.alloc();
-    let opened = told(rt, "over databases of earlier schemas", check_opened(rt)?)?;
-    open_all(rt)?;
     let in_memory = checks(rt, "in memory", &InMemory { alloc })?;
     let in_database = checks(rt, "in a database in memory", &InDatabase { alloc })?;
     let in_cache = check_caches(rt)?;
-    let in_file = checks(rt, "in a file", &InFile { rt, path: PATH })?;
-    let later = told(
-        rt,
-        "over a file that is opened again",
-        check_later(rt, PATH)?,
-    )?;
-    fill(rt, PATH)?;
+    fill(rt)?;
     try_caches(rt)?;
     let memory = check_failures(rt, "in memory", Kind::Memory)?;
     let small = check_failures(rt, "in a cache of 1 of a database", Kind::Cache(1))?;
     let large = check_failures(rt, "in a cache of a database", Kind::Cache(1024))?;
     let stopped = try_stops(rt)?;
-    let replayed = opened && in_memory && in_database && in_cache && in_file && later;
+    let replayed = in_memory && in_database && in_cache;
     Ok(replayed && memory && small && large && stopped)
 }
 

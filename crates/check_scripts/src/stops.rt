@@ -23,6 +23,9 @@ const SCRIPTS: &[&str] = &[
     "history_is_forgotten",
 ];
 
+/// A script whose log is copied into the database file under way. It has more calls on the log than are tried.
+const LONG: &str = "log_is_copied";
+
 /// The databases of earlier schemas, by their numbers.
 const EARLIER: &[(u32, &str)] = &[
     (1, "databases/records_in_each_list.db"),
@@ -30,10 +33,14 @@ const EARLIER: &[(u32, &str)] = &[
     (3, "databases/records_of_schema_3.db"),
 ];
 
-/// What is tried of each script.
-const KINDS: &[(&str, File, Leaves)] = &[
+/// What is tried on the log.
+const OF_LOG: &[(&str, File, Leaves)] = &[
     ("the log, written", File::Log, Leaves::Written),
     ("the log, synced", File::Log, Leaves::Synced),
+];
+
+/// What is tried on the database file.
+const OF_DATABASE: &[(&str, File, Leaves)] = &[
     ("the database, written", File::Database, Leaves::Written),
     ("the database, synced", File::Database, Leaves::Synced),
 ];
@@ -48,6 +55,7 @@ pub fn try_stops(rt: &HostRuntime) -> Result<bool> {
     for name in SCRIPTS {
         wrong = wrong.saturating_add(try_script(rt, name).context(format_args!("script {name}"))?);
     }
+    wrong = wrong.saturating_add(try_kinds(rt, LONG, &Script::read(rt, LONG)?, OF_DATABASE)?);
     Ok(wrong == 0)
 }
 
@@ -68,13 +76,25 @@ fn told(rt: &HostRuntime, name: &str, kind: &str, tally: Tally) -> Result<u64> {
 fn try_script(rt: &HostRuntime, name: &str) -> Result<u64> {
     let alloc = rt.alloc();
     let script = Script::read(rt, name)?;
-    let mut wrong = 0u64;
-    for (kind, file, leaves) in KINDS {
-        let tally = try_files(alloc, &script, *file, *leaves).context(*kind)?;
-        wrong = wrong.saturating_add(told(rt, name, kind, tally)?);
-    }
+    let mut wrong = try_kinds(rt, name, &script, OF_LOG)?;
+    wrong = wrong.saturating_add(try_kinds(rt, name, &script, OF_DATABASE)?);
     let tally = try_in_place(alloc, &script, File::Log, Leaves::Written)?;
     Ok(wrong.saturating_add(told(rt, name, "opened in place", tally)?))
+}
+
+/// Tries a script in some ways. How many stops were wrong.
+fn try_kinds(
+    rt: &HostRuntime,
+    name: &str,
+    script: &Script,
+    kinds: &[(&str, File, Leaves)],
+) -> Result<u64> {
+    let mut wrong = 0u64;
+    for (kind, file, leaves) in kinds {
+        let tally = try_files(rt.alloc(), script, *file, *leaves).context(*kind)?;
+        wrong = wrong.saturating_add(told(rt, name, kind, tally)?);
+    }
+    Ok(wrong)
 }
 
 /// Stops the opening of a database of an earlier schema. How many stops were wrong.

@@ -4,12 +4,10 @@ use crate::replayed::written;
 use anyhow::Result;
 use cached::Cached;
 use ocpp_types::Text;
-use sqlite::{Alter, FileFrom, FileStore, Unknown};
+use sqlite::Alter;
 use std::alloc::Global;
-use std::fs;
-use std::path::Path;
 use store_mem::MemStore;
-use store_sql::{PrepareFault, SqlStore};
+use store_sql::SqlStore;
 
 /// Replays lines over a store of one kind.
 pub trait Replays {
@@ -80,41 +78,6 @@ fn written_through<A: Alter + Drop>(
 ) -> Result<String> {
     let store = Cached::new(alloc, store, capacity)?;
     written(alloc, store, operators, lines)
-}
-
-/// Replays over a file, in place of the one before.
-#[derive(Drop)]
-pub struct InFile<'a> {
-    pub rt: &'a HostRuntime,
-    pub path: &'a str,
-}
-
-impl Replays for InFile<'_> {
-    fn written(&self, operators: Vec<Text>, lines: &[u8]) -> Result<String> {
-        if Path::new(self.path).exists(self.rt) {
-            fs::remove_file(self.rt, self.path)?;
-        }
-        written_over_file(self.rt, self.path, operators, lines)
-    }
-}
-
-/// What a replay of the lines writes over the records that a file has.
-pub fn written_over_file(
-    rt: &HostRuntime,
-    path: &str,
-    operators: Vec<Text>,
-    lines: &[u8],
-) -> Result<String> {
-    let store = open(rt, path)?;
-    written_over(rt.alloc(), store, operators, lines)
-}
-
-/// Opens the store in a file.
-pub fn open(
-    rt: &HostRuntime,
-    path: &str,
-) -> Result<SqlStore<FileStore<FileFrom<Unknown>>>, PrepareFault> {
-    SqlStore::open(rt, path, Unknown)
 }
 
 /// What a replay of the lines writes over a database.

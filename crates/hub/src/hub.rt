@@ -116,6 +116,18 @@ impl<S: Store + Drop, V: VendorHandler> Hub<S, V> {
         Ok(self.book.store.station(op, station)?.is_some())
     }
 
+    /// Asks the store for records of which no answer is kept, to find whether it still gives any. There are none, since
+    /// no operator has this name.
+    #[tactic(auto, unfolding(crate::specs::Hub::setting))]
+    pub fn probe(&mut self) -> Result<(), Fault>
+        ensures counted { IsCounted (hub_view S.view) self.old self.new (result ≡ Err Fault.Store) }
+        ensures world { is_clean S.view self.new → world S.view self.new ≡ world S.view self.old }
+        ensures setting { setting V.view self.new ≡ setting V.view self.old }
+    {
+        let _none = self.book.store.reports("", "")?;
+        Ok(())
+    }
+
     /// Takes one event and gives its outputs. An event that ends in a fault has changed nothing,
     /// and may be handed again.
     ///

@@ -1,5 +1,6 @@
 -- What rules may ask of one operator's records: over the rows of all operators, then over the rows of that
--- operator alone and the tags that are granted to it. The two parts share no definition but `Lookups`.
+-- operator alone and the tags that are granted to it. The two parts share `Lookups`, `key_of`, and `forgettable` with
+-- what it takes.
 use Rattle.std.specs.Prelude.{ℕ, nat_le, ℤ, pos, List, [], ◌∷◌, Bool, true, false, if◌then◌else◌, not, ◌&&◌, ◌||◌, ◌==◌, is_none, Option, Some, None, map, filter, find}
 use Rattle.std.specs.List.{list_any}
 use Rattle.std.specs.Option.{option_map}
@@ -138,8 +139,8 @@ lookups_at b rows = record {
 
 -- ---- over the rows of one operator alone
 
--- Of what is said of the rows of all operators nothing is shared here. What may go of a station's history is said of
--- the rows of one station (`forgettable`).
+-- Each question is answered once more here, except two parts, which are shared with the rows of all operators: the key
+-- of a parent's text (`key_of`), and what may go of the rows of one station (`forgettable`).
 
 -- how a station is registered
 abbrev pub own_registration : StationRow → Registration

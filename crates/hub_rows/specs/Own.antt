@@ -1,5 +1,6 @@
--- The rows of one operator by themselves. What an edit makes of them is written without the words of the
--- edits of all rows.
+-- The rows of one operator by themselves, and what an edit makes of them. `own_edit` and the edit of all rows share
+-- `put` and `put_all` with the order of keys, what tells an operator's rows apart (`station_rest` and the like), and
+-- `has_number`. What a row becomes is said once more here.
 use Rattle.std.specs.Prelude.{ℕ, ◌+◌, ◌-◌, ℤ, pos, negsuc, List, [], ◌∷◌, Bool, false, Option, Some, None, if◌then◌else◌, ◌&&◌, ◌==◌, map, filter, not}
 use Rattle.std.specs.Str.{bytes_eq}
 use Rattle.ocpp_types.specs.declared.state.State.TheVariants.{Fresh}

@@ -30,7 +30,8 @@ use ocpp_types::{Listed, Moment, NoMemory, TagKey};
 use std::alloc::{AllocError, AllocFailed};
 use thiserror::Error;
 
-/// Why a store doesn't answer. It has changed nothing.
+/// Why a store doesn't answer. Its rows are as they were. Where a change met the fault and the store is opened again, the
+/// change may be found made, whole.
 #[derive(Clone, Copy, Debug, PartialEq, Eq, Drop, Error)]
 pub enum StoreFault {
     #[error("out of memory")]
@@ -67,8 +68,8 @@ impl<T: Drop> From<AllocFailed<T>> for StoreFault {
 /// A store of the records of all operators.
 ///
 /// What is said of its rows holds where it is clean as the call ends, and it then was clean
-/// before. A read leaves the rows. A fault changes nothing, and Failed comes only where the count
-/// of failures rose.
+/// before. A read leaves the rows, and so does a fault. Failed comes only where the count of failures
+/// rose; that it stays at other answers isn't said.
 ///
 /// The work may stop in the middle of any call, and the store be opened again. A store is kept where
 /// a reopening finds its rows and no others. In a kept store a stop during a read leaves the rows,

@@ -48,7 +48,7 @@ module _ {S : Type 0} {g : Ghosts S} where
     same_reference = asks.same_reference;
     goes = λ inside.
         let still = (asks.goes inside).ok in
-        record { ok = record { leaves = still.leaves; within = still.within; edit = λ up. (still.edit up, asks.found inside up); still = still.still }; err = tt };
+        record { ok = record { leaves = still.leaves; within = still.within; edit = λ up. (still.edit up, asks.found inside up); numbered = still.numbered; still = still.still }; err = tt };
   }
 
 -- ---- the run of readings that goes

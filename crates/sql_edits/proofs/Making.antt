@@ -22,6 +22,16 @@ if_ok : {A E : Type 0} {P Q : A → Type 0} (r : Result A E) → ((a : A) → P 
 if_ok (Ok a) turn is = turn a is
 if_ok (Err e) turn is = tt
 
+-- what holds holds of an Ok
+pub surely : {A E P : Type 0} (r : Result A E) → P → OnOk r P
+surely (Ok x) p = p
+surely (Err e) p = tt
+
+-- of an error nothing is said of an Ok
+pub never : {A E : Type 0} (P : Type 0) (r : Result A E) → IsErr r → OnOk r P
+never P (Ok x) failed = absurd cc
+never P (Err e) failed = tt
+
 goes_err : {A E : Type 0} (Edit : Trees → Trees → Type 0) (a b : State) (q : Result A E) → IsErr q → Leaves a b → Goes Edit a b q
 goes_err Edit a b (Ok x) failed left = absurd cc
 goes_err Edit a b (Err e) failed left = record { ok = tt; err = left }
@@ -116,7 +126,7 @@ module _ {S : Type 0} {g : Ghosts S} where
     same_reference = one.same_reference;
     goes = λ begins.
         let first = (one.goes begins).ok in
-        record { ok = record { leaves = first.leaves; within = first.within; edit = λ up. means begins up (first.edit up); still = first.still }; err = tt };
+        record { ok = record { leaves = first.leaves; within = first.within; edit = λ up. means begins up (first.edit up); numbered = first.numbered; still = first.still }; err = tt };
   }
 
   -- the same, where it may begin more often
@@ -131,7 +141,7 @@ module _ {S : Type 0} {g : Ghosts S} where
       go : Begins (state g old.conn.now) → (r : Result A E) → Goes One (state g old.conn.now) (state g new.conn.now) r → Goes Two (state g old.conn.now) (state g new.conn.now) r
       go begins (Ok x) it =
           let first = it.ok in
-          record { ok = record { leaves = first.leaves; within = first.within; edit = λ up. means begins (first.leaves.was_open up) (first.edit up); still = first.still }; err = tt }
+          record { ok = record { leaves = first.leaves; within = first.within; edit = λ up. means begins (first.leaves.was_open up) (first.edit up); numbered = first.numbered; still = first.still }; err = tt }
       go begins (Err e) it = record { ok = tt; err = it.err }
 
   -- an error after a part

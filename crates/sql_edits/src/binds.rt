@@ -1,5 +1,5 @@
 //! Values as they are bound to the parameters of a statement.
-ghost use Rattle.std.specs.Prelude.{◌≡◌, option_map, pos, IfOk, IsErr, IsOk, OnErr, OnOk};
+ghost use Rattle.std.specs.Prelude.{◌≡◌, ◌+◌, ◌<◌, ◌^◌, option_map, pos, IfOk, IfSome, IsErr, IsOk, OnErr, OnOk};
 ghost use Rattle.ocpp_types.specs.TagKey.{key_of};
 
 use hub_rows::StoreFault;
@@ -34,6 +34,17 @@ pub(crate) fn seconds(moment: Moment) -> i64
     ensures { result ≡ pos moment }
 {
     moment.seconds() as i64
+}
+
+/// One more than a count, if that is below 2^63.
+pub(crate) fn one_more(count: u64) -> Option<i64>
+    ensures number { IfSome result (λ n. n ≡ pos (count + 1)) }
+    ensures small { IfSome result (λ _. count < 2 ^ 63) }
+{
+    if count >= i64::MAX as u64 {
+        return None;
+    }
+    Some((count + 1) as i64)
 }
 
 pub(crate) fn seconds_if_any(moment: &Option<Moment>) -> Option<i64>

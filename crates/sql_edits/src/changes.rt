@@ -1,12 +1,13 @@
 //! Changes of the records.
-ghost use Rattle.std.specs.Prelude.{IsErr, IsOk, OnErr, OnOk};
+ghost use Rattle.std.specs.Prelude.{◌<◌, ◌^◌, IsErr, IsOk, OnErr, OnOk};
 ghost use Rattle.sqlite.specs.Held.{state};
 ghost use Rattle.hub_rows.specs.Changes.{edit};
-ghost use Rattle.sql_rows.specs.Kept.{Changes, IsMade, Makes};
+ghost use Rattle.sql_rows.specs.Kept.{Changes, IsMadeAfter, Makes, MakesIf};
 ghost use Rattle.hub_rows.specs.declared.change.Edit.TheVariants.{Stations, Tags, Transactions, Holdings};
-ghost use Rattle.sql_edits.specs.Ready.{IsReady, MakesFitting};
+ghost use Rattle.sql_edits.specs.Ready.{IsReady, MakesFitting, MayMake};
 
 use crate::connectors::put_connector;
+use crate::counts::put_count;
 use crate::forget::forget;
 use crate::grants::{drop_grant, put_grant};
 use crate::local_lists::set_list;
@@ -158,6 +159,21 @@ fn make<S: Alter>(
     }
 }
 
+/// Makes an edit that fits, inside a transaction, and counts it as one change more than so many.
+fn make_counted<S: Alter>(
+    tx: &mut Transaction<'_, S>,
+    alloc: Global,
+    op: &str,
+    change: &Edit,
+    changes: u64,
+) -> Result<(), StoreFault>
+    ensures makes { MakesIf S.Store (MayMake op.now change.now) (IsMadeAfter changes (edit op.now change.now)) tx.old tx.new result }
+    ensures small { OnOk result (changes < 2 ^ 63) }
+{
+    make(tx, alloc, op, change)?;
+    put_count(tx, changes)
+}
+
 /// What a commit did, as a store tells it.
 fn committed(ran: Result<(), Error>) -> Result<(), StoreFault>
     ensures ok { OnOk result (IsOk ran) }
@@ -166,18 +182,20 @@ fn committed(ran: Result<(), Error>) -> Result<(), StoreFault>
     ran.map_err(|error| told(error))
 }
 
-/// Makes a change, in one transaction.
+/// Makes a change, in one transaction, and counts it as one more than so many.
 pub fn apply<S: Alter>(
     conn: &mut Connection<S>,
     alloc: Global,
     change: &Change<'_>,
+    changes: u64,
 ) -> Result<(), StoreFault>
-    ensures changes { IsReady change.now.op.now change.now.edit.now (state S.Store conn.old) → Changes (IsMade (edit change.now.op.now change.now.edit.now)) (state S.Store conn.old) (state S.Store conn.new) result }
+    ensures changes { IsReady change.now.op.now change.now.edit.now (state S.Store conn.old) → Changes (IsMadeAfter changes (edit change.now.op.now change.now.edit.now)) (state S.Store conn.old) (state S.Store conn.new) result }
+    ensures small { OnOk result (changes < 2 ^ 63) }
 {
     if !conn.is_autocommit() {
         return Err(StoreFault::Failed);
     }
     let mut tx = conn.transaction();
-    make(&mut tx, alloc, change.op.as_str(), change.edit)?;
+    make_counted(&mut tx, alloc, change.op.as_str(), change.edit, changes)?;
     committed(tx.commit())
 }

@@ -4,6 +4,7 @@
 mod binds;
 mod changes;
 mod connectors;
+mod counts;
 mod cuts;
 mod forget;
 mod grants;

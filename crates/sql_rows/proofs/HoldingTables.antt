@@ -76,11 +76,11 @@ pub reservations_made : (old new : Trees) (made : List ReservationRow) → rows_
 reservations_made old new made rows frame = λ i. record (rows_of (rest_is (14 ∷ []) old new (spared 14 old new frame) i)) { reservations = rows i }
 
 pub puts_reservation : (r : ReservationRow) → Means sql_reservations.PUT.now (reservations.row r) (IsMade (λ rows. record rows { reservations = put (by_key reservation_key) r rows.reservations }))
-puts_reservation r = means_as (puts 7 reservations on_reservations sql_reservations.PUT.now 4 put_reservations texts.put_reservation_is r) (λ old new h. reservations_made old new _ h.rows h.frame)
+puts_reservation r = means_as (puts 7 reservations on_reservations sql_reservations.PUT.now (λ e. cc) 4 put_reservations texts.put_reservation_is r) (λ old new h. reservations_made old new _ h.rows h.frame)
 
 pub drops_reservation : (op station : List ℕ) (n : ℕ) → Means sql_reservations.DROP.now (Text op ∷ Text station ∷ Int (unshifted n) ∷ []) (IsMade (λ rows. record rows { reservations = filter (λ r. not (bytes_eq r.op op && is_reservation station n r)) rows.reservations }))
 drops_reservation op station n =
-    means_as (drops 7 reservations on_reservations sql_reservations.DROP.now (where_is 0 (1 ∷ 2 ∷ 3 ∷ [])) (Text op ∷ Text station ∷ Int (unshifted n) ∷ []) (λ r. bytes_eq r.op op && is_reservation station n r) (tests.of_reservation op station n) frees_reservations texts.drop_reservation_is)
+    means_as (drops 7 reservations on_reservations sql_reservations.DROP.now (λ e. cc) (where_is 0 (1 ∷ 2 ∷ 3 ∷ [])) (Text op ∷ Text station ∷ Int (unshifted n) ∷ []) (λ r. bytes_eq r.op op && is_reservation station n r) (tests.of_reservation op station n) frees_reservations texts.drop_reservation_is)
     (λ old new h. reservations_made old new _ h.rows h.frame)
 
 pub reads_reservation : (op station : List ℕ) (n : ℕ) → ReadsRows sql_reservations.FIND.now (Text op ∷ Text station ∷ Int (unshifted n) ∷ Int (unshifted n) ∷ []) reservations (λ r. bytes_eq r.op op && is_reservation station n r)
@@ -119,7 +119,7 @@ pub whole_lists : IsWhole lists (cols 1 1 3)
 whole_lists s v params = refl
 
 pub puts_list : (l : ListHead) → Means sql_lists.PUT.now (lists.row l) (IsPutIn lists l)
-puts_list l = puts 8 lists on_lists sql_lists.PUT.now 1 put_lists texts.put_list_is l
+puts_list l = puts 8 lists on_lists sql_lists.PUT.now (λ e. cc) 1 put_lists texts.put_list_is l
 
 pub reads_list : (op station : List ℕ) → ReadsRows sql_lists.FIND.now (Text op ∷ Text station ∷ []) lists (λ l. bytes_eq l.op op && bytes_eq l.station station)
 reads_list op station = record { at = 8; is = on_lists; wanted = where_is 0 (1 ∷ 2 ∷ []); project = cols 1 1 3; whole = whole_lists; order = []; names = names_of hub_list; text = texts.find_list_is; test = tests.of_lists op station }
@@ -159,10 +159,10 @@ unfolding same_name joined
 frees_entries olds = refl
 
 pub adds_entry : (e : EntryRow) → Means sql_list_entries.ADD.now (entries.row e) (IsPutIn entries e)
-adds_entry e = adds 9 entries on_entries sql_list_entries.ADD.now 4 put_entries texts.add_list_entry_is e
+adds_entry e = adds 9 entries on_entries sql_list_entries.ADD.now (λ e. cc) 4 put_entries texts.add_list_entry_is e
 
 pub drops_entries : (op station : List ℕ) → Means sql_list_entries.DROP.now (Text op ∷ Text station ∷ []) (IsDropped entries (λ e. bytes_eq e.op op && bytes_eq e.station station))
-drops_entries op station = drops 9 entries on_entries sql_list_entries.DROP.now (where_is 0 (1 ∷ 2 ∷ [])) (Text op ∷ Text station ∷ []) (λ e. bytes_eq e.op op && bytes_eq e.station station) (tests.of_entries op station) frees_entries texts.drop_entries_is
+drops_entries op station = drops 9 entries on_entries sql_list_entries.DROP.now (λ e. cc) (where_is 0 (1 ∷ 2 ∷ [])) (Text op ∷ Text station ∷ []) (λ e. bytes_eq e.op op && bytes_eq e.station station) (tests.of_entries op station) frees_entries texts.drop_entries_is
 
 pub reads_entries : (op station : List ℕ) → ReadsRows sql_list_entries.LIST.now (Text op ∷ Text station ∷ []) entries (λ e. bytes_eq e.op op && bytes_eq e.station station)
 reads_entries op station = record { at = 9; is = on_entries; wanted = where_is 0 (1 ∷ 2 ∷ []); project = cols 1 1 7; whole = whole_entries; order = by_column 3 ∷ []; names = names_of hub_list_entry; text = texts.list_entries_is; test = tests.of_entries op station }

@@ -11,6 +11,8 @@ use Rattle.sqlite_rules.proofs.ListLemmas.{all_has}
 use Rattle.hub_rows.specs.Keyed.{put_all}
 use Rattle.sql_tables.specs.Tables.{hub_schema}
 use Rattle.sql_rows.specs.TypedTable.{TypedTable, cmp, typed, rows_in, Spares}
+use Rattle.sql_rows.specs.TypedTables.{metas}
+use Rattle.sql_rows.specs.Kept.{IsNumbered, our_meta}
 
 pub all_plain : AllByRecursion (λ (i : Index). i.order ≡ plain) hub_schema.indexes
 all_plain = (refl, (refl, (refl, (refl, (refl, (refl, (refl, (refl, (refl, (refl, (refl, (refl, (refl, (refl, (refl, (refl, (refl, (refl, (refl, tt)))))))))))))))))))
@@ -18,6 +20,10 @@ all_plain = (refl, (refl, (refl, (refl, (refl, (refl, (refl, (refl, (refl, (refl
 -- a table with another tree has the rows that it had
 pub same_in : {T : Type 0} (s : TypedTable T) (tree : ℕ) (old new : Trees) → Has hub_schema.tables s.table → Spares hub_schema tree old new → (s.table.tree ≡ tree → ⊥) → rows_in s new ≡ rows_in s old
 same_in s tree old new listed frame apart = ap (λ l. put_all (cmp s) (map (typed s) l) []) (all_has (λ (t : Table). (t.tree ≡ tree → ⊥) → new t.tree ≡ old t.tree) hub_schema.tables s.table frame listed apart)
+
+-- the number of our schema stays where hub_meta has the rows that it had
+pub stays_numbered : (old new : Trees) → rows_in metas new ≡ rows_in metas old → IsNumbered old → IsNumbered new
+stays_numbered old new same has = subst (λ l. Has l our_meta) (sym same) has
 
 -- ---- the tables with other trees than these
 

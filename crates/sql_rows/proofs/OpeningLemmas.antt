@@ -6,19 +6,21 @@ use Rattle.sqlite.specs.Effect.{Database}
 use Rattle.sqlite.specs.State.{State, HasCleanDisk, Survives, IsRolledBack, IsUnchanged, IsNotRun}
 use Rattle.sqlite.specs.Held.{Held, state}
 use Rattle.sqlite.specs.Store.{Ghosts}
+use Rattle.sqlite_trees.specs.Tree.{Trees}
 use Rattle.sqlite_schema.specs.declared.schema.Schema.{Schema}
 use Rattle.sql_tables.specs.Opening.{no_schema, schema_at}
 use Rattle.sql_tables.specs.Tables.{first_tables, second_tables, third_tables, hub_schema}
 use Rattle.hub_rows.proofs.WellFormedLaws.{well_formed-no_rows}
 use Rattle.hub_rows.specs.WellFormed.{WellFormedRows}
-use Rattle.sql_rows.specs.TypedTable.{AreTyped}
-use Rattle.sql_rows.specs.TypedTables.{hub_good}
-use Rattle.sql_rows.specs.Kept.{Leaves}
-use Rattle.sql_rows.specs.Opening.{IsOurs, IsSpared, Rested, Prepares, rows_at, IsRaised}
+use Rattle.sql_rows.specs.TypedTables.{rows_of}
+use Rattle.sql_rows.specs.Kept.{Leaves, Serves}
+use Rattle.sql_rows.specs.Opening.{AreOurs, IsOurs, IsSpared, Prepares, IsRaised}
+use Rattle.sql_rows.proofs.StoreLemmas.{serves_as}
 use Rattle.sql_rows.proofs.TxLemmas.{leaves_then}
 
 -- what was begun, asked and undone
-module _ {S : Type 0} (g : Ghosts S) (old tx mid end : Held S) (begun : tx ≡ record old { in_transaction = true }) (rested : Rested (state g old)) (clean : IsTrue (state g end).is_open → HasCleanDisk (state g end))
+module _ {S : Type 0} (g : Ghosts S) (old tx mid end : Held S) (begun : tx ≡ record old { in_transaction = true }) (settled : IsTrue (state g old).is_open → (state g old).committed ≡ (state g old).now) (autocommit : old.in_transaction ≡ false)
+    (clean : IsTrue (state g end).is_open → HasCleanDisk (state g end))
     (asked : IsTrue (state g mid).is_open → IsTrue (state g tx).is_open × ((state g mid).committed ≡ (state g tx).committed)) (survives : Survives (state g tx) (state g mid) (λ _. ⊥))
     (undone : HasCleanDisk (state g end) → IsRolledBack (state g mid) (state g end)) (ended : end.in_transaction ≡ false) (ends : Survives (state g mid) (state g end) (λ _. ⊥)) where
   abbrev begins : Held S
@@ -35,9 +37,9 @@ module _ {S : Type 0} (g : Ghosts S) (old tx mid end : Held S) (begun : tx ≡ r
       (record { was_open = λ up. (back up).was_open up; committed = λ up. ((back up).undone up).1; survives = ends }) in
       record {
         was_open = λ up. (was up).0;
-        now = λ up. ((back up).undone up).0 ∙ (was up).1 ∙ rested.settled (was up).0;
+        now = λ up. ((back up).undone up).0 ∙ (was up).1 ∙ settled (was up).0;
         committed = λ up. ((back up).undone up).1 ∙ (was up).1;
-        mode = ended ∙ sym rested.mode;
+        mode = ended ∙ sym autocommit;
         survives = record { clean = whole.survives.clean; shield = whole.survives.shield; counts = whole.survives.counts; limit = whole.survives.limit; closes = whole.survives.closes; crash = whole.survives.crash };
       }
 
@@ -79,7 +81,7 @@ module _ {A E : Type 0} (old mid new : State) (r : Result A E) (spared : IsSpare
 
   pub prepared_then : Prepares old new r
   prepared_then = record {
-    serves = λ ours up. prepared.serves (subst (λ (d : Database). (n : ℕ) → d.schema ≡ schema_at n → AreTyped (schema_at n) hub_good d.trees × WellFormedRows (rows_at n d.trees)) (sym (spared.now (mid_up (clean up)))) ours) up;
+    serves = λ ours up. prepared.serves (subst (λ (d : Database). (n : ℕ) → d.schema ≡ schema_at n → AreOurs n d.trees) (sym (spared.now (mid_up (clean up)))) ours) up;
     taken = λ up. subst (λ (d : Database). OnOk r (((d.schema ≡ hub_schema) × (new.now ≡ d)) ⊎ IsRaised d new.now.trees)) (spared.now (mid_up (clean up))) (prepared.taken up);
     refused = λ up. refused_before r (mid_up (clean up)) (prepared.refused up);
     crash = λ up sure db may. elim (prepared.crash (mid_up sure) sure db may) [
@@ -91,10 +93,35 @@ module _ {A E : Type 0} (old mid new : State) (r : Result A E) (spared : IsSpare
     up = prepared.up;
   }
 
+-- ---- what is looked at after it was prepared is what was prepared
+
+serves_spared : (old new : State) → Serves old → IsSpared old new → IsTrue new.is_open → Serves new
+serves_spared old new was spared up = serves_as old new was (spared.now up) (spared.committed up ∙ was.committed) (spared.mode ∙ was.mode) spared.survives.limit
+
+module _ {A E : Type 0} (old mid new : State) (x : A) (prepared : Prepares {A = A} {E = E} old mid (Ok x)) (spared : IsSpared mid new) (opens : HasCleanDisk new → IsTrue new.is_open) (clean : IsTrue new.is_open → HasCleanDisk new) where
+  still_serves : IsOurs old → IsTrue new.is_open → Serves new × WellFormedRows (rows_of new.now.trees)
+  still_serves ours up =
+      let was = prepared.serves ours (spared.was_open up) in
+      (serves_spared mid new was.0 spared up, subst (λ (d : Database). WellFormedRows (rows_of d.trees)) (sym (spared.now up)) was.1)
+
+  left_before : HasCleanDisk new → (db : Trees) → new.may_leave db → mid.may_leave db
+  left_before sure db may = elim (spared.survives.crash sure db may) [ inl was ↦ was | inr none ↦ absurd none ]
+
+  pub still_prepared : Prepares {A = A} {E = E} old new (Ok x)
+  still_prepared = record {
+    serves = still_serves;
+    taken = λ up. subst (λ (d : Database). ((old.now.schema ≡ hub_schema) × (d ≡ old.now)) ⊎ IsRaised old.now d.trees) (sym (spared.now up)) (prepared.taken (spared.was_open up));
+    refused = λ up. tt;
+    crash = λ up sure db may. let doubts = spared.survives.clean in prepared.crash up (omega (arith, doubts, sure)) db (left_before sure db may);
+    durable = λ up db may. prepared.durable (spared.was_open up) db (left_before (clean up) db may) ∙ sym (ap (λ (d : Database). d.trees) (spared.now up));
+    clean = let doubts = prepared.clean in let more = spared.survives.clean in omega (arith, doubts, more);
+    up = opens;
+  }
+
 -- ---- an empty database
 
 pub ours_empty : (s : State) → s.now.schema ≡ no_schema → IsOurs s
-ours_empty s blank zero is = (tt, well_formed-no_rows)
+ours_empty s blank zero is = record { typed = tt; good = well_formed-no_rows; numbered = λ some. absurd (omega (arith, some)) }
 ours_empty s blank (suc zero) is = absurd (let both : no_schema.tables ≡ first_tables.tables = ap (λ (c : Schema). c.tables) (sym blank ∙ is) in cc)
 ours_empty s blank (suc (suc zero)) is = absurd (let both : no_schema.tables ≡ second_tables.tables = ap (λ (c : Schema). c.tables) (sym blank ∙ is) in cc)
 ours_empty s blank (suc (suc (suc zero))) is = absurd (let both : no_schema.tables ≡ third_tables.tables = ap (λ (c : Schema). c.tables) (sym blank ∙ is) in cc)

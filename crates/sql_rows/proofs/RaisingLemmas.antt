@@ -1,6 +1,5 @@
 -- An earlier schema is raised in one transaction: it gets the tables that it lacks, and the number.
-use Rattle.std.proofs.Common.{◌≡◌, ◌≤◌, ◌⊎◌, ℕ, List, [], ◌∷◌, ◌++◌, map, true, false, Ok, Err, Result, IsTrue, IfErr, IsErr, OnOk, refl, sym, ap, ◌∙◌, subst, inl, inr, true≢false, arith, nat_lt, Less, Equal, Greater, Ordering, zero, suc, ◌+◌, ◌<◌}
-use Rattle.std.specs.Ordering.{match_ordering}
+use Rattle.std.proofs.Common.{◌≡◌, ◌≤◌, ◌⊎◌, ℕ, List, [], ◌∷◌, ◌++◌, map, true, false, Ok, Err, Result, IsTrue, IfErr, IsErr, OnOk, refl, sym, ap, ◌∙◌, subst, inl, inr, true≢false, arith, nat_lt, zero, suc, ◌+◌, ◌<◌}
 use Rattle.std.proofs.lemmas.Bool.Decides.{nat_tests}
 use Rattle.std.specs.List.{AllByRecursion}
 use Rattle.sqlite_value.specs.Order.{Row}
@@ -18,19 +17,20 @@ use Rattle.sqlite.specs.Held.{Held, state}
 use Rattle.sqlite.specs.Store.{Ghosts}
 use Rattle.sql_tables.specs.Opening.{our_number, tables_at, schema_at}
 use Rattle.sql_tables.specs.Tables.{hub_schema, first_tables, second_tables, third_tables, hub_report, hub_tx_owner, hub_use, hub_meter_value}
-use Rattle.hub_rows.specs.Keyed.{put, put_all}
+use Rattle.hub_rows.specs.Keyed.{put_all}
 use Rattle.hub_rows.specs.Rows.{Rows}
 use Rattle.hub_rows.specs.WellFormed.{WellFormedRows}
-use Rattle.sql_rows.specs.TypedTable.{cmp, rows_in, typed, AreTyped, Spares}
+use Rattle.sql_rows.specs.TypedTable.{cmp, rows_in, typed, AreTyped}
 use Rattle.sql_rows.specs.TypedTables.{metas, meter_values, hub_good, rows_of}
-use Rattle.sql_rows.specs.Kept.{Leaves, IsInside, Inside, IsPutIn}
-use Rattle.sql_rows.specs.Opening.{IsInsideAs, IsInsideWith, HasTables, MakesOurs, Rested, Prepares, our_meta, rows_at, rows_before, trees_at, IsCut, Holds, IsRaised}
-use Rattle.sql_rows.proofs.HubTables.{rest_is, spared}
+use Rattle.sql_rows.specs.Kept.{Leaves, IsInside, IsNumbered, Inside, IsPutIn, our_meta}
+use Rattle.sql_rows.specs.Opening.{IsInsideAs, IsInsideWith, HasTables, MakesOurs, Rested, Prepares, rows_at, rows_before, trees_at, IsCut, Holds, IsRaised}
+use Rattle.sql_rows.proofs.HubTables.{rest_is}
+use Rattle.sql_rows.proofs.MetaTable.{metas_made, number_put}
 use Rattle.sqlite_rules.specs.Lists.{Has}
 use Rattle.sql_rows.proofs.CreateLemmas.{more_tables}
 use Rattle.sql_rows.proofs.TxTables.{on_meter_values}
 
--- ---- the row of hub_meta, and all tables
+-- ---- the number of the schema, and all tables
 
 all_kept : (ts : List Table) (rows db : Trees) → KeepsRows ts rows db → AllByRecursion (λ t. IsTable (rows t.tree) × AllByRecursion (hub_good t.tree) (rows t.tree)) ts → AllByRecursion (λ t. IsTable (db t.tree) × AllByRecursion (hub_good t.tree) (db t.tree)) ts
 all_kept [] rows db same all = tt
@@ -38,14 +38,6 @@ all_kept (t ∷ ts) rows db same all = (subst (λ (l : List Row). IsTable l × A
 
 pub inside_as : (rows : Trees) (s : State) → AreTyped hub_schema hub_good rows → IsInsideAs rows hub_schema s → IsInside s
 inside_as rows s are_typed h up = let w = h up in record { schema = w.schema_is; sound = w.sound; rows = all_kept hub_schema.tables rows s.now.trees w.kept are_typed; mode = w.mode; limit = w.limit }
-
-put_there : {R : Type 0} (cmp : R → R → Ordering) (r : R) (xs : List R) → Has (put cmp r xs) r
-put_there cmp r [] = inl refl
-put_there cmp r (x ∷ xs) = elim (cmp r x) as (λ o. Has (match_ordering o (r ∷ x ∷ xs) (r ∷ xs) (x ∷ put cmp r xs)) r) [ Less ↦ inl refl | Equal ↦ inl refl | Greater ↦ inr (put_there cmp r xs) ]
-
--- hub_meta has no rows of the hub
-metas_made : (old new : Trees) → Spares hub_schema 0 old new → rows_of new ≡ rows_of old
-metas_made old new frame = ap rows_of (rest_is (0 ∷ []) old new (spared 0 old new frame))
 
 -- the number is put
 filled : (all : Rows) (a b : State) → IsInsideWith all a → Inside (IsPutIn metas our_meta) a b → IsTrue b.is_open → HasTables all b
@@ -59,7 +51,7 @@ filled all a b with_rows done up =
         whole = subst (λ s. IsDatabase (record { schema = s; trees = b.now.trees })) now.schema now.sound;
         are_typed = now.rows;
         rows = metas_made a.now.trees b.now.trees edit.frame ∙ was.1;
-        numbered = subst (λ l. Has l our_meta) (sym edit.rows) (put_there (cmp metas) our_meta (rows_in metas a.now.trees));
+        numbered = number_put a.now.trees b.now.trees edit;
       };
       mode = now.mode;
       limit = now.limit;
@@ -215,16 +207,17 @@ module _ {S : Type 0} (g : Ghosts S) (old tx mid end : Held S) (n : ℕ) (lower 
         serves = λ ours up.
             let shows = (ok (clean up)).1 in
             let it = ours n (was (leaves.was_open shows.was_open)) in
-            let h = tables it.0 shows.was_open in (
+            let h = tables it.typed shows.was_open in (
               record {
                 schema = ap (λ (d : Database). d.schema) shows.now_is ∙ h.schema_is;
                 sound = subst IsDatabase (sym shows.now_is) (subst (λ s. IsDatabase (record { schema = s; trees = (state g mid).now.trees })) (sym h.schema_is) h.holds.whole);
                 rows = subst (λ (d : Database). AreTyped hub_schema hub_good d.trees) (sym shows.now_is) h.holds.are_typed;
+                numbered = subst (λ (d : Database). IsNumbered d.trees) (sym shows.now_is) h.holds.numbered;
                 committed = shows.committed_is ∙ sym shows.now_is;
                 mode = shows.mode;
                 limit = survives.limit ∙ h.limit;
               },
-              subst WellFormedRows (sym (ap (λ (d : Database). rows_of d.trees) shows.now_is ∙ h.holds.rows)) it.1,
+              subst WellFormedRows (sym (ap (λ (d : Database). rows_of d.trees) shows.now_is ∙ h.holds.rows)) it.good,
             );
         taken = λ up. let shows = (ok (clean up)).1 in inr (raised shows.was_open (state g end).now.trees (ap (λ (d : Database). d.trees) shows.now_is));
         refused = λ up. tt;

@@ -94,7 +94,7 @@ pub stations_made : (old new : Trees) (made : List StationRow) → rows_in stati
 stations_made old new made rows frame = λ i. record (rows_of (rest_is (2 ∷ []) old new (spared 2 old new frame) i)) { stations = rows i }
 
 pub puts_station : (r : StationRow) → Means sql_stations.PUT.now (stations.row r) (IsMade (λ rows. record rows { stations = put (by_key station_key) r rows.stations }))
-puts_station r = means_as (puts 1 stations on_stations sql_stations.PUT.now 13 put_stations texts.put_station_is r) (λ old new h. stations_made old new _ h.rows h.frame)
+puts_station r = means_as (puts 1 stations on_stations sql_stations.PUT.now (λ e. cc) 13 put_stations texts.put_station_is r) (λ old new h. stations_made old new _ h.rows h.frame)
 
 pub reads_station : (op station : List ℕ) → ReadsRows sql_stations.FIND.now (Text op ∷ Text station ∷ Text station ∷ []) stations (λ r. bytes_eq r.op op && bytes_eq r.station station)
 reads_station op station = record { at = 1; is = on_stations; wanted = where_is 0 (1 ∷ []) ++ range_is 1 2; project = cols 1 1 15; whole = whole_stations; order = by_column 2 ∷ []; names = names_of hub_station; text = texts.find_stations_is; test = tests.one_station op station }
@@ -135,7 +135,7 @@ pub connectors_made : (old new : Trees) (made : List ConnectorRow) → rows_in c
 connectors_made old new made rows frame = λ i. record (rows_of (rest_is (4 ∷ []) old new (spared 4 old new frame) i)) { connectors = rows i }
 
 pub puts_connector : (r : ConnectorRow) → Means sql_connectors.PUT.now (connectors.row r) (IsMade (λ rows. record rows { connectors = put (by_key connector_key) r rows.connectors }))
-puts_connector r = means_as (puts 2 connectors on_connectors sql_connectors.PUT.now 6 put_connectors texts.put_connector_is r) (λ old new h. connectors_made old new _ h.rows h.frame)
+puts_connector r = means_as (puts 2 connectors on_connectors sql_connectors.PUT.now (λ e. cc) 6 put_connectors texts.put_connector_is r) (λ old new h. connectors_made old new _ h.rows h.frame)
 
 pub reads_connectors : (op station : List ℕ) → ReadsRows sql_connectors.LIST.now (Text op ∷ Text station ∷ []) connectors (λ r. bytes_eq r.op op && bytes_eq r.station station)
 reads_connectors op station = record { at = 2; is = on_connectors; wanted = where_is 0 (1 ∷ 2 ∷ []); project = cols 1 1 9; whole = whole_connectors; order = by_column 3 ∷ []; names = names_of hub_connector; text = texts.list_connectors_is; test = tests.of_connectors op station }
@@ -180,7 +180,7 @@ pub reports_made : (old new : Trees) (made : List ReportRow) → rows_in reports
 reports_made old new made rows frame = λ i. record (rows_of (rest_is (20 ∷ []) old new (spared 20 old new frame) i)) { reports = rows i }
 
 pub puts_report : (r : ReportRow) → Means sql_reports.PUT.now (reports.row r) (IsMade (λ rows. record rows { reports = put (by_key report_key) r rows.reports }))
-puts_report r = means_as (puts 10 reports on_reports sql_reports.PUT.now 2 put_reports texts.put_report_is r) (λ old new h. reports_made old new _ h.rows h.frame)
+puts_report r = means_as (puts 10 reports on_reports sql_reports.PUT.now (λ e. cc) 2 put_reports texts.put_report_is r) (λ old new h. reports_made old new _ h.rows h.frame)
 
 pub reads_reports : (op station : List ℕ) → ReadsRows sql_reports.LIST.now (Text op ∷ Text station ∷ []) reports (λ r. bytes_eq r.op op && bytes_eq r.station station)
 reads_reports op station = record { at = 10; is = on_reports; wanted = where_is 0 (1 ∷ 2 ∷ []); project = cols 1 1 5; whole = whole_reports; order = by_column 3 ∷ []; names = names_of hub_report; text = texts.list_reports_is; test = tests.of_reports op station }

@@ -17,7 +17,7 @@ use Rattle.sqlite.proofs.Callers.{IsPlain, command_of}
 use Rattle.sql_tables.specs.Tables.{hub_schema}
 use Rattle.sql_rows.specs.TypedTables.{hub_good}
 use Rattle.sql_rows.specs.TypedTable.{AreTyped}
-use Rattle.sql_rows.specs.Kept.{Serves, IsServing, IsAsBefore, Rests, IsUncommitted, StaysOpen, CommitsNothing}
+use Rattle.sql_rows.specs.Kept.{IsNumbered, Serves, IsServing, IsAsBefore, Rests, IsUncommitted, StaysOpen, CommitsNothing}
 
 -- a store that is open is clean
 pub open_is_clean : (clean is_open : Bool) → (clean ≡ false → is_open ≡ false) → IsTrue is_open → doubt clean ≡ 0
@@ -33,6 +33,7 @@ serves_as old new was same last mode limit = record {
   schema = ap (λ (d : Database). d.schema) same ∙ was.schema;
   sound = subst IsDatabase (sym same) was.sound;
   rows = subst (λ (d : Database). AreTyped hub_schema hub_good d.trees) (sym same) was.rows;
+  numbered = subst (λ (d : Database). IsNumbered d.trees) (sym same) was.numbered;
   committed = last ∙ sym same;
   mode = mode;
   limit = limit ∙ was.limit;
@@ -119,14 +120,14 @@ written_runs old new (InsertOr at how from clauses) text params count w h = h
 written_runs old new (Delete at q) text params count w h = h
 written_runs old new _ text params count w h = absurd w
 
--- what a text does to tables that are kept, for any statement that writes rows
+-- what a text does to tables that are kept, for any statement that writes rows; the number of our schema stays
 pub record Means (sql : List ℕ) (params : Row) (Edit : Trees → Trees → Type 0) : Type 1 where
   pub command : Command
   pub is : command_of (understood hub_schema sql) ≡ command
   pub plain : IsPlain (understood hub_schema sql)
   pub writes : IsWriting command
   pub does : (limit : Option ℕ) (st : State) (db : Database) (text : List ℕ) (tally : Tally) (after : Database) → db.schema ≡ hub_schema → AreTyped hub_schema hub_good db.trees → Obeys hub_schema db.trees
-      → Does limit (mode_of st) params db text None command (Ok (tally, after)) → (after.schema ≡ hub_schema) × AreTyped hub_schema hub_good after.trees × (Obeys hub_schema after.trees → Edit db.trees after.trees)
+      → Does limit (mode_of st) params db text None command (Ok (tally, after)) → (after.schema ≡ hub_schema) × AreTyped hub_schema hub_good after.trees × (Obeys hub_schema after.trees → Edit db.trees after.trees × (IsNumbered db.trees → IsNumbered after.trees))
 
 -- the same, by what follows of its edit
 pub means_as : {sql : List ℕ} {params : Row} {E F : Trees → Trees → Type 0} → Means sql params E → ((old new : Trees) → E old new → F old new) → Means sql params F
@@ -135,7 +136,7 @@ means_as m weaker = record {
   is = m.is;
   plain = m.plain;
   writes = m.writes;
-  does = λ limit st db text tally after has kept obeys h. let d = m.does limit st db text tally after has kept obeys h in (d.0, d.1, λ sound. weaker _ _ (d.2 sound));
+  does = λ limit st db text tally after has kept obeys h. let d = m.does limit st db text tally after has kept obeys h in (d.0, d.1, λ sound. let both = d.2 sound in (weaker _ _ both.0, both.1));
 }
 
 -- ---- calls one after the other that leave all as it was

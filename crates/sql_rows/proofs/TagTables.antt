@@ -64,7 +64,7 @@ pub tags_made : (old new : Trees) (made : List TagRow) → rows_in tags new ≡ 
 tags_made old new made rows frame = λ i. record (rows_of (rest_is (6 ∷ []) old new (spared 6 old new frame) i)) { tags = rows i }
 
 pub puts_tag : (r : TagRow) → Means sql_tags.PUT.now (tags.row r) (IsMade (λ rows. record rows { tags = put (by_key tag_key) r rows.tags }))
-puts_tag r = means_as (puts 3 tags on_tags sql_tags.PUT.now 5 put_tags texts.put_tag_is r) (λ old new h. tags_made old new _ h.rows h.frame)
+puts_tag r = means_as (puts 3 tags on_tags sql_tags.PUT.now (λ e. cc) 5 put_tags texts.put_tag_is r) (λ old new h. tags_made old new _ h.rows h.frame)
 
 pub reads_tag : (op key : List ℕ) → ReadsRows sql_tags.FIND.now (Text op ∷ Text key ∷ Text key ∷ []) tags (λ r. bytes_eq r.op op && bytes_eq r.key key)
 reads_tag op key = record { at = 3; is = on_tags; wanted = where_is 0 (1 ∷ []) ++ range_is 1 2; project = cols 1 1 7; whole = whole_tags; order = by_column 2 ∷ []; names = names_of hub_tag; text = texts.find_tags_is; test = tests.one_tag op key }
@@ -110,11 +110,11 @@ pub grants_made : (old new : Trees) (made : List GrantRow) → rows_in grants ne
 grants_made old new made rows frame = λ i. record (rows_of (rest_is (8 ∷ []) old new (spared 8 old new frame) i)) { grants = rows i }
 
 pub puts_grant : (r : GrantRow) → Means sql_grants.PUT.now (grants.row r) (IsMade (λ rows. record rows { grants = put (by_key grant_key) r rows.grants }))
-puts_grant r = means_as (puts 4 grants on_grants sql_grants.PUT.now 1 put_grants texts.put_grant_is r) (λ old new h. grants_made old new _ h.rows h.frame)
+puts_grant r = means_as (puts 4 grants on_grants sql_grants.PUT.now (λ e. cc) 1 put_grants texts.put_grant_is r) (λ old new h. grants_made old new _ h.rows h.frame)
 
 pub drops_grant : (op key to : List ℕ) → Means sql_grants.DROP.now (Text op ∷ Text key ∷ Text to ∷ []) (IsMade (λ rows. record rows { grants = filter (λ r. not (bytes_eq r.op op && is_grant key to r)) rows.grants }))
 drops_grant op key to =
-    means_as (drops 4 grants on_grants sql_grants.DROP.now (where_is 0 (1 ∷ 2 ∷ 3 ∷ [])) (Text op ∷ Text key ∷ Text to ∷ []) (λ r. bytes_eq r.op op && is_grant key to r) (tests.of_grant op key to) frees_grants texts.drop_grant_is)
+    means_as (drops 4 grants on_grants sql_grants.DROP.now (λ e. cc) (where_is 0 (1 ∷ 2 ∷ 3 ∷ [])) (Text op ∷ Text key ∷ Text to ∷ []) (λ r. bytes_eq r.op op && is_grant key to r) (tests.of_grant op key to) frees_grants texts.drop_grant_is)
     (λ old new h. grants_made old new _ h.rows h.frame)
 
 pub reads_grant : (op key to : List ℕ) → ReadsRows sql_grants.FIND.now (Text op ∷ Text key ∷ Text to ∷ []) grants (λ r. bytes_eq r.op op && is_grant key to r)

@@ -1,5 +1,5 @@
 -- What the statement that drops a tag makes of the rows of the hub.
-use Rattle.std.proofs.Common.{◌≡◌, ◌&&◌, ℕ, List, [], ◌∷◌}
+use Rattle.std.proofs.Common.{◌≡◌, ◌&&◌, ℕ, List, [], ◌∷◌, ap, inl, map, refl}
 use Rattle.std.specs.Str.{bytes_eq}
 use Rattle.sqlite_value.specs.declared.value.Value.TheVariants.{Text}
 use Rattle.sqlite_value.specs.Order.{Row}
@@ -15,14 +15,15 @@ use Rattle.sqlite_rules.specs.Edit.{edit_of}
 use Rattle.hub_rows.specs.declared.change.Edit.TheVariants.{Tags}
 use Rattle.hub_rows.specs.declared.change.TagEdit.TheVariants.{TagDropped}
 use Rattle.hub_rows.specs.Changes.{edit}
-use Rattle.sql_tables.specs.Tables.{hub_schema, hub_tag}
+use Rattle.hub_rows.specs.Keyed.{put_all}
+use Rattle.sql_tables.specs.Tables.{hub_schema, hub_meta, hub_tag}
 use Rattle.sql_tables.specs.Forms.{where_is, drop_query, drop_command}
 use Rattle.sql_tables.specs.declared.tags.TheConstants as sql_tags
 use Rattle.sql_tables.proofs.Texts as texts
-use Rattle.sql_rows.specs.TypedTable.{AreTyped}
-use Rattle.sql_rows.specs.TypedTables.{tags, grants, hub_good, rows_of}
-use Rattle.sql_rows.specs.Kept.{IsMade}
-use Rattle.sql_rows.proofs.HubTables.{IsApart, rest_is}
+use Rattle.sql_rows.specs.TypedTable.{AreTyped, cmp, typed}
+use Rattle.sql_rows.specs.TypedTables.{metas, tags, grants, hub_good, rows_of}
+use Rattle.sql_rows.specs.Kept.{IsMade, IsNumbered}
+use Rattle.sql_rows.proofs.HubTables.{IsApart, rest_is, stays_numbered}
 use Rattle.sql_rows.proofs.DropLemmas.{deletes, drop_means}
 use Rattle.sql_rows.proofs.TagTables.{on_tags, on_grants}
 use Rattle.sql_rows.proofs.Tests.{of_tag}
@@ -36,6 +37,9 @@ module _ (op key : List ℕ) (db mid final : Trees) (kept : AreTyped hub_schema 
 
   others : (t : Table) → Has hub_schema.tables t → IsApart (6 ∷ 8 ∷ []) t.tree → final t.tree ≡ db t.tree
   others t listed apart = others_are op key db mid final kept rows answer c t listed apart.0 apart.1.0
+
+  pub still_numbered : IsNumbered db → IsNumbered final
+  still_numbered = stays_numbered db final (ap (λ (l : List Row). put_all (cmp metas) (map (typed metas) l) []) (others hub_meta (inl refl) (λ e. cc, (λ e. cc, tt))))
 
   pub tag_dropped : Obeys hub_schema final → rows_of final ≡ edit op (Tags (TagDropped key)) (rows_of db)
   tag_dropped sound = λ i. record (rows_of (rest_is (6 ∷ 8 ∷ []) db final others i)) {
@@ -52,5 +56,5 @@ drops_tag op key = record {
   does = λ limit st db words tally after has kept obeys h.
       let d = deletes hub_schema hub_good 3 tags on_tags (where_is 0 (1 ∷ 2 ∷ [])) (Text op ∷ Text key ∷ []) (λ t. bytes_eq t.op op && bytes_eq t.key key) (of_tag op key) limit st db words tally after has h in
       let c = cascades db.trees (ids_of d.0) after.trees d.2 in
-      (d.3, are_typed op key db.trees c.0 after.trees kept obeys d.0 d.1 c.1, λ sound. tag_dropped op key db.trees c.0 after.trees kept obeys d.0 d.1 c.1 sound);
+      (d.3, are_typed op key db.trees c.0 after.trees kept obeys d.0 d.1 c.1, λ sound. (tag_dropped op key db.trees c.0 after.trees kept obeys d.0 d.1 c.1 sound, still_numbered op key db.trees c.0 after.trees kept obeys d.0 d.1 c.1));
 }

@@ -24,7 +24,7 @@ use Rattle.hub_rows.specs.Transactions.{is_open, counts, is_tx, is_started, is_s
 use Rattle.hub_rows.specs.Uses.{is_owner_of}
 use Rattle.hub_rows.specs.declared.tx_row.StartKey.{StartKey}
 use Rattle.sql_tables.specs.Forms.{where_is, range_is}
-use Rattle.sql_rows.specs.TypedTables.{stations, connectors, tags, grants, txs, readings, reservations, lists, entries, reports, tx_owners, uses, meter_values, is_meter_value}
+use Rattle.sql_rows.specs.TypedTables.{metas, stations, connectors, tags, grants, txs, readings, reservations, lists, entries, reports, tx_owners, uses, meter_values, is_meter_value}
 use Rattle.sql_rows.specs.Values.{flag, number_or_null}
 use Rattle.sql_rows.proofs.ReadLaws.{IsTest}
 use Rattle.sql_rows.proofs.TableLemmas.{equal_is}
@@ -144,10 +144,15 @@ counts_between m low high = ap₂ (λ a b. a && (b && true)) (at_least (pos m) (
 all_signed : (n : ℕ) → between (Int (unshifted n)) (Int (negsuc 2147483647)) (Blob []) ≡ true
 all_signed n = ap₂ (λ a b. a && (b && true)) (at_least (unshifted n) (negsuc 2147483647) ∙ not_below_least n) (below_blob (unshifted n) [])
 
--- ---- of an operator and a station
+-- ---- by the last of its columns
 
 last_text : (s t : List ℕ) → equals (Text s) (Text t) && true ≡ bytes_eq s t
 last_text s t = ap (λ b. b && true) (text_test s t) ∙ and_true (bytes_eq s t)
+
+pub of_metas : (name : List ℕ) → IsTest metas (where_is 0 (1 ∷ [])) (Text name ∷ []) (λ m. bytes_eq m.name name)
+of_metas name = λ id m. last_text m.name name
+
+-- ---- of an operator and a station
 
 module _ (op station : List ℕ) where
   pub one_station : IsTest stations (where_is 0 (1 ∷ []) ++ range_is 1 2) (Text op ∷ Text station ∷ Text station ∷ []) (λ r. bytes_eq r.op op && bytes_eq r.station station)

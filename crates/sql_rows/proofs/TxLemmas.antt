@@ -19,7 +19,7 @@ use Rattle.sqlite.specs.Store.{Ghosts}
 use Rattle.sql_tables.specs.Tables.{hub_schema}
 use Rattle.sql_rows.specs.TypedTables.{hub_good}
 use Rattle.sql_rows.specs.TypedTable.{AreTyped}
-use Rattle.sql_rows.specs.Kept.{IsServing, IsAsBefore, Made, Changes, Within, IsInside, Leaves, Inside, Goes, MakesIn}
+use Rattle.sql_rows.specs.Kept.{IsNumbered, IsServing, IsAsBefore, Made, Changes, Within, IsInside, Leaves, Inside, Goes, MakesIn}
 use Rattle.sql_rows.proofs.StoreLemmas.{Means, serves_as, written_runs}
 
 pub leaves_then : (a b c : State) → Leaves a b → Leaves b c → Leaves a c
@@ -37,7 +37,7 @@ leaves_self a = record {
 }
 
 pub inside_self : (E : Trees → Trees → Type 0) (a : State) → IsInside a → E a.now.trees a.now.trees → Inside E a a
-inside_self E a h none = record { leaves = leaves_self a; within = h; edit = λ up. none; still = λ up clean. up }
+inside_self E a h none = record { leaves = leaves_self a; within = h; edit = λ up. none; numbered = λ up numbered. numbered; still = λ up clean. up }
 
 -- one part after the other, whose edits are joined where the connection is open between them
 pub inside_then : (F G H : Trees → Trees → Type 0) (a b c : State) → (IsTrue b.is_open → F a.now.trees b.now.trees → G b.now.trees c.now.trees → H a.now.trees c.now.trees) → Inside F a b → Inside G b c → Inside H a c
@@ -45,6 +45,7 @@ inside_then F G H a b c joined p q = record {
   leaves = leaves_then a b c p.leaves q.leaves;
   within = q.within;
   edit = λ up. let mid = q.leaves.was_open up in joined mid (p.edit mid) (q.edit up);
+  numbered = λ up was. q.numbered up (p.numbered (q.leaves.was_open up) was);
   still = λ up clean. let before = q.leaves.survives.clean in q.still (p.still up (omega (arith, before, clean))) clean;
 }
 
@@ -73,18 +74,20 @@ module _ {sql : List ℕ} {params : Row} {Edit : Trees → Trees → Type 0} (me
         };
       }
       went (Ok count) ran =
-          let made : IsTrue (state b).is_open → Within (state b) × Edit (state a).now.trees (state b).now.trees = λ up.
+          let made : IsTrue (state b).is_open → Within (state b) × Edit (state a).now.trees (state b).now.trees × (IsNumbered (state a).now.trees → IsNumbered (state b).now.trees) = λ up.
           let it = ran (clean up) in
           let was = h it.1.was_open in
           let w = written_runs (state a) (state b) means.command _ params count means.writes (runs_as sql params (state a) (state b) hub_schema was.schema means.command means.is means.plain count it.0) in
           let before : Obeys hub_schema (state a).now.trees = rw was.schema at was.sound.obeys in
           let d = means.does (state a).step_limit (state a) (state a).now _ w.tally (state b).now was.schema was.rows before w.changed in
-          (record { schema = d.0; sound = w.sound; rows = d.1; mode = it.1.mode; limit = survives.limit ∙ was.limit }, d.2 (rw d.0 at w.sound.obeys)) in
+          let both = d.2 (rw d.0 at w.sound.obeys) in
+          (record { schema = d.0; sound = w.sound; rows = d.1; mode = it.1.mode; limit = survives.limit ∙ was.limit }, both.0, both.1) in
           record {
             ok = record {
               leaves = record { was_open = λ up. (ran (clean up)).1.was_open; committed = λ up. (ran (clean up)).1.committed_is; survives = survives };
               within = λ up. (made up).0;
               edit = λ up. (made up).1;
+              numbered = λ up. (made up).2;
               still = λ up c. (ran c).1.is_open;
             };
             err = tt;
@@ -111,7 +114,7 @@ makes_step {sql} {params} {Edit} means {S} {B} {F} {g} {old} {new} {values} {r} 
 
 -- what follows of a part
 pub inside_as : (F G : Trees → Trees → Type 0) (a b : State) → (F a.now.trees b.now.trees → G a.now.trees b.now.trees) → Inside F a b → Inside G a b
-inside_as F G a b weaker p = record { leaves = p.leaves; within = p.within; edit = λ up. weaker (p.edit up); still = p.still }
+inside_as F G a b weaker p = record { leaves = p.leaves; within = p.within; edit = λ up. weaker (p.edit up); numbered = p.numbered; still = p.still }
 
 -- what follows of the first part and of the second
 pub goes_then : {A E : Type 0} (F G H : Trees → Trees → Type 0) (a b c : State) (r : Result A E) → (IsTrue b.is_open → F a.now.trees b.now.trees → G b.now.trees c.now.trees → H a.now.trees c.now.trees) → Inside F a b → Goes G b c r → Goes H a c r
@@ -217,13 +220,15 @@ module _ {S : Type 0} (g : Ghosts S) (old tx mid end : Held S) (begun : tx ≡ r
         λ up.
             let shows = (ok (clean up)).1 in
             let within = inside.within shows.was_open in
+            let was_open = inside.leaves.was_open shows.was_open in
             record {
-              was_open = inside.leaves.was_open shows.was_open;
+              was_open = was_open;
               edit = subst (λ (d : Database). Edit (state g old).now.trees d.trees) (sym shows.now_is) (inside.edit shows.was_open);
               serves = record {
                 schema = ap (λ (d : Database). d.schema) shows.now_is ∙ within.schema;
                 sound = subst IsDatabase (sym shows.now_is) within.sound;
                 rows = subst (λ (d : Database). AreTyped hub_schema hub_good d.trees) (sym shows.now_is) within.rows;
+                numbered = subst (λ (d : Database). IsNumbered d.trees) (sym shows.now_is) (inside.numbered shows.was_open (h was_open).numbered);
                 committed = shows.committed_is ∙ sym shows.now_is;
                 mode = shows.mode;
                 limit = survives.limit ∙ within.limit;
@@ -241,6 +246,21 @@ changes_as Edit a b (Ok x) (Ok y) ok err h = record { ok = h.ok; err = h.err; cr
 changes_as Edit a b (Err x) (Err y) ok err h = record { ok = h.ok; err = h.err; crash = h.crash; durable = h.durable; clean = h.clean; up = h.up }
 changes_as Edit a b (Ok x) (Err y) ok err h = absurd cc
 changes_as Edit a b (Err x) (Ok y) ok err h = absurd cc
+
+-- what follows of the edit
+pub changes_also : {A E : Type 0} {F G : Trees → Trees → Type 0} (a b : State) (r : Result A E) → ((old new : Trees) → F old new → G old new) → Changes F a b r → Changes G a b r
+changes_also {A} {E} {F} {G} a b r weaker h = record {
+  ok = λ up. made r (h.ok up);
+  err = h.err;
+  crash = λ up sure db may. elim (h.crash up sure db may) [ inl was ↦ inl was | inr edited ↦ inr (weaker a.now.trees db edited) ];
+  durable = h.durable;
+  clean = h.clean;
+  up = h.up;
+}
+  where
+    made : (r : Result A E) → OnOk r (Made F a b) → OnOk r (Made G a b)
+    made (Ok x) m = record { was_open = m.was_open; edit = weaker a.now.trees b.now.trees m.edit; serves = m.serves }
+    made (Err e) m = tt
 
 -- nothing was done
 pub changes_nothing : {A E : Type 0} (Edit : Trees → Trees → Type 0) (s : State) (e : E) → IsServing s → (IsTrue s.is_open → (db : Trees) → s.may_leave db → db ≡ s.committed.trees) → Changes {A = A} {E = E} Edit s s (Err e)

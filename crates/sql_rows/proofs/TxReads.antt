@@ -23,7 +23,7 @@ use Rattle.sql_tables.specs.Forms.{any_query, plain_query, last_query, page_quer
 use Rattle.sql_tables.specs.Meanings.{IsRead}
 use Rattle.sql_rows.specs.TypedTable.{TypedTable, cmp, rows_in, AreTyped}
 use Rattle.sql_rows.specs.TypedTables.{hub_good}
-use Rattle.sql_rows.specs.Kept.{Within, IsAny, IsInside, IsPage, IsSame, IsTop, Goes, ShowsAnyInside, ShowsInside, ShowsLastInside, ShowsPageInside, ShowsTopInside}
+use Rattle.sql_rows.specs.Kept.{Within, IsAny, IsInside, IsNumbered, IsPage, IsSame, IsTop, Goes, ShowsAnyInside, ShowsInside, ShowsLastInside, ShowsPageInside, ShowsTopInside}
 use Rattle.sql_rows.proofs.ReadLaws.{lists_those}
 use Rattle.sql_rows.proofs.AnyLaws.{any_is}
 use Rattle.sql_rows.proofs.DownLaws.{last_is, top_is}
@@ -103,6 +103,7 @@ module _ (sql : List ℕ) (body : Query) (names : List (List ℕ)) (text : IsRea
           leaves = record { was_open = λ up. (same (clean up)).0.was_open; committed = λ up. (same (clean up)).0.committed_is; survives = survives };
           within = λ up. within_still old new (same (clean up)) survives.limit h;
           edit = λ up. ap (λ (d : Database). d.trees) (same (clean up)).0.now_is;
+          numbered = λ up was. subst (λ (d : Database). IsNumbered d.trees) (sym (same (clean up)).0.now_is) was;
           still = λ up sure. (same sure).0.is_open;
         };
         err = tt;

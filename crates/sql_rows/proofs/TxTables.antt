@@ -107,10 +107,10 @@ pub transactions_made : (old new : Trees) (made : List TxRow) → rows_in txs ne
 transactions_made old new made rows frame = λ i. record (rows_of (rest_is (10 ∷ []) old new (spared 10 old new frame) i)) { transactions = rows i }
 
 pub puts_tx : (r : TxRow) → Means sql_txs.PUT.now (txs.row r) (IsMade (λ rows. record rows { transactions = put (by_key tx_key) r rows.transactions }))
-puts_tx r = means_as (puts 5 txs on_txs sql_txs.PUT.now 15 put_txs texts.put_tx_is r) (λ old new h. transactions_made old new _ h.rows h.frame)
+puts_tx r = means_as (puts 5 txs on_txs sql_txs.PUT.now (λ e. cc) 15 put_txs texts.put_tx_is r) (λ old new h. transactions_made old new _ h.rows h.frame)
 
 pub adds_tx : (r : TxRow) → Means sql_txs.ADD.now (txs.row r) (IsMade (λ rows. record rows { transactions = put (by_key tx_key) r rows.transactions }))
-adds_tx r = means_as (adds 5 txs on_txs sql_txs.ADD.now 15 put_txs texts.add_tx_is r) (λ old new h. transactions_made old new _ h.rows h.frame)
+adds_tx r = means_as (adds 5 txs on_txs sql_txs.ADD.now (λ e. cc) 15 put_txs texts.add_tx_is r) (λ old new h. transactions_made old new _ h.rows h.frame)
 
 -- a delete in this table sets off nothing
 frees_txs : (olds : List Row) → works hub_schema Enforced 0 10 olds [] ≡ []
@@ -119,7 +119,7 @@ frees_txs olds = refl
 
 pub drops_txs : (op station : List ℕ) (low high : ℕ) → Means sql_txs.DROP.now (Text op ∷ Text station ∷ Int (pos low) ∷ Int (pos high) ∷ []) (IsMade (λ rows. record rows { transactions = without (λ r. r.op) op (λ r. bytes_eq r.station station && (nat_le low r.number && nat_le r.number high)) rows.transactions }))
 drops_txs op station low high =
-    means_as (drops 5 txs on_txs sql_txs.DROP.now (where_is 0 (1 ∷ 2 ∷ []) ++ range_is 2 3) (Text op ∷ Text station ∷ Int (pos low) ∷ Int (pos high) ∷ []) (λ r. bytes_eq r.op op && (bytes_eq r.station station && (nat_le low r.number && nat_le r.number high))) (tests.txs_between op station low high) frees_txs texts.drop_txs_is)
+    means_as (drops 5 txs on_txs sql_txs.DROP.now (λ e. cc) (where_is 0 (1 ∷ 2 ∷ []) ++ range_is 2 3) (Text op ∷ Text station ∷ Int (pos low) ∷ Int (pos high) ∷ []) (λ r. bytes_eq r.op op && (bytes_eq r.station station && (nat_le low r.number && nat_le r.number high))) (tests.txs_between op station low high) frees_txs texts.drop_txs_is)
     (λ old new h. transactions_made old new _ h.rows h.frame)
 
 pub reads_tx : (op station : List ℕ) (n : ℕ) → ReadsRows sql_txs.FIND.now (Text op ∷ Text station ∷ Int (pos n) ∷ Int (pos n) ∷ []) txs (λ r. bytes_eq r.op op && is_tx station n r)
@@ -205,7 +205,7 @@ pub tx_owners_made : (old new : Trees) (made : List TxOwnerRow) → rows_in tx_o
 tx_owners_made old new made rows frame = λ i. record (rows_of (rest_is (22 ∷ []) old new (spared 22 old new frame) i)) { tx_owners = rows i }
 
 pub adds_tx_owner : (r : TxOwnerRow) → Means sql_tx_owners.ADD.now (tx_owners.row r) (IsMade (λ rows. record rows { tx_owners = put (by_key tx_owner_key) r rows.tx_owners }))
-adds_tx_owner r = means_as (adds 11 tx_owners on_tx_owners sql_tx_owners.ADD.now 1 put_tx_owners texts.add_tx_owner_is r) (λ old new h. tx_owners_made old new _ h.rows h.frame)
+adds_tx_owner r = means_as (adds 11 tx_owners on_tx_owners sql_tx_owners.ADD.now (λ e. cc) 1 put_tx_owners texts.add_tx_owner_is r) (λ old new h. tx_owners_made old new _ h.rows h.frame)
 
 -- a delete in this table sets off nothing
 frees_tx_owners : (olds : List Row) → works hub_schema Enforced 0 22 olds [] ≡ []
@@ -214,7 +214,7 @@ frees_tx_owners olds = refl
 
 pub drops_tx_owners : (op station : List ℕ) (low high : ℕ) → Means sql_tx_owners.DROP.now (Text op ∷ Text station ∷ Int (pos low) ∷ Int (pos high) ∷ []) (IsMade (λ rows. record rows { tx_owners = without (λ r. r.op) op (λ r. bytes_eq r.station station && (nat_le low r.number && nat_le r.number high)) rows.tx_owners }))
 drops_tx_owners op station low high =
-    means_as (drops 11 tx_owners on_tx_owners sql_tx_owners.DROP.now (where_is 0 (1 ∷ 2 ∷ []) ++ range_is 2 3) (Text op ∷ Text station ∷ Int (pos low) ∷ Int (pos high) ∷ []) (λ r. bytes_eq r.op op && (bytes_eq r.station station && (nat_le low r.number && nat_le r.number high))) (tests.tx_owners_between op station low high) frees_tx_owners texts.drop_tx_owners_is)
+    means_as (drops 11 tx_owners on_tx_owners sql_tx_owners.DROP.now (λ e. cc) (where_is 0 (1 ∷ 2 ∷ []) ++ range_is 2 3) (Text op ∷ Text station ∷ Int (pos low) ∷ Int (pos high) ∷ []) (λ r. bytes_eq r.op op && (bytes_eq r.station station && (nat_le low r.number && nat_le r.number high))) (tests.tx_owners_between op station low high) frees_tx_owners texts.drop_tx_owners_is)
     (λ old new h. tx_owners_made old new _ h.rows h.frame)
 
 pub reads_tx_owner : (op station : List ℕ) (n : ℕ) → ReadsRows sql_tx_owners.FIND.now (Text op ∷ Text station ∷ Int (pos n) ∷ []) tx_owners (λ r. bytes_eq r.op op && is_owner_of station n r)
@@ -256,7 +256,7 @@ pub any_reading : ReadsAny sql_readings.ANY.now readings
 any_reading = record { at = 6; is = on_readings; project = cols 1 1 13; whole = whole_readings; names = names_of hub_reading; text = texts.any_reading_is }
 
 pub drops_readings : (op station : List ℕ) (low high : ℕ) → Means sql_readings.DROP.now (Text op ∷ Text station ∷ Int (pos low) ∷ Int (pos high) ∷ []) (IsDropped readings (λ r. bytes_eq r.op op && (bytes_eq r.station station && (nat_le low r.number && nat_le r.number high))))
-drops_readings op station low high = drops 6 readings on_readings sql_readings.DROP.now (where_is 0 (1 ∷ 2 ∷ []) ++ range_is 2 3) (Text op ∷ Text station ∷ Int (pos low) ∷ Int (pos high) ∷ []) (λ r. bytes_eq r.op op && (bytes_eq r.station station && (nat_le low r.number && nat_le r.number high))) (tests.readings_between op station low high) frees_readings texts.drop_readings_is
+drops_readings op station low high = drops 6 readings on_readings sql_readings.DROP.now (λ e. cc) (where_is 0 (1 ∷ 2 ∷ []) ++ range_is 2 3) (Text op ∷ Text station ∷ Int (pos low) ∷ Int (pos high) ∷ []) (λ r. bytes_eq r.op op && (bytes_eq r.station station && (nat_le low r.number && nat_le r.number high))) (tests.readings_between op station low high) frees_readings texts.drop_readings_is
 
 pub pages_of_readings : (op station : List ℕ) (low high : ℕ) → ReadsPage sql_readings.PAGE.now (Text op ∷ Text station ∷ Int (pos low) ∷ Int (pos high) ∷ []) readings (λ r. r.number) (λ r. bytes_eq r.op op && (bytes_eq r.station station && (nat_le low r.number && nat_le r.number high)))
 pages_of_readings op station low high = record {
@@ -308,7 +308,7 @@ pub whole_meter_values : IsWhole meter_values (cols 1 1 8)
 whole_meter_values s v params = refl
 
 pub adds_meter_value : (m : MeterValueRow) → Means sql_meter_values.ADD.now (meter_values.row m) (IsPutIn meter_values m)
-adds_meter_value m = adds 13 meter_values on_meter_values sql_meter_values.ADD.now 5 put_meter_values texts.add_meter_value_is m
+adds_meter_value m = adds 13 meter_values on_meter_values sql_meter_values.ADD.now (λ e. cc) 5 put_meter_values texts.add_meter_value_is m
 
 pub reads_meter_values : (op station : List ℕ) → ReadsRows sql_meter_values.LIST.now (Text op ∷ Text station ∷ []) meter_values (λ m. bytes_eq m.op op && is_meter_value station None m)
 reads_meter_values op station = record { at = 13; is = on_meter_values; wanted = where_is 0 (1 ∷ 2 ∷ []); project = cols 1 1 8; whole = whole_meter_values; order = by_column 3 ∷ []; names = names_of hub_meter_value; text = texts.list_meter_values_is; test = tests.of_meter_values op station }
@@ -356,7 +356,7 @@ unfolding same_name joined
 frees_meter_values olds = refl
 
 pub drops_meter_values : (op station : List ℕ) (low high : ℕ) → Means sql_meter_values.DROP.now (Text op ∷ Text station ∷ Int (pos low) ∷ Int (pos high) ∷ []) (IsDropped meter_values (λ m. bytes_eq m.op op && (bytes_eq m.station station && (nat_le low m.first && nat_le m.first high))))
-drops_meter_values op station low high = drops 13 meter_values on_meter_values sql_meter_values.DROP.now (where_is 0 (1 ∷ 2 ∷ []) ++ range_is 2 3) (Text op ∷ Text station ∷ Int (pos low) ∷ Int (pos high) ∷ []) (λ m. bytes_eq m.op op && (bytes_eq m.station station && (nat_le low m.first && nat_le m.first high))) (tests.meter_values_between op station low high) frees_meter_values texts.drop_meter_values_is
+drops_meter_values op station low high = drops 13 meter_values on_meter_values sql_meter_values.DROP.now (λ e. cc) (where_is 0 (1 ∷ 2 ∷ []) ++ range_is 2 3) (Text op ∷ Text station ∷ Int (pos low) ∷ Int (pos high) ∷ []) (λ m. bytes_eq m.op op && (bytes_eq m.station station && (nat_le low m.first && nat_le m.first high))) (tests.meter_values_between op station low high) frees_meter_values texts.drop_meter_values_is
 
 -- ---- uses
 
@@ -391,7 +391,7 @@ pub uses_made : (old new : Trees) (made : List UseRow) → rows_in uses new ≡ 
 uses_made old new made rows frame = λ i. record (rows_of (rest_is (24 ∷ []) old new (spared 24 old new frame) i)) { uses = rows i }
 
 pub adds_use : (r : UseRow) → Means sql_uses.ADD.now (uses.row r) (IsMade (λ rows. record rows { uses = put (by_key use_key) r rows.uses }))
-adds_use r = means_as (adds 12 uses on_uses sql_uses.ADD.now 4 put_uses texts.add_use_is r) (λ old new h. uses_made old new _ h.rows h.frame)
+adds_use r = means_as (adds 12 uses on_uses sql_uses.ADD.now (λ e. cc) 4 put_uses texts.add_use_is r) (λ old new h. uses_made old new _ h.rows h.frame)
 
 pub reads_uses : (op : List ℕ) → ReadsRows sql_uses.LIST.now (Text op ∷ []) uses (λ r. bytes_eq r.op op && true)
 reads_uses op = record { at = 12; is = on_uses; wanted = where_is 0 (1 ∷ []); project = cols 1 1 6; whole = whole_uses; order = by_column 2 ∷ []; names = names_of hub_use; text = texts.list_uses_is; test = tests.of_uses op }

@@ -1,6 +1,7 @@
 -- What a connection keeps, and what a call makes of it.
-use Rattle.std.specs.Prelude.{◌≡◌, ◌⊎◌, ◌&&◌, ℕ, nat_le, ◌≤◌, false, true, not, None, List, [], ◌∷◌, map, filter, Bool, IsTrue, Result, Ok, Err, OnOk, OnErr, IfOk}
+use Rattle.std.specs.Prelude.{◌≡◌, ◌⊎◌, ◌&&◌, ℕ, ◌+◌, codes, find, nat_le, ◌≤◌, false, true, not, Option, None, Some, List, [], ◌∷◌, map, filter, Bool, IsTrue, Result, Ok, Err, OnOk, OnErr, IfOk}
 use Rattle.std.specs.declared.cmp.Ordering.TheVariants.{Equal}
+use Rattle.std.specs.Str.{bytes_eq}
 use Rattle.sqlite_rules.specs.Lists.{Has}
 use Rattle.sqlite_value.specs.Order.{Row}
 use Rattle.sqlite_trees.specs.Tree.{Trees}
@@ -13,15 +14,46 @@ use Rattle.sqlite.specs.State.{State, HasCleanDisk, Survives}
 use Rattle.sqlite.specs.Store.{Ghosts}
 use Rattle.hub_rows.specs.Keyed.{greatest, put, put_all}
 use Rattle.hub_rows.specs.Rows.{Rows}
+use Rattle.sql_tables.specs.Opening.{our_number}
 use Rattle.sql_tables.specs.Tables.{hub_schema}
+use Rattle.sql_rows.specs.declared.meta_rows.MetaRow.{MetaRow}
 use Rattle.sql_rows.specs.TypedTable.{TypedTable, cmp, rows_in, AreTyped, Spares}
-use Rattle.sql_rows.specs.TypedTables.{hub_good, rows_of}
+use Rattle.sql_rows.specs.TypedTables.{hub_good, metas, rows_of}
+
+-- ---- the rows of hub_meta
+
+-- the row that has the number of our schema
+abbrev pub our_meta : MetaRow
+our_meta = record { name = codes "schema"; number = our_number }
+
+-- the number of our schema is on record
+abbrev pub IsNumbered : Trees → Type 0
+IsNumbered db = Has (rows_in metas db) our_meta
+
+-- the row that counts changes
+abbrev pub count_meta : ℕ → MetaRow
+count_meta n = record { name = codes "changes"; number = n }
+
+abbrev pub is_count : MetaRow → Bool
+is_count m = bytes_eq m.name (codes "changes")
+
+-- how many changes that row counts, 0 where there is none
+abbrev pub changes_of : Option MetaRow → ℕ
+changes_of None = 0
+changes_of (Some m) = m.number
+
+-- how many changes are counted
+abbrev pub changes_in : Trees → ℕ
+changes_in db = changes_of (find is_count (rows_in metas db))
+
+-- ---- a connection
 
 -- kept while the connection is open, between transactions
 pub record Serves (s : State) : Type 0 where
   pub schema : s.now.schema ≡ hub_schema
   pub sound : IsDatabase s.now
   pub rows : AreTyped hub_schema hub_good s.now.trees
+  pub numbered : IsNumbered s.now.trees
   pub committed : s.committed ≡ s.now
   pub mode : s.in_transaction ≡ false
   pub limit : s.step_limit ≡ None
@@ -117,6 +149,10 @@ pub record IsDropped {T : Type 0} (s : TypedTable T) (p : T → Bool) (old new :
 abbrev pub IsMade : (Rows → Rows) → Trees → Trees → Type 0
 IsMade f old new = rows_of new ≡ f (rows_of old)
 
+-- the same, and where n changes were counted one more is then
+abbrev pub IsMadeAfter : ℕ → (Rows → Rows) → Trees → Trees → Type 0
+IsMadeAfter n f old new = IsMade f old new × (changes_in old ≡ n → changes_in new ≡ n + 1)
+
 -- ---- writes
 
 pub record Made (Edit : Trees → Trees → Type 0) (old new : State) : Type 0 where
@@ -159,6 +195,8 @@ pub record Inside (Edit : Trees → Trees → Type 0) (old new : State) : Type 0
   pub leaves : Leaves old new
   pub within : IsTrue new.is_open → Within new
   pub edit : IsTrue new.is_open → Edit old.now.trees new.now.trees
+  -- the number of our schema stays
+  pub numbered : IsTrue new.is_open → IsNumbered old.now.trees → IsNumbered new.now.trees
   pub still : IsTrue old.is_open → HasCleanDisk new → IsTrue new.is_open
 
 -- what a part of a transaction answers

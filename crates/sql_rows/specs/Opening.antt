@@ -17,12 +17,12 @@ use Rattle.hub_rows.specs.WellFormed.{WellFormedRows}
 use Rattle.sql_tables.specs.Tables.{hub_schema}
 use Rattle.sql_tables.specs.Opening.{our_number, tables_at, schema_at, IsCreate, IsIndexCreate, IsIndexDrop}
 use Rattle.sql_rows.specs.TypedTable.{AreTyped, rows_in}
-use Rattle.sql_rows.specs.TypedTables.{MetaRow, metas, readings, hub_good, rows_of}
-use Rattle.sql_rows.specs.Kept.{Serves, Leaves, Within}
+use Rattle.sql_rows.specs.TypedTables.{metas, readings, hub_good, rows_of}
+use Rattle.sql_rows.specs.Kept.{IsNumbered, Serves, Leaves, Within}
 
--- the row of hub_meta that has the number of our schema
-abbrev pub our_meta : MetaRow
-our_meta = record { name = codes "schema"; number = our_number }
+-- the number of a schema is on record
+abbrev pub IsNumberedAs : ℕ → Trees → Type 0
+IsNumberedAs n db = Has (rows_in metas db) (record { name = codes "schema"; number = n })
 
 -- the rows of the hub, where its readings are those of hub_reading
 abbrev pub rows_before : Trees → Rows
@@ -36,16 +36,22 @@ rows_at (suc (suc zero)) db = record (rows_before db) { tx_owners = []; uses = [
 rows_at (suc (suc (suc zero))) db = rows_before db
 rows_at (suc (suc (suc (suc n)))) db = rows_of db
 
+-- what this project writes into the tables of the schema of this number, where 0 is an empty database
+pub record AreOurs (n : ℕ) (db : Trees) : Type 0 where
+  pub typed : AreTyped (schema_at n) hub_good db
+  pub good : WellFormedRows (rows_at n db)
+  pub numbered : 0 < n → IsNumberedAs n db
+
 -- the rows of a database that has our tables, of this schema or an earlier one, were written by this project
 abbrev pub IsOurs : State → Type 0
-IsOurs s = (n : ℕ) → s.now.schema ≡ schema_at n → AreTyped (schema_at n) hub_good s.now.trees × WellFormedRows (rows_at n s.now.trees)
+IsOurs s = (n : ℕ) → s.now.schema ≡ schema_at n → AreOurs n s.now.trees
 
 -- all tables are there, with these rows of the hub and the number of our schema
 pub record Holds (all : Rows) (db : Trees) : Type 0 where
   pub whole : IsDatabase (record { schema = hub_schema; trees = db })
   pub are_typed : AreTyped hub_schema hub_good db
   pub rows : rows_of db ≡ all
-  pub numbered : Has (rows_in metas db) our_meta
+  pub numbered : IsNumbered db
 
 -- A database of an earlier schema is raised to ours. Rows that were written by this project stay.
 pub record IsRaised (old : Database) (new : Trees) : Type 0 where

@@ -57,6 +57,7 @@ use Rattle.meter_values.specs.Readings.{reading_of, readings_of}
 use Rattle.meter_values.specs.Written.{text_of}
 use Rattle.sql_rows.specs.declared.list_rows.ListHead.{ListHead}
 use Rattle.sql_rows.specs.declared.list_rows.EntryRow.{EntryRow}
+use Rattle.sql_rows.specs.declared.meta_rows.MetaRow.{MetaRow}
 use Rattle.sql_rows.specs.declared.meter_value_rows.MeterValueRow.{MeterValueRow}
 use Rattle.hub_rows.specs.Rows.{Rows, station_key, connector_key, tag_key, grant_key, tx_key, reading_key, reservation_key, report_key, tx_owner_key, use_key}
 use Rattle.hub_rows.specs.Reports.{kind_of, reported_name}
@@ -345,11 +346,7 @@ uses = record {
   read = λ r. record { op = text_in (column r 0); number = count_in (column r 1); host = text_in (column r 2); key = text_in (column r 3); moment = count_in (column r 4); wh = number_in (column r 5) };
 }
 
--- ---- the number of the schema
-
-pub record MetaRow : Type 0 where
-  pub name : List ℕ
-  pub number : ℕ
+-- ---- numbers that are kept of the database
 
 abbrev pub metas : TypedTable MetaRow
 metas = record {

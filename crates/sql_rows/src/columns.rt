@@ -62,6 +62,13 @@ pub(crate) fn count(row: &Row, at: usize) -> Result<u32, StoreFault>
     row.get::<u32>(at).map_err(told)
 }
 
+/// A number from 0 on.
+pub(crate) fn whole(row: &Row, at: usize) -> Result<u64, StoreFault>
+    ensures { IfOk result (λ n. n ≡ count_in (column row.now at)) }
+{
+    row.get::<u64>(at).map_err(told)
+}
+
 pub(crate) fn connector(row: &Row, at: usize) -> Result<u8, StoreFault>
     ensures { IfOk result (λ n. n ≡ count_in (column row.now at)) }
 {

@@ -4,6 +4,7 @@
 mod columns;
 mod holding_rows;
 mod list_rows;
+mod meta_rows;
 mod meter_value_rows;
 mod station_rows;
 mod stored;
@@ -12,5 +13,6 @@ mod tx_rows;
 
 pub use columns::told;
 pub use list_rows::{EntryRow, ListHead};
+pub use meta_rows::MetaRow;
 pub use meter_value_rows::MeterValueRow;
 pub use stored::{Stored, first_row, is_found, listed, only_number};

@@ -19,11 +19,15 @@ use Rattle.sql_tables.specs.declared.tags.TheConstants as tags
 use Rattle.sql_tables.specs.declared.tx_owners.TheConstants as tx_owners
 use Rattle.sql_tables.specs.declared.txs.TheConstants as txs
 use Rattle.sql_tables.specs.declared.uses.TheConstants as uses
-use Rattle.sql_tables.specs.Tables.{names_of, hub_station, hub_connector, hub_tag, hub_grant, hub_tx, hub_reading, hub_reservation, hub_list, hub_list_entry, hub_report, hub_tx_owner, hub_use, hub_meter_value}
+use Rattle.sql_tables.specs.Tables.{names_of, hub_meta, hub_station, hub_connector, hub_tag, hub_grant, hub_tx, hub_reading, hub_reservation, hub_list, hub_list_entry, hub_report, hub_tx_owner, hub_use, hub_meter_value}
 
 pub put_meta_is : IsWrite meta.PUT.now (put_command 0 0 1 1)
 unfolding understood everything
 put_meta_is = (refl, (refl, refl))
+
+pub find_meta_is : IsRead meta.FIND.now (plain_query (inner 0 end) (where_is 0 (1 ∷ [])) (cols 1 1 2) ([])) (names_of hub_meta)
+unfolding understood everything
+find_meta_is = (refl, (refl, refl), refl)
 
 pub put_station_is : IsWrite stations.PUT.now (put_command 1 2 2 13)
 unfolding understood everything

@@ -1,5 +1,5 @@
 -- What the store says of a call, by what the connection says of it.
-use Rattle.std.proofs.Common.{◌≡◌, ◌≤◌, ℕ, List, false, IsTrue, Result, Ok, Err, OnOk, OnErr, IfOk, sym, ap, ◌∙◌, subst, subst₂}
+use Rattle.std.proofs.Common.{◌≡◌, ◌≤◌, ◌+◌, ℕ, List, false, IsTrue, Result, Ok, Err, OnOk, OnErr, IfOk, sym, ap, ◌∙◌, subst, subst₂}
 use Rattle.sqlite_trees.specs.Tree.{Trees}
 use Rattle.sqlite_trees.specs.View.{IsClean}
 use Rattle.sqlite_trees.specs.declared.store.Store.{Ghosts}
@@ -18,21 +18,27 @@ use Rattle.hub_rows.specs.declared.change.Edit.{Edit}
 use Rattle.hub_rows.specs.declared.store.StoreFault.{StoreFault}
 use Rattle.hub_rows.specs.declared.store.StoreFault.TheVariants.{Failed}
 use Rattle.hub_rows.proofs.WellFormedLaws.{well_formed-edit}
-use Rattle.sql_rows.specs.Kept.{Serves, IsServing, IsAsBefore, Rests, CommitsNothing, FindsIn, Changes, IsMade, Made}
+use Rattle.sql_rows.specs.Kept.{Serves, IsServing, IsAsBefore, Rests, CommitsNothing, FindsIn, Changes, IsMade, IsMadeAfter, Made, changes_in}
 use Rattle.sql_rows.specs.Opening.{IsOurs}
 use Rattle.sql_rows.specs.TypedTables.{rows_of}
+use Rattle.sql_rows.proofs.TxLemmas.{changes_also}
 use Rattle.sql_lookups.specs.Asks.{Asks, AsksIn}
-use Rattle.store_sql.specs.Store.{SqlView, ServesIfOurs, sql_rows, sql_view, IsCleanSql}
+use Rattle.store_sql.specs.Store.{CountsIfOurs, KeepsIfOurs, SqlView, ServesIfOurs, sql_rows, sql_view, IsCleanSql}
 use Rattle.sql_edits.specs.Ready.{IsReady}
 use Rattle.store_sql.proofs.StopLaws.{LeavesSome, LeavesLast, leaves_last, read_stopped, read_stays, change_stopped, change_stays}
 
 pub serving_if : (taken s : State) → ServesIfOurs taken s → IsOurs taken → IsServing s
 serving_if taken s kept ours = λ up. (kept ours up).0
 
-pub kept_still : (taken old new : State) → ServesIfOurs taken old → Rests old new → ServesIfOurs taken new
-kept_still taken old new kept rests = λ ours up.
-    let r = rests (serving_if taken old kept ours) up in
-    (r.serves, subst (λ (d : Database). WellFormedRows (rows_of d.trees)) (sym r.now) (kept ours r.was_open).1)
+pub kept_still : {n : ℕ} (taken old new : State) → KeepsIfOurs taken old n → Rests old new → KeepsIfOurs taken new n
+kept_still taken old new kept rests = (
+  λ ours up.
+      let r = rests (serving_if taken old kept.0 ours) up in
+      (r.serves, subst (λ (d : Database). WellFormedRows (rows_of d.trees)) (sym r.now) (kept.0 ours r.was_open).1),
+  λ ours up.
+      let r = rests (serving_if taken old kept.0 ours) up in
+      kept.1 ours r.was_open ∙ sym (ap (λ (d : Database). changes_in d.trees) r.now),
+)
 
 -- ---- a read
 
@@ -82,18 +88,18 @@ pub record IsDisk {S : Type 0} (g : Ghosts S) : Type 0 where
   pub stays : (s : S) → IsTrue (g.view s).is_open → g.recovers s (g.view s).committed
 
 -- a look-up of the connection is a read of the store
-pub reads : {S T : Type 0} (g : Ghosts S) {inside old new : SqlView S} {conn : Held S} {done result : Result T StoreFault} {P : Trees → T → Type 0} → IsDisk g → inside ≡ old → ServesIfOurs (state g inside.taken) (state g inside.conn) → AsksIn (state g inside.conn) (state g conn) done P
+pub reads : {S T : Type 0} (g : Ghosts S) {inside old new : SqlView S} {conn : Held S} {done result : Result T StoreFault} {P : Trees → T → Type 0} → IsDisk g → inside ≡ old → KeepsIfOurs (state g inside.taken) (state g inside.conn) inside.changes → AsksIn (state g inside.conn) (state g conn) done P
     → new.taken ≡ inside.taken → new.conn ≡ conn → result ≡ done → (done ≡ Err Failed → Rose inside.failures new.failures) → inside.failures ≤ new.failures → OnlyReads (sql_view g) old new result
 reads g {inside} {old} {new} {conn} {done} {result} disk view_is kept asks same_taken same_conn same failed count =
-    only_reads g inside old new view_is kept conn same_taken same_conn asks.same done result same failed count asks.stops (disk.survives inside.conn.store) (leaves_last g inside.conn (disk.shut inside.conn.store) (disk.stays inside.conn.store)) (leaves_last g conn (disk.shut conn.store) (disk.stays conn.store))
+    only_reads g inside old new view_is kept.0 conn same_taken same_conn asks.same done result same failed count asks.stops (disk.survives inside.conn.store) (leaves_last g inside.conn (disk.shut inside.conn.store) (disk.stays inside.conn.store)) (leaves_last g conn (disk.shut conn.store) (disk.stays conn.store))
 
 -- and its answer is that of the store
-pub finds : {S T : Type 0} (g : Ghosts S) {inside old new : SqlView S} {conn : Held S} {done result : Result T StoreFault} (P : Rows → T → Type 0) → inside ≡ old → ServesIfOurs (state g inside.taken) (state g inside.conn) → Asks (state g inside.conn) (state g conn) done P
+pub finds : {S T : Type 0} (g : Ghosts S) {inside old new : SqlView S} {conn : Held S} {done result : Result T StoreFault} (P : Rows → T → Type 0) → inside ≡ old → KeepsIfOurs (state g inside.taken) (state g inside.conn) inside.changes → Asks (state g inside.conn) (state g conn) done P
     → new.taken ≡ inside.taken → new.conn ≡ conn → result ≡ done → IsCleanSql g new → IfOk result (P (sql_rows g old))
-finds g {inside} {old} {new} {conn} {done} {result} P view_is kept asks same_taken same_conn same = found_in g inside old new view_is kept conn same_taken same_conn asks.same done result same P asks.found
+finds g {inside} {old} {new} {conn} {done} {result} P view_is kept asks same_taken same_conn same = found_in g inside old new view_is kept.0 conn same_taken same_conn asks.same done result same P asks.found
 
 -- what it answers of readings that are in order, it answers of those of the store
-pub finds_sorted : {S T : Type 0} (g : Ghosts S) {inside old new : SqlView S} {conn : Held S} {done result : Result T StoreFault} (P : Rows → T → Type 0) → OnlyReads (sql_view g) old new result → inside ≡ old → ServesIfOurs (state g inside.taken) (state g inside.conn)
+pub finds_sorted : {S T : Type 0} (g : Ghosts S) {inside old new : SqlView S} {conn : Held S} {done result : Result T StoreFault} (P : Rows → T → Type 0) → OnlyReads (sql_view g) old new result → inside ≡ old → KeepsIfOurs (state g inside.taken) (state g inside.conn) inside.changes
     → Asks (state g inside.conn) (state g conn) done (λ rows x. IsStrictlySortedBy (by_key reading_key) rows.readings → P rows x) → new.taken ≡ inside.taken → new.conn ≡ conn → result ≡ done → IsCleanSql g new → IfOk result (P (sql_rows g old))
 finds_sorted {S} {T} g {inside} {old} {new} {conn} {done} {result} P only view_is kept asks same_taken same_conn same clean =
     go result (finds g (λ rows x. IsStrictlySortedBy (by_key reading_key) rows.readings → P rows x) view_is kept asks same_taken same_conn same clean)
@@ -104,16 +110,19 @@ finds_sorted {S} {T} g {inside} {old} {new} {conn} {done} {result} P only view_i
 
 -- ---- a change
 
-module _ {S : Type 0} (g : Ghosts S) (inside : SqlView S) (conn : Held S) (kept : ServesIfOurs (state g inside.taken) (state g inside.conn)) (op : List ℕ) (change : Edit) (fits : IsCleanSql g inside → EditFits op change (sql_rows g inside)) (r : Result (Unit {0}) StoreFault)
-    (made : IsReady op change (state g inside.conn) → Changes (IsMade (edit op change)) (state g inside.conn) (state g conn) r) where
+module _ {S : Type 0} (g : Ghosts S) (inside : SqlView S) (conn : Held S) (keeps : KeepsIfOurs (state g inside.taken) (state g inside.conn) inside.changes) (op : List ℕ) (change : Edit) (fits : IsCleanSql g inside → EditFits op change (sql_rows g inside)) (r : Result (Unit {0}) StoreFault)
+    (made : IsReady op change (state g inside.conn) → Changes (IsMadeAfter inside.changes (edit op change)) (state g inside.conn) (state g conn) r) where
+  kept : ServesIfOurs (state g inside.taken) (state g inside.conn)
+  kept = keeps.0
+
   ready : (IsTrue (state g inside.conn).is_open → IsOurs (state g inside.taken)) → IsReady op change (state g inside.conn)
   ready ours up = let k = kept (ours up) up in (k.0, k.1, fits (record { ours = ours up; up = up; good = k.1 }))
 
   abbrev pub Outcome : Result (Unit {0}) StoreFault → Type 0
-  Outcome (Ok x) = Made (IsMade (edit op change)) (state g inside.conn) (state g conn)
+  Outcome (Ok x) = Made (IsMadeAfter inside.changes (edit op change)) (state g inside.conn) (state g conn)
   Outcome (Err e) = IsAsBefore (state g inside.conn) (state g conn)
 
-  outcome_of : (r : Result (Unit {0}) StoreFault) → OnOk r (Made (IsMade (edit op change)) (state g inside.conn) (state g conn)) → OnErr r (IsAsBefore (state g inside.conn) (state g conn)) → Outcome r
+  outcome_of : (r : Result (Unit {0}) StoreFault) → OnOk r (Made (IsMadeAfter inside.changes (edit op change)) (state g inside.conn) (state g conn)) → OnErr r (IsAsBefore (state g inside.conn) (state g conn)) → Outcome r
   outcome_of (Ok x) ok err = ok
   outcome_of (Err e) ok err = err
 
@@ -124,12 +133,23 @@ module _ {S : Type 0} (g : Ghosts S) (inside : SqlView S) (conn : Held S) (kept 
   was_up (Ok x) m = m.was_open
   was_up (Err e) m = m.was_open
 
-  pub change_kept : ServesIfOurs (state g inside.taken) (state g conn)
-  change_kept ours up = go r (outcome ours up)
+  change_serves : ServesIfOurs (state g inside.taken) (state g conn)
+  change_serves ours up = go r (outcome ours up)
     where
       go : (r : Result (Unit {0}) StoreFault) → Outcome r → Serves (state g conn) × WellFormedRows (rows_of (state g conn).now.trees)
-      go (Ok x) m = let k = ready (λ _. ours) m.was_open in (m.serves, subst WellFormedRows (sym m.edit) (well_formed-edit op change (sql_rows g inside) k.1 k.2))
+      go (Ok x) m = let k = ready (λ _. ours) m.was_open in (m.serves, subst WellFormedRows (sym m.edit.0) (well_formed-edit op change (sql_rows g inside) k.1 k.2))
       go (Err e) m = (m.serves, subst (λ (d : Database). WellFormedRows (rows_of d.trees)) (sym m.now) (kept ours m.was_open).1)
+
+  -- the count is that of the change, if it is made
+  change_counts : (after : ℕ) → OnOk r (after ≡ inside.changes + 1) → OnErr r (after ≡ inside.changes) → CountsIfOurs (state g inside.taken) (state g conn) after
+  change_counts after ok err ours up = go r (outcome ours up) ok err
+    where
+      go : (r : Result (Unit {0}) StoreFault) → Outcome r → OnOk r (after ≡ inside.changes + 1) → OnErr r (after ≡ inside.changes) → after ≡ changes_in (state g conn).now.trees
+      go (Ok x) m ok err = ok ∙ sym (m.edit.1 (sym (keeps.1 ours m.was_open)))
+      go (Err e) m ok err = err ∙ keeps.1 ours m.was_open ∙ sym (ap (λ (d : Database). changes_in d.trees) m.now)
+
+  pub change_kept : (after : ℕ) → OnOk r (after ≡ inside.changes + 1) → OnErr r (after ≡ inside.changes) → KeepsIfOurs (state g inside.taken) (state g conn) after
+  change_kept after ok err = (change_serves, change_counts after ok err)
 
   module _ (old new : SqlView S) (view_is : inside ≡ old) (same_taken : new.taken ≡ inside.taken) (same_conn : new.conn ≡ conn) (result : Result (Unit {0}) StoreFault) (same : result ≡ r) where
     outcome_at : IsCleanSql g new → Outcome r
@@ -151,7 +171,7 @@ module _ {S : Type 0} (g : Ghosts S) (inside : SqlView S) (conn : Held S) (kept 
     change_ok clean = subst (λ o. OnOk result (sql_rows g new ≡ edit op change (sql_rows g o))) view_is (subst (λ q. OnOk q (sql_rows g new ≡ edit op change (sql_rows g inside))) (sym same) (go r (outcome_at clean)))
       where
         go : (r : Result (Unit {0}) StoreFault) → Outcome r → OnOk r (sql_rows g new ≡ edit op change (sql_rows g inside))
-        go (Ok x) m = rows_at ∙ m.edit
+        go (Ok x) m = rows_at ∙ m.edit.0
         go (Err e) m = tt
 
     pub change_err : IsCleanSql g new → OnErr result (sql_rows g new ≡ sql_rows g old)
@@ -163,10 +183,10 @@ module _ {S : Type 0} (g : Ghosts S) (inside : SqlView S) (conn : Held S) (kept 
 
     module _ (some : LeavesSome g inside.conn) (last_inside : LeavesLast g inside.conn) (last : LeavesLast g conn) where
       made_new : (IsTrue (state g inside.conn).is_open → IsOurs (state g inside.taken)) → Changes (IsMade (edit op change)) (state g inside.conn) (state g new.conn) result
-      made_new ours = subst₂ (λ h q. Changes (IsMade (edit op change)) (state g inside.conn) (state g h) q) (sym same_conn) (sym same) (made (ready ours))
+      made_new ours = subst₂ (λ h q. Changes (IsMade (edit op change)) (state g inside.conn) (state g h) q) (sym same_conn) (sym same) (changes_also (state g inside.conn) (state g conn) r (λ a b both. both.0) (made (ready ours)))
 
       kept_new : ServesIfOurs (state g new.taken) (state g new.conn)
-      kept_new = subst₂ (λ t h. ServesIfOurs (state g t) (state g h)) (sym same_taken) (sym same_conn) change_kept
+      kept_new = subst₂ (λ t h. ServesIfOurs (state g t) (state g h)) (sym same_taken) (sym same_conn) change_serves
 
       last_new : LeavesLast g new.conn
       last_new = subst (LeavesLast g) (sym same_conn) last

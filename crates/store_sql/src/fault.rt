@@ -6,7 +6,8 @@ use sqlite::{Error, ErrorCode};
 use std::alloc::AllocError;
 use thiserror::Error as ThisError;
 
-/// Why a database isn't taken. Nothing in it has changed, but where the disk failed on the way.
+/// Why a database isn't taken. Nothing in it has changed, but where the disk failed on the way, or where the count of
+/// changes can't be read once the database has all tables of this schema.
 #[derive(Clone, Copy, Debug, PartialEq, Eq, Drop, ThisError)]
 pub enum PrepareFault {
     #[error("out of memory")]
@@ -17,10 +18,21 @@ pub enum PrepareFault {
     /// Another process has the database open.
     #[error("another process has the database open")]
     InUse,
-    /// The file is no database, or it failed, or tables of its schema are missing, or others stand beside them.
+    /// The disk failed, or a row can't be read.
     #[error("the database failed")]
     Failed,
-    /// It has tables, and no `hub_meta` with one row of one whole number from 1 on.
+    #[error("the disk is full")]
+    Full,
+    #[error("a page of the file is damaged")]
+    Damaged,
+    /// Its first page isn't that of a database, an index doesn't have the rows of its table, or a row breaks a rule of
+    /// its table.
+    #[error("the file is no database, or its rows don't obey its schema")]
+    Unsound,
+    /// Tables or indexes of the schema with its number are missing, or others stand beside them.
+    #[error("the tables and indexes of the file are not those of its schema")]
+    OtherSchema,
+    /// It has tables, and no `hub_meta` with a row `schema` of a whole number from 1 on.
     #[error("the database is not one of this program")]
     NotOurs,
     /// A later version of the program made it: the number of its schema is greater.
@@ -35,6 +47,9 @@ pub(crate) fn fault(error: Error) -> PrepareFault
         Error::SqliteFailure(ErrorCode::OutOfMemory) => PrepareFault::NoMemory,
         Error::SqliteFailure(ErrorCode::CannotOpen) => PrepareFault::CannotOpen,
         Error::SqliteFailure(ErrorCode::DatabaseBusy) => PrepareFault::InUse,
+        Error::SqliteFailure(ErrorCode::DiskFull) => PrepareFault::Full,
+        Error::SqliteFailure(ErrorCode::DatabaseCorrupt) => PrepareFault::Damaged,
+        Error::SqliteFailure(ErrorCode::NotADatabase) => PrepareFault::Unsound,
         _ => PrepareFault::Failed,
     }
 }

@@ -2,6 +2,7 @@
 #![tactic(auto)]
 
 mod fault;
+mod mark;
 mod opening;
 mod same;
 mod sql_store;
@@ -9,6 +10,7 @@ mod stopping;
 mod tables;
 
 pub use fault::PrepareFault;
+pub use mark::{Mark, MarkFault};
 pub use opening::prepare;
 pub use sql_store::SqlStore;
 pub use stopping::stopped_and_opened;

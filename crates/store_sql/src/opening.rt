@@ -1,17 +1,23 @@
 //! How a connection is made ready: the tables of a database are taken, those that it lacks of this schema are made, and
 //! what isn't ours is refused.
-ghost use Rattle.std.specs.Prelude.{◌≡◌, ◌≢◌, ◌↔◌, ℕ, ◌<◌, ◌≤◌, IfOk, IsTrue, OnOk, None, false};
+ghost use Rattle.std.specs.Prelude.{◌≡◌, ◌≢◌, ◌↔◌, [], ℕ, ◌<◌, ◌≤◌, IfOk, IsTrue, OnOk, None, false, filter, find, map};
 ghost use Rattle.sqlite.specs.Held.{state};
 ghost use Rattle.sqlite.specs.Steps.{over_memory};
 ghost use Rattle.sqlite.specs.State.{HasCleanDisk};
 ghost use Rattle.sqlite.specs.Effect.{IsDatabase};
 ghost use Rattle.sql_tables.specs.Opening.{no_schema, our_number, schema_at};
+ghost use Rattle.hub_rows.specs.Keyed.{put_all};
+ghost use Rattle.sql_rows.specs.Kept.{IsServing, changes_in, is_count};
 ghost use Rattle.sql_rows.specs.Opening.{Rested, IsSpared, Prepares};
+ghost use Rattle.sql_rows.specs.TypedTable.{cmp, rows_in};
+ghost use Rattle.sql_rows.specs.TypedTables.{metas};
 
 use crate::fault::{PrepareFault, fault};
 use crate::same::{is_blank, same_schema};
 use crate::tables::{SCHEMA, make_tables, raise};
-use sqlite::{Alter, Connection, Error, MemStore, Row};
+use hub_rows::StoreFault;
+use sql_rows::{MetaRow, first_row};
+use sqlite::{Alter, Connection, Error, MemStore, Row, params};
 use sqlite_value::value::ValueRef;
 use std::alloc::Global;
 
@@ -59,22 +65,22 @@ fn model(alloc: Global, number: u32) -> Result<Connection<MemStore>, Error>
     Ok(conn)
 }
 
-/// The one number of the one row, if that is what there is.
-fn one_number(rows: &[Row]) -> Option<i64> {
-    if rows.len() != 1 {
-        return None;
+/// The number of a row of two columns, a name and a number, that has that name.
+fn number_named(row: &Row, name: &[u8]) -> Option<i64> {
+    match (row.column_count(), row.get_ref(0), row.get_ref(1)) {
+        (2, Ok(ValueRef::Text(text)), Ok(ValueRef::Int(number))) if text == name => Some(number),
+        _ => None,
     }
-    let row = &rows[0];
-    let mut found = None;
-    'columns: for at in 0..row.column_count() {
-        if let Ok(ValueRef::Int(number)) = row.get_ref(at) {
-            if found.is_some() {
-                return None;
-            }
-            found = Some(number);
+}
+
+/// The number of the first row named `schema`.
+fn schema_number(rows: &[Row]) -> Option<i64> {
+    for row in rows {
+        if let Some(number) = number_named(row, b"schema") {
+            return Some(number);
         }
     }
-    found
+    None
 }
 
 /// The number of the schema of a database that isn't empty, by the rows of its `hub_meta`.
@@ -91,7 +97,7 @@ fn number_of<S: Alter>(
         Ok(rows) => rows,
         Err(error) => return Err(fault(error)),
     };
-    let number = match one_number(&rows) {
+    let number = match schema_number(&rows) {
         Some(number) => number,
         None => return Err(PrepareFault::NotOurs),
     };
@@ -118,7 +124,7 @@ fn verdict<S: Alter>(
             if is_like(conn, &model) {
                 Ok(number)
             } else {
-                Err(PrepareFault::Failed)
+                Err(PrepareFault::OtherSchema)
             }
         }
         Err(error) => Err(fault(error)),
@@ -188,4 +194,43 @@ pub fn prepare<S: Alter>(conn: &mut Connection<S>, alloc: Global) -> Result<(), 
     }
     conn.set_step_limit(None);
     prepare_rested(conn, alloc)
+}
+
+/// The row that counts changes. Nothing changes, whatever the text means there.
+fn count_rows<S: Alter>(conn: &mut Connection<S>) -> Result<Vec<Row>, Error>
+    requires settled { IsTrue (state S.Store conn.old).is_open → (state S.Store conn.old).committed ≡ (state S.Store conn.old).now }
+    requires autocommit { conn.old.in_transaction ≡ false }
+    ensures spared { IsSpared (state S.Store conn.old) (state S.Store conn.new) }
+    ensures shown { IsServing (state S.Store conn.old) → IsTrue (state S.Store conn.new).is_open → IfOk result (λ v. put_all (cmp metas) (map metas.read v.items) [] ≡ filter is_count (rows_in metas (state S.Store conn.old).now.trees)) }
+{
+    let mut tx = conn.transaction();
+    let rows = tx.query_all(sql_tables::meta::FIND, params!["changes"]);
+    tx.rollback();
+    rows
+}
+
+fn count_row<S: Alter>(conn: &mut Connection<S>) -> Result<Option<MetaRow>, StoreFault>
+    requires settled { IsTrue (state S.Store conn.old).is_open → (state S.Store conn.old).committed ≡ (state S.Store conn.old).now }
+    requires autocommit { conn.old.in_transaction ≡ false }
+    ensures spared { IsSpared (state S.Store conn.old) (state S.Store conn.new) }
+    ensures found { IsServing (state S.Store conn.old) → IsTrue (state S.Store conn.new).is_open → IfOk result (λ row. row ≡ find is_count (rows_in metas (state S.Store conn.old).now.trees)) }
+{
+    first_row(count_rows(conn))
+}
+
+/// How many changes are on record in a database that is ours, 0 where no count is on record. Nothing changes.
+pub(crate) fn changes<S: Alter>(conn: &mut Connection<S>) -> Result<u64, PrepareFault>
+    ensures spared { IsSpared (state S.Store conn.old) (state S.Store conn.new) }
+    ensures up { HasCleanDisk (state S.Store conn.new) → OnOk result (IsTrue (state S.Store conn.new).is_open) }
+    ensures found { IsServing (state S.Store conn.old) → IsTrue (state S.Store conn.new).is_open → IfOk result (λ n. n ≡ changes_in (state S.Store conn.old).now.trees) }
+{
+    if !is_settled(conn) {
+        return Err(PrepareFault::Failed);
+    }
+    let row = count_row(conn)?;
+    still_open(conn)?;
+    match row {
+        Some(row) => Ok(row.number),
+        None => Ok(0),
+    }
 }

@@ -1,10 +1,11 @@
 //! The store over a connection.
-ghost use Rattle.std.specs.Prelude.{◌≡◌, ◌≤◌, Err, IsTrue};
+ghost use Rattle.std.specs.Prelude.{◌≡◌, ◌+◌, ◌<◌, ◌≤◌, ◌^◌, Err, IsTrue, OnErr, OnOk};
 ghost use Rattle.hub_rows.specs.Failures.{Rose};
 ghost use Rattle.hub_rows.specs.declared.store.StoreFault.TheVariants as store_fault;
 
 use crate::fault::{PrepareFault, fault};
-use crate::opening::prepare;
+use crate::mark::Mark;
+use crate::opening::{changes, prepare};
 use hub_rows::{
     Change, ConnectorRow, GrantRow, GrantedTag, History, Info, LocalList, ReadingRow, Registration,
     ReportRow, ReservationId, ReservationRow, StartKey, StationRow, Store, StoreFault, TagRow,
@@ -32,33 +33,56 @@ pub struct SqlStore<A: Alter> {
     failures: u64,
     /// The connection as it was taken over, which takes no memory.
     taken: Snapshot<Connection<A>>,
+    /// How many changes are on record.
+    changes: u64,
+    /// Where that is noted too, beside the file of the database.
+    mark: Option<Mark>,
+}
+
+/// How many changes are on record after one that was tried after so many. One that was made is noted in the mark too.
+fn on_record(mark: &Option<Mark>, done: &Result<(), StoreFault>, changes: u64) -> u64
+    requires small { OnOk done.now (changes < 2 ^ 63) }
+    ensures made { OnOk done.now (result ≡ changes + 1) }
+    ensures failed { OnErr done.now (result ≡ changes) }
+{
+    if done.is_err() {
+        return changes;
+    }
+    let all = changes + 1;
+    if let Some(mark) = mark {
+        mark.put(all);
+    }
+    all
 }
 
 impl<A: Alter> Model for SqlStore<A> {
     ghost use Rattle.sqlite.specs.Held.{state};
-    ghost use Rattle.store_sql.specs.Store.{SqlView, ServesIfOurs, sql_code};
+    ghost use Rattle.store_sql.specs.Store.{KeepsIfOurs, SqlView, sql_code};
 
     ghost Value = { SqlView A };
 
     ghost coded = { sql_code A.code };
 
-    ghost view = { λ s. record { conn = s.conn; failures = s.failures; taken = s.taken.value } };
+    ghost view = { λ s. record { conn = s.conn; failures = s.failures; taken = s.taken.value; changes = s.changes } };
 
-    ghost invariant = { λ s. ServesIfOurs (state A.Store s.taken.value) (state A.Store s.conn) };
+    ghost invariant = { λ s. KeepsIfOurs (state A.Store s.taken.value) (state A.Store s.conn) s.changes };
 }
 
 impl<A: Alter> SqlStore<A> {
-    ghost use Rattle.store_sql.specs.Store.{IsCleanSql, ServesIfOurs};
+    ghost use Rattle.store_sql.specs.Store.{CountsIfOurs, IsCleanSql, ServesIfOurs};
+    ghost use Rattle.sql_rows.specs.Kept.{changes_in};
     ghost use Rattle.sql_rows.specs.Opening.{IsOurs};
     ghost use Rattle.sqlite.specs.Held.{state};
 
-    /// The store over a connection that is prepared.
+    /// The store over a connection that is prepared, on which so many changes are on record.
     pub(crate) fn over(
         alloc: Global,
         taken: Snapshot<Connection<A>>,
         conn: Connection<A>,
+        changes: u64,
     ) -> SqlStore<A>
         requires prepared { ServesIfOurs (state A.Store taken.value) (state A.Store conn) }
+        requires count { CountsIfOurs (state A.Store taken.value) (state A.Store conn) changes }
         ensures clean { IsOurs (state A.Store taken.value) → IsTrue (state A.Store conn).is_open → IsCleanSql A.Store result }
         ensures conn { result.conn ≡ conn }
         ensures taken { result.taken ≡ taken.value }
@@ -69,7 +93,23 @@ impl<A: Alter> SqlStore<A> {
             conn,
             failures: 0,
             taken,
+            changes,
+            mark: None,
         }
+    }
+
+    /// How many changes are on record.
+    pub fn changes(&self) -> u64
+        ensures counted { IsOurs (state A.Store self.now.taken) → IsTrue (state A.Store self.now.conn).is_open → result ≡ changes_in (state A.Store self.now.conn).now.trees }
+    {
+        self.changes
+    }
+
+    /// From now on each change is noted in that mark, once it is on record.
+    pub fn keep_mark(&mut self, mark: Mark)
+        ensures { self.new ≡ self.old }
+    {
+        self.mark = Some(mark);
     }
 
     /// What was done, counted if the store failed.
@@ -79,6 +119,7 @@ impl<A: Alter> SqlStore<A> {
         ensures count { self.old.failures ≤ self.new.failures }
         ensures conn { self.new.conn ≡ self.old.conn }
         ensures taken { self.new.taken ≡ self.old.taken }
+        ensures changes { self.new.changes ≡ self.old.changes }
     {
         if let Err(StoreFault::Failed) = &done {
             self.failures = self.failures.saturating_add(1);
@@ -105,7 +146,8 @@ impl<A: Alter + Drop> SqlStore<A> {
         let taken = Snapshot::of(&conn);
         let mut conn = conn;
         prepare(&mut conn, alloc)?;
-        Ok(SqlStore::over(alloc, taken, conn))
+        let changes = changes(&mut conn)?;
+        Ok(SqlStore::over(alloc, taken, conn, changes))
     }
 
     /// Its connection.
@@ -322,7 +364,8 @@ impl<A: Alter> Store for SqlStore<A> {
     }
 
     fn apply(&mut self, change: &Change<'_>) -> Result<(), StoreFault> {
-        let done = sql_edits::apply(&mut self.conn, self.alloc, change);
+        let done = sql_edits::apply(&mut self.conn, self.alloc, change, self.changes);
+        self.changes = on_record(&self.mark, &done, self.changes);
         self.counted(done)
     }
 }

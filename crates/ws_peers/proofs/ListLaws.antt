@@ -17,7 +17,7 @@ use Rattle.ws_peers.specs.declared.peer.Peer.{Peer}
 use Rattle.ws_peers.specs.declared.routes.Route.{Route}
 use Rattle.ws_peers.specs.declared.routes.Route.TheVariants.{Station, Operator}
 use Rattle.ws_peers.specs.Routes.{is_operator, key_of, is_operator_of, is_station}
-use Rattle.ws_peers.specs.Sends.{Sent, Replaced}
+use Rattle.ws_peers.specs.Sends.{Sent, Failed, Replaced}
 use Rattle.ws_peers.specs.Stages.{is_open}
 
 pub at_set : {A : Type 0} (R : A → A → Type 0) (n : ℕ) (xs : List A) (d y : A) → n < length xs → R (get_or xs n d) y → At R n xs (set xs n y)
@@ -83,6 +83,9 @@ both false is isnt = isnt refl
 module _ {T : Type 0} (contents : T → Option (List ℕ)) where
   replaced_route : (p q : Peer T) → Replaced contents p q → q.route ≡ p.route
   replaced_route p q r = both (is_open p.stage) (λ e. ap (λ x. x.route) (r.while_open e).rest) (λ e. ap (λ x. x.route) (r.once_ended e))
+
+  pub failed_route : (p q : Peer T) → Failed contents p q → q.route ≡ p.route
+  failed_route p q r = both (is_open p.stage) (λ e. ap (λ x. x.route) (r.while_open e).rest) (λ e. ap (λ x. x.route) (r.once_ended e))
 
   pub way_route : (op station : List ℕ) (p q : Peer T) → GivesWay contents op station p q → q.route ≡ p.route
   way_route op station p q w = both (is_station op station p.route) (λ e. replaced_route p q (w.same e)) (λ e. ap (λ x. x.route) (w.other e))

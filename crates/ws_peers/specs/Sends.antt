@@ -7,12 +7,13 @@ use Rattle.tungstenite.specs.Connection.{write_step, close_step}
 use Rattle.tungstenite.specs.Content.{Content, ping, text as text_content}
 use Rattle.tungstenite.specs.Failure.{WriteFails, IsIo}
 use Rattle.websocket.specs.declared.protocol.frame.coding.CloseCode.{CloseCode}
-use Rattle.websocket.specs.declared.protocol.frame.coding.CloseCode.TheVariants.{Policy}
+use Rattle.websocket.specs.declared.protocol.frame.coding.CloseCode.TheVariants.{Policy, Error as Broken}
 use Rattle.tungstenite.specs.declared.error.Error.{Error}
 use Rattle.tungstenite.specs.declared.error.Error.TheVariants.{OutOfMemory, WriteBufferFull}
+use Rattle.ws_peers.specs.declared.cause.Cause.TheVariants.{Fault}
 use Rattle.ws_peers.specs.declared.peer.Peer.{Peer}
 use Rattle.ws_peers.specs.declared.stage.Stage.{Stage}
-use Rattle.ws_peers.specs.declared.stage.Stage.TheVariants.{Gone}
+use Rattle.ws_peers.specs.declared.stage.Stage.TheVariants.{Ended, Gone}
 use Rattle.ws_peers.specs.Stages.{is_open, stage_after}
 
 module _ {T : Type 0} where
@@ -47,6 +48,11 @@ module _ {T : Type 0} where
     pub gave : Result (Unit {0}) Error
     pub sends : SendGives contents (close_step old.socket.conn code) old.socket new.socket gave
     pub rest : new ≡ record old { socket = new.socket; stage = stage }
+
+  -- the connection of a peer ends for a fault: an open one is closed with the code 1011
+  pub record Failed (contents : T → Option (List ℕ)) (old new : Peer T) : Type 0 where
+    pub while_open : is_open old.stage ≡ true → Closed contents (Some (Broken, [])) (Ended Fault) old new
+    pub once_ended : is_open old.stage ≡ false → new ≡ old
 
   -- another connection takes the place of a peer: it is gone, and an open one is closed with the code 1008 and a reason
   pub record Replaced (contents : T → Option (List ℕ)) (old new : Peer T) : Type 0 where

@@ -19,6 +19,7 @@ use tungstenite::{NoMask, WebSocket};
 impl<T: Read + Write + Served + Drop> Peers<T> {
     ghost use Rattle.ws_peers.specs.Lists.{peers, has_room, is_connected, ForText, ToStation, ToOperator, GivesWay, GiveWay, Shut};
     ghost use Rattle.ws_peers.specs.Peers.{stage_of, open_peer, leaves};
+    ghost use Rattle.ws_peers.specs.Sends.{Failed};
     ghost use Rattle.ws_peers.specs.Stages.{is_held};
 
     /// Sends a text to a station, on an open connection of it, if there is one. The peer at `near`
@@ -66,6 +67,16 @@ impl<T: Read + Write + Served + Drop> Peers<T> {
         ensures count { length (peers self.new) ≡ length (peers self.old) }
     {
         self.has_ended |= tell(&mut self.items, &self.operators, self.alloc, op, text);
+    }
+
+    /// All connections end for a fault. Those that are open are closed with the code 1011.
+    pub fn fail_all(&mut self)
+        ensures { AllZip (Failed T.contents) (peers self.old) (peers self.new) }
+    {
+        for peer in self.items.iter_mut() {
+            peer.fail();
+        }
+        self.has_ended = true;
     }
 
     /// Makes room for one more.

@@ -12,7 +12,7 @@ impl<T: Read + Write + Drop> Peers<T> {
     ghost use Rattle.ws_peers.specs.Lists.{peers, At};
     ghost use Rattle.ws_peers.specs.Peers.{ends, finishes};
     ghost use Rattle.ws_peers.specs.Reads.{Took};
-    ghost use Rattle.ws_peers.specs.Sends.{Sent, Pinged};
+    ghost use Rattle.ws_peers.specs.Sends.{Sent, Pinged, Failed};
 
     /// One of them.
     pub fn peer(&self, n: usize) -> &Peer<T>
@@ -64,6 +64,17 @@ impl<T: Read + Write + Drop> Peers<T> {
     {
         let peer = &mut self.items[n];
         peer.end(cause);
+        self.has_ended |= !peer.stage().is_open();
+    }
+
+    /// The connection of a peer ends for a fault, if it is open: it is closed with the code 1011.
+    pub fn fail(&mut self, n: usize)
+        requires { n < length (peers self.old) }
+        ensures failed { At (Failed T.contents) n (peers self.old) (peers self.new) }
+        ensures count { length (peers self.new) ≡ length (peers self.old) }
+    {
+        let peer = &mut self.items[n];
+        peer.fail();
         self.has_ended |= !peer.stage().is_open();
     }
 

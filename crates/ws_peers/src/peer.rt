@@ -34,7 +34,7 @@ impl<T: Read + Write + Drop> Peer<T> {
     ghost use Rattle.ws_peers.specs.Peers.{route_of, stage_of, open_peer, ends, leaves, finishes, Kept};
     ghost use Rattle.ws_peers.specs.Lists.{is_open_at, is_open_for, ForText, Hears, GivesWay};
     ghost use Rattle.ws_peers.specs.Reads.{Took};
-    ghost use Rattle.ws_peers.specs.Sends.{Sent, SentMessage, Pinged, Closed, Replaced};
+    ghost use Rattle.ws_peers.specs.Sends.{Sent, SentMessage, Pinged, Failed, Closed, Replaced};
     ghost use Rattle.ws_peers.specs.Stages.{is_open};
 
     /// A peer whose handshake is done.
@@ -138,6 +138,17 @@ impl<T: Read + Write + Drop> Peer<T> {
         ensures kept { Kept self.old self.new }
     {
         self.stage = self.stage.ended(cause);
+    }
+
+    /// Its connection ends for a fault, if it is open: it gets a close frame with the code 1011 (RFC 6455, section
+    /// 7.4.1).
+    pub fn fail(&mut self)
+        ensures failed { Failed T.contents self.old self.new }
+        ensures kept { Kept self.old self.new }
+    {
+        if self.stage.is_open() {
+            self.close(CloseCode::Error, "", Stage::Ended(Cause::Fault));
+        }
     }
 
     /// Another connection takes its place. An open one gets a close frame with the code 1008 and a reason (RFC 6455,

@@ -8,12 +8,11 @@ use Rattle.hub.specs.declared.fault.Fault.{Fault}
 use Rattle.hub.specs.declared.fault.Fault.TheVariants.{NoSuchOperator}
 use Rattle.hub.specs.Hub.{is_of_hosted}
 use Rattle.lines.specs.Marks.{begin_line, end_line}
-use Rattle.ws_peers.specs.declared.cause.Cause.TheVariants.{Fault as Failed}
 use Rattle.ws_peers.specs.declared.peer.Peer.{Peer}
 use Rattle.ws_peers.specs.Lists as lists
-use Rattle.ws_peers.specs.Peers.{route_of, stage_of, ends, leaves, finishes}
+use Rattle.ws_peers.specs.Peers.{route_of, stage_of, leaves, finishes}
 use Rattle.ws_peers.specs.Reads.{Took}
-use Rattle.ws_peers.specs.Sends.{Sent}
+use Rattle.ws_peers.specs.Sends.{Failed}
 use Rattle.ws_peers.specs.Stages.{is_held}
 use Rattle.ws_peers.specs.declared.routes.Route.{Route}
 use Rattle.ws_server.specs.Events.{word_of, event_of, parting, is_route_of_hosted}
@@ -94,10 +93,10 @@ module _ {T : Type 0} (contents : T → Option (List ℕ)) (is_hosted : List ℕ
   Hands event old new steps (Ok u) = (outs : List Out) × (steps ≡ record { event = event; outs = outs } ∷ []) × TellsAll contents outs old new
   Hands event old new steps (Err fault) = (new ≡ old) × (steps ≡ []) × Means (is_of_hosted is_hosted event) fault
 
-  -- the event of a text of peer n is handed to the hub, or the text is no order
+  -- the event of a text of peer n is handed to the hub, or the text is no order and peer n is told so while it is open
   abbrev pub HandsOrRefuses : ℕ → Option Event → Change (Peer T)
   HandsOrRefuses n (Some event) old new steps r = Hands event old new steps r
-  HandsOrRefuses n None old new steps r = lists.At (Sent contents (codes "bad line")) n old new × (steps ≡ []) × (r ≡ Ok tt)
+  HandsOrRefuses n None old new steps r = lists.At (SentWhileOpen contents (codes "bad line")) n old new × (steps ≡ []) × (r ≡ Ok tt)
 
   -- a text of peer n at moment m; after a fault nothing has changed
   abbrev pub HandsText : ℕ → ℕ → List ℕ → Change (Peer T)
@@ -105,12 +104,12 @@ module _ {T : Type 0} (contents : T → Option (List ℕ)) (is_hosted : List ℕ
       (route : Route) × ((d : Peer T) → route ≡ route_of (slice_index_or old n d)) × Answers contents n (word_of route text) (HandsOrRefuses n (event_of route m text)) old new steps (Ok u)
   HandsText m n text old new steps (Err fault) = (new ≡ old) × (steps ≡ []) × ((d : Peer T) → Means (is_route_of_hosted is_hosted (route_of (slice_index_or old n d))) fault)
 
-  -- what was read from peer n; a text that ends in a fault is lost, and the connection ends
+  -- what was read from peer n; a text that ends in a fault is lost, and the connection is closed
   abbrev pub Handles : ℕ → ℕ → Option (List ℕ) → Change (Peer T)
   Handles m n None old new steps r = (new ≡ old) × (steps ≡ []) × (r ≡ Ok tt)
   Handles m n (Some text) old new steps (Ok u) = HandsText m n text old new steps (Ok u)
   Handles m n (Some text) old new steps (Err fault) =
-      lists.At (λ p q. (q ≡ ends Failed p) × Means (is_route_of_hosted is_hosted (route_of p)) fault) n old new × (steps ≡ [])
+      lists.At (λ p q. Failed contents p q × Means (is_route_of_hosted is_hosted (route_of p)) fault) n old new × (steps ≡ [])
 
   -- peer n leaves the hub, if it is to leave now; where that ends in a fault it leaves later
   abbrev pub PartsAs : ℕ → Option Event → Change (Peer T)

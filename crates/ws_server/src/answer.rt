@@ -3,7 +3,6 @@ ghost use Rattle.std.specs.Prelude.{◌≡◌, ◌<◌, Err, List, codes, length
 ghost use Rattle.hub_rows.specs.Reads.{IsCounted};
 ghost use Rattle.hub.specs.Hub.{hub_view, setting};
 ghost use Rattle.ws_peers.specs.Lists.{At};
-ghost use Rattle.ws_peers.specs.Sends.{Sent};
 ghost use Rattle.ws_server.specs.Steps.{Takes};
 ghost use Rattle.ws_server.specs.Tells.{SentWhileOpen, peers_of};
 
@@ -50,7 +49,7 @@ impl<T: Read + Write + Served + Drop> Gateway<T> {
     }
 
     /// Hands an event of peer n to the hub, and sends its outputs. `None` is a text that has none, which is answered
-    /// `bad line`.
+    /// `bad line` while the connection is open.
     fn answer<S: Store + Drop, V: VendorHandler>(
         &mut self,
         hub: &mut Hub<S, V>,
@@ -66,7 +65,7 @@ impl<T: Read + Write + Served + Drop> Gateway<T> {
         match event {
             Some(event) => self.hand(hub, n, event),
             None => {
-                self.peers.send(n, "bad line");
+                self.say(n, "bad line");
                 Ok(())
             }
         }
@@ -98,15 +97,15 @@ impl<T: Read + Write + Served + Drop> Gateway<T> {
         Ok(())
     }
 
-    /// Sends `bad line` to peer n, between two lines.
+    /// Sends `bad line` to peer n, between two lines, each while the connection is open.
     fn refuse_between(&mut self, n: usize, begin: &str, end: &str)
         requires { n < length (peers_of self.old) }
         ensures refused { (begun told : List (Peer T)) × At (SentWhileOpen T.contents begin.now) n (peers_of self.old) begun
-            × At (Sent T.contents (codes "bad line")) n begun told × At (SentWhileOpen T.contents end.now) n told (peers_of self.new) }
+            × At (SentWhileOpen T.contents (codes "bad line")) n begun told × At (SentWhileOpen T.contents end.now) n told (peers_of self.new) }
         ensures count { length (peers_of self.new) ≡ length (peers_of self.old) }
     {
         self.say(n, begin);
-        self.peers.send(n, "bad line");
+        self.say(n, "bad line");
         self.say(n, end);
     }
 }

@@ -18,7 +18,9 @@ pub struct Gateway<T> {
 }
 
 impl<T: Read + Write + Served + Drop> Gateway<T> {
+    ghost use Rattle.std.specs.List.{AllZip};
     ghost use Rattle.ws_peers.specs.Peers.{is_operator_peer};
+    ghost use Rattle.ws_peers.specs.Sends.{Failed};
     ghost use Rattle.ws_server.specs.Tells.{peers_of};
 
     /// No peer. It takes no memory yet.
@@ -51,6 +53,14 @@ impl<T: Read + Write + Served + Drop> Gateway<T> {
         ensures { result ≡ length (peers_of self.now) }
     {
         self.peers.count()
+    }
+
+    /// All connections end for a fault, after which no event is handed to the hub. Those that are open are closed with
+    /// the code 1011 (RFC 6455, section 7.4.1).
+    pub fn fail_all(&mut self)
+        ensures { AllZip (Failed T.contents) (peers_of self.old) (peers_of self.new) }
+    {
+        self.peers.fail_all();
     }
 
     /// Whether there is a peer at that place that is an operator.

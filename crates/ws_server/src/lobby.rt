@@ -45,6 +45,8 @@ pub struct Lobby<T> {
     waiting: Vec<Waiting<T>>,
     head: Vec<u8>,
     notes: Notes,
+    /// Health checks are answered 503.
+    is_hurt: bool,
 }
 
 /// What is to be done with a connection that waits.
@@ -75,6 +77,7 @@ impl<T: Peek + Read + Write + Served + Drop> Lobby<T> {
             waiting: Vec::new(alloc),
             head,
             notes: Notes::new(alloc),
+            is_hurt: false,
         })
     }
 
@@ -117,6 +120,13 @@ impl<T: Peek + Read + Write + Served + Drop> Lobby<T> {
         Ok(())
     }
 
+    /// From now on health checks are answered 503, or 200 again.
+    pub fn set_hurt(&mut self, is_hurt: bool)
+        ensures { self.new.waiting.items ≡ self.old.waiting.items }
+    {
+        self.is_hurt = is_hurt;
+    }
+
     /// From now on it keeps notes of what becomes of connections.
     pub fn keep_notes(&mut self)
         ensures { self.new.waiting.items ≡ self.old.waiting.items }
@@ -129,6 +139,14 @@ impl<T: Peek + Read + Write + Served + Drop> Lobby<T> {
         ensures { self.new.waiting.items ≡ self.old.waiting.items }
     {
         self.notes.take()
+    }
+
+    /// The answer as it is given, where a health check is answered by whether all is well.
+    fn told(&self, answer: Answer) -> Answer {
+        match answer {
+            Answer::Healthy if self.is_hurt => Answer::Unavailable,
+            other => other,
+        }
     }
 
     /// Notes a connection that isn't admitted.
@@ -191,7 +209,7 @@ impl<T: Peek + Read + Write + Served + Drop> Lobby<T> {
                 if let Some(refusal) = Refusal::of(answer) {
                     self.refuse(one.address, refusal);
                 }
-                let _closed = refuse(one.stream, seen, answer);
+                let _closed = refuse(one.stream, seen, self.told(answer));
                 Ok(())
             }
             Ok(Next::Welcome(upgrade)) => {

@@ -15,7 +15,7 @@ use ocpp_types::Moment;
 use ready_streams::Served;
 use station_calls::VendorHandler;
 use std::io::{Read, Write};
-use ws_peers::{Cause, Peers, Stage};
+use ws_peers::{Peers, Stage};
 
 #[tactic(auto, using(crate::proofs::StepLaws::handed, crate::proofs::StepLaws::nothing))]
 impl<T: Read + Write + Served + Drop> Gateway<T> {
@@ -39,7 +39,7 @@ impl<T: Read + Write + Served + Drop> Gateway<T> {
     }
 
     /// Serves peer n: reads once, and hands the text that was read, if there is one, to the hub.
-    /// After a fault the text is lost and the connection of peer n ends; the hub is unchanged.
+    /// After a fault the text is lost, and the connection of peer n is closed with the code 1011; the hub is unchanged.
     pub fn serve<S: Store + Drop, V: VendorHandler>(
         &mut self,
         hub: &mut Hub<S, V>,
@@ -60,7 +60,7 @@ impl<T: Read + Write + Served + Drop> Gateway<T> {
             Err(fault) => {
                 let route = self.peers.peer(n).route();
                 self.notes.add(Some(route), None, Happened::Failed(fault));
-                self.peers.end(n, Cause::Fault);
+                self.peers.fail(n);
                 Err(fault)
             }
         }

@@ -14,7 +14,7 @@ returns g c =
     let same : end ≡ c.conn-1.given.0 = search rules in
     record {
       spared = subst (λ h. IsSpared (state g.S.Store c.args.conn.now) (state g.S.Store h)) same
-          (looked_spared g.S.Store c.args.conn.now tx mid end c.transaction-tx.ensures.begun c.requires.rested (open_is_clean _ _ (g.met.S.Store.shut_if_dirty end.store))
+          (looked_spared g.S.Store c.args.conn.now tx mid end c.transaction-tx.ensures.begun c.requires.rested.settled c.requires.autocommit (open_is_clean _ _ (g.met.S.Store.shut_if_dirty end.store))
           (λ up. let sure = open_is_clean _ _ (g.met.S.Store.shut_if_dirty mid.store) up in
           asks_nothing _ _ (state g.S.Store tx) (state g.S.Store mid) (λ v. v.items) c.query_all-rows.result (ap (λ h. h.in_transaction) c.transaction-tx.ensures.begun) up (c.query_all-rows.ensures.ok sure) (c.query_all-rows.ensures.err sure))
           c.query_all-rows.ensures.survives c.rollback.ensures.undone c.rollback.ensures.ended c.rollback.ensures.survives);

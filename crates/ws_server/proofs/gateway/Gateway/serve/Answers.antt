@@ -1,8 +1,8 @@
 use Rattle.std.proofs.Common.{subst, Some, Ok, Err, ◌≡◌}
 use Rattle.hub.specs.Hub.{setting}
-use Rattle.ws_peers.specs.declared.cause.Cause.TheVariants.{Fault as Failed}
 use Rattle.ws_peers.specs.Lists as lists
-use Rattle.ws_peers.specs.Peers.{ends, route_of}
+use Rattle.ws_peers.specs.Peers.{route_of}
+use Rattle.ws_peers.specs.Sends.{Failed}
 use Rattle.ws_server.specs.Events.{is_route_of_hosted}
 use Rattle.ws_server.specs.Tells.{peers_of}
 use Rattle.ws_server.specs.Turns.{HandsText, Serves, Means}
@@ -14,7 +14,7 @@ returns-clause-takes g c =
     let hosts = (setting g.V.VendorHandler.view c.args.hub.now).is_hosted in
     let old = peers_of c.args.self.now in
     let mid = lists.peers c.take.new.self in
-    let new = lists.peers c.end.new.self in
+    let new = lists.peers c.fail.new.self in
     let fault = c.in-Err.fault in
     changed _ _ _ _ _ (λ steps. Serves g.T.Read.remaining g.T.Write.contents hosts c.args.moment c.args.n old new steps (Err fault))
     (λ steps change. record {
@@ -22,8 +22,8 @@ returns-clause-takes g c =
       mid = mid;
       took = c.in-Some.ensures.took;
       handled = (
-        at_with (λ p q. q ≡ ends Failed p) (λ p. Means (is_route_of_hosted hosts (route_of p)) fault) c.args.n mid new
-            (subst (λ ps. lists.At (λ p q. q ≡ ends Failed p) c.args.n ps new) change.0 c.end.ensures.ended) change.2,
+        at_with (Failed g.T.Write.contents) (λ p. Means (is_route_of_hosted hosts (route_of p)) fault) c.args.n mid new
+            (subst (λ ps. lists.At (Failed g.T.Write.contents) c.args.n ps new) change.0 c.fail.ensures.failed) change.2,
         change.1,
       );
     })

@@ -1,0 +1,158 @@
+"""Checks that no event reads a history: the same lines cost about as much over a file with 100 rows of a kind as over
+one with 10,000. Prints the growth of each kind, then `N passed, M failed`. The figures are processor time of replays,
+without the opening of the file, the best of some rounds.
+
+    python3 checks/growth.py crates/central/out/central
+"""
+
+import os
+import resource
+import shutil
+import sqlite3
+import subprocess
+import sys
+import tempfile
+
+OPERATORS = "ACME,BETA"
+FEW, MANY = 100, 10_000
+MOST = 2.0
+ROUNDS = 4
+AT = "2024-01-01T00:00:00Z"
+MS = 1704067200000
+MEMORY = "/dev/shm" if os.path.isdir("/dev/shm") else None
+
+# What is on record beside the rows of a kind.
+RECORDED = f"""\
+1704067200 ACME station add CP01 Accepted 300
+1704067200 ACME connect CP01
+1704067200 ACME frame CP01 [2,"b","BootNotification",{{"chargePointModel":"M","chargePointVendor":"V"}}]
+1704067200 ACME tag put OWN - 0 -
+1704067200 BETA tag put ROAM - 0 -
+1704067200 BETA grant ROAM ACME -
+"""
+CONNECT = "1704067200 ACME connect CP01\n"
+
+
+def start(number, tag="OWN", at=AT):
+    return (
+        f'1704067200 ACME frame CP01 [2,"s","StartTransaction",{{"connectorId":1,"idTag":"{tag}",'
+        f'"meterStart":{number},"timestamp":"{at}"}}]\n'
+    )
+
+
+def stop(number):
+    return (
+        f'1704067200 ACME frame CP01 [2,"e","StopTransaction",{{"meterStop":9,"timestamp":"{AT}",'
+        f'"transactionId":{number}}}]\n'
+    )
+
+
+def sessions(rows, tag="OWN"):
+    """Starts and stops that follow so many transactions, each start at one time."""
+    return "".join(start(-number, tag) + stop(number) for number in range(rows + 1, rows + 301))
+
+
+def meter_values(rows):
+    line = f'1704067200 ACME frame CP01 [2,"m","MeterValues",{{"connectorId":1,"meterValue":[{{"timestamp":"{AT}","sampledValue":[{{"value":"1"}}]}}]}}]\n'
+    return line * 600
+
+
+def tags(rows):
+    """Each put of a tag drops what is kept of it, so that it is looked up."""
+    return "1704067200 ACME tag put K5 - 0 -\n1704067200 ACME frame CP01 [2,\"a\",\"Authorize\",{\"idTag\":\"K5\"}]\n" * 600
+
+
+def granted_tags(rows):
+    return "1704067200 BETA tag put K5 - 0 -\n1704067200 ACME frame CP01 [2,\"a\",\"Authorize\",{\"idTag\":\"K5\"}]\n" * 600
+
+
+def transactions(step):
+    """So many stopped transactions, each so many milliseconds after the one before."""
+    row = "INSERT INTO hub_tx VALUES ('ACME', 'CP01', ?1, 1, 'own', ?1, ?2, 'OWN', NULL, 'Accepted', 1704067200, 0, 0, 9, ?2, 'Local', NULL, 1704067200)"
+    return lambda rows: [(row, [(number, MS + step * number) for number in range(1, rows + 1)])]
+
+
+def of_rows(text):
+    return lambda rows: [(text, [(number,) for number in range(1, rows + 1)])]
+
+
+def grants(rows):
+    numbers = [(f"t{number}", f"T{number}") for number in range(rows)]
+    return [
+        ("INSERT INTO hub_tag VALUES ('BETA', ?1, ?2, NULL, NULL, 0, NULL)", numbers),
+        ("INSERT INTO hub_grant VALUES ('BETA', ?1, 'ACME', NULL)", [number[:1] for number in numbers]),
+    ]
+
+
+KINDS = {
+    "starts of other times": (transactions(1000), sessions),
+    "starts of one time": (transactions(0), sessions),
+    "readings": (of_rows("INSERT INTO hub_meter_value VALUES ('ACME', 'CP01', ?, 1, NULL, 0, 1, '[{\"value\":\"1\"}]')"), meter_values),
+    "tags": (of_rows("INSERT INTO hub_tag VALUES ('ACME', 't' || ?1, 'T' || ?1, NULL, NULL, 0, NULL)"), tags),
+    "granted tags": (grants, granted_tags),
+    "uses": (of_rows("INSERT INTO hub_use VALUES ('BETA', ?, 'ACME', 'roam', 1704067200, 9)"), lambda rows: sessions(0, "ROAM")),
+}
+
+
+def spent(program, db, lines):
+    """The seconds of processor time of a replay."""
+    before = resource.getrusage(resource.RUSAGE_CHILDREN)
+    words = [program, "replay", "--operators", OPERATORS, "--db", db]
+    ran = subprocess.run(words, input=lines.encode(), capture_output=True, timeout=300)
+    after = resource.getrusage(resource.RUSAGE_CHILDREN)
+    if ran.returncode or any(wrong in ran.stdout for wrong in (b" refused ", b"bad line", b" send [4,")):
+        sys.exit(f"replay: status {ran.returncode}, {ran.stderr.decode()}")
+    return after.ru_utime + after.ru_stime - before.ru_utime - before.ru_stime
+
+
+def filled(program, folder, name, rows):
+    """A file with so many rows of a kind."""
+    db = os.path.join(folder, f"{name.replace(' ', '_')}_{rows}.db")
+    spent(program, db, RECORDED)
+    database = sqlite3.connect(db)
+    for text, values in KINDS[name][0](rows):
+        database.executemany(text, values)
+    database.commit()
+    database.execute("PRAGMA wal_checkpoint(TRUNCATE)")
+    database.close()
+    return db
+
+
+def spent_on_copy(program, db, lines):
+    copy = db + ".copy"
+    shutil.copyfile(db, copy)
+    found = spent(program, copy, lines)
+    for end in ("", "-wal", "-count"):
+        os.remove(copy + end)
+    return found
+
+
+def costs(program, folder, name):
+    """What the lines of a kind cost by the number of rows: few, and many. Each is measured in turn."""
+    found = {}
+    for rows in (FEW, MANY):
+        db = filled(program, folder, name, rows)
+        lines = KINDS[name][1](rows if "starts" in name else 0)
+        opening = min(spent_on_copy(program, db, CONNECT) for _ in range(ROUNDS))
+        found[rows] = min(spent_on_copy(program, db, CONNECT + lines) for _ in range(ROUNDS)) - opening
+    return found[FEW], found[MANY]
+
+
+def main():
+    program = os.path.abspath(sys.argv[1])
+    passed = failed = 0
+    with tempfile.TemporaryDirectory(dir=MEMORY) as folder:
+        for name in KINDS:
+            few, many = costs(program, folder, name)
+            growth = many / few
+            print(f"{name}: {few * 1000:.1f} ms and {many * 1000:.1f} ms, growth {growth:.2f}")
+            if growth < MOST:
+                passed += 1
+            else:
+                failed += 1
+    print(f"{passed} passed, {failed} failed")
+    sys.exit(failed > 0)
+
+
+if __name__ == "__main__":
+    main()

@@ -1,0 +1,229 @@
+"""Checks that a database that is hurt says so. The disk fails while the server runs, by failing_disk.c under the
+program: where syncs fail the server closes its connections with 1011 and ends, and where writes fail it goes on. Parts
+of the log of a database are changed or lost: it is opened with --accept-loss alone, and the fault says how many changes
+are gone. Nobody but its owner may read its files. Prints `N passed, M failed`.
+
+    python3 checks/hurt.py crates/central/out/central
+"""
+
+import mmap
+import os
+import re
+import shutil
+import struct
+import subprocess
+import sys
+import tempfile
+from pathlib import Path
+
+from peer import BOOT, CLOSE, HEARTBEAT, Peer, close_code, health
+from programs import TIME, Checks, wait_for
+
+PORT = 9286
+SOURCE = Path(__file__).with_name("failing_disk.c")
+TAGS = 40
+FRAME = 24
+LOG_HEAD = 32
+
+
+class Disk:
+    """The library under the program, and the numbers that it shares with this check."""
+
+    def __init__(self, folder):
+        self.library = os.path.join(folder, "failing_disk.so")
+        subprocess.run(["gcc", "-O2", "-shared", "-fPIC", "-o", self.library, SOURCE, "-ldl"], check=True)
+        self.path = os.path.join(folder, "disk")
+        Path(self.path).write_bytes(bytes(16))
+        with open(self.path, "r+b") as file:
+            self.numbers = mmap.mmap(file.fileno(), 16)
+        self.environment = {**os.environ, "LD_PRELOAD": self.library, "FAILING_DISK": self.path}
+
+    def fail(self, syncs=False, writes=False):
+        self.numbers[:] = struct.pack("2Q", syncs, writes)
+
+
+class Server:
+    def __init__(self, program, db, disk=None, words=()):
+        command = [program, "serve", "--port", str(PORT), "--db", db, "--operators", "ACME,BETA", "--log", "none", *words]
+        self.process = subprocess.Popen(command, stderr=subprocess.PIPE, env=disk and disk.environment)
+        wait_for(PORT)
+
+    def ends(self):
+        """The status with which it ends by itself, and what it wrote."""
+        errors = self.process.communicate(timeout=20)[1].decode()
+        return self.process.returncode, errors
+
+    def kill(self):
+        self.process.kill()
+        self.process.communicate()
+
+
+def files_of(db):
+    return [db, f"{db}-wal", f"{db}-count"]
+
+
+def copied(db, folder, name):
+    """A copy of a database and of the files beside it."""
+    copy = os.path.join(folder, name)
+    for path, to in zip(files_of(db), files_of(copy)):
+        if os.path.exists(path):
+            shutil.copyfile(path, to)
+        elif os.path.exists(to):
+            os.remove(to)
+    return copy
+
+
+def put(line):
+    return Peer(PORT, "/operator/ACME").ask(line)
+
+
+def tags_of(program, db, words=()):
+    """The tags of ACME that a replay finds, or its fault."""
+    ran = subprocess.run(
+        [program, "replay", "--db", db, "--operators", "ACME,BETA", *words],
+        input=b"1704067200 ACME list tags\n",
+        capture_output=True,
+        timeout=60,
+    )
+    if ran.returncode:
+        return ran.returncode, ran.stderr.decode()
+    return re.findall(r'row tag "(\w+)"', ran.stdout.decode())
+
+
+def started(checks, disk):
+    """A server over a new file with a tag, and the connections of a station and of another operator."""
+    db = checks.new_file()
+    server = Server(checks.program, db, disk)
+    for line in ("station add CP01 Accepted 300", "tag put SIM1 - 0 -"):
+        checks.check(line, put(line), "ACME ok")
+    station, other = Peer(PORT, "/ocpp/ACME/CP01"), Peer(PORT, "/operator/BETA")
+    booted = '[3,"1",{"currentTime":"T","interval":300,"status":"Accepted"}]'
+    checks.check("a boot", TIME.sub("T", station.ask(BOOT)), booted)
+    checks.check("the health before", health(PORT), "HTTP/1.1 200 OK")
+    return db, server, station, other
+
+
+def check_syncs(checks, disk):
+    """Syncs fail under a change: the server ends. What was acknowledged before is on record afterwards."""
+    db, server, station, other = started(checks, disk)
+    disk.fail(syncs=True)
+    operator = Peer(PORT, "/operator/ACME")
+    operator.send("tag put SIM2 - 0 -")
+    for who, peer in (("the one that asked", operator), ("a station", station), ("another operator", other)):
+        checks.check(f"syncs fail: the close of {who}", close_code(peer), (CLOSE, 1011))
+    checks.check("syncs fail: the end", server.ends(), (2, "fault Store: the database failed\n"))
+    disk.fail()
+    server = Server(checks.program, db)
+    tags = [row.split(" ")[3] for row in Peer(PORT, "/operator/ACME").lines("w", "list tags")[:-1]]
+    checks.check("syncs fail: what was acknowledged", tags[0], '"SIM1"')
+    checks.check("syncs fail: what was not", tags[1:] in ([], ['"SIM2"']), True)
+    checks.check("syncs fail: a change afterwards", put("tag put SIM3 - 0 -"), "ACME ok")
+    server.kill()
+
+
+def check_writes(checks, disk):
+    """Writes fail under a change: it is refused, and the server goes on."""
+    db, server, station, other = started(checks, disk)
+    disk.fail(writes=True)
+    operator = Peer(PORT, "/operator/ACME")
+    operator.send("tag put SIM2 - 0 -")
+    checks.check("writes fail: the close of the one that asked", close_code(operator), (CLOSE, 1011))
+    checks.check("writes fail: the health", health(PORT), "HTTP/1.1 503 Service Unavailable")
+    checks.check("writes fail: a station", TIME.sub("T", station.ask(HEARTBEAT)), '[3,"2",{"currentTime":"T"}]')
+    checks.check("writes fail: another operator", other.ask("list tags"), "BETA ok")
+    disk.fail()
+    checks.check("writes fail: a change afterwards", put("tag put SIM3 - 0 -"), "ACME ok")
+    server.kill()
+    checks.check("writes fail: what is on record", tags_of(checks.program, db), ["SIM1", "SIM3"])
+
+
+def check_modes(checks):
+    os.umask(0o022)
+    db = checks.new_file()
+    server = Server(checks.program, db)
+    checks.check("a change", put("tag put SIM1 - 0 -"), "ACME ok")
+    for path in files_of(db):
+        checks.check(f"the mode of {Path(path).name}", oct(os.stat(path).st_mode & 0o777), "0o600")
+    server.kill()
+
+
+def frames_of(log):
+    """How many frames of a log are used, and their size."""
+    size = FRAME + int.from_bytes(log[8:12], "big")
+    count = 0
+    while log[LOG_HEAD + count * size + 8 :][:8] == log[16:24]:
+        count += 1
+    return count, size
+
+
+def flipped(db, share):
+    """One bit of the log is flipped, at this share of what is used of it."""
+    path = f"{db}-wal"
+    log = bytearray(Path(path).read_bytes())
+    count, size = frames_of(log)
+    place = LOG_HEAD + int(count * share) * size + FRAME + 100
+    log[place] ^= 1
+    Path(path).write_bytes(log)
+
+
+def check_loss(checks, what, db, hurt, least=1):
+    """A database whose log is hurt is refused, and taken with --accept-loss. The fault says how many changes are gone."""
+    hurt(db)
+    copy = copied(db, checks.folder, "copy.db")
+    found = tags_of(checks.program, db, ("--accept-loss",))
+    lost = TAGS - len(found)
+    checks.check(f"{what}: some are gone", lost >= least, True)
+    checks.check(f"{what}: the first ones are left", found, sorted(f"T{number:02}" for number in range(TAGS))[: len(found)])
+    fault = f"fault Store: the log lacks {lost} changes\n"
+    checks.check(f"{what}: it is refused", tags_of(checks.program, copy), (2, fault))
+    checks.check(f"{what}: once more", tags_of(checks.program, copy), (2, fault))
+    checks.check(f"{what}: it is taken", tags_of(checks.program, copy, ("--accept-loss",)), found)
+    checks.check(f"{what}: and then as any", tags_of(checks.program, copy), found)
+
+
+def check_losses(checks):
+    db = checks.new_file()
+    server = Server(checks.program, db)
+    operator = Peer(PORT, "/operator/ACME")
+    for number in range(TAGS):
+        checks.check("a tag", operator.ask(f"tag put T{number:02} - 0 -"), "ACME ok")
+    server.kill()
+    every = [f"T{number:02}" for number in range(TAGS)]
+    checks.check("after a kill", tags_of(checks.program, copied(db, checks.folder, "killed.db")), every)
+    for percent in (90, 60, 30, 0):
+        copy = copied(db, checks.folder, f"flipped{percent}.db")
+        check_loss(checks, f"a bit at {percent} %", copy, lambda copy: flipped(copy, percent / 100))
+    copy = copied(db, checks.folder, "cut.db")
+    check_loss(checks, "half of the log", copy, lambda copy: os.truncate(f"{copy}-wal", os.path.getsize(f"{copy}-wal") // 8))
+    copy = copied(db, checks.folder, "lost.db")
+    check_loss(checks, "no log", copy, lambda copy: os.remove(f"{copy}-wal"), TAGS)
+    copy = copied(db, checks.folder, "unmarked.db")
+    os.remove(f"{copy}-count")
+    checks.check("without a mark", tags_of(checks.program, copy), every)
+    copy = copied(db, checks.folder, "no_count.db")
+    Path(f"{copy}-count").write_bytes(b"forty\n")
+    checks.check("a mark without a count", tags_of(checks.program, copy), (2, "fault Store: the mark has no count\n"))
+    checks.check("which is accepted", tags_of(checks.program, copy, ("--accept-loss",)), every)
+    copy = copied(db, checks.folder, "behind.db")
+    Path(f"{copy}-count").write_bytes(b"%020d\n" % 3)
+    checks.check("a mark that is behind", tags_of(checks.program, copy), every)
+    checks.check("is put right", Path(f"{copy}-count").read_bytes(), b"%020d\n" % TAGS)
+
+
+def main():
+    with tempfile.TemporaryDirectory() as folder:
+        checks = Checks(os.path.abspath(sys.argv[1]), folder)
+        check_modes(checks)
+        check_losses(checks)
+        if shutil.which("gcc"):
+            disk = Disk(folder)
+            check_syncs(checks, disk)
+            check_writes(checks, disk)
+        else:
+            print("no gcc: what a failing disk leads to is not checked")
+    print(f"{checks.passed} passed, {checks.failed} failed")
+    sys.exit(checks.failed > 0)
+
+
+if __name__ == "__main__":
+    main()
