@@ -6,6 +6,8 @@ pub mod OrderLaws
 pub mod TagLaws
 pub mod GrantLaws
 pub mod OwnLaws
+pub mod OwnerLaws
+pub mod UseLaws
 pub mod WellFormedLaws
 pub mod NameLaws
 pub mod ForgetLaws

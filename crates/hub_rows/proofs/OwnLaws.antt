@@ -80,9 +80,9 @@ own-with_owner_other a b station number None rows other = refl
 own-with_owner_other a b station number (Some o) rows other = own-put_other (λ r. r.op) tx_owner_rest a (record { op = b; station = station; number = number; owner = o }) rows.tx_owners other
 
 -- one's own stop settles no use of one's own
-own-with_use : (a : List ℕ) (o : Option UseRow) (uses : List UseRow) → IsSettled a o → own (λ r. r.op) a (with_use o uses) ≡ own (λ r. r.op) a uses
+own-with_use : (a : List ℕ) (o : Option UseRow) (uses : List UseRow) → IsSettled a uses o → own (λ r. r.op) a (with_use o uses) ≡ own (λ r. r.op) a uses
 own-with_use a None uses settled = refl
-own-with_use a (Some r) uses settled = own-put_other (λ r. r.op) use_rest a r uses settled.1
+own-with_use a (Some r) uses settled = own-put_other (λ r. r.op) use_rest a r uses settled.0
 
 -- one's own edit is the edit of one's own rows
 pub own_rows-edit : (a : List ℕ) (e : Edit) (rows : Rows) → WellFormedRows rows → own_rows a (edit a e rows) ≡ own_edit a e (own_rows a rows)

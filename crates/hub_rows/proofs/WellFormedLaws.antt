@@ -1,5 +1,5 @@
 -- What a change leaves of well formed rows.
-use Rattle.std.specs.Prelude.{◌≡◌, ◌≢◌, nat_lt, ℕ, ◌+◌, ◌≤◌, List, [], ◌∷◌, length, Bool, ◌&&◌, ◌==◌, cond, not, true, false, filter, find, Option, None, Some, is_some, IsSome}
+use Rattle.std.specs.Prelude.{◌≡◌, ◌≢◌, nat_lt, ℕ, ◌+◌, ◌<◌, ◌≤◌, List, [], ◌∷◌, length, Bool, ◌&&◌, ◌==◌, cond, not, true, false, filter, find, Option, None, Some, is_some, IsSome, IfSome}
 use Rattle.std.proofs.Common.{refl, sym, ◌∙◌, ap, subst, arith, ⊎_elim}
 use Rattle.std.specs.List.{AllByRecursion}
 use Rattle.std.specs.List.Sorted.{IsStrictlySortedBy}
@@ -8,7 +8,6 @@ use Rattle.std.specs.Ordering.{is_eq}
 use Rattle.std.specs.Str.{bytes_eq}
 use Rattle.std.proofs.lemmas.Bool.{and_parts}
 use Rattle.std.proofs.lemmas.Bool.Decides.{nat_tests}
-use Rattle.std.proofs.lemmas.Cmp.{tied_itself}
 use Rattle.std.proofs.lemmas.List.Kept.{IsStrictlySortedBy-filter}
 use Rattle.hub_rows.specs.declared.change.Edit.{Edit}
 use Rattle.hub_rows.specs.declared.change.Edit.TheVariants.{Stations, Tags, Transactions, Holdings}
@@ -21,7 +20,7 @@ use Rattle.hub_rows.specs.declared.connector_row.ConnectorRow.{ConnectorRow}
 use Rattle.hub_rows.specs.declared.tag_row.TagRow.{TagRow}
 use Rattle.hub_rows.specs.declared.grant_row.GrantRow.{GrantRow}
 use Rattle.hub_rows.specs.declared.info.Info.{Info}
-use Rattle.hub_rows.specs.Forgetting.{has_number, is_one_of}
+use Rattle.hub_rows.specs.Forgetting.{is_one_of}
 use Rattle.hub_rows.specs.declared.forgettable.Forgettable.{Forgettable}
 use Rattle.hub_rows.specs.Grants.{is_grant}
 use Rattle.hub_rows.specs.Tags.{tag_in}
@@ -36,12 +35,14 @@ use Rattle.hub_rows.specs.declared.tx_row.TxOwnerRow.{TxOwnerRow}
 use Rattle.hub_rows.specs.declared.use_row.UseRow.{UseRow}
 use Rattle.hub_rows.specs.Rows.{Rows, no_rows, station_in, registration_in, registration_of, station_key, connector_key, tag_key, grant_key, tx_key, reading_key, reservation_key, list_key, report_key, tx_owner_key, use_key}
 use Rattle.hub_rows.specs.Keyed.{key_cmp, by_key, found, put, put_all, changed, without}
-use Rattle.hub_rows.specs.Transactions.{is_tx, tx_in, state_of, reading_rows, AreNext, last_of_all}
-use Rattle.hub_rows.specs.WellFormed.{IsOnRecord, IsNumber, IsGoodConnector, IsGoodTag, IsGoodGrant, IsGoodTx, IsGoodReading, IsGoodReservation, IsGoodList, IsGoodReport, IsGoodTxOwner, IsGoodUse, AreGood, WellFormedRows}
+use Rattle.hub_rows.specs.Transactions.{is_tx, tx_in, state_of, reading_rows, AreNext, last_of_all, last_tx_in}
+use Rattle.hub_rows.specs.WellFormed.{BeganAccepted, IsOnRecord, IsNumber, IsGoodConnector, IsGoodTag, IsGoodGrant, IsGoodTx, IsGoodReading, IsGoodReservation, IsGoodList, IsGoodReport, IsGoodTxOwner, IsGoodUse, AreGood, WellFormedRows}
 use Rattle.hub_rows.specs.Changes.{edit, new_station, with_boot, with_policy, connector_row, tag_row, grant_row, tx_row, with_stop, with_readings, reservation_row, list_row, report_row, IsOpen, IsAnother, EditFits}
 use Rattle.hub_rows.specs.Reservations.{is_named, is_reservation, without_named}
 use Rattle.hub_rows.specs.Uses.{is_owner_of, owner_in, with_owner, use_by, settled_use, use_row, with_use, last_use_in}
-use Rattle.hub_rows.proofs.ListLaws.{by_key_total, same_key, same_text, two_parts, all-put, all-put_all, all-filter, all-changed, all-weaker, sorted-put, sorted-put_all, sorted-changed, some-put, some-new, some-map, found_all, found_is, three_parts, keys_total}
+use Rattle.hub_rows.proofs.ListLaws.{by_key_total, same_key, same_text, two_parts, all-put, all-put_all, all-filter, all-changed, all-weaker, sorted-put, sorted-put_all, sorted-changed, some-put, some-map, found_all, found_is}
+use Rattle.hub_rows.proofs.OwnerLaws.{KeepsBegun, began-kept, find-kept, found-new, keeps-new, keeps-stopped, next-above}
+use Rattle.hub_rows.proofs.UseLaws.{good-next}
 
 -- ---- good lists
 
@@ -62,18 +63,6 @@ module _ {R : Type 0} (key : R → List (List ℕ)) (P : R → Type 0) where
   good-weaker Q f rs good = record { sorted = good.sorted; each = all-weaker P Q f rs good.each }
 
 -- ---- rows that are left
-
--- a row that is looked for is left where none of its kind is dropped
-kept_found : {R : Type 0} (t d : R → Bool) → ((r : R) → t r ≡ true → d r ≡ false) → (rs : List R) → IsSome (find t rs) → IsSome (find t (filter (λ r. not (d r)) rs))
-kept_found t d apart [] some = some
-kept_found t d apart (x ∷ xs) some =
-    let left = filter (λ r. not (d r)) xs in
-    elim (t x) as (λ b. t x ≡ b → IsSome (cond b (Some x) (find t xs)) → IsSome (find t (cond (not (d x)) (x ∷ left) left))) [
-      | true ↦ λ is some. subst (λ c. IsSome (find t (cond (not c) (x ∷ left) left))) (sym (apart x is)) (subst (λ b. IsSome (cond b (Some x) (find t left))) (sym is) refl)
-      | false ↦ λ no some.
-          let rest = kept_found t d apart xs some in
-          elim (d x) as (λ c. IsSome (find t (cond (not c) (x ∷ left) left))) [ true ↦ rest | false ↦ subst (λ b. IsSome (cond b (Some x) (find t left))) (sym no) rest ]
-    ] refl some
 
 -- what is so of each row that is left is so of all of them
 all-kept : {R : Type 0} (P Q : R → Type 0) (d : R → Bool) → ((r : R) → d r ≡ false → P r → Q r) → (rs : List R) → AllByRecursion P rs → AllByRecursion Q (filter (λ r. not (d r)) rs)
@@ -139,8 +128,8 @@ some_tag-put r tags b key on =
 -- a tag that is not dropped is still there
 kept_tag : (c dropped : List ℕ) (tags : List TagRow) (b key : List ℕ) → bytes_eq b c && bytes_eq key dropped ≡ false → IsSome (tag_in b key tags) → IsSome (tag_in b key (without (λ r. r.op) c (λ r. bytes_eq r.key dropped) tags))
 kept_tag c dropped tags b key other on =
-    kept_found (λ x. bytes_eq x.op b && bytes_eq x.key key) (λ x. bytes_eq x.op c && bytes_eq x.key dropped)
-    (λ x is. let parts = and_parts (bytes_eq x.op b) (bytes_eq x.key key) is in (λ i. bytes_eq (same_text x.op b parts.0 i) c && bytes_eq (same_text x.key key parts.1 i) dropped) ∙ other) tags on
+    subst IsSome (sym (find-kept (λ x. bytes_eq x.op b && bytes_eq x.key key) (λ x. bytes_eq x.op c && bytes_eq x.key dropped)
+    (λ x is. let parts = and_parts (bytes_eq x.op b) (bytes_eq x.key key) is in (λ i. bytes_eq (same_text x.op b parts.0 i) c && bytes_eq (same_text x.key key parts.1 i) dropped) ∙ other) tags)) on
 
 -- the grants that a dropped tag leaves are of tags that are still there
 kept_grants : (c dropped : List ℕ) (tags : List TagRow) (gs : List GrantRow) → AllByRecursion (IsGoodGrant tags) gs → AllByRecursion (IsGoodGrant (without (λ r. r.op) c (λ r. bytes_eq r.key dropped) tags)) (without (λ r. r.op) c (λ r. bytes_eq r.key dropped) gs)
@@ -151,41 +140,6 @@ kept_grants c dropped tags gs all =
 some_row : (blocked : TagRow → Info) (o : Option TagRow) → IsSome (option_map blocked o) → IsSome o
 some_row blocked None some = some
 some_row blocked (Some r) some = refl
-
--- ---- transactions on record
-
--- each transaction that was on record still is
-abbrev pub KeepsTxs : List TxRow → List TxRow → Type 0
-KeepsTxs old new = (b station : List ℕ) (number : ℕ) → IsSome (found (λ t. t.op) b (is_tx station number) old) → IsSome (found (λ t. t.op) b (is_tx station number) new)
-
-keeps_txs-put : (r : TxRow) (txs : List TxRow) → KeepsTxs txs (put (by_key tx_key) r txs)
-keeps_txs-put r txs b station number on =
-    let t : TxRow → Bool = (λ x. bytes_eq x.op b && is_tx station number x) in
-    let by : (x : TxRow) → t x ≡ is_eq (key_cmp (tx_key x) (b ∷ station ∷ (number ∷ []) ∷ [])) = (λ x. three_parts x.op x.station b station x.number number) in
-    some-put (by_key tx_key) t (λ x y e. by x ∙ ap (λ k. is_eq (key_cmp k (b ∷ station ∷ (number ∷ []) ∷ []))) (same_key (tx_key x) (tx_key y) e) ∙ sym (by y)) r txs on
-
-keeps_txs-changed : (c : List ℕ) (test : TxRow → Bool) (stop : Stop) (txs : List TxRow) → KeepsTxs txs (changed (λ r. r.op) c test (with_stop stop) txs)
-keeps_txs-changed c test stop txs b station number on =
-    let t : TxRow → Bool = (λ x. bytes_eq x.op b && is_tx station number x) in
-    some-map t (λ r. cond (bytes_eq r.op c && test r) (with_stop stop r) r) (λ r. elim (bytes_eq r.op c && test r) as (λ y. t (cond y (with_stop stop r) r) ≡ t r) [ true ↦ refl | false ↦ refl ]) txs on
-
--- a transaction that is put is on record
-found-put : (r : TxRow) (txs : List TxRow) → IsSome (found (λ t. t.op) r.op (is_tx r.station r.number) (put (by_key tx_key) r txs))
-found-put r txs =
-    let t : TxRow → Bool = (λ x. bytes_eq x.op r.op && is_tx r.station r.number x) in
-    let here : t r ≡ true = three_parts r.op r.station r.op r.station r.number r.number ∙ ap is_eq (tied_itself keys_total (tx_key r)) in
-    some-new (by_key tx_key) t r txs here
-
--- a transaction that is not forgotten is still there
-kept_tx : (c name : List ℕ) (numbers : List ℕ) (txs : List TxRow) (b station : List ℕ) (number : ℕ) → bytes_eq b c && (bytes_eq station name && has_number numbers number) ≡ false
-    → IsSome (found (λ t. t.op) b (is_tx station number) txs) → IsSome (found (λ t. t.op) b (is_tx station number) (without (λ r. r.op) c (is_one_of (λ r. r.station) (λ r. r.number) name numbers) txs))
-kept_tx c name numbers txs b station number other on =
-    kept_found (λ x. bytes_eq x.op b && is_tx station number x) (λ x. bytes_eq x.op c && is_one_of (λ r. r.station) (λ r. r.number) name numbers x)
-    (λ x is.
-    let parts = and_parts (bytes_eq x.op b) (is_tx station number x) is in
-    let of_station = and_parts (bytes_eq x.station station) (x.number == number) parts.1 in
-    let same : x.number ≡ number = grind (arith, nat_tests, of_station.1) in
-    (λ i. bytes_eq (same_text x.op b parts.0 i) c && (bytes_eq (same_text x.station station of_station.0 i) name && has_number numbers (same i))) ∙ other) txs on
 
 -- ---- one list is another
 
@@ -214,8 +168,8 @@ module _ (rows : Rows) (good : WellFormedRows rows) where
   pub well_formed-grants : (gs : List GrantRow) → AreGood grant_key (IsGoodGrant rows.tags) gs → WellFormedRows (record rows { grants = gs })
   well_formed-grants gs new = record { stations = good.stations; connectors = good.connectors; tags = good.tags; grants = new; transactions = good.transactions; readings = good.readings; reservations = good.reservations; local_lists = good.local_lists; reports = good.reports; tx_owners = good.tx_owners; uses = good.uses }
 
-  -- each transaction that was on record still is
-  pub well_formed-transactions : (rs : List TxRow) → AreGood tx_key (IsGoodTx rows.stations) rs → KeepsTxs rows.transactions rs → WellFormedRows (record rows { transactions = rs })
+  -- each transaction that was on record and began Accepted still is
+  pub well_formed-transactions : (rs : List TxRow) → AreGood tx_key (IsGoodTx rows.stations) rs → KeepsBegun rows.transactions rs → WellFormedRows (record rows { transactions = rs })
   well_formed-transactions rs new keeps = record {
     stations = good.stations;
     connectors = good.connectors;
@@ -301,12 +255,12 @@ module _ (b : List ℕ) (rows : Rows) (good : WellFormedRows rows) where
   pub grant-dropped : (key to : List ℕ) → WellFormedRows (edit b (Tags (GrantDropped key to)) rows)
   grant-dropped key to = well_formed-grants rows good _ (good-filter grant_key (IsGoodGrant rows.tags) (λ r. not (bytes_eq r.op b && is_grant key to r)) rows.grants good.grants)
 
-  pub tx-put : (r : TxRow) → IsGoodTx rows.stations r → WellFormedRows (record rows { transactions = put (by_key tx_key) r rows.transactions })
-  tx-put r new = well_formed-transactions rows good _ (good-put tx_key (IsGoodTx rows.stations) r rows.transactions new good.transactions) (keeps_txs-put r rows.transactions)
+  pub tx-put : (r : TxRow) → IsGoodTx rows.stations r → last_tx_in r.op r.station rows.transactions < r.number → WellFormedRows (record rows { transactions = put (by_key tx_key) r rows.transactions })
+  tx-put r new above = well_formed-transactions rows good _ (good-put tx_key (IsGoodTx rows.stations) r rows.transactions new good.transactions) (keeps-new r rows.transactions above)
 
   pub tx-stopped : (station : List ℕ) (number : ℕ) (stop : Stop) → WellFormedRows (record rows { transactions = changed (λ r. r.op) b (is_tx station number) (with_stop stop) rows.transactions })
   tx-stopped station number stop = well_formed-transactions rows good _
-      (good-changed tx_key (IsGoodTx rows.stations) (λ r. r.op) b (is_tx station number) (with_stop stop) (λ r. refl) (λ r g. record { station = g.station; number = g.number; key = g.key }) rows.transactions good.transactions) (keeps_txs-changed b (is_tx station number) stop rows.transactions)
+      (good-changed tx_key (IsGoodTx rows.stations) (λ r. r.op) b (is_tx station number) (with_stop stop) (λ r. refl) (λ r g. record { station = g.station; number = g.number; key = g.key }) rows.transactions good.transactions) (keeps-stopped b (is_tx station number) stop rows.transactions)
 
   pub readings-put : (station : List ℕ) (last first : ℕ) (readings : List Reading) → IsOnRecord b station rows.stations → AreNext last first (length readings) → WellFormedRows (record rows { readings = with_readings b station first readings rows.readings })
   readings-put station last first readings on next = well_formed-readings rows good _
@@ -325,8 +279,8 @@ module _ (b : List ℕ) (rows : Rows) (good : WellFormedRows rows) where
   pub report-put : (r : ReportRow) → IsGoodReport rows.stations r → WellFormedRows (record rows { reports = put (by_key report_key) r rows.reports })
   report-put r new = well_formed-reports rows good _ (good-put report_key (IsGoodReport rows.stations) r rows.reports new good.reports)
 
-  -- the owner of a transaction's tag
-  pub owner-put : (station : List ℕ) (number : ℕ) (owner : Option (List ℕ)) → IsAnother b owner → IsSome (found (λ t. t.op) b (is_tx station number) rows.transactions) → WellFormedRows (record rows { tx_owners = with_owner b station number owner rows.tx_owners })
+  -- the owner of the tag of a transaction that began Accepted
+  pub owner-put : (station : List ℕ) (number : ℕ) (owner : Option (List ℕ)) → IsAnother b owner → IfSome owner (λ a. BeganAccepted (found (λ t. t.op) b (is_tx station number) rows.transactions)) → WellFormedRows (record rows { tx_owners = with_owner b station number owner rows.tx_owners })
   owner-put station number None other on = good
   owner-put station number (Some a) other on = record {
     stations = good.stations;
@@ -358,13 +312,14 @@ module _ (b : List ℕ) (rows : Rows) (good : WellFormedRows rows) where
         tx_owners = record {
           sorted = IsStrictlySortedBy-filter (by_key tx_owner_key) (λ r. not (bytes_eq r.op b && is_one_of (λ r. r.station) (λ r. r.number) station gone.transactions r)) rows.tx_owners good.tx_owners.sorted;
           each = all-kept (IsGoodTxOwner rows.transactions) (IsGoodTxOwner (edit b (Transactions (Forgotten station gone)) rows).transactions) (λ r. bytes_eq r.op b && is_one_of (λ r. r.station) (λ r. r.number) station gone.transactions r)
-              (λ r stays it. record { tx = kept_tx b station gone.transactions rows.transactions r.op r.station r.number stays it.tx; owner = it.owner }) rows.tx_owners good.tx_owners.each;
+              (λ r stays it. record { tx = began-kept b station gone.transactions rows.transactions r.op r.station r.number stays it.tx; owner = it.owner }) rows.tx_owners good.tx_owners.each;
         };
         uses = good.uses;
       }
 
-  pub use-put : (r : UseRow) → IsGoodUse r → WellFormedRows (record rows { uses = put (by_key use_key) r rows.uses })
-  use-put r new = record {
+  -- the next use of an owner
+  pub use-put : (r : UseRow) → IsNumber r.number → r.host ≢ r.op → r.number ≡ last_use_in r.op rows.uses + 1 → WellFormedRows (record rows { uses = put (by_key use_key) r rows.uses })
+  use-put r number host next = record {
     stations = good.stations;
     connectors = good.connectors;
     tags = good.tags;
@@ -375,7 +330,7 @@ module _ (b : List ℕ) (rows : Rows) (good : WellFormedRows rows) where
     local_lists = good.local_lists;
     reports = good.reports;
     tx_owners = good.tx_owners;
-    uses = good-put use_key IsGoodUse r rows.uses new good.uses;
+    uses = good-next r rows.uses good.uses number host next;
   }
 
 -- ---- uses
@@ -388,27 +343,32 @@ is_another b station number rows good = go (found (λ r. r.op) b (is_owner_of st
     go None is = tt
     go (Some r) is = let it = is r refl in λ same. it.0.owner (same ∙ sym (same_text r.op b (and_parts (bytes_eq r.op b) (is_owner_of station number r) it.1).0))
 
--- the use that a stop settles is good, and is of another operator
-abbrev pub IsSettled : List ℕ → Option UseRow → Type 0
-IsSettled b None = Unit {0}
-IsSettled b (Some r) = IsGoodUse r × (r.op ≢ b)
+-- the use that a stop settles is the next one of another operator
+abbrev pub IsSettled : List ℕ → List UseRow → Option UseRow → Type 0
+IsSettled b uses None = Unit {0}
+IsSettled b uses (Some r) = (r.op ≢ b) × (r.host ≢ r.op) × IsNumber r.number × (r.number ≡ last_use_in r.op uses + 1)
 
-pub is_settled : (b station : List ℕ) (number : ℕ) (stop : Stop) (rows : Rows) → WellFormedRows rows → IsSettled b (settled_use b station number stop rows)
+pub is_settled : (b station : List ℕ) (number : ℕ) (stop : Stop) (rows : Rows) → WellFormedRows rows → IsSettled b rows.uses (settled_use b station number stop rows)
 is_settled b station number stop rows good = go (owner_in b station number rows.tx_owners) (is_another b station number rows good) (found (λ r. r.op) b (is_tx station number) rows.transactions)
   where
-    go : (o : Option (List ℕ)) → IsAnother b o → (r : Option TxRow) → IsSettled b (use_by b stop rows.uses o r)
+    go : (o : Option (List ℕ)) → IsAnother b o → (r : Option TxRow) → IsSettled b rows.uses (use_by b stop rows.uses o r)
     go None other r = tt
     go (Some a) other None = tt
     go (Some a) other (Some r) =
         let last = last_use_in a rows.uses in
-        elim (nat_lt last last_of_all) as (λ t. nat_lt last last_of_all ≡ t → IsSettled b (cond t (Some (use_row a (last + 1) b r stop)) None)) [
-          | true ↦ λ e. (record { number = (omega arith, grind (arith, nat_tests, e)); host = λ same. other (sym same) }, other)
+        elim (nat_lt last last_of_all) as (λ t. nat_lt last last_of_all ≡ t → IsSettled b rows.uses (cond t (Some (use_row a (last + 1) b r stop)) None)) [
+          | true ↦ λ e. (other, (λ same. other (sym same)), (omega arith, grind (arith, nat_tests, e)), refl)
           | false ↦ λ e. tt
         ] refl
 
-use-settled : (b : List ℕ) (rows : Rows) → WellFormedRows rows → (o : Option UseRow) → IsSettled b o → WellFormedRows (record rows { uses = with_use o rows.uses })
+use-settled : (b : List ℕ) (rows : Rows) → WellFormedRows rows → (o : Option UseRow) → IsSettled b rows.uses o → WellFormedRows (record rows { uses = with_use o rows.uses })
 use-settled b rows good None settled = good
-use-settled b rows good (Some r) settled = use-put b rows good r settled.0
+use-settled b rows good (Some r) settled = use-put b rows good r settled.2 settled.1 settled.3
+
+-- what holds where there is one
+if_some : {P Q : Type 0} (o : Option (List ℕ)) → (P → Q) → IfSome o (λ a. P) → IfSome o (λ a. Q)
+if_some None f some = tt
+if_some (Some a) f some = f some
 
 -- rows that are well formed are so after an edit that fits
 pub well_formed-edit : (b : List ℕ) (e : Edit) (rows : Rows) → WellFormedRows rows → EditFits b e rows → WellFormedRows (edit b e rows)
@@ -422,10 +382,11 @@ well_formed-edit b (Tags (GrantPut key to until)) rows good fits = grant-put b r
 well_formed-edit b (Tags (GrantDropped key to)) rows good fits = grant-dropped b rows good key to
 well_formed-edit b (Transactions (TxStarted station number start owner)) rows good fits =
     let r : TxRow = tx_row b station number start in
+    let above : last_tx_in b station rows.transactions < number = next-above (last_tx_in b station rows.transactions) number fits.1 in
     let begun : WellFormedRows (record rows { transactions = put (by_key tx_key) r rows.transactions })
-    = tx-put b rows good r (record { station = on_record b station rows.stations fits.0; number = number_of _ number fits.1; key = fits.2 }) in
+    = tx-put b rows good r (record { station = on_record b station rows.stations fits.0; number = number_of _ number fits.1; key = fits.2 }) above in
     let freed = reservations-without b (record rows { transactions = put (by_key tx_key) r rows.transactions }) begun (is_named station start.reservation) in
-    owner-put b (record rows { transactions = put (by_key tx_key) r rows.transactions; reservations = without_named b station start.reservation rows.reservations }) freed station number owner fits.3 (found-put r rows.transactions)
+    owner-put b (record rows { transactions = put (by_key tx_key) r rows.transactions; reservations = without_named b station start.reservation rows.reservations }) freed station number owner fits.3 (if_some owner (λ status. subst BeganAccepted (sym (found-new r rows.transactions above)) status) fits.4)
 well_formed-edit b (Transactions (TxStopped station number stop first readings)) rows good fits =
     let ended : WellFormedRows (record rows { transactions = changed (λ r. r.op) b (is_tx station number) (with_stop stop) rows.transactions }) = tx-stopped b rows good station number stop in
     let read = readings-put b (record rows { transactions = changed (λ r. r.op) b (is_tx station number) (with_stop stop) rows.transactions }) ended station _ first readings (on_record-tx b station number rows good fits.0) fits.1 in

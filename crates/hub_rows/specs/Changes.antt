@@ -1,8 +1,9 @@
 -- What a change does to the rows of all operators.
-use Rattle.std.specs.Prelude.{◌≡◌, ◌≢◌, ℕ, List, length, Option, Some, None, IsSome, true, false}
+use Rattle.std.specs.Prelude.{◌≡◌, ◌≢◌, ℕ, List, length, Option, Some, None, IsSome, IfSome, true, false}
 use Rattle.std.specs.List.{AllByRecursion}
 use Rattle.std.specs.Str.{bytes_eq}
 use Rattle.ocpp_types.specs.TagKey.{key_of}
+use Rattle.ocpp_types.specs.declared.authorization_status.AuthorizationStatus.TheVariants.{Accepted}
 use Rattle.ocpp_types.specs.declared.policy.Policy.{Policy}
 use Rattle.ocpp_types.specs.declared.state.State.{State}
 use Rattle.ocpp_types.specs.declared.state.State.TheVariants.{Fresh}
@@ -129,7 +130,8 @@ IsAnother b (Some a) = a ≢ b
 -- an edit that the rows allow: a new station isn't there, one that is edited or has the row is,
 -- a transaction that is stopped is open, those that are forgotten are stopped, new numbers follow the station's last, if it has one, the
 -- key of a tag is the key of its text, a tag that is granted is the operator's own and is granted to
--- another, the owner of a granted tag is another, and a local list has its entries in the order of their keys
+-- another, the owner of a granted tag is another and is kept for a start that is Accepted alone, and a local list has
+-- its entries in the order of their keys
 abbrev pub EditFits : List ℕ → Edit → Rows → Type 0
 EditFits b (Stations (StationAdded station policy interval)) rows = registration_at b station rows ≡ None
 EditFits b (Stations (BootSeen station boot state)) rows = IsSome (registration_at b station rows)
@@ -139,7 +141,7 @@ EditFits b (Tags (TagPut key tag)) rows = key ≡ key_of tag.text
 EditFits b (Tags (TagDropped key)) rows = Unit {0}
 EditFits b (Tags (GrantPut key to until)) rows = IsSome (own_tag_in b key rows.tags) × (to ≢ b)
 EditFits b (Tags (GrantDropped key to)) rows = Unit {0}
-EditFits b (Transactions (TxStarted station number start owner)) rows = IsSome (registration_at b station rows) × AreNext (last_tx_in b station rows.transactions) number 1 × (start.id.key ≡ key_of start.tag) × IsAnother b owner
+EditFits b (Transactions (TxStarted station number start owner)) rows = IsSome (registration_at b station rows) × AreNext (last_tx_in b station rows.transactions) number 1 × (start.id.key ≡ key_of start.tag) × IsAnother b owner × IfSome owner (λ a. start.status ≡ Accepted)
 EditFits b (Transactions (TxStopped station number stop first readings)) rows = IsOpen (tx_in b station number rows.transactions) × AreNext (last_reading_in b station rows.readings) first (length readings)
 EditFits b (Transactions (ReadingsAdded station first readings)) rows = IsSome (registration_at b station rows) × AreNext (last_reading_in b station rows.readings) first (length readings)
 EditFits b (Transactions (Forgotten station gone)) rows = AllByRecursion (λ n. IsStopped (tx_in b station n rows.transactions)) gone.transactions

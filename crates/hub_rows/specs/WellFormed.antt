@@ -1,8 +1,9 @@
 -- What holds of the rows of all operators.
-use Rattle.std.specs.Prelude.{◌≡◌, ◌≢◌, ℕ, ◌≤◌, List, IsSome}
+use Rattle.std.specs.Prelude.{◌≡◌, ◌≢◌, ℕ, ◌≤◌, ◌==◌, List, Option, None, Some, IsSome}
 use Rattle.std.specs.List.{AllByRecursion}
 use Rattle.std.specs.List.Sorted.{IsStrictlySortedBy}
 use Rattle.ocpp_types.specs.TagKey.{key_of}
+use Rattle.ocpp_types.specs.declared.authorization_status.AuthorizationStatus.TheVariants.{Accepted}
 use Rattle.hub_rows.specs.declared.station_row.StationRow.{StationRow}
 use Rattle.hub_rows.specs.declared.connector_row.ConnectorRow.{ConnectorRow}
 use Rattle.hub_rows.specs.declared.tag_row.TagRow.{TagRow}
@@ -66,15 +67,21 @@ pub record IsGoodList (stations : List StationRow) (r : ListRow) : Type 0 where
 abbrev pub IsGoodReport : List StationRow → ReportRow → Type 0
 IsGoodReport stations r = IsOnRecord r.op r.station stations
 
--- of a transaction that is on record, whose tag another operator granted
+-- a transaction that is there, and that began Accepted
+abbrev pub BeganAccepted : Option TxRow → Type 0
+BeganAccepted None = ⊥
+BeganAccepted (Some t) = t.start.status ≡ Accepted
+
+-- of a transaction that is on record and began Accepted, whose tag another operator granted
 pub record IsGoodTxOwner (txs : List TxRow) (r : TxOwnerRow) : Type 0 where
-  pub tx : IsSome (found (λ t. t.op) r.op (is_tx r.station r.number) txs)
+  pub tx : BeganAccepted (found (λ t. t.op) r.op (is_tx r.station r.number) txs)
   pub owner : r.owner ≢ r.op
 
--- with a number in range, at a station of another operator
-pub record IsGoodUse (r : UseRow) : Type 0 where
+-- with a number in range, at a station of another operator; and each number from 1 to its own is that of a use of its owner
+pub record IsGoodUse (uses : List UseRow) (r : UseRow) : Type 0 where
   pub number : IsNumber r.number
   pub host : r.host ≢ r.op
+  pub earlier : (n : ℕ) → 1 ≤ n → n ≤ r.number → IsSome (found (λ u. u.op) r.op (λ u. u.number == n) uses)
 
 -- ---- the lists
 
@@ -95,4 +102,4 @@ pub record WellFormedRows (rows : Rows) : Type 0 where
   pub local_lists : AreGood list_key (IsGoodList rows.stations) rows.local_lists
   pub reports : AreGood report_key (IsGoodReport rows.stations) rows.reports
   pub tx_owners : AreGood tx_owner_key (IsGoodTxOwner rows.transactions) rows.tx_owners
-  pub uses : AreGood use_key IsGoodUse rows.uses
+  pub uses : AreGood use_key (IsGoodUse rows.uses) rows.uses
