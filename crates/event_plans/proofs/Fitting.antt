@@ -106,40 +106,40 @@ use Rattle.event_plans.specs.Listing.{rows_rule}
 abbrev pub IsOwner : Lookups → List ℕ → List ℕ → Type 0
 IsOwner l key a = (owner_of (l.own_tag key) ≡ Some a) ⊎ (owner_of (l.granted_tag key) ≡ Some a)
 
--- an edit that an operator's look-ups allow
-abbrev pub FitsLookups : Lookups → Edit → Type 0
-FitsLookups l (Stations (StationAdded station policy interval)) = l.registration station ≡ None
-FitsLookups l (Stations (BootSeen station boot state)) = IsSome (l.registration station)
-FitsLookups l (Stations (PolicySet station policy interval)) = IsSome (l.registration station)
-FitsLookups l (Stations (ConnectorSeen station connector report)) = IsSome (l.registration station)
-FitsLookups l (Tags (TagPut key tag)) = key ≡ key_of tag.text
-FitsLookups l (Tags (TagDropped key)) = Unit {0}
-FitsLookups l (Tags (GrantPut key to until)) = IsSome (l.own_tag key) × (to ≢ l.op)
-FitsLookups l (Tags (GrantDropped key to)) = Unit {0}
-FitsLookups l (Transactions (TxStarted station number start owner)) = IsSome (l.registration station) × AreNext (l.last_tx station) number 1 × (start.id.key ≡ key_of start.tag) × IfSome owner (IsOwner l start.id.key)
-FitsLookups l (Transactions (TxStopped station number stop first readings)) = IsOpen (l.tx station number) × AreNext (l.last_reading station) first (length readings)
-FitsLookups l (Transactions (ReadingsAdded station first readings)) = IsSome (l.registration station) × AreNext (l.last_reading station) first (length readings)
-FitsLookups l (Transactions (Forgotten station gone)) = (until : ℕ) × (gone ≡ numbers_of (l.forgettable station until))
-FitsLookups l (Holdings (ReservationPut station id reservation)) = IsSome (l.registration station)
-FitsLookups l (Holdings (ReservationDropped station id)) = Unit {0}
-FitsLookups l (Holdings (ListSet station list)) = IsSome (l.registration station) × AreEntries list.entries
-FitsLookups l (Stations (ReportSeen station status moment)) = IsSome (l.registration station)
+-- an edit that an operator's look-ups allow at moment m
+abbrev pub FitsLookups : ℕ → Lookups → Edit → Type 0
+FitsLookups m l (Stations (StationAdded station policy interval)) = l.registration station ≡ None
+FitsLookups m l (Stations (BootSeen station boot state)) = IsSome (l.registration station)
+FitsLookups m l (Stations (PolicySet station policy interval)) = IsSome (l.registration station)
+FitsLookups m l (Stations (ConnectorSeen station connector report)) = IsSome (l.registration station)
+FitsLookups m l (Tags (TagPut key tag)) = key ≡ key_of tag.text
+FitsLookups m l (Tags (TagDropped key)) = Unit {0}
+FitsLookups m l (Tags (GrantPut key to until)) = IsSome (l.own_tag key) × (to ≢ l.op)
+FitsLookups m l (Tags (GrantDropped key to)) = Unit {0}
+FitsLookups m l (Transactions (TxStarted station number start owner)) = IsSome (l.registration station) × AreNext (l.last_tx station) number 1 × (start.id.key ≡ key_of start.tag) × IfSome owner (IsOwner l start.id.key) × IfSome owner (λ a. start.status ≡ Accepted)
+FitsLookups m l (Transactions (TxStopped station number stop first readings)) = IsOpen (l.tx station number) × AreNext (l.last_reading station) first (length readings) × (stop.moment ≡ m)
+FitsLookups m l (Transactions (ReadingsAdded station first readings)) = IsSome (l.registration station) × AreNext (l.last_reading station) first (length readings)
+FitsLookups m l (Transactions (Forgotten station gone)) = (until : ℕ) × (gone ≡ numbers_of (l.forgettable station until))
+FitsLookups m l (Holdings (ReservationPut station id reservation)) = IsSome (l.registration station)
+FitsLookups m l (Holdings (ReservationDropped station id)) = Unit {0}
+FitsLookups m l (Holdings (ListSet station list)) = IsSome (l.registration station) × AreEntries list.entries
+FitsLookups m l (Stations (ReportSeen station status moment)) = IsSome (l.registration station)
 
--- an effect that an operator's facts allow
-abbrev pub EffectFits : Facts → Effect → Type 0
-EffectFits f effect.Nothing = Unit {0}
-EffectFits f (effect.Edit e) = FitsLookups f.lookups e
-EffectFits f (effect.Connect station) = IsSome (f.lookups.registration station)
-EffectFits f (effect.Disconnect station) = Unit {0}
-EffectFits f (effect.Submit station command text) = Unit {0}
-EffectFits f (effect.Answer station id outcome edit) = IfSome edit (FitsLookups f.lookups)
+-- an effect that an operator's facts allow at moment m
+abbrev pub EffectFits : ℕ → Facts → Effect → Type 0
+EffectFits m f effect.Nothing = Unit {0}
+EffectFits m f (effect.Edit e) = FitsLookups m f.lookups e
+EffectFits m f (effect.Connect station) = IsSome (f.lookups.registration station)
+EffectFits m f (effect.Disconnect station) = Unit {0}
+EffectFits m f (effect.Submit station command text) = Unit {0}
+EffectFits m f (effect.Answer station id outcome edit) = IfSome edit (FitsLookups m f.lookups)
 
-abbrev pub PlanFits : Facts → Plan → Type 0
-PlanFits f p = EffectFits f p.effect
+abbrev pub PlanFits : ℕ → Facts → Plan → Type 0
+PlanFits m f p = EffectFits m f p.effect
 
-edit_fits_as : (f : Facts) (o : Option Edit) → IfSome o (FitsLookups f.lookups) → EffectFits f (edit_effect o)
-edit_fits_as f None fits = tt
-edit_fits_as f (Some e) fits = fits
+edit_fits_as : (m : ℕ) (f : Facts) (o : Option Edit) → IfSome o (FitsLookups m f.lookups) → EffectFits m f (edit_effect o)
+edit_fits_as m f None fits = tt
+edit_fits_as m f (Some e) fits = fits
 
 -- numbers that are left
 room_fits : (last count : ℕ) → has_room last count ≡ true → AreNext last (last + 1) count
@@ -161,42 +161,51 @@ owner_fits l key Expired = tt
 owner_fits l key Invalid = tt
 owner_fits l key ConcurrentTx = tt
 
-start_fits : (station : List ℕ) (r : StartRequest) (m : ℕ) (l : Lookups) → IsSome (l.registration station) → IfSome (start_rule station r m l).edit (FitsLookups l)
+-- an owner is kept for a start that is Accepted alone
+kept_accepted : (status : AuthorizationStatus) (o : Option (List ℕ)) → IfSome (kept_owner status o) (λ a. status ≡ Accepted)
+kept_accepted Accepted None = tt
+kept_accepted Accepted (Some a) = refl
+kept_accepted Blocked o = tt
+kept_accepted Expired o = tt
+kept_accepted Invalid o = tt
+kept_accepted ConcurrentTx o = tt
+
+start_fits : (station : List ℕ) (r : StartRequest) (m : ℕ) (l : Lookups) → IsSome (l.registration station) → IfSome (start_rule station r m l).edit (FitsLookups m l)
 start_fits station r m l here =
     let id : StartKey = start_key r in
-    elim (l.same_start station id) as (λ o. IfSome (start_by_number station r id m l o).edit (FitsLookups l)) [
+    elim (l.same_start station id) as (λ o. IfSome (start_by_number station r id m l o).edit (FitsLookups m l)) [
       | None ↦ let last = (l.last_tx station) in
-          elim (nat_le last_of_all last) as (λ b. nat_le last_of_all last ≡ b → IfSome (cond b internal_error (begin_judged station r id m (last + 1) (judge_with_owner m id.key (purpose.Start None) l))).edit (FitsLookups l)) [
+          elim (nat_le last_of_all last) as (λ b. nat_le last_of_all last ≡ b → IfSome (cond b internal_error (begin_judged station r id m (last + 1) (judge_with_owner m id.key (purpose.Start None) l))).edit (FitsLookups m l)) [
             | true ↦ λ full. tt
-            | false ↦ λ room. (here, inr (record { next = inr refl; from_one = omega arith; to_the_end = omega (arith, leb-false last_of_all last room) }), refl, owner_fits l id.key (judge_rule m id.key (purpose.Start None) l).status)
+            | false ↦ λ room. (here, inr (record { next = inr refl; from_one = omega arith; to_the_end = omega (arith, leb-false last_of_all last room) }), refl, owner_fits l id.key (judge_rule m id.key (purpose.Start None) l).status, kept_accepted (judge_rule m id.key (purpose.Start None) l).status (owner_of (found_tag id.key l)))
           ] refl
       | Some n ↦ tt
     ]
 
-meter_values_fit : (station : List ℕ) (r : ReadingsRequest) (l : Lookups) → IsSome (l.registration station) → IfSome (meter_values_rule station r l).edit (FitsLookups l)
-meter_values_fit station r l here =
+meter_values_fit : (m : ℕ) (station : List ℕ) (r : ReadingsRequest) (l : Lookups) → IsSome (l.registration station) → IfSome (meter_values_rule station r l).edit (FitsLookups m l)
+meter_values_fit m station r l here =
     let readings : List Reading = readings_of r.connector_id r.transaction_id r.meter_value in
     let last = (l.last_reading station) in
-    elim (has_room last (length readings)) as (λ b. has_room last (length readings) ≡ b → IfSome (cond b (record { reply = Conf conf.Empty; edit = Some (Transactions (ReadingsAdded station (last + 1) readings)) }) internal_error).edit (FitsLookups l)) [
+    elim (has_room last (length readings)) as (λ b. has_room last (length readings) ≡ b → IfSome (cond b (record { reply = Conf conf.Empty; edit = Some (Transactions (ReadingsAdded station (last + 1) readings)) }) internal_error).edit (FitsLookups m l)) [
       | true ↦ λ room. (here, room_fits last (length readings) room)
       | false ↦ λ full. tt
     ] refl
 
-stop_fits : (station : List ℕ) (r : StopRequest) (m : ℕ) (l : Lookups) → IfSome (stop_rule station r m l).edit (FitsLookups l)
+stop_fits : (station : List ℕ) (r : StopRequest) (m : ℕ) (l : Lookups) → IfSome (stop_rule station r m l).edit (FitsLookups m l)
 stop_fits station r m l =
     let last = (l.last_reading station) in
-    elim (number_of_id r.transaction_id) as (λ o. IfSome (edit_by_number station r m l o) (FitsLookups l)) [
+    elim (number_of_id r.transaction_id) as (λ o. IfSome (edit_by_number station r m l o) (FitsLookups m l)) [
       | None ↦ tt
-      | Some n ↦ elim (l.tx station n) as (λ o. l.tx station n ≡ o → IfSome (edit_by_state station r m l n o) (FitsLookups l)) [
+      | Some n ↦ elim (l.tx station n) as (λ o. l.tx station n ≡ o → IfSome (edit_by_state station r m l n o) (FitsLookups m l)) [
         | None ↦ λ e. tt
         | Some t ↦ λ e.
             let readings : List Reading = readings_of t.connector (Some r.transaction_id) r.transaction_data in
-            elim t.is_open as (λ b. t.is_open ≡ b → IfSome (cond b (Some (end_edit station r m n t.connector last)) None) (FitsLookups l)) [
+            elim t.is_open as (λ b. t.is_open ≡ b → IfSome (cond b (Some (end_edit station r m n t.connector last)) None) (FitsLookups m l)) [
               | true ↦ λ open_now.
                   let fits : IsOpen (l.tx station n) = subst IsOpen (sym e) open_now in
-                  elim (has_room last (length readings)) as (λ b. has_room last (length readings) ≡ b → FitsLookups l (cond b (Transactions (TxStopped station n (stop_of r m) (last + 1) readings)) (Transactions (TxStopped station n (stop_of r m) 0 [])))) [
-                    | true ↦ λ room. (fits, room_fits last (length readings) room)
-                    | false ↦ λ full. (fits, inl refl)
+                  elim (has_room last (length readings)) as (λ b. has_room last (length readings) ≡ b → FitsLookups m l (cond b (Transactions (TxStopped station n (stop_of r m) (last + 1) readings)) (Transactions (TxStopped station n (stop_of r m) 0 [])))) [
+                    | true ↦ λ room. (fits, room_fits last (length readings) room, refl)
+                    | false ↦ λ full. (fits, inl refl, refl)
                   ] refl
               | false ↦ λ closed. tt
             ] refl
@@ -204,93 +213,93 @@ stop_fits station r m l =
     ]
 
 -- the station is registered so
-payload_fits : (answers : Answers) (station : List ℕ) (g : Registration) (id : List ℕ) (r : Result Request FieldFault) (m : ℕ) (f : Facts) → IsSome (f.lookups.registration station) → PlanFits f (payload_plan answers station g id r m f.lookups)
+payload_fits : (answers : Answers) (station : List ℕ) (g : Registration) (id : List ℕ) (r : Result Request FieldFault) (m : ℕ) (f : Facts) → IsSome (f.lookups.registration station) → PlanFits m f (payload_plan answers station g id r m f.lookups)
 payload_fits answers station g id (Ok (Authorize r)) m f here = tt
 payload_fits answers station g id (Ok (BootNotification texts)) m f here = here
 payload_fits answers station g id (Ok (DataTransfer r)) m f here = tt
 payload_fits answers station g id (Ok (DiagnosticsStatusNotification r)) m f here = here
 payload_fits answers station g id (Ok (FirmwareStatusNotification r)) m f here = here
 payload_fits answers station g id (Ok Heartbeat) m f here = tt
-payload_fits answers station g id (Ok (MeterValues r)) m f here = edit_fits_as f (meter_values_rule station r f.lookups).edit (meter_values_fit station r f.lookups here)
-payload_fits answers station g id (Ok (StartTransaction r)) m f here = edit_fits_as f (start_rule station r m f.lookups).edit (start_fits station r m f.lookups here)
+payload_fits answers station g id (Ok (MeterValues r)) m f here = edit_fits_as m f (meter_values_rule station r f.lookups).edit (meter_values_fit m station r f.lookups here)
+payload_fits answers station g id (Ok (StartTransaction r)) m f here = edit_fits_as m f (start_rule station r m f.lookups).edit (start_fits station r m f.lookups here)
 payload_fits answers station g id (Ok (StatusNotification r)) m f here = here
-payload_fits answers station g id (Ok (StopTransaction r)) m f here = edit_fits_as f (stop_rule station r m f.lookups).edit (stop_fits station r m f.lookups)
+payload_fits answers station g id (Ok (StopTransaction r)) m f here = edit_fits_as m f (stop_rule station r m f.lookups).edit (stop_fits station r m f.lookups)
 payload_fits answers station g id (Err fault) m f here = tt
 
-state_fits : (answers : Answers) (station : List ℕ) (o : Option Registration) (id : List ℕ) (action : Action) (payload : Data) (m : ℕ) (f : Facts) → f.lookups.registration station ≡ o → PlanFits f (state_plan answers station o id action payload m f.lookups)
+state_fits : (answers : Answers) (station : List ℕ) (o : Option Registration) (id : List ℕ) (action : Action) (payload : Data) (m : ℕ) (f : Facts) → f.lookups.registration station ≡ o → PlanFits m f (state_plan answers station o id action payload m f.lookups)
 state_fits answers station None id action payload m f is = tt
 state_fits answers station (Some g) id action payload m f is =
-    elim (is_allowed g.state action) as (λ b. PlanFits f (cond b (payload_plan answers station g id (request action payload) m f.lookups) (error_plan station id code.SecurityError []))) [
+    elim (is_allowed g.state action) as (λ b. PlanFits m f (cond b (payload_plan answers station g id (request action payload) m f.lookups) (error_plan station id code.SecurityError []))) [
       | true ↦ payload_fits answers station g id (request action payload) m f (ap is_some is)
       | false ↦ tt
     ]
 
-call_fits : (answers : Answers) (station id : List ℕ) (class : ActionClass) (payload : Data) (m : ℕ) (f : Facts) → PlanFits f (call_plan answers station id class payload m f.lookups)
+call_fits : (answers : Answers) (station id : List ℕ) (class : ActionClass) (payload : Data) (m : ℕ) (f : Facts) → PlanFits m f (call_plan answers station id class payload m f.lookups)
 call_fits answers station id (Known action) payload m f = state_fits answers station (f.lookups.registration station) id action payload m f refl
 call_fits answers station id NotSupported payload m f = tt
 call_fits answers station id NotImplemented payload m f = tt
 
 -- what an answer to an accepted command edits
-list_fits : (station : List ℕ) (c : ListUpdate) (l : Lookups) → IsSome (l.registration station) → IfSome (list_set station (l.local_list station) c) (FitsLookups l)
-list_fits station c l here =
+list_fits : (m : ℕ) (station : List ℕ) (c : ListUpdate) (l : Lookups) → IsSome (l.registration station) → IfSome (list_set station (l.local_list station) c) (FitsLookups m l)
+list_fits m station c l here =
     let kept : List LocalTag = kept_for c.update_type (l.local_list station) in
     let sent : List AuthorizationData = unwrap_or c.entries [] in
-    elim (version_of c.list_version) as (λ o. IfSome (option_map (λ version. Holdings (ListSet station (record { version = version; entries = entries_after kept sent }))) o) (FitsLookups l)) [
+    elim (version_of c.list_version) as (λ o. IfSome (option_map (λ version. Holdings (ListSet station (record { version = version; entries = entries_after kept sent }))) o) (FitsLookups m l)) [
       | None ↦ tt
       | Some version ↦ (here, sorted-entries (not_named sent kept ++ with_info sent))
     ]
 
-put_at_fits : (station : List ℕ) (c : ReserveNow) (connector : ℕ) (id : Option ℕ) (l : Lookups) → IsSome (l.registration station) → IfSome (put_at station c connector id) (FitsLookups l)
-put_at_fits station c connector None l here = tt
-put_at_fits station c connector (Some id) l here = here
+put_at_fits : (m : ℕ) (station : List ℕ) (c : ReserveNow) (connector : ℕ) (id : Option ℕ) (l : Lookups) → IsSome (l.registration station) → IfSome (put_at station c connector id) (FitsLookups m l)
+put_at_fits m station c connector None l here = tt
+put_at_fits m station c connector (Some id) l here = here
 
-reserved_fits : (station : List ℕ) (c : ReserveNow) (l : Lookups) → IsSome (l.registration station) → IfSome (reserved station c) (FitsLookups l)
-reserved_fits station c l here =
-    elim (connector_of c.connector_id) as (λ o. IfSome (option_and_then (λ connector. put_at station c connector (reservation_id c.reservation_id)) o) (FitsLookups l)) [
+reserved_fits : (m : ℕ) (station : List ℕ) (c : ReserveNow) (l : Lookups) → IsSome (l.registration station) → IfSome (reserved station c) (FitsLookups m l)
+reserved_fits m station c l here =
+    elim (connector_of c.connector_id) as (λ o. IfSome (option_and_then (λ connector. put_at station c connector (reservation_id c.reservation_id)) o) (FitsLookups m l)) [
       | None ↦ tt
-      | Some connector ↦ put_at_fits station c connector (reservation_id c.reservation_id) l here
+      | Some connector ↦ put_at_fits m station c connector (reservation_id c.reservation_id) l here
     ]
 
-cancelled_fits : (station : List ℕ) (c : CancelReservation) (l : Lookups) → IfSome (cancelled station c) (FitsLookups l)
-cancelled_fits station c l = elim (reservation_id c.reservation_id) as (λ o. IfSome (option_map (λ id. Holdings (ReservationDropped station id)) o) (FitsLookups l)) [ None ↦ tt | Some id ↦ tt ]
+cancelled_fits : (m : ℕ) (station : List ℕ) (c : CancelReservation) (l : Lookups) → IfSome (cancelled station c) (FitsLookups m l)
+cancelled_fits m station c l = elim (reservation_id c.reservation_id) as (λ o. IfSome (option_map (λ id. Holdings (ReservationDropped station id)) o) (FitsLookups m l)) [ None ↦ tt | Some id ↦ tt ]
 
-accepted_fits : (station : List ℕ) (c : Command) (l : Lookups) → IsSome (l.registration station) → IfSome (accepted_edit station c l) (FitsLookups l)
-accepted_fits station (command.CancelReservation c) l here = cancelled_fits station c l
-accepted_fits station (command.ReserveNow c) l here = reserved_fits station c l here
-accepted_fits station (command.SendLocalList c) l here = list_fits station c l here
-accepted_fits station c l here = tt
+accepted_fits : (m : ℕ) (station : List ℕ) (c : Command) (l : Lookups) → IsSome (l.registration station) → IfSome (accepted_edit station c l) (FitsLookups m l)
+accepted_fits m station (command.CancelReservation c) l here = cancelled_fits m station c l
+accepted_fits m station (command.ReserveNow c) l here = reserved_fits m station c l here
+accepted_fits m station (command.SendLocalList c) l here = list_fits m station c l here
+accepted_fits m station c l here = tt
 
-when_accepted_fits : (station : List ℕ) (c : Command) (l : Lookups) → IfSome (edit_when_accepted station c l) (FitsLookups l)
-when_accepted_fits station c l =
-    elim (is_some (l.registration station)) as (λ t. is_some (l.registration station) ≡ t → IfSome (cond t (accepted_edit station c l) None) (FitsLookups l)) [
-      | true ↦ λ here. accepted_fits station c l here
+when_accepted_fits : (m : ℕ) (station : List ℕ) (c : Command) (l : Lookups) → IfSome (edit_when_accepted station c l) (FitsLookups m l)
+when_accepted_fits m station c l =
+    elim (is_some (l.registration station)) as (λ t. is_some (l.registration station) ≡ t → IfSome (cond t (accepted_edit station c l) None) (FitsLookups m l)) [
+      | true ↦ λ here. accepted_fits m station c l here
       | false ↦ λ none. tt
     ] refl
 
-edit_by_fits : (station : List ℕ) (c : Command) (read : Result Data FieldFault) (l : Lookups) → IfSome (edit_by station c read l) (FitsLookups l)
-edit_by_fits station c (Ok known) l = elim (is_accepted known) as (λ a. IfSome (cond a (edit_when_accepted station c l) None) (FitsLookups l)) [ true ↦ when_accepted_fits station c l | false ↦ tt ]
-edit_by_fits station c (Err fault) l = tt
+edit_by_fits : (m : ℕ) (station : List ℕ) (c : Command) (read : Result Data FieldFault) (l : Lookups) → IfSome (edit_by station c read l) (FitsLookups m l)
+edit_by_fits m station c (Ok known) l = elim (is_accepted known) as (λ a. IfSome (cond a (edit_when_accepted station c l) None) (FitsLookups m l)) [ true ↦ when_accepted_fits m station c l | false ↦ tt ]
+edit_by_fits m station c (Err fault) l = tt
 
-answer_fits : (station id : List ℕ) (gives : Command → Outcome) (edits : Command → Option Edit) (o : Option Command) (f : Facts) → ((c : Command) → IfSome (edits c) (FitsLookups f.lookups)) → PlanFits f (end_plan station id gives edits o)
-answer_fits station id gives edits None f fit = tt
-answer_fits station id gives edits (Some c) f fit = fit c
+answer_fits : (m : ℕ) (station id : List ℕ) (gives : Command → Outcome) (edits : Command → Option Edit) (o : Option Command) (f : Facts) → ((c : Command) → IfSome (edits c) (FitsLookups m f.lookups)) → PlanFits m f (end_plan station id gives edits o)
+answer_fits m station id gives edits None f fit = tt
+answer_fits m station id gives edits (Some c) f fit = fit c
 
-frame_fits : (answers : Answers) (station : List ℕ) (t : Frame) (m : ℕ) (f : Facts) → PlanFits f (frame_plan answers station t m f)
+frame_fits : (answers : Answers) (station : List ℕ) (t : Frame) (m : ℕ) (f : Facts) → PlanFits m f (frame_plan answers station t m f)
 frame_fits answers station (Call id action payload) m f = call_fits answers station id (action_class action) payload m f
-frame_fits answers station (CallResult id payload) m f = answer_fits station id (λ c. result_outcome c payload) (λ c. result_edit station c payload f.lookups) (answered_command id (f.slot station)) f (λ c. edit_by_fits station c (known_members c payload) f.lookups)
-frame_fits answers station (CallError id error description) m f = answer_fits station id (λ c. outcome.Error error description) (λ c. None) (answered_command id (f.slot station)) f (λ c. tt)
+frame_fits answers station (CallResult id payload) m f = answer_fits m station id (λ c. result_outcome c payload) (λ c. result_edit station c payload f.lookups) (answered_command id (f.slot station)) f (λ c. edit_by_fits m station c (known_members c payload) f.lookups)
+frame_fits answers station (CallError id error description) m f = answer_fits m station id (λ c. outcome.Error error description) (λ c. None) (answered_command id (f.slot station)) f (λ c. tt)
 frame_fits answers station (Broken id) m f = tt
 frame_fits answers station Ignored m f = tt
 
-command_fits : (station : List ℕ) (c : Command) (n : Result ℕ Refusal) (f : Facts) → PlanFits f (command_plan station c n)
-command_fits station c (Ok n) f = tt
-command_fits station c (Err refusal) f = tt
+command_fits : (m : ℕ) (station : List ℕ) (c : Command) (n : Result ℕ Refusal) (f : Facts) → PlanFits m f (command_plan station c n)
+command_fits m station c (Ok n) f = tt
+command_fits m station c (Err refusal) f = tt
 
-add_fits : (station : List ℕ) (policy : Policy) (interval : ℕ) (f : Facts) → PlanFits f (edit_plan (add_rule station policy interval f.lookups))
-add_fits station policy interval f =
-    elim (is_station_name station) as (λ b. PlanFits f (edit_plan (cond b (cond (nat_le interval MAX_INTERVAL) (new_station_edit station policy interval (f.lookups.registration station)) (Err (BadField (codes "interval")))) (Err (BadField (codes "station")))))) [
-      | true ↦ elim (nat_le interval MAX_INTERVAL) as (λ b. PlanFits f (edit_plan (cond b (new_station_edit station policy interval (f.lookups.registration station)) (Err (BadField (codes "interval")))))) [
-        | true ↦ elim (f.lookups.registration station) as (λ o. f.lookups.registration station ≡ o → PlanFits f (edit_plan (new_station_edit station policy interval o))) [
+add_fits : (m : ℕ) (station : List ℕ) (policy : Policy) (interval : ℕ) (f : Facts) → PlanFits m f (edit_plan (add_rule station policy interval f.lookups))
+add_fits m station policy interval f =
+    elim (is_station_name station) as (λ b. PlanFits m f (edit_plan (cond b (cond (nat_le interval MAX_INTERVAL) (new_station_edit station policy interval (f.lookups.registration station)) (Err (BadField (codes "interval")))) (Err (BadField (codes "station")))))) [
+      | true ↦ elim (nat_le interval MAX_INTERVAL) as (λ b. PlanFits m f (edit_plan (cond b (new_station_edit station policy interval (f.lookups.registration station)) (Err (BadField (codes "interval")))))) [
+        | true ↦ elim (f.lookups.registration station) as (λ o. f.lookups.registration station ≡ o → PlanFits m f (edit_plan (new_station_edit station policy interval o))) [
           | None ↦ λ e. e
           | Some r ↦ λ e. tt
         ] refl
@@ -299,33 +308,33 @@ add_fits station policy interval f =
       | false ↦ tt
     ]
 
-policy_fits : (station : List ℕ) (policy : Policy) (interval : ℕ) (f : Facts) → PlanFits f (edit_plan (policy_rule station policy interval f.lookups))
-policy_fits station policy interval f =
+policy_fits : (m : ℕ) (station : List ℕ) (policy : Policy) (interval : ℕ) (f : Facts) → PlanFits m f (edit_plan (policy_rule station policy interval f.lookups))
+policy_fits m station policy interval f =
     let kept : Bool = is_kept_from station policy f.lookups in
-    elim (f.lookups.registration station) as (λ o. f.lookups.registration station ≡ o → PlanFits f (edit_plan (policy_edit station policy interval kept o))) [
+    elim (f.lookups.registration station) as (λ o. f.lookups.registration station ≡ o → PlanFits m f (edit_plan (policy_edit station policy interval kept o))) [
       | None ↦ λ e. tt
-      | Some r ↦ λ e. elim (nat_le interval MAX_INTERVAL) as (λ b. PlanFits f (edit_plan (cond b (cond kept (Err HasOpenTransactions) (Ok (Stations (station_edit.PolicySet station policy interval)))) (Err (BadField (codes "interval")))))) [
-        | true ↦ elim kept as (λ b. PlanFits f (edit_plan (cond b (Err HasOpenTransactions) (Ok (Stations (station_edit.PolicySet station policy interval)))))) [ true ↦ tt | false ↦ ap is_some e ]
+      | Some r ↦ λ e. elim (nat_le interval MAX_INTERVAL) as (λ b. PlanFits m f (edit_plan (cond b (cond kept (Err HasOpenTransactions) (Ok (Stations (station_edit.PolicySet station policy interval)))) (Err (BadField (codes "interval")))))) [
+        | true ↦ elim kept as (λ b. PlanFits m f (edit_plan (cond b (Err HasOpenTransactions) (Ok (Stations (station_edit.PolicySet station policy interval)))))) [ true ↦ tt | false ↦ ap is_some e ]
         | false ↦ tt
       ]
     ] refl
 
-put_fits : (t : Tag) (f : Facts) → PlanFits f (edit_plan (put_rule t))
-put_fits t f =
-    elim (is_tag t.text) as (λ b. PlanFits f (edit_plan (cond b (cond (is_parent t.parent) (Ok (Tags (tag_edit.TagPut (key_of t.text) t))) (Err (BadField (codes "parent")))) (Err (BadField (codes "tag")))))) [
-      | true ↦ elim (is_parent t.parent) as (λ b. PlanFits f (edit_plan (cond b (Ok (Tags (tag_edit.TagPut (key_of t.text) t))) (Err (BadField (codes "parent")))))) [ true ↦ refl | false ↦ tt ]
+put_fits : (m : ℕ) (t : Tag) (f : Facts) → PlanFits m f (edit_plan (put_rule t))
+put_fits m t f =
+    elim (is_tag t.text) as (λ b. PlanFits m f (edit_plan (cond b (cond (is_parent t.parent) (Ok (Tags (tag_edit.TagPut (key_of t.text) t))) (Err (BadField (codes "parent")))) (Err (BadField (codes "tag")))))) [
+      | true ↦ elim (is_parent t.parent) as (λ b. PlanFits m f (edit_plan (cond b (Ok (Tags (tag_edit.TagPut (key_of t.text) t))) (Err (BadField (codes "parent")))))) [ true ↦ refl | false ↦ tt ]
       | false ↦ tt
     ]
 
-drop_fits : (text : List ℕ) (f : Facts) → PlanFits f (edit_plan (drop_rule text f.lookups))
-drop_fits text f = elim (f.lookups.own_tag (key_of text)) as (λ o. PlanFits f (edit_plan (drop_edit (key_of text) o))) [ None ↦ tt | Some t ↦ tt ]
+drop_fits : (m : ℕ) (text : List ℕ) (f : Facts) → PlanFits m f (edit_plan (drop_rule text f.lookups))
+drop_fits m text f = elim (f.lookups.own_tag (key_of text)) as (λ o. PlanFits m f (edit_plan (drop_edit (key_of text) o))) [ None ↦ tt | Some t ↦ tt ]
 
-grant_fits : (is_hosted : List ℕ → Bool) (g : Grant) (f : Facts) → PlanFits f (edit_plan (grant_rule is_hosted g f.lookups))
-grant_fits is_hosted g f =
-    elim (f.lookups.own_tag (key_of g.tag)) as (λ o. f.lookups.own_tag (key_of g.tag) ≡ o → PlanFits f (edit_plan (grant_edit is_hosted f.lookups.op g o))) [
+grant_fits : (m : ℕ) (is_hosted : List ℕ → Bool) (g : Grant) (f : Facts) → PlanFits m f (edit_plan (grant_rule is_hosted g f.lookups))
+grant_fits m is_hosted g f =
+    elim (f.lookups.own_tag (key_of g.tag)) as (λ o. f.lookups.own_tag (key_of g.tag) ≡ o → PlanFits m f (edit_plan (grant_edit is_hosted f.lookups.op g o))) [
       | None ↦ λ e. tt
-      | Some info ↦ λ e. elim (is_hosted g.to) as (λ h. PlanFits f (edit_plan (cond h (cond (bytes_eq g.to f.lookups.op) (Err SelfGrant) (Ok (Tags (GrantPut (key_of g.tag) g.to g.until)))) (Err NoSuchOperator)))) [
-        | true ↦ elim (bytes_eq g.to f.lookups.op) as (λ s. bytes_eq g.to f.lookups.op ≡ s → PlanFits f (edit_plan (cond s (Err SelfGrant) (Ok (Tags (GrantPut (key_of g.tag) g.to g.until)))))) [
+      | Some info ↦ λ e. elim (is_hosted g.to) as (λ h. PlanFits m f (edit_plan (cond h (cond (bytes_eq g.to f.lookups.op) (Err SelfGrant) (Ok (Tags (GrantPut (key_of g.tag) g.to g.until)))) (Err NoSuchOperator)))) [
+        | true ↦ elim (bytes_eq g.to f.lookups.op) as (λ s. bytes_eq g.to f.lookups.op ≡ s → PlanFits m f (edit_plan (cond s (Err SelfGrant) (Ok (Tags (GrantPut (key_of g.tag) g.to g.until)))))) [
           | true ↦ λ same. tt
           | false ↦ λ other. (ap is_some e, λ is. true≢false (sym (text_itself g.to f.lookups.op is) ∙ other))
         ] refl
@@ -333,59 +342,59 @@ grant_fits is_hosted g f =
       ]
     ] refl
 
-revoke_fits : (tag to : List ℕ) (f : Facts) → PlanFits f (edit_plan (revoke_rule tag to f.lookups))
-revoke_fits tag to f = elim (f.lookups.has_grant (key_of tag) to) as (λ h. PlanFits f (edit_plan (cond h (Ok (Tags (GrantDropped (key_of tag) to))) (Err NoSuchGrant)))) [ true ↦ tt | false ↦ tt ]
+revoke_fits : (m : ℕ) (tag to : List ℕ) (f : Facts) → PlanFits m f (edit_plan (revoke_rule tag to f.lookups))
+revoke_fits m tag to f = elim (f.lookups.has_grant (key_of tag) to) as (λ h. PlanFits m f (edit_plan (cond h (Ok (Tags (GrantDropped (key_of tag) to))) (Err NoSuchGrant)))) [ true ↦ tt | false ↦ tt ]
 
-closed_fits : (station : List ℕ) (number : ℕ) (meter : Option ℕ) (m : ℕ) (readings : List ReadingRow) (t : TxState) (f : Facts) → f.lookups.tx station number ≡ Some t → PlanFits f (edit_plan (close_edit station number meter m readings (Some t)))
+closed_fits : (station : List ℕ) (number : ℕ) (meter : Option ℕ) (m : ℕ) (readings : List ReadingRow) (t : TxState) (f : Facts) → f.lookups.tx station number ≡ Some t → PlanFits m f (edit_plan (close_edit station number meter m readings (Some t)))
 closed_fits station number meter m readings t f at =
     let stopped = Transactions (TxStopped station number (closed_at m (meter_at_close meter t.meter_start readings)) 0 []) in
-    elim t.is_open as (λ b. t.is_open ≡ b → PlanFits f (edit_plan (cond b (cond (is_meter meter) (Ok stopped) (Err (BadField (codes "meterStop")))) (Err NoSuchTransaction)))) [
-      | true ↦ λ is-open. elim (is_meter meter) as (λ b. PlanFits f (edit_plan (cond b (Ok stopped) (Err (BadField (codes "meterStop")))))) [
-        | true ↦ (subst IsOpen (sym at) is-open, inl refl)
+    elim t.is_open as (λ b. t.is_open ≡ b → PlanFits m f (edit_plan (cond b (cond (is_meter meter) (Ok stopped) (Err (BadField (codes "meterStop")))) (Err NoSuchTransaction)))) [
+      | true ↦ λ is-open. elim (is_meter meter) as (λ b. PlanFits m f (edit_plan (cond b (Ok stopped) (Err (BadField (codes "meterStop")))))) [
+        | true ↦ (subst IsOpen (sym at) is-open, inl refl, refl)
         | false ↦ tt
       ]
       | false ↦ λ ended. tt
     ] refl
 
-close_fits : (station : List ℕ) (number : ℕ) (meter : Option ℕ) (m : ℕ) (f : Facts) → PlanFits f (edit_plan (close_rule station number meter m f.lookups))
+close_fits : (station : List ℕ) (number : ℕ) (meter : Option ℕ) (m : ℕ) (f : Facts) → PlanFits m f (edit_plan (close_rule station number meter m f.lookups))
 close_fits station number meter m f =
-    elim (is_some (f.lookups.registration station)) as (λ b. PlanFits f (edit_plan (cond b (close_edit station number meter m (f.lookups.readings station (Some number)) (f.lookups.tx station number)) (Err NoSuchStation)))) [
-      | true ↦ elim (f.lookups.tx station number) as (λ o. f.lookups.tx station number ≡ o → PlanFits f (edit_plan (close_edit station number meter m (f.lookups.readings station (Some number)) o))) [
+    elim (is_some (f.lookups.registration station)) as (λ b. PlanFits m f (edit_plan (cond b (close_edit station number meter m (f.lookups.readings station (Some number)) (f.lookups.tx station number)) (Err NoSuchStation)))) [
+      | true ↦ elim (f.lookups.tx station number) as (λ o. f.lookups.tx station number ≡ o → PlanFits m f (edit_plan (close_edit station number meter m (f.lookups.readings station (Some number)) o))) [
         | None ↦ λ e. tt
         | Some t ↦ λ e. closed_fits station number meter m (f.lookups.readings station (Some number)) t f e
       ] refl
       | false ↦ tt
     ]
 
-admin_fits : (is_hosted : List ℕ → Bool) (a : Admin) (m : ℕ) (f : Facts) → PlanFits f (edit_plan (admin_rule is_hosted a m f.lookups))
-admin_fits is_hosted (admin.StationAdd station policy interval) m f = add_fits station policy interval f
-admin_fits is_hosted (admin.StationPolicy station policy interval) m f = policy_fits station policy interval f
-admin_fits is_hosted (admin.TagPut tag) m f = put_fits tag f
-admin_fits is_hosted (admin.TagDrop tag) m f = drop_fits tag f
-admin_fits is_hosted (admin.Grant grant) m f = grant_fits is_hosted grant f
-admin_fits is_hosted (admin.Revoke tag to) m f = revoke_fits tag to f
+admin_fits : (is_hosted : List ℕ → Bool) (a : Admin) (m : ℕ) (f : Facts) → PlanFits m f (edit_plan (admin_rule is_hosted a m f.lookups))
+admin_fits is_hosted (admin.StationAdd station policy interval) m f = add_fits m station policy interval f
+admin_fits is_hosted (admin.StationPolicy station policy interval) m f = policy_fits m station policy interval f
+admin_fits is_hosted (admin.TagPut tag) m f = put_fits m tag f
+admin_fits is_hosted (admin.TagDrop tag) m f = drop_fits m tag f
+admin_fits is_hosted (admin.Grant grant) m f = grant_fits m is_hosted grant f
+admin_fits is_hosted (admin.Revoke tag to) m f = revoke_fits m tag to f
 admin_fits is_hosted (admin.TransactionClose station number meter_stop) m f = close_fits station number meter_stop m f
 
-forget_fits : (station : List ℕ) (until m : ℕ) (f : Facts) → PlanFits f (forget_plan station (forget_rule station until m f.lookups))
+forget_fits : (station : List ℕ) (until m : ℕ) (f : Facts) → PlanFits m f (forget_plan station (forget_rule station until m f.lookups))
 forget_fits station until m f =
     let gone = f.lookups.forgettable station until in
-    elim (is_some (f.lookups.registration station)) as (λ b. PlanFits f (forget_plan station (cond b (cond (nat_le until m) (Ok gone) (Err (BadField (codes "until")))) (Err NoSuchStation)))) [
-      | true ↦ elim (nat_le until m) as (λ b. PlanFits f (forget_plan station (cond b (Ok gone) (Err (BadField (codes "until")))))) [
-        | true ↦ elim (has_no_rows gone) as (λ b. EffectFits f (cond b effect.Nothing (effect.Edit (Transactions (Forgotten station (numbers_of gone)))))) [ true ↦ tt | false ↦ (until, refl) ]
+    elim (is_some (f.lookups.registration station)) as (λ b. PlanFits m f (forget_plan station (cond b (cond (nat_le until m) (Ok gone) (Err (BadField (codes "until")))) (Err NoSuchStation)))) [
+      | true ↦ elim (nat_le until m) as (λ b. PlanFits m f (forget_plan station (cond b (Ok gone) (Err (BadField (codes "until")))))) [
+        | true ↦ elim (has_no_rows gone) as (λ b. EffectFits m f (cond b effect.Nothing (effect.Edit (Transactions (Forgotten station (numbers_of gone)))))) [ true ↦ tt | false ↦ (until, refl) ]
         | false ↦ tt
       ]
       | false ↦ tt
     ]
 
-pub plan_fits : (is_hosted : List ℕ → Bool) (answers : Answers) (what : What) (m : ℕ) (f : Facts) → PlanFits f (plan is_hosted answers what m f)
-plan_fits is_hosted answers (what.Connect station) m f = elim (f.lookups.registration station) as (λ o. f.lookups.registration station ≡ o → PlanFits f (connect_plan station o)) [ None ↦ λ e. tt | Some r ↦ λ e. ap is_some e ] refl
+pub plan_fits : (is_hosted : List ℕ → Bool) (answers : Answers) (what : What) (m : ℕ) (f : Facts) → PlanFits m f (plan is_hosted answers what m f)
+plan_fits is_hosted answers (what.Connect station) m f = elim (f.lookups.registration station) as (λ o. f.lookups.registration station ≡ o → PlanFits m f (connect_plan station o)) [ None ↦ λ e. tt | Some r ↦ λ e. ap is_some e ] refl
 plan_fits is_hosted answers (what.Disconnect station) m f = tt
-plan_fits is_hosted answers (what.Frame station text) m f = elim (f.slot station).is_connected as (λ c. PlanFits f (cond c (frame_plan answers station (frame text) m f) (turned_plan station))) [ true ↦ frame_fits answers station (frame text) m f | false ↦ tt ]
-plan_fits is_hosted answers (what.Do station command) m f = command_fits station command (command_rule station command (f.lookups.registration station) (f.slot station) m f.lookups) f
+plan_fits is_hosted answers (what.Frame station text) m f = elim (f.slot station).is_connected as (λ c. PlanFits m f (cond c (frame_plan answers station (frame text) m f) (turned_plan station))) [ true ↦ frame_fits answers station (frame text) m f | false ↦ tt ]
+plan_fits is_hosted answers (what.Do station command) m f = command_fits m station command (command_rule station command (f.lookups.registration station) (f.slot station) m f.lookups) f
 plan_fits is_hosted answers (what.Admin a) m f = admin_fits is_hosted a m f
 plan_fits is_hosted answers what.Connections m f = tt
 plan_fits is_hosted answers (what.Forget station until) m f = forget_fits station until m f
-plan_fits is_hosted answers (what.List listing) m f = elim (rows_rule listing m f.lookups) as (λ r. PlanFits f (list_plan r)) [ Ok rows ↦ tt | Err refusal ↦ tt ]
+plan_fits is_hosted answers (what.List listing) m f = elim (rows_rule listing m f.lookups) as (λ r. PlanFits m f (list_plan r)) [ Ok rows ↦ tt | Err refusal ↦ tt ]
 
 -- the owner of a granted tag is another operator
 owner_apart : (b key : List ℕ) (rows : Rows) → WellFormedRows rows → (owner : Option (List ℕ)) → IfSome owner (IsOwner (lookups_at b rows) key) → IsAnother b owner
@@ -404,28 +413,28 @@ owner_apart b key rows good (Some a) fits = elim fits [
     theirs (Some info) is has = subst (IsAnother b) has (granted_tag-owner b key rows good info is)
 
 -- what the look-ups over the rows allow, the rows allow
-pub edit_fits : (b : List ℕ) (rows : Rows) → WellFormedRows rows → (e : Edit) → FitsLookups (lookups_at b rows) e → EditFits b e rows
-edit_fits b rows good (Stations (StationAdded station policy interval)) fits = fits
-edit_fits b rows good (Stations (BootSeen station boot state)) fits = fits
-edit_fits b rows good (Stations (PolicySet station policy interval)) fits = fits
-edit_fits b rows good (Stations (ConnectorSeen station connector report)) fits = fits
-edit_fits b rows good (Tags (TagPut key tag)) fits = fits
-edit_fits b rows good (Tags (TagDropped key)) fits = tt
-edit_fits b rows good (Tags (GrantPut key to until)) fits = fits
-edit_fits b rows good (Tags (GrantDropped key to)) fits = tt
-edit_fits b rows good (Transactions (TxStarted station number start owner)) fits = (fits.0, fits.1, fits.2, owner_apart b start.id.key rows good owner fits.3)
-edit_fits b rows good (Transactions (TxStopped station number stop first readings)) fits = fits
-edit_fits b rows good (Transactions (ReadingsAdded station first readings)) fits = fits
-edit_fits b rows good (Transactions (Forgotten station gone)) fits = subst (λ (g : Forgettable). AllByRecursion (λ n. IsStopped (tx_in b station n rows.transactions)) g.transactions) (sym fits.1) (forgettable-stopped b station fits.0 rows good)
-edit_fits b rows good (Holdings (ReservationPut station id reservation)) fits = fits
-edit_fits b rows good (Holdings (ReservationDropped station id)) fits = tt
-edit_fits b rows good (Holdings (ListSet station list)) fits = fits
-edit_fits b rows good (Stations (ReportSeen station status moment)) fits = fits
+pub edit_fits : (m : ℕ) (b : List ℕ) (rows : Rows) → WellFormedRows rows → (e : Edit) → FitsLookups m (lookups_at b rows) e → EditFits b e rows
+edit_fits m b rows good (Stations (StationAdded station policy interval)) fits = fits
+edit_fits m b rows good (Stations (BootSeen station boot state)) fits = fits
+edit_fits m b rows good (Stations (PolicySet station policy interval)) fits = fits
+edit_fits m b rows good (Stations (ConnectorSeen station connector report)) fits = fits
+edit_fits m b rows good (Tags (TagPut key tag)) fits = fits
+edit_fits m b rows good (Tags (TagDropped key)) fits = tt
+edit_fits m b rows good (Tags (GrantPut key to until)) fits = fits
+edit_fits m b rows good (Tags (GrantDropped key to)) fits = tt
+edit_fits m b rows good (Transactions (TxStarted station number start owner)) fits = (fits.0, fits.1, fits.2, owner_apart b start.id.key rows good owner fits.3, fits.4)
+edit_fits m b rows good (Transactions (TxStopped station number stop first readings)) fits = (fits.0, fits.1)
+edit_fits m b rows good (Transactions (ReadingsAdded station first readings)) fits = fits
+edit_fits m b rows good (Transactions (Forgotten station gone)) fits = subst (λ (g : Forgettable). AllByRecursion (λ n. IsStopped (tx_in b station n rows.transactions)) g.transactions) (sym fits.1) (forgettable-stopped b station fits.0 rows good)
+edit_fits m b rows good (Holdings (ReservationPut station id reservation)) fits = fits
+edit_fits m b rows good (Holdings (ReservationDropped station id)) fits = tt
+edit_fits m b rows good (Holdings (ListSet station list)) fits = fits
+edit_fits m b rows good (Stations (ReportSeen station status moment)) fits = fits
 
 -- the same of an edit that may be none
-pub option_fits : (b : List ℕ) (rows : Rows) → WellFormedRows rows → (o : Option Edit) → IfSome o (FitsLookups (lookups_at b rows)) → ForSome o (λ d. EditFits b d rows)
-option_fits b rows good None fits = λ d same. absurd (cc)
-option_fits b rows good (Some e) fits = λ d same. edit_fits b rows good d (subst (FitsLookups (lookups_at b rows)) (some_is e d same) fits)
+pub option_fits : (m : ℕ) (b : List ℕ) (rows : Rows) → WellFormedRows rows → (o : Option Edit) → IfSome o (FitsLookups m (lookups_at b rows)) → ForSome o (λ d. EditFits b d rows)
+option_fits m b rows good None fits = λ d same. absurd (cc)
+option_fits m b rows good (Some e) fits = λ d same. edit_fits m b rows good d (subst (FitsLookups m (lookups_at b rows)) (some_is e d same) fits)
   where
     some_is : (e d : Edit) → Some e ≡ Some d → e ≡ d
     some_is e d same = cc
