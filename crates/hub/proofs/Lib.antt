@@ -5,5 +5,6 @@ pub mod GrantedTags
 pub mod Isolation
 pub mod Runs
 pub mod TwoSystems
+pub mod Tells
 pub mod Others
 pub mod Stations

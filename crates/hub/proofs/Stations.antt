@@ -43,7 +43,7 @@ keeps-after b (Some e) rows = keeps-edit b e rows
 still : (b : List ℕ) (o : Option Edit) (w : World) → SlotsHaveStations w → AllByRecursion (HasStation (rows_after b o w.rows).stations) w.slots
 still b o w have = all-weaker (HasStation w.rows.stations) (HasStation (rows_after b o w.rows).stations) (λ s. keeps-after b o w.rows s.op s.station) w.slots have
 
-have-effect : (first : ℕ) (b : List ℕ) (m : ℕ) (e : Effect) (w : World) → SlotsHaveStations w → EffectFits (facts_at first b w) e → AllByRecursion (HasStation (rows_after b (edit_of e) w.rows).stations) (slots_after first b m e w.slots)
+have-effect : (first : ℕ) (b : List ℕ) (m : ℕ) (e : Effect) (w : World) → SlotsHaveStations w → EffectFits m (facts_at first b w) e → AllByRecursion (HasStation (rows_after b (edit_of e) w.rows).stations) (slots_after first b m e w.slots)
 have-effect first b m effect.Nothing w have fits = have
 have-effect first b m (effect.Edit e) w have fits = still b (Some e) w have
 have-effect first b m (effect.Connect station) w have fits =

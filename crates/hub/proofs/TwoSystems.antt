@@ -1,16 +1,24 @@
 -- Two systems that are the same to an operator give it the same.
-use Rattle.std.specs.Prelude.{◌≡◌, ℕ, List, [], ◌∷◌, ◌++◌, cond}
+use Rattle.std.specs.Prelude.{◌≡◌, ◌≢◌, ℕ, List, [], ◌∷◌, ◌++◌, length, drop, map, false, cond}
+use Rattle.std.specs.List.{AllByRecursion}
 use Rattle.std.proofs.Common.{refl, ◌∙◌, sym, ap, append_assoc, append-nil}
-use Rattle.hub_rows.proofs.ListLaws.{text_itself}
+use Rattle.std.proofs.Math.Seq.{drop-append_seam}
+use Rattle.hub_rows.specs.Grants.{grants_to}
+use Rattle.hub_rows.specs.declared.use_row.UseRow.{UseRow}
+use Rattle.hub_rows.proofs.ListLaws.{other_text, text_itself}
 use Rattle.hub_events.specs.declared.event.Event.{Event}
 use Rattle.hub_events.specs.declared.event.Event.TheVariants.{At, Tick}
-use Rattle.hub.specs.Others.{IsOfAnother}
-use Rattle.hub.specs.View.{Own, shown_by, view, seen, seen_of, operator_run_outputs, operator_run}
+use Rattle.hub_events.specs.declared.event.What.{What}
+use Rattle.hub.specs.Effects.{edit_of}
+use Rattle.hub.specs.Others.{AddsUse, IsOfAnother, edits_tags}
+use Rattle.hub.specs.Tells.{AgreeOn}
+use Rattle.hub.specs.View.{Item, Own, Use, granted_to, more_uses, news, shown_by, uses_of, view, seen, seen_of, operator_run_outputs, operator_run}
 use Rattle.hub.specs.WellFormed.{WellFormed}
-use Rattle.hub.specs.World.{Setting, World, outputs_of, run_outputs, world_run, world_step}
+use Rattle.hub.specs.World.{Setting, World, outputs_of, plan_at, run_outputs, world_run, world_step}
 use Rattle.hub.specs.TwoSystems.{AreAlike, AreSameTo, IsItsOwn, LeavesShown}
 use Rattle.hub.proofs.Isolation.{run_outputs-own, world_run-own}
-use Rattle.hub.proofs.Others.{seen-other}
+use Rattle.hub.proofs.Others.{granted-after, no_news, seen-other}
+use Rattle.hub.proofs.Tells.{one-use, same_granted}
 
 -- settings that answer alike are one
 same_setting : (s t : Setting) → AreAlike s t → s ≡ t
@@ -70,3 +78,28 @@ module _ (a : List ℕ) (s t : Setting) (w v : World) where
     views = same.views;
     seen = same.seen ∙ sym (seen-push t a v fs e ∙ ap (λ items. seen t a v fs ++ items) (seen-other t a (world_run t v fs) e other left.granted left.uses) ∙ append-nil (seen t a v fs));
   }
+
+-- ---- what a use and a grant show
+
+-- a stop that adds a use shows that use
+seen-use : (a : List ℕ) (s : Setting) (w : World) (b : List ℕ) (m : ℕ) (what : What) (u : UseRow) → b ≢ a → AddsUse a s w (At b m what) (world_step s w (At b m what)) u → seen s a w (At b m what ∷ []) ≡ Use u ∷ []
+seen-use a s w b m what u other adds =
+    let after : World = world_step s w (At b m what) in
+    let granted : granted_to a after ≡ granted_to a w = granted-after a b (edit_of (plan_at s w b m what).effect) w.rows (ap edits_tags adds.tells.stopped) in
+    let more : drop (length (uses_of a w)) (uses_of a after) ≡ u ∷ [] = ap (drop (length (uses_of a w))) adds.added ∙ drop-append_seam (uses_of a w) (u ∷ []) in
+    append-nil (seen_of s a w (At b m what))
+    ∙ ap (λ mine. cond mine (Own m what ∷ []) (shown_by a w after)) (other_text b a other)
+    ∙ (λ i. no_news (granted_to a w) (granted_to a after) granted i ++ map Use (more i))
+
+-- two stops at one moment with the same tag and energy show the same
+pub same_use : (a b : List ℕ) (m : ℕ) (s t : Setting) (w v : World) (d e : What) (x y : UseRow) → b ≢ a → uses_of a w ≡ uses_of a v
+    → AddsUse a s w (At b m d) (world_step s w (At b m d)) x → AddsUse a t v (At b m e) (world_step t v (At b m e)) y → x.key ≡ y.key → x.wh ≡ y.wh
+    → seen s a w (At b m d ∷ []) ≡ seen t a v (At b m e ∷ [])
+same_use a b m s t w v d e x y other uses this that key wh =
+    seen-use a s w b m d x other this
+    ∙ (λ i. Use (one-use a b m w.rows v.rows (edit_of (plan_at s w b m d).effect) (edit_of (plan_at t v b m e).effect) x y this.tells that.tells uses key wh i) ∷ [])
+    ∙ sym (seen-use a t v b m e y other that)
+
+-- the same grants of tags that agree show the same
+pub same_tags : (a : List ℕ) (w v : World) → grants_to a w.rows.grants ≡ grants_to a v.rows.grants → AllByRecursion (AgreeOn w.rows.tags v.rows.tags) (grants_to a w.rows.grants) → granted_to a w ≡ granted_to a v
+same_tags a w v same agree = same_granted a w.rows.tags v.rows.tags w.rows.grants v.rows.grants same agree

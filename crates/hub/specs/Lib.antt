@@ -7,4 +7,5 @@ pub mod View
 pub mod WellFormed
 pub mod Hub
 pub mod TwoSystems
+pub mod Tells
 pub mod Others

@@ -1,5 +1,6 @@
 -- What an event of another operator is to an operator.
-use Rattle.std.specs.Prelude.{◌≡◌, ◌≢◌, ◌⊎◌, ℕ, List, [], ◌∷◌, ◌++◌, Bool, true, false, Option, Some, None}
+use Rattle.std.specs.Prelude.{◌≡◌, ◌≢◌, ◌×◌, ◌⊎◌, ℕ, List, [], ◌∷◌, ◌++◌, Bool, true, false, Option, Some, None}
+use Rattle.std.specs.List.{AllByRecursion}
 use Rattle.hub_rows.specs.declared.change.Edit.{Edit}
 use Rattle.hub_rows.specs.declared.change.Edit.TheVariants.{Tags}
 use Rattle.hub_rows.specs.declared.use_row.UseRow.{UseRow}
@@ -9,6 +10,7 @@ use Rattle.hub_events.specs.declared.event.Event.{Event}
 use Rattle.hub_events.specs.declared.event.Event.TheVariants.{At, Tick}
 use Rattle.hub_events.specs.declared.out.Out.{Out}
 use Rattle.hub.specs.Effects.{edit_of}
+use Rattle.hub.specs.Tells.{TellsOfTag, TellsOfUse}
 use Rattle.hub.specs.View.{granted_to, seen, uses_of, view}
 use Rattle.hub.specs.World.{Setting, World, outputs_of, plan_at}
 
@@ -42,6 +44,16 @@ abbrev pub settled_at : List ℕ → Setting → World → Event → List UseRow
 settled_at a setting w (At b m what) = settled_by a b (edit_by setting w (At b m what)) w.rows
 settled_at a setting w (Tick m) = []
 
+-- a use of operator a's tag that an event of another operator adds
+abbrev pub TellsOf : List ℕ → Setting → World → Event → UseRow → Type 0
+TellsOf a setting w (At b m what) u = TellsOfUse a b m w.rows (edit_by setting w (At b m what)) u
+TellsOf a setting w (Tick m) u = ⊥
+
+-- an event that leads from world w to world v adds this use to those of operator a
+pub record AddsUse (a : List ℕ) (setting : Setting) (w : World) (e : Event) (v : World) (u : UseRow) : Type 0 where
+  pub added : uses_of a v ≡ uses_of a w ++ u ∷ []
+  pub tells : TellsOf a setting w e u
+
 -- an event with these outputs, which leads from world w to world v, leaves operator a alone: it can change
 -- nothing of a's but the list of tags that are granted to a, and the uses of a's tags, which it can add to
 pub record LeavesAlone (a : List ℕ) (setting : Setting) (w : World) (e : Event) (outs : List Out) (v : World) : Type 0 where
@@ -53,6 +65,10 @@ pub record LeavesAlone (a : List ℕ) (setting : Setting) (w : World) (e : Event
   pub granted : edits_tags (edit_by setting w e) ≡ false → granted_to a v ≡ granted_to a w
   -- its uses are those before, and after them what the event settles
   pub uses : uses_of a v ≡ uses_of a w ++ settled_at a setting w e
+  -- it adds none, or one, which tells of a stop
+  pub adds : (uses_of a v ≡ uses_of a w) ⊎ ((u : UseRow) × AddsUse a setting w e v u)
+  -- each tag that is granted to it tells of a grant and its owner's tag
+  pub tags : AllByRecursion (TellsOfTag a v.rows.tags v.rows.grants) (granted_to a v)
   -- the event changes one of the two at most
   pub either : (granted_to a v ≡ granted_to a w) ⊎ (uses_of a v ≡ uses_of a w)
   -- where both are the same, a is shown nothing

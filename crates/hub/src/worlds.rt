@@ -1,15 +1,20 @@
 //! Two systems side by side, and what one operator is told by each: the isolation theorem as a call.
-ghost use Rattle.std.specs.Prelude.{◌≡◌, ◌≤◌, ◌⊎◌, ℕ, List, [], ◌∷◌, ◌++◌, length, true, Err, IfOk, IfErr, OnOk, OnErr};
-ghost use Rattle.std.specs.List.{AllWithin};
+ghost use Rattle.std.specs.Prelude.{◌≡◌, ◌≢◌, ◌≤◌, ◌⊎◌, ℕ, List, [], ◌∷◌, ◌++◌, length, true, Err, IfOk, IfErr, OnOk, OnErr};
+ghost use Rattle.std.specs.List.{AllByRecursion, AllWithin};
 ghost use Rattle.hub_rows.specs.Failures.{Rose};
 ghost use Rattle.hub_rows.specs.Reads.{IsCounted};
+ghost use Rattle.hub_rows.specs.Grants.{grants_to};
+ghost use Rattle.hub_rows.specs.declared.use_row.UseRow.{UseRow};
 ghost use Rattle.hub.specs.Hub.{hub_view, world, setting, is_taken, is_clean, failures_of};
-ghost use Rattle.hub.specs.View.{view};
+ghost use Rattle.hub.specs.View.{granted_to, seen, uses_of, view};
 ghost use Rattle.hub.specs.WellFormed.{WellFormed};
-ghost use Rattle.hub.specs.World.{Setting, World, outputs_of, run_outputs, world_run};
+ghost use Rattle.hub.specs.World.{Setting, World, outputs_of, run_outputs, world_run, world_step};
 ghost use Rattle.hub.specs.TwoSystems.{AreAlike, AreSameTo, HasNotTaken, IsAfterSome, IsItsOwn, LeavesShown};
-ghost use Rattle.hub.specs.Others.{IsOfAnother};
+ghost use Rattle.hub.specs.Others.{AddsUse, IsOfAnother};
+ghost use Rattle.hub.specs.Tells.{AgreeOn};
 ghost use Rattle.hub_events.specs.declared.event.Event.{Event};
+ghost use Rattle.hub_events.specs.declared.event.Event.TheVariants.{At};
+ghost use Rattle.hub_events.specs.declared.event.What.{What};
 
 use crate::fault::Fault;
 use crate::hub::Hub;
@@ -76,6 +81,10 @@ pub fn isolated<S: Store + Drop, V: VendorHandler, T: Store + Drop, W: VendorHan
 /// event of the operator, or a tick, may be added to both. An event of another operator may be added to
 /// either of them, where the tags that are granted to the operator, and the uses of its own tags, are the
 /// same after it. The call does nothing: its clauses are laws of `AreSameTo`, the premise of `isolated`.
+///
+/// `uses` and `tags` say what the two exceptions carry. Two stops of an operator at one moment, with the same tag and the
+/// same energy, show the tag's owner the same, whatever else differs: station, connector, number, start, meter, readings,
+/// reason. The same grants of tags that agree (`AgreeOn`) show the receiver the same, whatever else their owners have.
 pub fn same_lists()
     ensures none { (a : List ℕ) (s t : Setting) (w v : World) → AreAlike s t → view a w ≡ view a v
         → AreSameTo a s w [] t v [] }
@@ -85,6 +94,12 @@ pub fn same_lists()
         → AreSameTo a s w es t v fs → IsOfAnother a e → LeavesShown a s w es e → AreSameTo a s w (es ++ e ∷ []) t v fs }
     ensures second { (a : List ℕ) (s t : Setting) (w v : World) (es fs : List Event) (e : Event)
         → AreSameTo a s w es t v fs → IsOfAnother a e → LeavesShown a t v fs e → AreSameTo a s w es t v (fs ++ e ∷ []) }
+    ensures uses { (a b : List ℕ) (m : ℕ) (s t : Setting) (w v : World) (d e : What) (x y : UseRow) → b ≢ a
+        → uses_of a w ≡ uses_of a v → AddsUse a s w (At b m d) (world_step s w (At b m d)) x
+        → AddsUse a t v (At b m e) (world_step t v (At b m e)) y → x.key ≡ y.key → x.wh ≡ y.wh
+        → seen s a w (At b m d ∷ []) ≡ seen t a v (At b m e ∷ []) }
+    ensures tags { (a : List ℕ) (w v : World) → grants_to a w.rows.grants ≡ grants_to a v.rows.grants
+        → AllByRecursion (AgreeOn w.rows.tags v.rows.tags) (grants_to a w.rows.grants) → granted_to a w ≡ granted_to a v }
 {}
 
 /// Runs one system, and gives the outputs of one operator.

@@ -1,10 +1,9 @@
 -- The owner of a new transaction's tag goes behind those of its station.
-use Rattle.std.specs.Prelude.{◌≡◌, ℕ, ◌<◌, ◌≤◌, max, List, [], ◌∷◌, true, false, cond, ◌&&◌, ◌==◌, map, Option, None, Some, IsSome}
+use Rattle.std.specs.Prelude.{◌≡◌, ℕ, ◌<◌, ◌≤◌, List, [], ◌∷◌, true, false, cond, ◌&&◌, map, Option, None, Some}
 use Rattle.std.specs.List.{AllByRecursion}
 use Rattle.std.specs.Str.{bytes_eq}
 use Rattle.std.proofs.Common.{refl, sym, arith, subst}
-use Rattle.std.proofs.lemmas.Bool.Decides.{nat_tests}
-use Rattle.std.proofs.lemmas.Bool.{and_parts, true≢false}
+use Rattle.std.proofs.lemmas.Bool.{and_parts}
 use Rattle.hub_rows.specs.declared.tx_row.TxOwnerRow.{TxOwnerRow}
 use Rattle.hub_rows.specs.declared.tx_row.TxRow.{TxRow}
 use Rattle.hub_rows.specs.Keyed.{found, greatest, those}
@@ -12,6 +11,7 @@ use Rattle.hub_rows.specs.Transactions.{is_tx}
 use Rattle.hub_rows.specs.Uses.{with_owner}
 use Rattle.hub_rows.specs.WellFormed.{IsGoodTxOwner}
 use Rattle.hub_rows.proofs.ListLaws.{same_text}
+use Rattle.hub_rows.proofs.OwnerLaws.{began_some, found-under}
 use Rattle.store_mem.specs.TxOwners.{owner_row, with_row, IsBehind}
 
 -- the last number of a station's transactions
@@ -23,22 +23,7 @@ pub with_row-owner : (b st : List ℕ) (n : ℕ) (owner : Option (List ℕ)) (ro
 with_row-owner b st n None rows = refl
 with_row-owner b st n (Some a) rows = refl
 
--- a transaction of a station has at most its last number
-found-under : (b st : List ℕ) (n : ℕ) (txs : List TxRow) → IsSome (found (λ t. t.op) b (is_tx st n) txs) → n ≤ last_of b st txs
-found-under b st n [] some = absurd (true≢false (sym some))
-found-under b st n (t ∷ txs) some =
-    elim (bytes_eq t.op b) as (λ p. IsSome (cond (p && (bytes_eq t.station st && t.number == n)) (Some t) (found (λ t. t.op) b (is_tx st n) txs)) → n ≤ greatest (map (λ x. x.number) (cond (p && bytes_eq t.station st) (t ∷ those (λ x. x.op) b (λ x. bytes_eq x.station st) txs) (those (λ x. x.op) b (λ x. bytes_eq x.station st) txs)))) [
-      | true ↦ elim (bytes_eq t.station st) as (λ q. IsSome (cond (q && t.number == n) (Some t) (found (λ t. t.op) b (is_tx st n) txs)) → n ≤ greatest (map (λ x. x.number) (cond q (t ∷ those (λ x. x.op) b (λ x. bytes_eq x.station st) txs) (those (λ x. x.op) b (λ x. bytes_eq x.station st) txs)))) [
-        | true ↦ elim (t.number == n) as (λ r. (t.number == n) ≡ r → IsSome (cond r (Some t) (found (λ t. t.op) b (is_tx st n) txs)) → n ≤ max t.number (last_of b st txs)) [
-          | true ↦ λ e here. let same : t.number ≡ n = grind (arith, nat_tests, e) in omega (arith, same)
-          | false ↦ λ e later. let low = found-under b st n txs later in omega (arith, low)
-        ] refl
-        | false ↦ found-under b st n txs
-      ]
-      | false ↦ found-under b st n txs
-    ] some
-
--- so has a row of the station that goes with a transaction
+-- a row of the station that goes with a transaction has at most the last number
 owners-under : (b st : List ℕ) (txs : List TxRow) (rows : List TxOwnerRow) → AllByRecursion (IsGoodTxOwner txs) rows → greatest (map (λ x. x.number) (those (λ x. x.op) b (λ x. bytes_eq x.station st) rows)) ≤ last_of b st txs
 owners-under b st txs [] all = omega arith
 owners-under b st txs (r ∷ rows) all =
@@ -46,7 +31,7 @@ owners-under b st txs (r ∷ rows) all =
     elim (bytes_eq r.op b && bytes_eq r.station st) as (λ t. (bytes_eq r.op b && bytes_eq r.station st) ≡ t → greatest (map (λ x. x.number) (cond t (r ∷ those (λ x. x.op) b (λ x. bytes_eq x.station st) rows) (those (λ x. x.op) b (λ x. bytes_eq x.station st) rows))) ≤ last_of b st txs) [
       | true ↦ λ e.
           let both = and_parts (bytes_eq r.op b) (bytes_eq r.station st) e in
-          let here : r.number ≤ last_of b st txs = subst (λ o. r.number ≤ last_of o st txs) (same_text r.op b both.0) (subst (λ s. r.number ≤ last_of r.op s txs) (same_text r.station st both.1) (found-under r.op r.station r.number txs all.0.tx)) in
+          let here : r.number ≤ last_of b st txs = subst (λ o. r.number ≤ last_of o st txs) (same_text r.op b both.0) (subst (λ s. r.number ≤ last_of r.op s txs) (same_text r.station st both.1) (found-under r.op r.station r.number txs (began_some (found (λ t. t.op) r.op (is_tx r.station r.number) txs) all.0.tx))) in
           omega (arith, here, low)
       | false ↦ λ e. low
     ] refl

@@ -1,4 +1,4 @@
-use Rattle.hub.proofs.TwoSystems.{same_none, same_own, same_first, same_second}
+use Rattle.hub.proofs.TwoSystems.{same_none, same_own, same_first, same_second, same_tags, same_use}
 use Rattle.hub.proofs.worlds.same_lists.Goals as goal
 
 pub returns-clause-none : goal.returns-clause-none
@@ -12,3 +12,9 @@ returns-clause-first c = same_first
 
 pub returns-clause-second : goal.returns-clause-second
 returns-clause-second c = same_second
+
+pub returns-clause-uses : goal.returns-clause-uses
+returns-clause-uses c = same_use
+
+pub returns-clause-tags : goal.returns-clause-tags
+returns-clause-tags c = same_tags
