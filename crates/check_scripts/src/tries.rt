@@ -41,10 +41,17 @@ impl Tally {
     }
 }
 
-/// Stops the script at each call on the file, and opens the files by themselves.
-pub fn try_files(alloc: Global, script: &Script, file: File, leaves: Leaves) -> Result<Tally> {
+/// Stops the script at one call on the file in so many, from the first on, and opens the files by themselves.
+pub fn try_files(
+    alloc: Global,
+    script: &Script,
+    file: File,
+    leaves: Leaves,
+    every: u64,
+) -> Result<Tally> {
     let mut tally = Tally::default();
-    for calls in 0..MAX_CALLS {
+    for tried in 0..MAX_CALLS {
+        let calls = tried.saturating_mul(every);
         let at = At {
             file,
             leaves,

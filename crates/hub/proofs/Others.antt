@@ -1,5 +1,5 @@
 -- An event of another operator leaves an operator alone.
-use Rattle.std.specs.Prelude.{◌≡◌, ◌×◌, ◌⊎◌, ℕ, Option, None, Some, IfSome, List, [], ◌∷◌, ◌++◌, length, drop, map, false, cond}
+use Rattle.std.specs.Prelude.{◌≡◌, ◌⊎◌, ℕ, Option, None, Some, IfSome, List, [], ◌∷◌, ◌++◌, length, drop, map, false, cond}
 use Rattle.std.proofs.Common.{refl, sym, ◌∙◌, ap, subst, inl, inr}
 use Rattle.std.proofs.Math.Seq.{drop-length}
 use Rattle.std.proofs.lemmas.Bool.{true≢false}

@@ -1,6 +1,6 @@
 -- A settled use and a granted tag tell what they are said to, and no more.
-use Rattle.std.specs.Prelude.{◌≡◌, ◌≢◌, ◌×◌, ◌⊎◌, ◌↔◌, ℕ, suc, ◌+◌, ◌<◌, ◌≤◌, min, nat_lt, List, [], ◌∷◌, ◌++◌, length, drop, map, find, Contains, Bool, true, false, cond, ◌&&◌, ◌||◌, ◌==◌, is_none, cons_option, filter_map, Option, Some, None, IfSome, option_and_then}
-use Rattle.std.specs.List.{AllByRecursion}
+use Rattle.std.specs.Prelude.{◌≡◌, ◌≢◌, ◌⊎◌, ◌↔◌, ℕ, suc, ◌+◌, ◌<◌, ◌≤◌, min, nat_lt, List, [], ◌∷◌, ◌++◌, length, drop, map, find, Contains, Bool, true, false, cond, ◌&&◌, ◌||◌, ◌==◌, is_none, filter_map, Option, Some, None, IfSome, option_and_then}
+use Rattle.std.specs.List.{AllByRecursion, cons_option}
 use Rattle.std.specs.Option.{option_map}
 use Rattle.std.specs.Str.{bytes_eq}
 use Rattle.std.proofs.Common.{refl, sym, ◌∙◌, ap, subst, arith, inl, inr, append-nil}
@@ -64,7 +64,7 @@ abbrev pub AddsTo : List ℕ → List ℕ → ℕ → Rows → Option Edit → L
 AddsTo a b m rows e uses = (uses ≡ own (λ r. r.op) a rows.uses) ⊎ ((u : UseRow) × (uses ≡ own (λ r. r.op) a rows.uses ++ u ∷ []) × TellsOfUse a b m rows e u)
 
 module _ (a b : List ℕ) (m : ℕ) (rows : Rows) (good : WellFormedRows rows) (station : List ℕ) (number : ℕ) (stop : Stop) (first : ℕ) (readings : List Reading) (at_m : stop.moment ≡ m) where
-  stopping : Edit
+  abbrev stopping : Edit
   stopping = Transactions (TxStopped station number stop first readings)
 
   -- the use of a transaction that is on record with its owner

@@ -1,6 +1,6 @@
 -- What an operator learns of another's records: by a use of its tags there, and by a tag that is granted to it. It is said
 -- of the records before and after, in words of its own, not in those by which both machines settle and grant.
-use Rattle.std.specs.Prelude.{◌≡◌, ◌×◌, ◌↔◌, ℕ, ◌+◌, ◌-ℤ◌, ◌<◌, ◌≤◌, List, length, Contains, ◌||◌, Option, Some, None, IfSome, option_and_then}
+use Rattle.std.specs.Prelude.{◌≡◌, ◌↔◌, ℕ, ◌+◌, ◌-ℤ◌, ◌<◌, ◌≤◌, List, length, Contains, ◌||◌, Option, Some, None, IfSome, option_and_then}
 use Rattle.std.specs.Int.{saturate_signed, w64}
 use Rattle.ocpp_types.specs.TagKey.{key_of}
 use Rattle.ocpp_types.specs.declared.authorization_status.AuthorizationStatus.TheVariants.{Accepted}
