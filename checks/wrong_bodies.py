@@ -8,8 +8,10 @@
 Each has the form of a must-fail edit (`rt help`). Those of different functions are tried in one check, over a copy of
 what `rt check` kept here. A body is refused where the prover refuses the function that it changes, at a goal of that
 function; a function that is refused only as it calls another that is, is tried again without that one. One that is not
-of a function is tried alone, and refused where its crate is. Where all of a crate are refused for their meaning, the
-crate gets a line in checks/wrong_bodies/refused.txt: its name, and a hash over its src, its specs and the bodies.
+of a function is tried alone, and refused where its crate is. A file may be one of a crate below, `../NAME/..`: that
+crate and those between have to be proved with it, and the crate is refused. Where all of a crate are refused for their
+meaning, the crate gets a line in checks/wrong_bodies/refused.txt: its name, and a hash over its src, its specs, the
+bodies, and the files of other crates that they change.
 `--jobs N` is handed to `rt check`.
 """
 
@@ -42,9 +44,10 @@ def crates():
 
 
 def stamp_of(crate):
-    """The hash over a crate's src, its specs and its wrong bodies."""
+    """The hash over a crate's src, its specs, its wrong bodies, and what these change in other crates."""
     home = ROOT / "crates" / crate
     files = [file for part in ("src", "specs") for file in (home / part).rglob("*") if file.is_file()]
+    files += {(home / path).resolve() for path in paths_below(crate)}
     read = hashlib.sha256()
     for file in sorted(files) + bodies_of(crate):
         text = file.read_bytes()
@@ -79,6 +82,11 @@ def pairs_of(body):
             old = rest
         elif word in ("new", "new:") and old is not None:
             yield path, old, rest
+
+
+def paths_below(crate):
+    """The files of crates below that the wrong bodies of a crate change."""
+    return sorted({path for body in bodies_of(crate) for path, _, _ in pairs_of(body) if path.startswith("../")})
 
 
 def faults(body):
@@ -138,9 +146,11 @@ class Copy:
     def __init__(self, crate, room, jobs):
         self.home, self.real, self.jobs = Path(room) / "crates" / crate, ROOT / "crates" / crate, jobs
         lines = lines_of(crate)
+        changed = {crate, *(path.split("/")[1] for path in paths_below(crate))}
         for name in lines:
-            kept = "incremental" if name == crate else "rlib"
-            for part in ("src", "specs", "proofs", f"out/{kept}"):
+            kept = ["out/rlib"] if name != crate else []
+            kept += ["out/incremental"] if changed & set(lines_of(name)) else []
+            for part in ("src", "specs", "proofs", *kept):
                 if (ROOT / "crates" / name / part).is_dir():
                     shutil.copytree(ROOT / "crates" / name / part, Path(room) / "crates" / name / part)
         (Path(room) / "crates.txt").write_text("\n".join(lines.values()) + "\n")
@@ -164,10 +174,10 @@ def errors_in(said):
     return [(file.removeprefix("./"), text) for file, text in ERROR.findall(said)]
 
 
-def is_judged(said):
+def is_judged(crate, said):
     """Whether the prover has read all of the crate, and refused it."""
     unread = [text for file, text in errors_in(said) if file.startswith(("src/", "specs/")) and (not text.startswith("`") or UNREAD.search(re.sub(r"`[^`]*`", "", text)))]
-    return "\nlogic=not-proved" in said and not unread
+    return f"\ncrate {crate}: modules loaded" in said and "\nlogic=not-proved" in said and not unread
 
 
 def refused_at(said):
@@ -181,11 +191,11 @@ def refused_at(said):
     return found
 
 
-def is_refused_alone(said):
+def is_refused_alone(crate, said):
     """Whether a crate is refused for more than names that a proof has and a wrong body has taken away."""
     errors = errors_in(said)
     of_names = errors and all(file.startswith("proofs/") and OF_NAMES.search(text) for file, text in errors)
-    return is_judged(said) and (not of_names or bool(refused_at(said)))
+    return is_judged(crate, said) and (not of_names or bool(refused_at(said)))
 
 
 def round_of(left, blocked):
@@ -198,11 +208,11 @@ def round_of(left, blocked):
     return list(chosen.values()) or list(left)[:1]
 
 
-def refused_of(bodies, left, said):
+def refused_of(crate, bodies, left, said):
     """Those of the bodies of one check that were refused."""
     if len(bodies) == 1:
-        return bodies if is_refused_alone(said) else []
-    found = refused_at(said) if is_judged(said) else set()
+        return bodies if is_refused_alone(crate, said) else []
+    found = refused_at(said) if is_judged(crate, said) else set()
     return [body for body in bodies if left[body] in found]
 
 
@@ -214,7 +224,7 @@ def tries(crate, jobs):
         while left:
             bodies = round_of(left, blocked)
             said = copy.checked(bodies)
-            refused = refused_of(bodies, left, said)
+            refused = refused_of(crate, bodies, left, said)
             for body in refused:
                 print(f"{crate}/{body.name}: refused, in a check of {len(bodies)}", flush=True)
                 del left[body]

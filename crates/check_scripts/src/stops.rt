@@ -26,6 +26,7 @@ const SCRIPTS: &[&str] = &[
 /// A script whose log is copied into the database file under way. It has more calls on the log than are tried. Of those on
 /// the database file one in seven is, since a sync of a file in memory copies all of it.
 const LONG: &str = "log_is_copied";
+
 const ONE_IN: u64 = 7;
 
 /// The databases of earlier schemas, by their numbers.

@@ -1,5 +1,5 @@
 -- A plan that submits no command is ready whatever the slots are.
-use Rattle.std.specs.Prelude.{◌≡◌, ◌&&◌, true, false, cond, ℕ, List, Option, Some, None, Result, Ok, Err, IfOk}
+use Rattle.std.specs.Prelude.{◌≡◌, true, false, cond, ℕ, List, Option, Some, None, Result, Ok, Err, IfOk}
 use Rattle.ocpp_types.specs.declared.refusal.Refusal.{Refusal}
 use Rattle.hub_rows.specs.declared.change.Edit.{Edit}
 use Rattle.hub_rows.specs.declared.change.Edit.TheVariants.{Transactions}

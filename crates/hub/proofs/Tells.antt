@@ -1,10 +1,9 @@
 -- A settled use and a granted tag tell what they are said to, and no more.
-use Rattle.std.specs.Prelude.{◌≡◌, ◌≢◌, ◌⊎◌, ◌↔◌, ℕ, suc, ◌+◌, ◌<◌, ◌≤◌, min, nat_lt, List, [], ◌∷◌, ◌++◌, length, drop, map, find, Contains, Bool, true, false, cond, ◌&&◌, ◌||◌, ◌==◌, is_none, filter_map, Option, Some, None, IfSome, option_and_then}
+use Rattle.std.specs.Prelude.{◌≡◌, ◌⊎◌, ◌↔◌, ℕ, suc, ◌+◌, ◌≤◌, nat_lt, List, [], ◌∷◌, ◌++◌, length, find, Contains, Bool, true, false, cond, ◌&&◌, ◌||◌, ◌==◌, is_none, filter_map, Option, Some, None, IfSome, option_and_then}
 use Rattle.std.specs.List.{AllByRecursion, cons_option}
 use Rattle.std.specs.Option.{option_map}
 use Rattle.std.specs.Str.{bytes_eq}
 use Rattle.std.proofs.Common.{refl, sym, ◌∙◌, ap, subst, arith, inl, inr, append-nil}
-use Rattle.std.proofs.Math.Seq.{drop-append_seam}
 use Rattle.std.proofs.lemmas.Bool.{and_parts}
 use Rattle.std.proofs.lemmas.Bool.Decides.{nat_tests}
 use Rattle.ocpp_types.specs.TagKey.{key_of}
@@ -33,7 +32,7 @@ use Rattle.hub_rows.specs.Transactions.{is_tx, last_of_all, state_of, tx_in}
 use Rattle.hub_rows.specs.Uses.{if_of, is_owner_of, last_use_in, use_by, use_row}
 use Rattle.hub_rows.specs.WellFormed.{BeganAccepted, IsGoodTx, IsGoodTxOwner, WellFormedRows}
 use Rattle.hub_rows.proofs.FilterLaws.{all-passed}
-use Rattle.hub_rows.proofs.ListLaws.{found_is, other_text, same_text}
+use Rattle.hub_rows.proofs.ListLaws.{found_is, same_text}
 use Rattle.hub_rows.proofs.OrderLaws.{all-in_order}
 use Rattle.hub_rows.proofs.OwnLaws.{uses-edit}
 use Rattle.hub_rows.proofs.UseLaws.{last-length}
@@ -169,20 +168,23 @@ module _ (a : List ℕ) (tags : List TagRow) (grants : List GrantRow) where
       let entry : Info → GrantedTag = (λ info. record { key = g.key; owner = g.op; info = info }) in
       elim (tag_in g.op g.key tags) as (λ o. tag_in g.op g.key tags ≡ o → AllByRecursion (TellsOfTag a tags grants) (cons_option (option_map entry (option_map (granted_until g.op g.until) (option_map (λ r. effective (λ parent. is_blocked (tag_in g.op parent tags)) r.tag) o))) (filter_map (entry_by tags) gs))) [
         | None ↦ λ e. rest
-        | Some r ↦ λ e. (record {
-          grant = g;
-          tag = r;
-          on_record = all.0.0;
-          to = same_text g.to a all.0.1;
-          of_owner = e;
-          key = refl;
-          owner = refl;
-          named = refl;
-          text = refl;
-          parent = refl;
-          blocked = ap (λ t. r.tag.blocked || t) (parent-blocked tags g.op r.tag.parent);
-          expiry = λ m. counts-earlier m r.tag.expiry g.until;
-        }, rest)
+        | Some r ↦ λ e. (
+          record {
+            grant = g;
+            tag = r;
+            on_record = all.0.0;
+            to = same_text g.to a all.0.1;
+            of_owner = e;
+            key = refl;
+            owner = refl;
+            named = refl;
+            text = refl;
+            parent = refl;
+            blocked = ap (λ t. r.tag.blocked || t) (parent-blocked tags g.op r.tag.parent);
+            expiry = λ m. counts-earlier m r.tag.expiry g.until;
+          },
+          rest,
+        )
       ] refl
 
   pub tags-tell : AllByRecursion (TellsOfTag a tags grants) (granted_in a tags grants)

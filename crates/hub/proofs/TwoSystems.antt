@@ -1,5 +1,5 @@
 -- Two systems that are the same to an operator give it the same.
-use Rattle.std.specs.Prelude.{◌≡◌, ◌≢◌, ℕ, List, [], ◌∷◌, ◌++◌, length, drop, map, false, cond}
+use Rattle.std.specs.Prelude.{◌≡◌, ◌≢◌, ℕ, List, [], ◌∷◌, ◌++◌, length, drop, map, cond}
 use Rattle.std.specs.List.{AllByRecursion}
 use Rattle.std.proofs.Common.{refl, ◌∙◌, sym, ap, append_assoc, append-nil}
 use Rattle.std.proofs.Math.Seq.{drop-append_seam}
@@ -12,7 +12,7 @@ use Rattle.hub_events.specs.declared.event.What.{What}
 use Rattle.hub.specs.Effects.{edit_of}
 use Rattle.hub.specs.Others.{AddsUse, IsOfAnother, edits_tags}
 use Rattle.hub.specs.Tells.{AgreeOn}
-use Rattle.hub.specs.View.{Item, Own, Use, granted_to, more_uses, news, shown_by, uses_of, view, seen, seen_of, operator_run_outputs, operator_run}
+use Rattle.hub.specs.View.{Own, Use, granted_to, shown_by, uses_of, view, seen, seen_of, operator_run_outputs, operator_run}
 use Rattle.hub.specs.WellFormed.{WellFormed}
 use Rattle.hub.specs.World.{Setting, World, outputs_of, plan_at, run_outputs, world_run, world_step}
 use Rattle.hub.specs.TwoSystems.{AreAlike, AreSameTo, IsItsOwn, LeavesShown}

@@ -1,5 +1,5 @@
 -- What may be forgotten has been stopped.
-use Rattle.std.specs.Prelude.{◌≡◌, ◌&&◌, ◌-◌, ℕ, List, [], ◌∷◌, length, map, filter, find, take, Bool, true, false, cond, not, Option, None, Some, is_none, suc, zero}
+use Rattle.std.specs.Prelude.{◌≡◌, ◌&&◌, ℕ, List, [], ◌∷◌, map, find, take, Bool, true, false, cond, not, Option, None, Some, is_none, suc, zero}
 use Rattle.std.proofs.Common.{refl, sym, ◌∙◌, ap, subst}
 use Rattle.std.proofs.lemmas.Bool.{and_parts, true≢false}
 use Rattle.std.proofs.lemmas.Cmp.{tied_itself}
@@ -12,8 +12,8 @@ use Rattle.std.specs.declared.cmp.Ordering.TheVariants.{Less}
 use Rattle.hub_rows.specs.declared.tx_row.Stop.{Stop}
 use Rattle.hub_rows.specs.declared.tx_row.TxRow.{TxRow}
 use Rattle.hub_rows.specs.Changes.{IsStopped}
-use Rattle.hub_rows.specs.Forgetting.{but_last, forgettable, is_before, is_left, is_over, numbers_of}
-use Rattle.hub_rows.specs.Keyed.{by_key, found, key_cmp}
+use Rattle.hub_rows.specs.Forgetting.{but_last, is_before, is_left, is_over, numbers_of}
+use Rattle.hub_rows.specs.Keyed.{by_key, key_cmp}
 use Rattle.hub_rows.specs.Lookups.{forgettable_in}
 use Rattle.hub_rows.specs.Rows.{Rows, tx_key}
 use Rattle.hub_rows.specs.Transactions.{is_tx, readings_in, state_of, tx_in, txs_in}

@@ -1,5 +1,5 @@
 -- What a change does to the rows of each operator.
-use Rattle.std.specs.Prelude.{◌≡◌, ◌≢◌, ℕ, max, ℤ, pos, negsuc, ◌+◌, List, [], ◌∷◌, Option, None, Some, Bool, true, false, cond, ◌≤◌, ◌++◌, nat_le, nat_lt, ◌&&◌, ◌==◌, not, is_none, filter, map}
+use Rattle.std.specs.Prelude.{◌≡◌, ◌≢◌, ℕ, max, ℤ, pos, negsuc, ◌+◌, List, [], ◌∷◌, Option, None, Some, true, false, cond, ◌≤◌, ◌++◌, nat_le, nat_lt, ◌&&◌, ◌==◌, not, is_none, filter, map}
 use Rattle.std.proofs.Common.{refl, sym, subst, ap, ◌∙◌, arith}
 use Rattle.std.proofs.lemmas.Int.{ints}
 use Rattle.std.proofs.lemmas.Bool.Decides.{nat_tests}

@@ -121,9 +121,9 @@ counted a j (x ∷ uses) ours sorted over has =
     let later = all-later a x uses ours.0 ours.1 sorted.0 in
     let here : x.number ≡ j + 1 = first-next j x uses later low (has (j + 1) (omega arith) (omega (arith, low))) in
     let rest : most - (j + 1) ≡ length uses = counted a (j + 1) uses ours.1 sorted.1 (subst (λ n. AllByRecursion (λ r. n < r.number) uses) here later)
-        (λ n under to.
-        let apart : (x.number == n) ≡ false = grind (arith, nat_tests, here, under) in
-        subst (λ b. IsSome (cond b (Some x) (find (λ u. u.number == n) uses))) apart (has n (omega (arith, under)) (omega (arith, to)))) in
+    (λ n under to.
+    let apart : (x.number == n) ≡ false = grind (arith, nat_tests, here, under) in
+    subst (λ b. IsSome (cond b (Some x) (find (λ u. u.number == n) uses))) apart (has n (omega (arith, under)) (omega (arith, to)))) in
     omega (arith, here, rest)
 
 mine : (a : List ℕ) (uses : List UseRow) → AllByRecursion (λ r. r.op ≡ a) (own (λ r. r.op) a uses)
@@ -140,6 +140,6 @@ last-length a uses good =
     let of_a : List UseRow = own (λ r. r.op) a uses in
     let same : last_use_in a uses ≡ greatest (map (λ r. r.number) of_a) = (λ i. greatest (map (λ r. r.number) (filter (λ r. and-true (bytes_eq r.op a) i) uses))) in
     let count = counted a 0 of_a (mine a uses) (IsStrictlySortedBy-filter (by_key use_key) (λ r. bytes_eq r.op a) uses good.sorted)
-        (all-filter (λ r. 0 < r.number) (λ r. bytes_eq r.op a) uses (all-weaker (IsGoodUse uses) (λ r. 0 < r.number) (λ r it. let one = it.number.0 in omega (arith, one)) uses good.each))
-        (λ n from to. subst IsSome (found-own (λ r. r.op) a (λ u. u.number == n) uses) (numbered a uses n good.each (omega (arith, from)) (omega (arith, to, same)))) in
+    (all-filter (λ r. 0 < r.number) (λ r. bytes_eq r.op a) uses (all-weaker (IsGoodUse uses) (λ r. 0 < r.number) (λ r it. let one = it.number.0 in omega (arith, one)) uses good.each))
+    (λ n from to. subst IsSome (found-own (λ r. r.op) a (λ u. u.number == n) uses) (numbered a uses n good.each (omega (arith, from)) (omega (arith, to, same)))) in
     omega (arith, same, count)

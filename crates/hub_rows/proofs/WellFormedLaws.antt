@@ -1,5 +1,5 @@
 -- What a change leaves of well formed rows.
-use Rattle.std.specs.Prelude.{◌≡◌, ◌≢◌, nat_lt, ℕ, ◌+◌, ◌<◌, ◌≤◌, List, [], ◌∷◌, length, Bool, ◌&&◌, ◌==◌, cond, not, true, false, filter, find, Option, None, Some, is_some, IsSome, IfSome}
+use Rattle.std.specs.Prelude.{◌≡◌, ◌≢◌, nat_lt, ℕ, ◌+◌, ◌<◌, ◌≤◌, List, [], ◌∷◌, length, Bool, ◌&&◌, ◌==◌, cond, not, true, false, filter, Option, None, Some, is_some, IsSome, IfSome}
 use Rattle.std.proofs.Common.{refl, sym, ◌∙◌, ap, subst, arith, ⊎_elim}
 use Rattle.std.specs.List.{AllByRecursion}
 use Rattle.std.specs.List.Sorted.{IsStrictlySortedBy}
@@ -36,7 +36,7 @@ use Rattle.hub_rows.specs.declared.use_row.UseRow.{UseRow}
 use Rattle.hub_rows.specs.Rows.{Rows, no_rows, station_in, registration_in, registration_of, station_key, connector_key, tag_key, grant_key, tx_key, reading_key, reservation_key, list_key, report_key, tx_owner_key, use_key}
 use Rattle.hub_rows.specs.Keyed.{key_cmp, by_key, found, put, put_all, changed, without}
 use Rattle.hub_rows.specs.Transactions.{is_tx, tx_in, state_of, reading_rows, AreNext, last_of_all, last_tx_in}
-use Rattle.hub_rows.specs.WellFormed.{BeganAccepted, IsOnRecord, IsNumber, IsGoodConnector, IsGoodTag, IsGoodGrant, IsGoodTx, IsGoodReading, IsGoodReservation, IsGoodList, IsGoodReport, IsGoodTxOwner, IsGoodUse, AreGood, WellFormedRows}
+use Rattle.hub_rows.specs.WellFormed.{BeganAccepted, IsOnRecord, IsNumber, IsGoodConnector, IsGoodTag, IsGoodGrant, IsGoodTx, IsGoodReading, IsGoodReservation, IsGoodList, IsGoodReport, IsGoodTxOwner, AreGood, WellFormedRows}
 use Rattle.hub_rows.specs.Changes.{edit, new_station, with_boot, with_policy, connector_row, tag_row, grant_row, tx_row, with_stop, with_readings, reservation_row, list_row, report_row, IsOpen, IsAnother, EditFits}
 use Rattle.hub_rows.specs.Reservations.{is_named, is_reservation, without_named}
 use Rattle.hub_rows.specs.Uses.{is_owner_of, owner_in, with_owner, use_by, settled_use, use_row, with_use, last_use_in}
