@@ -7,6 +7,8 @@ use Rattle.std.proofs.Common.{refl, sym, ◌∙◌, ap, subst, arith, inl, inr, 
 use Rattle.std.proofs.lemmas.Bool.{and_parts}
 use Rattle.std.proofs.lemmas.Bool.Decides.{nat_tests}
 use Rattle.ocpp_types.specs.TagKey.{key_of}
+use Rattle.ocpp_types.specs.declared.authorization_status.AuthorizationStatus.{AuthorizationStatus}
+use Rattle.ocpp_types.specs.declared.authorization_status.AuthorizationStatus.TheVariants.{Accepted, Blocked, Expired, Invalid, ConcurrentTx}
 use Rattle.hub_rows.specs.declared.change.Edit.{Edit}
 use Rattle.hub_rows.specs.declared.change.Edit.TheVariants.{Stations, Tags, Transactions, Holdings}
 use Rattle.hub_rows.specs.declared.change.StationEdit.TheVariants.{StationAdded}
@@ -28,13 +30,14 @@ use Rattle.hub_rows.specs.Keyed.{by_key, found, in_order, own}
 use Rattle.hub_rows.specs.Lookups.{lookups_at}
 use Rattle.hub_rows.specs.Rows.{Rows}
 use Rattle.hub_rows.specs.Tags.{effective, is_blocked, is_parent_blocked, own_tag_in, tag_in}
-use Rattle.hub_rows.specs.Transactions.{is_tx, last_of_all, state_of, tx_in}
+use Rattle.hub_rows.specs.Transactions.{is_accepted, is_tx, last_of_all, state_of, tx_in}
 use Rattle.hub_rows.specs.Uses.{if_of, is_owner_of, last_use_in, use_by, use_row}
-use Rattle.hub_rows.specs.WellFormed.{BeganAccepted, IsGoodTx, IsGoodTxOwner, WellFormedRows}
+use Rattle.hub_rows.specs.WellFormed.{IsGoodTx, IsGoodTxOwner, WellFormedRows}
 use Rattle.hub_rows.proofs.FilterLaws.{all-passed}
 use Rattle.hub_rows.proofs.ListLaws.{found_is, same_text}
 use Rattle.hub_rows.proofs.OrderLaws.{all-in_order}
 use Rattle.hub_rows.proofs.OwnLaws.{uses-edit}
+use Rattle.hub_rows.proofs.OwnerLaws.{BeganAccepted}
 use Rattle.hub_rows.proofs.UseLaws.{last-length}
 use Rattle.event_plans.proofs.Fitting.{FitsLookups}
 use Rattle.hub.specs.Tells.{AgreeOn, CountsAt, TellsOfTag, TellsOfUse, parent_of}
@@ -57,6 +60,13 @@ found_in t xs r is = (found_is (Contains xs) t xs (contained xs) r is).0
 none_is : (o : Option Stop) → is_none o ≡ true → o ≡ None
 none_is None is = refl
 none_is (Some s) is = absurd (cc)
+
+accepted_is : (s : AuthorizationStatus) → is_accepted s ≡ true → s ≡ Accepted
+accepted_is Accepted is = refl
+accepted_is Blocked is = absurd (cc)
+accepted_is Expired is = absurd (cc)
+accepted_is Invalid is = absurd (cc)
+accepted_is ConcurrentTx is = absurd (cc)
 
 -- an edit of operator b at moment m adds no use of a's, or one
 abbrev pub AddsTo : List ℕ → List ℕ → ℕ → Rows → Option Edit → List UseRow → Type 0
@@ -91,7 +101,7 @@ module _ (a b : List ℕ) (m : ℕ) (rows : Rows) (good : WellFormedRows rows) (
         on_record = found_in (λ x. bytes_eq x.op b && is_tx station number x) rows.transactions r at;
         of_host = same_op;
         is_open = none_is r.stop (subst (λ o. IsOpen (option_map state_of o)) at is_open);
-        accepted = subst BeganAccepted ((λ i. found (λ x. x.op) (kept_op i) (is_tx (kept_at i) (kept_number i)) rows.transactions) ∙ at) kept.0.tx;
+        accepted = accepted_is r.start.status (subst BeganAccepted ((λ i. found (λ x. x.op) (kept_op i) (is_tx (kept_at i) (kept_number i)) rows.transactions) ∙ at) kept.0.tx);
         owner = subst (Contains rows.tx_owners) (λ i. record { op = kept_op i; station = (kept_at ∙ sym same_station) i; number = (kept_number ∙ sym same_number) i; owner = mine i }) (found_in (λ x. bytes_eq x.op b && is_owner_of station number x) rows.tx_owners c is);
         op = mine;
         number = (λ i. last-length c.owner rows.uses good.uses i + 1) ∙ (λ i. length (own (λ x. x.op) (mine i) rows.uses) + 1);

@@ -14,8 +14,8 @@ use Rattle.hub_rows.specs.Changes.{with_stop}
 use Rattle.hub_rows.specs.Forgetting.{has_number, is_one_of}
 use Rattle.hub_rows.specs.Keyed.{by_key, changed, found, greatest, key_cmp, put, those, without}
 use Rattle.hub_rows.specs.Rows.{tx_key}
-use Rattle.hub_rows.specs.Transactions.{AreNext, is_tx, last_tx_in}
-use Rattle.hub_rows.specs.WellFormed.{BeganAccepted}
+use Rattle.hub_rows.specs.Transactions.{AreNext, is_accepted, is_tx, last_tx_in}
+use Rattle.hub_rows.specs.WellFormed.{began_accepted}
 use Rattle.hub_rows.proofs.ListLaws.{RespectsTies, keys_total, same_key, same_text, three_parts}
 
 -- ---- what is found after an edit
@@ -80,12 +80,16 @@ next-above last n next = ⊎_elim (λ none. absurd (omega (arith, none))) (λ fo
 
 -- ---- transactions that began Accepted
 
+-- a transaction that is there, and that began Accepted
+abbrev pub BeganAccepted : Option TxRow → Type 0
+BeganAccepted o = began_accepted o ≡ true
+
 -- each that did is still there
 abbrev pub KeepsBegun : List TxRow → List TxRow → Type 0
 KeepsBegun old new = (b station : List ℕ) (number : ℕ) → BeganAccepted (found (λ t. t.op) b (is_tx station number) old) → BeganAccepted (found (λ t. t.op) b (is_tx station number) new)
 
 pub began_some : (o : Option TxRow) → BeganAccepted o → IsSome o
-began_some None began = absurd began
+began_some None began = absurd (true≢false (sym began))
 began_some (Some r) began = refl
 
 -- a transaction with a new number is put
@@ -116,7 +120,7 @@ found-new r txs above =
     ] refl)
 
 then_began : (b : Bool) (x y : TxRow) (o p : Option TxRow) → y.start.status ≡ x.start.status → (BeganAccepted o → BeganAccepted p) → BeganAccepted (cond b (Some x) o) → BeganAccepted (cond b (Some y) p)
-then_began true x y o p same there began = same ∙ began
+then_began true x y o p same there began = ap is_accepted same ∙ began
 then_began false x y o p same there began = there began
 
 -- some are stopped

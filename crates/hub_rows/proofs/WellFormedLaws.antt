@@ -35,13 +35,13 @@ use Rattle.hub_rows.specs.declared.tx_row.TxOwnerRow.{TxOwnerRow}
 use Rattle.hub_rows.specs.declared.use_row.UseRow.{UseRow}
 use Rattle.hub_rows.specs.Rows.{Rows, no_rows, station_in, registration_in, registration_of, station_key, connector_key, tag_key, grant_key, tx_key, reading_key, reservation_key, list_key, report_key, tx_owner_key, use_key}
 use Rattle.hub_rows.specs.Keyed.{key_cmp, by_key, found, put, put_all, changed, without}
-use Rattle.hub_rows.specs.Transactions.{is_tx, tx_in, state_of, reading_rows, AreNext, last_of_all, last_tx_in}
-use Rattle.hub_rows.specs.WellFormed.{BeganAccepted, IsOnRecord, IsNumber, IsGoodConnector, IsGoodTag, IsGoodGrant, IsGoodTx, IsGoodReading, IsGoodReservation, IsGoodList, IsGoodReport, IsGoodTxOwner, AreGood, WellFormedRows}
+use Rattle.hub_rows.specs.Transactions.{is_accepted, is_tx, tx_in, state_of, reading_rows, AreNext, last_of_all, last_tx_in}
+use Rattle.hub_rows.specs.WellFormed.{IsOnRecord, IsNumber, IsGoodConnector, IsGoodTag, IsGoodGrant, IsGoodTx, IsGoodReading, IsGoodReservation, IsGoodList, IsGoodReport, IsGoodTxOwner, AreGood, WellFormedRows}
 use Rattle.hub_rows.specs.Changes.{edit, new_station, with_boot, with_policy, connector_row, tag_row, grant_row, tx_row, with_stop, with_readings, reservation_row, list_row, report_row, IsOpen, IsAnother, EditFits}
 use Rattle.hub_rows.specs.Reservations.{is_named, is_reservation, without_named}
 use Rattle.hub_rows.specs.Uses.{is_owner_of, owner_in, with_owner, use_by, settled_use, use_row, with_use, last_use_in}
 use Rattle.hub_rows.proofs.ListLaws.{by_key_total, same_key, same_text, two_parts, all-put, all-put_all, all-filter, all-changed, all-weaker, sorted-put, sorted-put_all, sorted-changed, some-put, some-map, found_all, found_is}
-use Rattle.hub_rows.proofs.OwnerLaws.{KeepsBegun, began-kept, find-kept, found-new, keeps-new, keeps-stopped, next-above}
+use Rattle.hub_rows.proofs.OwnerLaws.{BeganAccepted, KeepsBegun, began-kept, find-kept, found-new, keeps-new, keeps-stopped, next-above}
 use Rattle.hub_rows.proofs.UseLaws.{good-next}
 
 -- ---- good lists
@@ -386,7 +386,7 @@ well_formed-edit b (Transactions (TxStarted station number start owner)) rows go
     let begun : WellFormedRows (record rows { transactions = put (by_key tx_key) r rows.transactions })
     = tx-put b rows good r (record { station = on_record b station rows.stations fits.0; number = number_of _ number fits.1; key = fits.2 }) above in
     let freed = reservations-without b (record rows { transactions = put (by_key tx_key) r rows.transactions }) begun (is_named station start.reservation) in
-    owner-put b (record rows { transactions = put (by_key tx_key) r rows.transactions; reservations = without_named b station start.reservation rows.reservations }) freed station number owner fits.3 (if_some owner (λ status. subst BeganAccepted (sym (found-new r rows.transactions above)) status) fits.4)
+    owner-put b (record rows { transactions = put (by_key tx_key) r rows.transactions; reservations = without_named b station start.reservation rows.reservations }) freed station number owner fits.3 (if_some owner (λ status. subst BeganAccepted (sym (found-new r rows.transactions above)) (ap is_accepted status)) fits.4)
 well_formed-edit b (Transactions (TxStopped station number stop first readings)) rows good fits =
     let ended : WellFormedRows (record rows { transactions = changed (λ r. r.op) b (is_tx station number) (with_stop stop) rows.transactions }) = tx-stopped b rows good station number stop in
     let read = readings-put b (record rows { transactions = changed (λ r. r.op) b (is_tx station number) (with_stop stop) rows.transactions }) ended station _ first readings (on_record-tx b station number rows good fits.0) fits.1 in

@@ -1,9 +1,8 @@
 -- What holds of the rows of all operators.
-use Rattle.std.specs.Prelude.{◌≡◌, ◌≢◌, ℕ, ◌≤◌, ◌==◌, List, Option, None, Some, IsSome}
+use Rattle.std.specs.Prelude.{◌≡◌, ◌≢◌, ℕ, ◌≤◌, ◌==◌, List, Bool, true, false, Option, None, Some, IsSome}
 use Rattle.std.specs.List.{AllByRecursion}
 use Rattle.std.specs.List.Sorted.{IsStrictlySortedBy}
 use Rattle.ocpp_types.specs.TagKey.{key_of}
-use Rattle.ocpp_types.specs.declared.authorization_status.AuthorizationStatus.TheVariants.{Accepted}
 use Rattle.hub_rows.specs.declared.station_row.StationRow.{StationRow}
 use Rattle.hub_rows.specs.declared.connector_row.ConnectorRow.{ConnectorRow}
 use Rattle.hub_rows.specs.declared.tag_row.TagRow.{TagRow}
@@ -19,7 +18,7 @@ use Rattle.hub_rows.specs.Keyed.{by_key, found}
 use Rattle.hub_rows.specs.LocalLists.{AreEntries}
 use Rattle.hub_rows.specs.Rows.{Rows, station_in, station_key, connector_key, tag_key, grant_key, tx_key, reading_key, reservation_key, list_key, report_key, tx_owner_key, use_key}
 use Rattle.hub_rows.specs.Tags.{tag_in}
-use Rattle.hub_rows.specs.Transactions.{is_tx, last_of_all}
+use Rattle.hub_rows.specs.Transactions.{is_accepted, is_tx, last_of_all}
 
 -- a station of operator b is among those of all
 abbrev pub IsOnRecord : List ℕ → List ℕ → List StationRow → Type 0
@@ -67,14 +66,14 @@ pub record IsGoodList (stations : List StationRow) (r : ListRow) : Type 0 where
 abbrev pub IsGoodReport : List StationRow → ReportRow → Type 0
 IsGoodReport stations r = IsOnRecord r.op r.station stations
 
--- a transaction that is there, and that began Accepted
-abbrev pub BeganAccepted : Option TxRow → Type 0
-BeganAccepted None = ⊥
-BeganAccepted (Some t) = t.start.status ≡ Accepted
+-- whether it is there, and began Accepted
+abbrev pub began_accepted : Option TxRow → Bool
+began_accepted None = false
+began_accepted (Some t) = is_accepted t.start.status
 
 -- of a transaction that is on record and began Accepted, whose tag another operator granted
 pub record IsGoodTxOwner (txs : List TxRow) (r : TxOwnerRow) : Type 0 where
-  pub tx : BeganAccepted (found (λ t. t.op) r.op (is_tx r.station r.number) txs)
+  pub tx : began_accepted (found (λ t. t.op) r.op (is_tx r.station r.number) txs) ≡ true
   pub owner : r.owner ≢ r.op
 
 -- with a number in range, at a station of another operator; and each number from 1 to its own is that of a use of its owner

@@ -1,8 +1,9 @@
 //! The uses of granted id tags, kept in groups by the owners of the tags.
-ghost use Rattle.std.specs.Prelude.{◌≡◌, [], IfOk, OnOk};
+ghost use Rattle.std.specs.Prelude.{◌≡◌, ◌≤◌, [], IfOk, IsOk, OnOk};
 ghost use Rattle.std.proofs.Props.{props};
 ghost use Rattle.hub_rows.specs.Keyed.{own};
 ghost use Rattle.hub_rows.specs.Rows.{use_key};
+ghost use Rattle.hub_rows.specs.Transactions.{last_of_all};
 ghost use Rattle.hub_rows.specs.Uses.{last_use_in, next_use, with_use};
 ghost use Rattle.store_mem.specs.Groups.{all_of, AreGroups};
 ghost use Rattle.store_mem.specs.Uses.{HasRoomFor};
@@ -86,7 +87,8 @@ impl Uses {
     }
 }
 
-/// The use of a stopped transaction that follows the owner's last one, unless that has the last number of all.
+/// The use of a stopped transaction that follows the owner's last one, unless that has the last number of all. There is
+/// none then, and no fault.
 pub fn next_use(
     owner: &Text,
     last: u32,
@@ -94,7 +96,8 @@ pub fn next_use(
     row: &TxRow,
     stop: &Stop,
 ) -> Mem<Option<UseRow>>
-    ensures { IfOk result (λ u. u ≡ next_use owner.now last host.now row.now stop.now) }
+    ensures next { IfOk result (λ u. u ≡ next_use owner.now last host.now row.now stop.now) }
+    ensures spent { last_of_all ≤ last → IsOk result }
 {
     if last >= LAST_NUMBER {
         return Ok(None);
