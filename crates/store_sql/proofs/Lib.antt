@@ -1,2 +1,4 @@
+pub mod MetaLaws
+pub mod SimpleLaws
 pub mod StopLaws
 pub mod StoreLaws
