@@ -1,4 +1,3 @@
 pub mod MetaLaws
-pub mod SimpleLaws
 pub mod StopLaws
 pub mod StoreLaws

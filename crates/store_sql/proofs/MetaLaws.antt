@@ -1,9 +1,11 @@
 -- What the rows of hub_meta show, over each schema that has it.
-use Rattle.std.proofs.Common.{◌≡◌, ◌∙◌, ◌+◌, ◌<◌, ◌≤◌, ℕ, ℤ, zero, suc, pos, codes, List, [], ◌∷◌, Some, false, true, Equal, Ok, Err, Result, IfOk, IsTrue, map, refl, sym, ap, subst, inl, inr, arith}
+use Rattle.std.proofs.Common.{◌≡◌, ◌∙◌, ◌+◌, ◌<◌, ◌≤◌, ℕ, ℤ, zero, suc, pos, codes, List, [], ◌∷◌, Some, false, length, slice_get, ◌==◌, Equal, Ok, Err, Result, IfOk, IsTrue, map, refl, sym, ap, subst, inl, arith, rules}
 use Rattle.std.specs.List.{AllByRecursion}
 use Rattle.sqlite_tied.specs.Compute.{everything}
+use Rattle.sqlite_rules.specs.Action.{works}
 use Rattle.sqlite_rules.specs.Lists.{Has}
 use Rattle.sqlite_schema.specs.declared.schema.Index.{Index}
+use Rattle.sqlite_schema.specs.declared.schema.Keys.TheVariants.{Enforced}
 use Rattle.sqlite_schema.specs.declared.schema.Schema.{Schema}
 use Rattle.sqlite_schema.specs.Names.{same_name, table_named}
 use Rattle.sqlite_schema.specs.Rules.{Obeys}
@@ -24,13 +26,12 @@ use Rattle.sqlite.proofs.Callers.{IsPlain, command_of, reads_as}
 use Rattle.hub_rows.specs.Keyed.{key_cmp}
 use Rattle.hub_rows.proofs.ListLaws.{by_key_total}
 use Rattle.sql_tables.specs.Forms.{cols, plain_query}
-use Rattle.sql_tables.specs.Tables.{hub_meta, names_of}
+use Rattle.sql_tables.specs.Tables.{hub_meta, key_index, names_of}
 use Rattle.sql_tables.specs.Opening.{our_number, schema_at}
 use Rattle.sql_tables.specs.declared.meta.TheConstants as meta
 use Rattle.sql_rows.specs.declared.meta_rows.MetaRow.{MetaRow}
 use Rattle.sql_rows.specs.TypedTable.{cmp, rows_in, typed}
 use Rattle.sql_rows.specs.TypedTables.{hub_good, metas}
-use Rattle.sql_rows.proofs.HubTables.{all_plain}
 use Rattle.sql_rows.proofs.MemberLaws.{is_arranged, sorted_single}
 use Rattle.sql_rows.proofs.MetaTable.{on_metas, whole_metas}
 use Rattle.sql_rows.proofs.QueryLemmas.{rows_from, rows_have}
@@ -83,86 +84,39 @@ meta_named (suc (suc zero)) some = refl
 meta_named (suc (suc (suc zero))) some = refl
 meta_named (suc (suc (suc (suc n)))) some = refl
 
-abbrev ArePlain : ℕ → Type 0
-ArePlain n = AllByRecursion (λ (i : Index). i.order ≡ plain) (schema_at n).indexes
+abbrev ArePlain : Schema → Type 0
+ArePlain schema = AllByRecursion (λ (i : Index). i.order ≡ plain) schema.indexes
 
-plain_first : ArePlain 1
-plain_first = (refl, (refl, (refl, (refl, (refl, (refl, (refl, (refl, (refl, (refl, (refl, (refl, (refl, (refl, (refl, tt)))))))))))))))
+plain_at : (n : ℕ) → ArePlain (schema_at n)
+plain_at n = search rules
 
-plain_second : ArePlain 2
-plain_second = (refl, (refl, (refl, (refl, (refl, (refl, (refl, (refl, (refl, (refl, (refl, (refl, (refl, (refl, (refl, (refl, tt))))))))))))))))
-
-plain_third : ArePlain 3
-plain_third = (refl, (refl, (refl, (refl, (refl, (refl, (refl, (refl, (refl, (refl, (refl, (refl, (refl, (refl, (refl, (refl, (refl, (refl, tt))))))))))))))))))
-
-meta_first : IsTypedTable (schema_at 1) hub_good 0 metas
-meta_first = record {
+meta_of : (schema : Schema) → slice_get schema.tables 0 ≡ Some hub_meta → Has schema.tables hub_meta → Has schema.indexes (key_index (codes "sqlite_autoindex_hub_meta_1") 0 1) → ArePlain schema
+    → ((olds news : List Row) → (length news == 0) ≡ false → works schema Enforced 0 0 olds news ≡ []) → IsTypedTable schema hub_good 0 metas
+meta_of schema here listed guarded orders still = record {
   key_row = λ m. refl;
   row_key = λ m. refl;
   long = λ m. refl;
   round = λ m. refl;
   casts = λ m. rw (cast_int (pos m.number)) refl;
   good_is = refl;
-  here = refl;
-  listed = inl refl;
+  here = here;
+  listed = listed;
   index = _;
-  guarded = inl refl;
+  guarded = guarded;
   guards_it = refl;
   columns = refl;
   order = refl;
-  orders = plain_first;
+  orders = orders;
   base = λ db. refl;
   counted = refl;
-  still = λ olds news some. rw some refl;
-}
-
-meta_second : IsTypedTable (schema_at 2) hub_good 0 metas
-meta_second = record {
-  key_row = λ m. refl;
-  row_key = λ m. refl;
-  long = λ m. refl;
-  round = λ m. refl;
-  casts = λ m. rw (cast_int (pos m.number)) refl;
-  good_is = refl;
-  here = refl;
-  listed = inl refl;
-  index = _;
-  guarded = inl refl;
-  guards_it = refl;
-  columns = refl;
-  order = refl;
-  orders = plain_second;
-  base = λ db. refl;
-  counted = refl;
-  still = λ olds news some. rw some refl;
-}
-
-meta_third : IsTypedTable (schema_at 3) hub_good 0 metas
-meta_third = record {
-  key_row = λ m. refl;
-  row_key = λ m. refl;
-  long = λ m. refl;
-  round = λ m. refl;
-  casts = λ m. rw (cast_int (pos m.number)) refl;
-  good_is = refl;
-  here = refl;
-  listed = inl refl;
-  index = _;
-  guarded = inl refl;
-  guards_it = refl;
-  columns = refl;
-  order = refl;
-  orders = plain_third;
-  base = λ db. refl;
-  counted = refl;
-  still = λ olds news some. rw some refl;
+  still = still;
 }
 
 meta_at : (n : ℕ) → 0 < n → IsTypedTable (schema_at n) hub_good 0 metas
 meta_at zero some = absurd (omega (arith, some))
-meta_at (suc zero) some = meta_first
-meta_at (suc (suc zero)) some = meta_second
-meta_at (suc (suc (suc zero))) some = meta_third
+meta_at (suc zero) some = meta_of (schema_at 1) refl (inl refl) (inl refl) (plain_at 1) (λ olds news some. rw some refl)
+meta_at (suc (suc zero)) some = meta_of (schema_at 2) refl (inl refl) (inl refl) (plain_at 2) (λ olds news some. rw some refl)
+meta_at (suc (suc (suc zero))) some = meta_of (schema_at 3) refl (inl refl) (inl refl) (plain_at 3) (λ olds news some. rw some refl)
 meta_at (suc (suc (suc (suc n)))) some = on_metas
 
 -- ---- the rows that are listed
