@@ -1,5 +1,5 @@
 -- What the rows of hub_meta show, over each schema that has it.
-use Rattle.std.proofs.Common.{◌≡◌, ◌∙◌, ◌+◌, ◌<◌, ◌≤◌, ℕ, ℤ, zero, suc, pos, codes, List, [], ◌∷◌, Some, false, length, slice_get, ◌==◌, Equal, Ok, Err, Result, IfOk, IsTrue, map, refl, sym, ap, subst, inl, arith, rules}
+use Rattle.std.proofs.Common.{◌≡◌, ◌∙◌, ◌<◌, ℕ, ℤ, zero, suc, pos, codes, List, [], ◌∷◌, Some, false, length, slice_get, ◌==◌, Equal, Ok, Err, Result, IfOk, IsTrue, map, refl, sym, ap, subst, inl, arith, rules}
 use Rattle.std.specs.List.{AllByRecursion}
 use Rattle.sqlite_tied.specs.Compute.{everything}
 use Rattle.sqlite_rules.specs.Action.{works}
@@ -12,10 +12,9 @@ use Rattle.sqlite_schema.specs.Rules.{Obeys}
 use Rattle.sqlite_sql.specs.Query.{IsAnswer, inner, end}
 use Rattle.sqlite_sql.specs.Program.{overlay}
 use Rattle.sqlite_sql.specs.Term.{eval_all}
-use Rattle.sqlite_trees.specs.Tree.{Trees}
 use Rattle.sqlite_value.specs.Keys.{plain}
 use Rattle.sqlite_value.specs.Order.{Row}
-use Rattle.sqlite_value.specs.declared.value.Value.TheVariants.{Int, Null, Text}
+use Rattle.sqlite_value.specs.declared.value.Value.TheVariants.{Int, Null}
 use Rattle.sqlite.specs.Command.{Command}
 use Rattle.sqlite.specs.Command.TheVariants.{Select}
 use Rattle.sqlite.specs.declared.error.Error.{Error}
@@ -27,7 +26,7 @@ use Rattle.hub_rows.specs.Keyed.{key_cmp}
 use Rattle.hub_rows.proofs.ListLaws.{by_key_total}
 use Rattle.sql_tables.specs.Forms.{cols, plain_query}
 use Rattle.sql_tables.specs.Tables.{hub_meta, key_index, names_of}
-use Rattle.sql_tables.specs.Opening.{our_number, schema_at}
+use Rattle.sql_tables.specs.Opening.{schema_at}
 use Rattle.sql_tables.specs.declared.meta.TheConstants as meta
 use Rattle.sql_rows.specs.declared.meta_rows.MetaRow.{MetaRow}
 use Rattle.sql_rows.specs.TypedTable.{cmp, rows_in, typed}

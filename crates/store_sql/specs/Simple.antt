@@ -17,4 +17,3 @@ IsSimpleTable t = AllByRecursion IsSimpleColumn t.columns × (t.key ≡ None) ×
 -- such tables, and no view
 abbrev pub IsSimple : Schema → Type 0
 IsSimple s = AllByRecursion IsSimpleTable s.tables × (s.views ≡ [])
-

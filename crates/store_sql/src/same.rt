@@ -12,10 +12,10 @@ use sqlite_value::value::{Bytes, Value};
 
 /// A part of a schema.
 pub(crate) trait Same {
-    /// Those that can be compared.
+    /// The values that can be compared.
     ghost is_simple: { Self → Type 0 };
 
-    /// Whether it is the same, and can be compared.
+    /// Whether it is the same, and one that can be compared.
     fn is_same(&self, other: &Self) -> bool
         ensures { IsTrue result ↔ ((self.now ≡ other.now) × is_simple other.now) };
 }
