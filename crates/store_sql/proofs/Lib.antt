@@ -1,2 +1,3 @@
+pub mod MetaLaws
 pub mod StopLaws
 pub mod StoreLaws

@@ -1,1 +1,4 @@
 pub mod Store
+pub mod Simple
+pub mod Known
+pub mod Faults

@@ -1,5 +1,6 @@
 //! Why a database isn't taken.
-ghost use Rattle.std.specs.Prelude.{◌≢◌, OnErr, OnOk, IsErr, IsOk};
+ghost use Rattle.std.specs.Prelude.{IfErr, OnErr, OnOk, IsErr, IsOk};
+ghost use Rattle.store_sql.specs.Faults.{IsFailure};
 
 use hub_rows::StoreFault;
 use sqlite::{Error, ErrorCode};
@@ -41,7 +42,7 @@ pub enum PrepareFault {
 }
 
 pub(crate) fn fault(error: Error) -> PrepareFault
-    ensures { (result ≢ PrepareFault.NotOurs) × (result ≢ PrepareFault.Newer) }
+    ensures { IsFailure result }
 {
     match error {
         Error::SqliteFailure(ErrorCode::OutOfMemory) => PrepareFault::NoMemory,
@@ -58,6 +59,7 @@ pub(crate) fn fault(error: Error) -> PrepareFault
 pub(crate) fn told<A: Drop>(done: Result<A, Error>) -> Result<(), PrepareFault>
     ensures ok { OnOk result (IsOk done) }
     ensures err { OnErr result (IsErr done) }
+    ensures failure { IfErr result IsFailure }
 {
     match done {
         Ok(_) => Ok(()),
@@ -66,12 +68,16 @@ pub(crate) fn told<A: Drop>(done: Result<A, Error>) -> Result<(), PrepareFault>
 }
 
 impl From<AllocError> for PrepareFault {
+    ghost from_gives = { λ _ f. IsFailure f };
+
     fn from(_: AllocError) -> PrepareFault {
         PrepareFault::NoMemory
     }
 }
 
 impl From<StoreFault> for PrepareFault {
+    ghost from_gives = { λ _ f. IsFailure f };
+
     fn from(fault: StoreFault) -> PrepareFault {
         match fault {
             StoreFault::NoMemory => PrepareFault::NoMemory,

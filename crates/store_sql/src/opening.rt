@@ -1,6 +1,8 @@
 //! How a connection is made ready: the tables of a database are taken, those that it lacks of this schema are made, and
 //! what isn't ours is refused.
-ghost use Rattle.std.specs.Prelude.{◌≡◌, ◌≢◌, ◌↔◌, [], ℕ, ◌<◌, ◌≤◌, IfOk, IsTrue, OnOk, None, false, filter, find, map};
+ghost use Rattle.std.specs.Prelude.{◌≡◌, ◌≢◌, ◌↔◌, [], ◌∷◌, ℕ, ℤ, ◌<◌, ◌≤◌, IfErr, IfOk, IsTrue, MatchOption, OnOk, None, Some, false, filter, find, map};
+ghost use Rattle.sqlite_rules.specs.Lists.{Has};
+ghost use Rattle.sqlite_value.specs.declared.value.Value.TheVariants.{Int, Text};
 ghost use Rattle.sqlite.specs.Held.{state};
 ghost use Rattle.sqlite.specs.Steps.{over_memory};
 ghost use Rattle.sqlite.specs.State.{HasCleanDisk};
@@ -11,6 +13,9 @@ ghost use Rattle.sql_rows.specs.Kept.{IsServing, changes_in, is_count};
 ghost use Rattle.sql_rows.specs.Opening.{Rested, IsSpared, Prepares};
 ghost use Rattle.sql_rows.specs.TypedTable.{cmp, rows_in};
 ghost use Rattle.sql_rows.specs.TypedTables.{metas};
+ghost use Rattle.store_sql.specs.Faults.{AcceptsOurs, AcceptsServing, FindsNumber, IsFailure};
+ghost use Rattle.store_sql.specs.Known.{IsKnown, IsSchemaOf, ShowsNumber, number_row};
+ghost use Rattle.store_sql.specs.Simple.{IsSimple};
 
 use crate::fault::{PrepareFault, fault};
 use crate::same::{is_blank, same_schema};
@@ -29,6 +34,7 @@ fn meta_rows<S: Alter>(conn: &mut Connection<S>) -> Result<Vec<Row>, Error>
     requires rested { Rested (state S.Store conn.old) }
     requires autocommit { conn.old.in_transaction ≡ false }
     ensures spared { IsSpared (state S.Store conn.old) (state S.Store conn.new) }
+    ensures shown { (n : ℕ) → IsKnown n (state S.Store conn.old).now → IsTrue (state S.Store conn.new).is_open → IfOk result (λ v. ShowsNumber n v.items) }
 {
     let mut tx = conn.transaction();
     let rows = tx.query_all(sql_tables::meta::LIST, &[]);
@@ -37,7 +43,7 @@ fn meta_rows<S: Alter>(conn: &mut Connection<S>) -> Result<Vec<Row>, Error>
 }
 
 fn is_like<S: Alter>(conn: &Connection<S>, model: &Connection<MemStore>) -> bool
-    ensures { IsTrue result → (state S.Store conn.now).now.schema ≡ (state over_memory model.now).now.schema }
+    ensures { IsTrue result ↔ (((state S.Store conn.now).now.schema ≡ (state over_memory model.now).now.schema) × IsSimple (state over_memory model.now).now.schema) }
 {
     same_schema(conn.schema(), model.schema())
 }
@@ -66,7 +72,9 @@ fn model(alloc: Global, number: u32) -> Result<Connection<MemStore>, Error>
 }
 
 /// The number of a row of two columns, a name and a number, that has that name.
-fn number_named(row: &Row, name: &[u8]) -> Option<i64> {
+fn number_named(row: &Row, name: &[u8]) -> Option<i64>
+    ensures { (n : ℤ) → (result ≡ Some n) ↔ (row.now ≡ Text name.now ∷ Int n ∷ []) }
+{
     match (row.column_count(), row.get_ref(0), row.get_ref(1)) {
         (2, Ok(ValueRef::Text(text)), Ok(ValueRef::Int(number))) if text == name => Some(number),
         _ => None,
@@ -74,8 +82,10 @@ fn number_named(row: &Row, name: &[u8]) -> Option<i64> {
 }
 
 /// The number of the first row named `schema`.
-fn schema_number(rows: &[Row]) -> Option<i64> {
-    for row in rows {
+fn schema_number(rows: &[Row]) -> Option<i64>
+    ensures { MatchOption result ((n : ℤ) → Has rows.now (number_row n) → ⊥) (λ n. Has rows.now (number_row n)) }
+{
+    'rows: for row in rows {
         if let Some(number) = number_named(row, b"schema") {
             return Some(number);
         }
@@ -88,7 +98,8 @@ fn number_of<S: Alter>(
     conn: &Connection<S>,
     rows: Result<Vec<Row>, Error>,
 ) -> Result<u32, PrepareFault>
-    ensures { IfOk result (λ number. number ≤ our_number) }
+    ensures known { IfOk result (λ number. number ≤ our_number) }
+    ensures finds { (n : ℕ) → IsSchemaOf n (state S.Store conn.now).now.schema → IfOk rows (λ v. ShowsNumber n v.items) → FindsNumber n result }
 {
     if conn.schema().table_named(b"hub_meta").is_none() {
         return Err(PrepareFault::NotOurs);
@@ -116,7 +127,8 @@ fn verdict<S: Alter>(
     alloc: Global,
     rows: Result<Vec<Row>, Error>,
 ) -> Result<u32, PrepareFault>
-    ensures { IfOk result (λ number. (number ≤ our_number) × ((state S.Store conn.now).now.schema ≡ schema_at number)) }
+    ensures number { IfOk result (λ number. (number ≤ our_number) × ((state S.Store conn.now).now.schema ≡ schema_at number)) }
+    ensures accepts { (n : ℕ) → IsSchemaOf n (state S.Store conn.now).now.schema → IfOk rows (λ v. ShowsNumber n v.items) → IfErr result IsFailure }
 {
     let number = number_of(conn, rows)?;
     match model(alloc, number) {
@@ -137,6 +149,7 @@ fn still_open<S: Alter>(conn: &mut Connection<S>) -> Result<(), PrepareFault>
     requires autocommit { conn.old.in_transaction ≡ false }
     ensures spared { IsSpared (state S.Store conn.old) (state S.Store conn.new) }
     ensures up { HasCleanDisk (state S.Store conn.new) → OnOk result (IsTrue (state S.Store conn.new).is_open) }
+    ensures failure { IfErr result IsFailure }
 {
     match conn.prepare(sql_tables::meta::LIST) {
         Ok(_) => Ok(()),
@@ -151,6 +164,7 @@ fn look<S: Alter>(conn: &mut Connection<S>, alloc: Global) -> Result<u32, Prepar
     ensures spared { IsSpared (state S.Store conn.old) (state S.Store conn.new) }
     ensures up { HasCleanDisk (state S.Store conn.new) → OnOk result (IsTrue (state S.Store conn.new).is_open) }
     ensures number { IfOk result (λ number. (number ≤ our_number) × (IsTrue (state S.Store conn.new).is_open → (state S.Store conn.new).now.schema ≡ schema_at number)) }
+    ensures accepts { (n : ℕ) → IsKnown n (state S.Store conn.old).now → IsTrue (state S.Store conn.new).is_open → IfErr result IsFailure }
 {
     let rows = meta_rows(conn);
     let number = verdict(conn, alloc, rows)?;
@@ -162,6 +176,8 @@ fn prepare_rested<S: Alter>(conn: &mut Connection<S>, alloc: Global) -> Result<(
     requires rested { Rested (state S.Store conn.old) }
     requires autocommit { conn.old.in_transaction ≡ false }
     ensures prepares { Prepares (state S.Store conn.old) (state S.Store conn.new) result }
+    ensures accepts { (n : ℕ) → IsKnown n (state S.Store conn.old).now → IsTrue (state S.Store conn.new).is_open → IfErr result IsFailure }
+    ensures accepts_empty { (state S.Store conn.old).now.schema ≡ no_schema → IfErr result IsFailure }
 {
     if is_new(conn) {
         return raise(conn, alloc, 0);
@@ -188,6 +204,8 @@ fn is_settled<S: Alter>(conn: &Connection<S>) -> bool
 /// A connection inside a transaction answers Failed. The limit of steps is taken off.
 pub fn prepare<S: Alter>(conn: &mut Connection<S>, alloc: Global) -> Result<(), PrepareFault>
     ensures prepares { Prepares (state S.Store conn.old) (state S.Store conn.new) result }
+    ensures serving { AcceptsServing (state S.Store conn.old) (state S.Store conn.new) result }
+    ensures ours { AcceptsOurs (state S.Store conn.old) (state S.Store conn.new) result }
 {
     if !is_settled(conn) {
         return Err(PrepareFault::Failed);

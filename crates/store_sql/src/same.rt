@@ -1,6 +1,8 @@
 //! Whether two schemas are the same.
-ghost use Rattle.std.specs.Prelude.{◌≡◌, ◌↔◌, [], IsTrue};
+ghost use Rattle.std.specs.Prelude.{◌≡◌, ◌↔◌, [], IsTrue, None};
+ghost use Rattle.std.specs.List.{AllByRecursion};
 ghost use Rattle.sql_tables.specs.Opening.{no_schema};
+ghost use Rattle.store_sql.specs.Simple.{IsSimple, IsSimpleColumn, IsSimpleTable};
 
 use sqlite_items::Items;
 use sqlite_schema::code::Terms;
@@ -10,13 +12,16 @@ use sqlite_value::value::{Bytes, Value};
 
 /// A part of a schema.
 pub(crate) trait Same {
-    /// Whether it is the same. An answer of false says nothing.
+    /// The values that can be compared.
+    ghost is_simple: { Self → Type 0 };
+
+    /// Whether it is the same, and one that can be compared.
     fn is_same(&self, other: &Self) -> bool
-        ensures { IsTrue result → self.now ≡ other.now };
+        ensures { IsTrue result ↔ ((self.now ≡ other.now) × is_simple other.now) };
 }
 
 fn same_items<T: Same>(a: &Items<T>, b: &Items<T>) -> bool
-    ensures { IsTrue result → a.now ≡ b.now }
+    ensures { IsTrue result ↔ ((a.now ≡ b.now) × AllByRecursion T.is_simple b.now) }
 {
     let a = a.as_slice();
     let b = b.as_slice();
@@ -32,18 +37,30 @@ fn same_items<T: Same>(a: &Items<T>, b: &Items<T>) -> bool
 }
 
 impl Same for Bytes {
+    ghost use Rattle.std.specs.Prelude.{⊤};
+
+    ghost is_simple = { λ _. ⊤ };
+
     fn is_same(&self, other: &Bytes) -> bool {
         self.as_slice() == other.as_slice()
     }
 }
 
 impl Same for Items<usize> {
+    ghost use Rattle.std.specs.Prelude.{⊤};
+
+    ghost is_simple = { λ _. ⊤ };
+
     fn is_same(&self, other: &Items<usize>) -> bool {
         self.as_slice() == other.as_slice()
     }
 }
 
 impl Same for Order {
+    ghost use Rattle.std.specs.Prelude.{⊤};
+
+    ghost is_simple = { λ _. ⊤ };
+
     fn is_same(&self, other: &Order) -> bool {
         self.digits == other.digits
     }
@@ -51,12 +68,16 @@ impl Same for Order {
 
 /// Both are none.
 impl Same for Terms {
+    ghost is_simple = { λ it. it ≡ [] };
+
     fn is_same(&self, other: &Terms) -> bool {
         no_terms(self) && no_terms(other)
     }
 }
 
 impl Same for Stamps {
+    ghost is_simple = { λ it. it.terms ≡ [] };
+
     fn is_same(&self, other: &Stamps) -> bool {
         self.places.is_same(&other.places)
             && self.terms.is_same(&other.terms)
@@ -65,6 +86,10 @@ impl Same for Stamps {
 }
 
 impl Same for Index {
+    ghost use Rattle.std.specs.Prelude.{⊤};
+
+    ghost is_simple = { λ _. ⊤ };
+
     fn is_same(&self, other: &Index) -> bool {
         self.name.is_same(&other.name)
             && self.tree == other.tree
@@ -76,6 +101,8 @@ impl Same for Index {
 }
 
 impl Same for Column {
+    ghost is_simple = { IsSimpleColumn };
+
     fn is_same(&self, other: &Column) -> bool {
         self.name.is_same(&other.name)
             && self.kind == other.kind
@@ -87,6 +114,10 @@ impl Same for Column {
 }
 
 impl Same for Reference {
+    ghost use Rattle.std.specs.Prelude.{⊤};
+
+    ghost is_simple = { λ _. ⊤ };
+
     fn is_same(&self, other: &Reference) -> bool {
         self.columns.is_same(&other.columns)
             && self.parent.is_same(&other.parent)
@@ -98,6 +129,8 @@ impl Same for Reference {
 }
 
 impl Same for Table {
+    ghost is_simple = { IsSimpleTable };
+
     fn is_same(&self, other: &Table) -> bool {
         same_columns_of(self, other)
             && same_rules_of(self, other)
@@ -107,13 +140,13 @@ impl Same for Table {
 }
 
 fn no_terms(a: &Terms) -> bool
-    ensures { IsTrue result → a.now ≡ [] }
+    ensures { IsTrue result ↔ (a.now ≡ []) }
 {
     a.roots.is_empty()
 }
 
 fn same_columns_of(a: &Table, b: &Table) -> bool
-    ensures { IsTrue result → (a.now.name ≡ b.now.name) × (a.now.tree ≡ b.now.tree) × (a.now.columns ≡ b.now.columns) × (a.now.key ≡ b.now.key) × (a.now.primary ≡ b.now.primary) }
+    ensures { IsTrue result ↔ ((a.now.name ≡ b.now.name) × (a.now.tree ≡ b.now.tree) × (a.now.columns ≡ b.now.columns) × AllByRecursion IsSimpleColumn b.now.columns × (a.now.key ≡ None) × (b.now.key ≡ None) × (a.now.primary ≡ b.now.primary)) }
 {
     a.name.is_same(&b.name)
         && a.tree == b.tree
@@ -124,7 +157,7 @@ fn same_columns_of(a: &Table, b: &Table) -> bool
 }
 
 fn same_rules_of(a: &Table, b: &Table) -> bool
-    ensures { IsTrue result → (a.now.uniques ≡ b.now.uniques) × (a.now.orders ≡ b.now.orders) × (a.now.checks ≡ b.now.checks) × (a.now.references ≡ b.now.references) × (a.now.computed ≡ b.now.computed) }
+    ensures { IsTrue result ↔ ((a.now.uniques ≡ b.now.uniques) × (a.now.orders ≡ b.now.orders) × (a.now.checks ≡ []) × (b.now.checks ≡ []) × (a.now.references ≡ b.now.references) × (a.now.computed ≡ b.now.computed)) }
 {
     same_items(&a.uniques, &b.uniques)
         && same_items(&a.orders, &b.orders)
@@ -134,7 +167,7 @@ fn same_rules_of(a: &Table, b: &Table) -> bool
 }
 
 pub(crate) fn same_schema(a: &Schema, b: &Schema) -> bool
-    ensures { IsTrue result → a.now ≡ b.now }
+    ensures { IsTrue result ↔ ((a.now ≡ b.now) × IsSimple b.now) }
 {
     same_items(&a.tables, &b.tables)
         && same_items(&a.indexes, &b.indexes)

@@ -1,10 +1,11 @@
 //! The tables, and how a database of an earlier schema gets those that it lacks.
-ghost use Rattle.std.specs.Prelude.{◌≡◌, ◌<◌, ◌≤◌, ℕ, ◌+◌, IsTrue, OnOk, false, ⊤};
+ghost use Rattle.std.specs.Prelude.{◌≡◌, ◌<◌, ◌≤◌, ℕ, ◌+◌, IfErr, IsTrue, OnOk, false, ⊤};
 ghost use Rattle.sqlite_trees.specs.Tree.{Trees};
 ghost use Rattle.sqlite.specs.Held.{state};
 ghost use Rattle.sql_tables.specs.Tables.{first_tables, second_tables, third_tables, fourth_tables, hub_schema};
 ghost use Rattle.sql_tables.specs.Opening.{create_by_transaction_at, create_tx_is_open_at, create_tx_start_at, drop_by_transaction_at, no_schema, our_number, schema_at, tables_at};
 ghost use Rattle.sql_rows.specs.Opening.{Alters, IsCutAs, IsCutTo, IsEarlier, IsInsideAs, IsInsideWith, IsPart, MakesOurs, MakesSchema, Prepares, Rested};
+ghost use Rattle.store_sql.specs.Faults.{IsFailure};
 
 use crate::fault::{PrepareFault, told};
 use sql_edits::move_readings;
@@ -207,6 +208,7 @@ fn put_number<S: Alter>(tx: &mut Transaction<'_, S>) -> Result<usize, Error>
 fn reach<S: Alter>(tx: &mut Transaction<'_, S>, from: u32) -> Result<(), PrepareFault>
     requires known { from ≤ our_number }
     ensures makes { MakesSchema S.Store (IsCutAs from (schema_at from)) hub_schema tx.old tx.new result }
+    ensures failure { IfErr result IsFailure }
 {
     told(make_schema(tx, from, SCHEMA))
 }
@@ -215,6 +217,7 @@ fn reach<S: Alter>(tx: &mut Transaction<'_, S>, from: u32) -> Result<(), Prepare
 fn fill<S: Alter>(tx: &mut Transaction<'_, S>, alloc: Global, from: u32) -> Result<(), PrepareFault>
     requires earlier { from < our_number }
     ensures makes { MakesOurs S.Store (IsCutTo from) (IsEarlier from) tx.old tx.new result }
+    ensures failure { IfErr result IsFailure }
 {
     reach(tx, from)?;
     move_readings(tx, alloc)?;
@@ -232,6 +235,7 @@ pub(crate) fn raise<S: Alter>(
     requires earlier { from < our_number }
     requires was { IsTrue (state S.Store conn.old).is_open → (state S.Store conn.old).now.schema ≡ schema_at from }
     ensures prepares { Prepares (state S.Store conn.old) (state S.Store conn.new) result }
+    ensures failure { IfErr result IsFailure }
 {
     let mut tx = conn.transaction();
     fill(&mut tx, alloc, from)?;
