@@ -152,10 +152,8 @@ fn form_of<S: Alter>(conn: &Connection<S>, alloc: Global, number: u32) -> Result
     if has_form(conn, alloc, last)? {
         return Ok(last);
     }
-    if number == 3 {
-        if has_form(conn, alloc, EARLIER_THIRD)? {
-            return Ok(EARLIER_THIRD);
-        }
+    if number == 3 && has_form(conn, alloc, EARLIER_THIRD)? {
+        return Ok(EARLIER_THIRD);
     }
     Err(PrepareFault::OtherSchema)
 }
