@@ -81,7 +81,7 @@ module _ {A E : Type 0} (old mid new : State) (r : Result A E) (spared : IsSpare
 
   pub prepared_then : Prepares old new r
   prepared_then = record {
-    serves = λ ours up. prepared.serves (subst (λ (d : Database). (n : ℕ) → d.schema ≡ schema_at n → AreOurs n d.trees) (sym (spared.now (mid_up (clean up)))) ours) up;
+    serves = λ ours up. prepared.serves (subst (λ (d : Database). (form : ℕ) → d.schema ≡ schema_at form → AreOurs form d.trees) (sym (spared.now (mid_up (clean up)))) ours) up;
     taken = λ up. subst (λ (d : Database). OnOk r (((d.schema ≡ hub_schema) × (new.now ≡ d)) ⊎ IsRaised d new.now.trees)) (spared.now (mid_up (clean up))) (prepared.taken up);
     refused = λ up. refused_before r (mid_up (clean up)) (prepared.refused up);
     crash = λ up sure db may. elim (prepared.crash (mid_up sure) sure db may) [
@@ -125,4 +125,5 @@ ours_empty s blank zero is = record { typed = tt; good = well_formed-no_rows; nu
 ours_empty s blank (suc zero) is = absurd (let both : no_schema.tables ≡ first_tables.tables = ap (λ (c : Schema). c.tables) (sym blank ∙ is) in cc)
 ours_empty s blank (suc (suc zero)) is = absurd (let both : no_schema.tables ≡ second_tables.tables = ap (λ (c : Schema). c.tables) (sym blank ∙ is) in cc)
 ours_empty s blank (suc (suc (suc zero))) is = absurd (let both : no_schema.tables ≡ third_tables.tables = ap (λ (c : Schema). c.tables) (sym blank ∙ is) in cc)
-ours_empty s blank (suc (suc (suc (suc n)))) is = absurd (let both : no_schema.tables ≡ hub_schema.tables = ap (λ (c : Schema). c.tables) (sym blank ∙ is) in cc)
+ours_empty s blank (suc (suc (suc (suc zero)))) is = absurd (let both : no_schema.tables ≡ third_tables.tables = ap (λ (c : Schema). c.tables) (sym blank ∙ is) in cc)
+ours_empty s blank (suc (suc (suc (suc (suc n))))) is = absurd (let both : no_schema.tables ≡ hub_schema.tables = ap (λ (c : Schema). c.tables) (sym blank ∙ is) in cc)

@@ -1,4 +1,4 @@
--- An earlier schema is raised in one transaction: it gets the tables that it lacks, and the number.
+-- A database of an earlier form is raised in one transaction: it gets the tables that it lacks, and the number.
 use Rattle.std.proofs.Common.{◌≡◌, ◌≤◌, ◌⊎◌, ℕ, List, [], ◌∷◌, ◌++◌, map, true, false, Ok, Err, Result, IsTrue, IfErr, IsErr, OnOk, refl, sym, ap, ◌∙◌, subst, inl, inr, true≢false, arith, nat_lt, zero, suc, ◌+◌, ◌<◌}
 use Rattle.std.proofs.lemmas.Bool.Decides.{nat_tests}
 use Rattle.std.specs.List.{AllByRecursion}
@@ -15,7 +15,7 @@ use Rattle.sqlite.specs.State.{State, HasCleanDisk, Survives, IsRolledBack, Show
 use Rattle.sqlite.specs.Steps.{FailsToCommit}
 use Rattle.sqlite.specs.Held.{Held, state}
 use Rattle.sqlite.specs.Store.{Ghosts}
-use Rattle.sql_tables.specs.Opening.{our_number, tables_at, schema_at}
+use Rattle.sql_tables.specs.Opening.{our_form, tables_at, schema_at}
 use Rattle.sql_tables.specs.Tables.{hub_schema, first_tables, second_tables, third_tables, hub_report, hub_tx_owner, hub_use, hub_meter_value}
 use Rattle.hub_rows.specs.Keyed.{put_all}
 use Rattle.hub_rows.specs.Rows.{Rows}
@@ -79,12 +79,12 @@ before_is rows db kept = ap rows_before (rest_is [] rows db (λ t listed apart. 
 pub no_values : (rows db : Trees) → KeepsRows hub_schema.tables rows db → rows meter_values.table.tree ≡ [] → rows_in meter_values db ≡ []
 no_values rows db kept none = ap (λ (l : List Row). put_all (cmp meter_values) (map (typed meter_values) l) []) (kept_tables hub_schema.tables rows db hub_meter_value kept on_meter_values.listed ∙ none)
 
--- ---- the rows of a schema
+-- ---- the rows of a form
 
 abbrev IsTypedAt : ℕ → Trees → Table → Type 0
 IsTypedAt n db t = IsTable (trees_at n db t.tree) × AllByRecursion (hub_good t.tree) (trees_at n db t.tree)
 
-pub typed_at : (n : ℕ) → n < our_number → (db : Trees) → AreTyped (schema_at n) hub_good db → AreTyped hub_schema hub_good (trees_at n db)
+pub typed_at : (n : ℕ) → n < our_form → (db : Trees) → AreTyped (schema_at n) hub_good db → AreTyped hub_schema hub_good (trees_at n db)
 typed_at zero earlier db are_typed = ((tt, tt), ((tt, tt), ((tt, tt), ((tt, tt), ((tt, tt), ((tt, tt), ((tt, tt), ((tt, tt), ((tt, tt), ((tt, tt), ((tt, tt), ((tt, tt), ((tt, tt), ((tt, tt), tt))))))))))))))
 typed_at (suc zero) earlier db are_typed = more_tables (IsTypedAt 1 db) third_tables.tables hub_meter_value
     (more_tables (IsTypedAt 1 db) (second_tables.tables ++ hub_tx_owner ∷ []) hub_use
@@ -92,21 +92,24 @@ typed_at (suc zero) earlier db are_typed = more_tables (IsTypedAt 1 db) third_ta
 typed_at (suc (suc zero)) earlier db are_typed = more_tables (IsTypedAt 2 db) third_tables.tables hub_meter_value
     (more_tables (IsTypedAt 2 db) (second_tables.tables ++ hub_tx_owner ∷ []) hub_use (more_tables (IsTypedAt 2 db) second_tables.tables hub_tx_owner are_typed (tt, tt)) (tt, tt)) (tt, tt)
 typed_at (suc (suc (suc zero))) earlier db are_typed = more_tables (IsTypedAt 3 db) third_tables.tables hub_meter_value are_typed (tt, tt)
-typed_at (suc (suc (suc (suc n)))) earlier db are_typed = absurd (omega (arith, earlier))
+typed_at (suc (suc (suc (suc zero)))) earlier db are_typed = more_tables (IsTypedAt 4 db) third_tables.tables hub_meter_value are_typed (tt, tt)
+typed_at (suc (suc (suc (suc (suc n))))) earlier db are_typed = absurd (omega (arith, earlier))
 
-pub rows_at_is : (n : ℕ) → n < our_number → (db : Trees) → rows_before (trees_at n db) ≡ rows_at n db
+pub rows_at_is : (n : ℕ) → n < our_form → (db : Trees) → rows_before (trees_at n db) ≡ rows_at n db
 rows_at_is zero earlier db = refl
 rows_at_is (suc zero) earlier db = refl
 rows_at_is (suc (suc zero)) earlier db = refl
 rows_at_is (suc (suc (suc zero))) earlier db = refl
-rows_at_is (suc (suc (suc (suc n)))) earlier db = absurd (omega (arith, earlier))
+rows_at_is (suc (suc (suc (suc zero)))) earlier db = refl
+rows_at_is (suc (suc (suc (suc (suc n))))) earlier db = absurd (omega (arith, earlier))
 
-kept_at : (n : ℕ) → n < our_number → (db : Trees) → KeepsRows (schema_at n).tables (trees_at n db) db
+kept_at : (n : ℕ) → n < our_form → (db : Trees) → KeepsRows (schema_at n).tables (trees_at n db) db
 kept_at zero earlier db = tt
 kept_at (suc zero) earlier db = (refl, (refl, (refl, (refl, (refl, (refl, (refl, (refl, (refl, (refl, tt))))))))))
 kept_at (suc (suc zero)) earlier db = (refl, (refl, (refl, (refl, (refl, (refl, (refl, (refl, (refl, (refl, (refl, tt)))))))))))
 kept_at (suc (suc (suc zero))) earlier db = (refl, (refl, (refl, (refl, (refl, (refl, (refl, (refl, (refl, (refl, (refl, (refl, (refl, tt)))))))))))))
-kept_at (suc (suc (suc (suc n)))) earlier db = absurd (omega (arith, earlier))
+kept_at (suc (suc (suc (suc zero)))) earlier db = (refl, (refl, (refl, (refl, (refl, (refl, (refl, (refl, (refl, (refl, (refl, (refl, (refl, tt)))))))))))))
+kept_at (suc (suc (suc (suc (suc n))))) earlier db = absurd (omega (arith, earlier))
 
 not_below : (t k : ℕ) → k ≤ t → nat_lt t k ≡ false
 not_below t k over = grind (arith, nat_tests)
@@ -115,28 +118,30 @@ pub cut_at : (n : ℕ) (db : Trees) → IsCut n (trees_at n db)
 cut_at n db t over = rw (not_below t (next_tree (tables_at n)) over) refl
 
 -- there is no meter value yet
-pub cut_values : (n : ℕ) → n < our_number → (rows : Trees) → IsCut n rows → rows meter_values.table.tree ≡ []
+pub cut_values : (n : ℕ) → n < our_form → (rows : Trees) → IsCut n rows → rows meter_values.table.tree ≡ []
 cut_values zero earlier rows cut = cut 26 (omega arith)
 cut_values (suc zero) earlier rows cut = cut 26 (omega arith)
 cut_values (suc (suc zero)) earlier rows cut = cut 26 (omega arith)
 cut_values (suc (suc (suc zero))) earlier rows cut = cut 26 (omega arith)
-cut_values (suc (suc (suc (suc n)))) earlier rows cut = absurd (omega (arith, earlier))
+cut_values (suc (suc (suc (suc zero)))) earlier rows cut = cut 26 (omega arith)
+cut_values (suc (suc (suc (suc (suc n))))) earlier rows cut = absurd (omega (arith, earlier))
 
-pub cut_later : (n : ℕ) → n < our_number → (rows : Trees) → IsCut n rows → IsCut (n + 1) rows
+pub cut_later : (n : ℕ) → n < our_form → (rows : Trees) → IsCut n rows → IsCut (n + 1) rows
 cut_later zero earlier rows cut t over = cut t (omega arith)
 cut_later (suc zero) earlier rows cut t over = cut t (omega (arith, over))
 cut_later (suc (suc zero)) earlier rows cut t over = cut t (omega (arith, over))
 cut_later (suc (suc (suc zero))) earlier rows cut t over = cut t (omega (arith, over))
-cut_later (suc (suc (suc (suc n)))) earlier rows cut t over = absurd (omega (arith, earlier))
+cut_later (suc (suc (suc (suc zero)))) earlier rows cut t over = cut t (omega (arith, over))
+cut_later (suc (suc (suc (suc (suc n))))) earlier rows cut t over = absurd (omega (arith, earlier))
 
 -- ---- the ends
 
-pub begun_as : {S : Type 0} (g : Ghosts S) (old tx : Held S) (n : ℕ) → n < our_number → tx ≡ record old { in_transaction = true } → Rested (state g old) → (IsTrue (state g old).is_open → (state g old).now.schema ≡ schema_at n)
+pub begun_as : {S : Type 0} (g : Ghosts S) (old tx : Held S) (n : ℕ) → n < our_form → tx ≡ record old { in_transaction = true } → Rested (state g old) → (IsTrue (state g old).is_open → (state g old).now.schema ≡ schema_at n)
     → IsInsideAs (trees_at n (state g old).now.trees) (schema_at n) (state g tx)
 begun_as g old tx n earlier begun rested was =
     subst (λ k. IsInsideAs (trees_at n (state g old).now.trees) (schema_at n) (state g k)) (sym begun) (λ up. record { schema_is = was up; sound = rested.sound up; kept = kept_at n earlier (state g old).now.trees; mode = refl; limit = rested.limit })
 
-module _ {S : Type 0} (g : Ghosts S) (old tx mid end : Held S) (n : ℕ) (lower : n < our_number) (begun : tx ≡ record old { in_transaction = true }) (rested : Rested (state g old)) (was : IsTrue (state g old).is_open → (state g old).now.schema ≡ schema_at n)
+module _ {S : Type 0} (g : Ghosts S) (old tx mid end : Held S) (n : ℕ) (lower : n < our_form) (begun : tx ≡ record old { in_transaction = true }) (rested : Rested (state g old)) (was : IsTrue (state g old).is_open → (state g old).now.schema ≡ schema_at n)
     (clean : IsTrue (state g end).is_open → HasCleanDisk (state g end)) (before : IsTrue (state g old).is_open → (db : Trees) → (state g old).may_leave db → db ≡ (state g old).committed.trees)
     (left : Leaves (state g tx) (state g mid)) where
   abbrev starts : Held S

@@ -15,7 +15,7 @@ use Rattle.sqlite.specs.Store.{Ghosts}
 use Rattle.hub_rows.specs.Rows.{Rows, no_rows}
 use Rattle.hub_rows.specs.WellFormed.{WellFormedRows}
 use Rattle.sql_tables.specs.Tables.{hub_schema}
-use Rattle.sql_tables.specs.Opening.{our_number, tables_at, schema_at, IsCreate, IsIndexCreate, IsIndexDrop}
+use Rattle.sql_tables.specs.Opening.{our_form, number_of, tables_at, schema_at, IsCreate, IsIndexCreate, IsIndexDrop}
 use Rattle.sql_rows.specs.TypedTable.{AreTyped, rows_in}
 use Rattle.sql_rows.specs.TypedTables.{metas, readings, hub_good, rows_of}
 use Rattle.sql_rows.specs.Kept.{IsNumbered, Serves, Leaves, Within}
@@ -28,23 +28,24 @@ IsNumberedAs n db = Has (rows_in metas db) (record { name = codes "schema"; numb
 abbrev pub rows_before : Trees → Rows
 rows_before db = record (rows_of db) { readings = rows_in readings db }
 
--- the rows of the hub in a database of the schema of this number
+-- the rows of the hub in a database of this form
 abbrev pub rows_at : ℕ → Trees → Rows
 rows_at zero db = no_rows
 rows_at (suc zero) db = record (rows_before db) { reports = []; tx_owners = []; uses = [] }
 rows_at (suc (suc zero)) db = record (rows_before db) { tx_owners = []; uses = [] }
 rows_at (suc (suc (suc zero))) db = rows_before db
-rows_at (suc (suc (suc (suc n)))) db = rows_of db
+rows_at (suc (suc (suc (suc zero)))) db = rows_before db
+rows_at (suc (suc (suc (suc (suc n))))) db = rows_of db
 
--- what this project writes into the tables of the schema of this number, where 0 is an empty database
-pub record AreOurs (n : ℕ) (db : Trees) : Type 0 where
-  pub typed : AreTyped (schema_at n) hub_good db
-  pub good : WellFormedRows (rows_at n db)
-  pub numbered : 0 < n → IsNumberedAs n db
+-- what this project writes into the tables of a database of this form
+pub record AreOurs (form : ℕ) (db : Trees) : Type 0 where
+  pub typed : AreTyped (schema_at form) hub_good db
+  pub good : WellFormedRows (rows_at form db)
+  pub numbered : 0 < form → IsNumberedAs (number_of form) db
 
--- the rows of a database that has our tables, of this schema or an earlier one, were written by this project
+-- the rows of a database that has our tables, of this form or an earlier one, were written by this project
 abbrev pub IsOurs : State → Type 0
-IsOurs s = (n : ℕ) → s.now.schema ≡ schema_at n → AreOurs n s.now.trees
+IsOurs s = (form : ℕ) → s.now.schema ≡ schema_at form → AreOurs form s.now.trees
 
 -- all tables are there, with these rows of the hub and the number of our schema
 pub record Holds (all : Rows) (db : Trees) : Type 0 where
@@ -53,22 +54,22 @@ pub record Holds (all : Rows) (db : Trees) : Type 0 where
   pub rows : rows_of db ≡ all
   pub numbered : IsNumbered db
 
--- A database of an earlier schema is raised to ours. Rows that were written by this project stay.
+-- A database of an earlier form is raised to ours. Rows that were written by this project stay.
 pub record IsRaised (old : Database) (new : Trees) : Type 0 where
   pub from : ℕ
-  pub earlier : from < our_number
+  pub earlier : from < our_form
   pub was : old.schema ≡ schema_at from
   pub holds : AreTyped (schema_at from) hub_good old.trees → Holds (rows_at from old.trees) new
 
 -- ---- inside the transaction that raises it
 
--- the rows of the tables of the schema of this number, and none of later ones
+-- the rows of the tables of this form, and none of later ones
 abbrev pub trees_at : ℕ → Trees → Trees
-trees_at n db t = if nat_lt t (next_tree (tables_at n)) then db t else []
+trees_at form db t = if nat_lt t (next_tree (tables_at form)) then db t else []
 
--- there is no row of a table of a later schema
+-- there is no row of a table that this form lacks
 abbrev pub IsCut : ℕ → Trees → Type 0
-IsCut n rows = (t : ℕ) → next_tree (tables_at n) ≤ t → rows t ≡ []
+IsCut form rows = (t : ℕ) → next_tree (tables_at form) ≤ t → rows t ≡ []
 
 -- with this schema so far, whose tables have the rows of these trees
 pub record WithinAs (rows : Trees) (schema : Schema) (s : State) : Type 0 where
@@ -81,17 +82,17 @@ pub record WithinAs (rows : Trees) (schema : Schema) (s : State) : Type 0 where
 abbrev pub IsInsideAs : Trees → Schema → State → Type 0
 IsInsideAs rows schema s = IsTrue s.is_open → WithinAs rows schema s
 
--- the same, with no row of a table of a schema later than that of this number
+-- the same, with no row of a table that this form lacks
 abbrev pub IsCutAs : ℕ → Schema → Trees → State → Type 0
-IsCutAs n schema rows s = IsCut n rows × IsInsideAs rows schema s
+IsCutAs form schema rows s = IsCut form rows × IsInsideAs rows schema s
 
--- an earlier schema, with no row of a later table
+-- an earlier form, with no row of a table that it lacks
 abbrev pub IsCutTo : ℕ → State → Type 0
-IsCutTo n s = (rows : Trees) × IsCutAs n (schema_at n) rows s
+IsCutTo form s = (rows : Trees) × IsCutAs form (schema_at form) rows s
 
 -- with these rows of the hub
 abbrev pub IsEarlier : ℕ → Rows → State → Type 0
-IsEarlier n all s = (rows : Trees) × AreTyped hub_schema hub_good rows × (rows_before rows ≡ all) × IsCutAs n (schema_at n) rows s
+IsEarlier form all s = (rows : Trees) × AreTyped hub_schema hub_good rows × (rows_before rows ≡ all) × IsCutAs form (schema_at form) rows s
 
 -- our schema, with these rows of the hub
 abbrev pub IsInsideWith : Rows → State → Type 0
@@ -159,7 +160,7 @@ pub record IsSpared (old new : State) : Type 0 where
   pub mode : new.in_transaction ≡ old.in_transaction
   pub survives : Survives old new (λ _. ⊥)
 
--- What was there is taken, or raised from an earlier schema in one step; or nothing changes.
+-- What was there is taken, or raised from an earlier form in one step; or nothing changes.
 pub record Prepares {A E : Type 0} (old new : State) (r : Result A E) : Type 0 where
   pub serves : IsOurs old → IsTrue new.is_open → OnOk r (Serves new × WellFormedRows (rows_of new.now.trees))
   pub taken : IsTrue new.is_open → OnOk r (((old.now.schema ≡ hub_schema) × (new.now ≡ old.now)) ⊎ IsRaised old.now new.now.trees)

@@ -136,7 +136,7 @@ pub fourth_made : created third_tables (record hub_meter_value { tree = 0 }) ≡
 unfolding digits
 fourth_made = refl
 
--- ---- the further indexes, after the tables of each schema
+-- ---- the further indexes, after the tables of each form
 
 abbrev pub with_grant_to : ℕ → Schema
 with_grant_to n = indexed (tables_at n) hub_grant (hub_grant_to 0)
@@ -147,7 +147,8 @@ grant_to_made zero made = absurd (omega (arith, made))
 grant_to_made (suc zero) made = record { command = refl; plain = (refl, refl); text = refl; here = refl; defined = refl }
 grant_to_made (suc (suc zero)) made = record { command = refl; plain = (refl, refl); text = refl; here = refl; defined = refl }
 grant_to_made (suc (suc (suc zero))) made = record { command = refl; plain = (refl, refl); text = refl; here = refl; defined = refl }
-grant_to_made (suc (suc (suc (suc n)))) made = record { command = refl; plain = (refl, refl); text = refl; here = refl; defined = refl }
+grant_to_made (suc (suc (suc (suc zero)))) made = record { command = refl; plain = (refl, refl); text = refl; here = refl; defined = refl }
+grant_to_made (suc (suc (suc (suc (suc n))))) made = record { command = refl; plain = (refl, refl); text = refl; here = refl; defined = refl }
 
 abbrev pub with_tx_in_use : ℕ → Schema
 with_tx_in_use n = indexed (with_grant_to n) hub_tx (hub_tx_in_use 0)
@@ -158,7 +159,8 @@ tx_in_use_made zero made = absurd (omega (arith, made))
 tx_in_use_made (suc zero) made = record { command = refl; plain = (refl, refl); text = refl; here = refl; defined = refl }
 tx_in_use_made (suc (suc zero)) made = record { command = refl; plain = (refl, refl); text = refl; here = refl; defined = refl }
 tx_in_use_made (suc (suc (suc zero))) made = record { command = refl; plain = (refl, refl); text = refl; here = refl; defined = refl }
-tx_in_use_made (suc (suc (suc (suc n)))) made = record { command = refl; plain = (refl, refl); text = refl; here = refl; defined = refl }
+tx_in_use_made (suc (suc (suc (suc zero)))) made = record { command = refl; plain = (refl, refl); text = refl; here = refl; defined = refl }
+tx_in_use_made (suc (suc (suc (suc (suc n))))) made = record { command = refl; plain = (refl, refl); text = refl; here = refl; defined = refl }
 
 abbrev pub with_tx_is_open : ℕ → Schema
 with_tx_is_open n = indexed (with_tx_in_use n) hub_tx (hub_tx_is_open (open_columns_at n) 0)
@@ -169,7 +171,8 @@ tx_is_open_made zero made = absurd (omega (arith, made))
 tx_is_open_made (suc zero) made = record { command = refl; plain = (refl, refl); text = refl; here = refl; defined = refl }
 tx_is_open_made (suc (suc zero)) made = record { command = refl; plain = (refl, refl); text = refl; here = refl; defined = refl }
 tx_is_open_made (suc (suc (suc zero))) made = record { command = refl; plain = (refl, refl); text = refl; here = refl; defined = refl }
-tx_is_open_made (suc (suc (suc (suc n)))) made = record { command = refl; plain = (refl, refl); text = refl; here = refl; defined = refl }
+tx_is_open_made (suc (suc (suc (suc zero)))) made = record { command = refl; plain = (refl, refl); text = refl; here = refl; defined = refl }
+tx_is_open_made (suc (suc (suc (suc (suc n))))) made = record { command = refl; plain = (refl, refl); text = refl; here = refl; defined = refl }
 
 abbrev pub with_tx_start_at : ℕ → Schema
 with_tx_start_at n = indexed (with_tx_is_open n) hub_tx (hub_tx_start_at (start_columns_at n) 0)
@@ -180,7 +183,8 @@ tx_start_at_made zero made = absurd (omega (arith, made))
 tx_start_at_made (suc zero) made = record { command = refl; plain = (refl, refl); text = refl; here = refl; defined = refl }
 tx_start_at_made (suc (suc zero)) made = record { command = refl; plain = (refl, refl); text = refl; here = refl; defined = refl }
 tx_start_at_made (suc (suc (suc zero))) made = record { command = refl; plain = (refl, refl); text = refl; here = refl; defined = refl }
-tx_start_at_made (suc (suc (suc (suc n)))) made = record { command = refl; plain = (refl, refl); text = refl; here = refl; defined = refl }
+tx_start_at_made (suc (suc (suc (suc zero)))) made = record { command = refl; plain = (refl, refl); text = refl; here = refl; defined = refl }
+tx_start_at_made (suc (suc (suc (suc (suc n))))) made = record { command = refl; plain = (refl, refl); text = refl; here = refl; defined = refl }
 
 abbrev pub with_reading_transaction : ℕ → Schema
 with_reading_transaction n = indexed (with_tx_start_at n) (readings_at n) (by_transaction_at n 0)
@@ -191,7 +195,8 @@ reading_transaction_made zero made = absurd (omega (arith, made))
 reading_transaction_made (suc zero) made = record { command = refl; plain = (refl, refl); text = refl; here = refl; defined = refl }
 reading_transaction_made (suc (suc zero)) made = record { command = refl; plain = (refl, refl); text = refl; here = refl; defined = refl }
 reading_transaction_made (suc (suc (suc zero))) made = record { command = refl; plain = (refl, refl); text = refl; here = refl; defined = refl }
-reading_transaction_made (suc (suc (suc (suc n)))) made = record { command = refl; plain = (refl, refl); text = refl; here = refl; defined = refl }
+reading_transaction_made (suc (suc (suc (suc zero)))) made = record { command = refl; plain = (refl, refl); text = refl; here = refl; defined = refl }
+reading_transaction_made (suc (suc (suc (suc (suc n))))) made = record { command = refl; plain = (refl, refl); text = refl; here = refl; defined = refl }
 
 -- with all of them
 pub all_made : (n : ℕ) → 0 < n → with_reading_transaction n ≡ schema_at n
@@ -200,7 +205,8 @@ all_made zero made = absurd (omega (arith, made))
 all_made (suc zero) made = refl
 all_made (suc (suc zero)) made = refl
 all_made (suc (suc (suc zero))) made = refl
-all_made (suc (suc (suc (suc n)))) made = refl
+all_made (suc (suc (suc (suc zero)))) made = refl
+all_made (suc (suc (suc (suc (suc n))))) made = refl
 
 -- ---- they are dropped
 
@@ -213,7 +219,8 @@ grant_to_dropped zero made = absurd (omega (arith, made))
 grant_to_dropped (suc zero) made = record { at = 10; command = refl; plain = (refl, refl); here = refl }
 grant_to_dropped (suc (suc zero)) made = record { at = 11; command = refl; plain = (refl, refl); here = refl }
 grant_to_dropped (suc (suc (suc zero))) made = record { at = 13; command = refl; plain = (refl, refl); here = refl }
-grant_to_dropped (suc (suc (suc (suc n)))) made = record { at = 14; command = refl; plain = (refl, refl); here = refl }
+grant_to_dropped (suc (suc (suc (suc zero)))) made = record { at = 13; command = refl; plain = (refl, refl); here = refl }
+grant_to_dropped (suc (suc (suc (suc (suc n))))) made = record { at = 14; command = refl; plain = (refl, refl); here = refl }
 
 abbrev pub without_tx_in_use : ℕ → Schema
 without_tx_in_use n = without_index (without_grant_to n) (next_tree (tables_at n) + 1)
@@ -224,7 +231,8 @@ tx_in_use_dropped zero made = absurd (omega (arith, made))
 tx_in_use_dropped (suc zero) made = record { at = 10; command = refl; plain = (refl, refl); here = refl }
 tx_in_use_dropped (suc (suc zero)) made = record { at = 11; command = refl; plain = (refl, refl); here = refl }
 tx_in_use_dropped (suc (suc (suc zero))) made = record { at = 13; command = refl; plain = (refl, refl); here = refl }
-tx_in_use_dropped (suc (suc (suc (suc n)))) made = record { at = 14; command = refl; plain = (refl, refl); here = refl }
+tx_in_use_dropped (suc (suc (suc (suc zero)))) made = record { at = 13; command = refl; plain = (refl, refl); here = refl }
+tx_in_use_dropped (suc (suc (suc (suc (suc n))))) made = record { at = 14; command = refl; plain = (refl, refl); here = refl }
 
 abbrev pub without_tx_is_open : ℕ → Schema
 without_tx_is_open n = without_index (without_tx_in_use n) (next_tree (tables_at n) + 2)
@@ -235,7 +243,8 @@ tx_is_open_dropped zero made = absurd (omega (arith, made))
 tx_is_open_dropped (suc zero) made = record { at = 10; command = refl; plain = (refl, refl); here = refl }
 tx_is_open_dropped (suc (suc zero)) made = record { at = 11; command = refl; plain = (refl, refl); here = refl }
 tx_is_open_dropped (suc (suc (suc zero))) made = record { at = 13; command = refl; plain = (refl, refl); here = refl }
-tx_is_open_dropped (suc (suc (suc (suc n)))) made = record { at = 14; command = refl; plain = (refl, refl); here = refl }
+tx_is_open_dropped (suc (suc (suc (suc zero)))) made = record { at = 13; command = refl; plain = (refl, refl); here = refl }
+tx_is_open_dropped (suc (suc (suc (suc (suc n))))) made = record { at = 14; command = refl; plain = (refl, refl); here = refl }
 
 abbrev pub without_tx_start_at : ℕ → Schema
 without_tx_start_at n = without_index (without_tx_is_open n) (next_tree (tables_at n) + 3)
@@ -246,14 +255,16 @@ tx_start_at_dropped zero made = absurd (omega (arith, made))
 tx_start_at_dropped (suc zero) made = record { at = 10; command = refl; plain = (refl, refl); here = refl }
 tx_start_at_dropped (suc (suc zero)) made = record { at = 11; command = refl; plain = (refl, refl); here = refl }
 tx_start_at_dropped (suc (suc (suc zero))) made = record { at = 13; command = refl; plain = (refl, refl); here = refl }
-tx_start_at_dropped (suc (suc (suc (suc n)))) made = record { at = 14; command = refl; plain = (refl, refl); here = refl }
+tx_start_at_dropped (suc (suc (suc (suc zero)))) made = record { at = 13; command = refl; plain = (refl, refl); here = refl }
+tx_start_at_dropped (suc (suc (suc (suc (suc n))))) made = record { at = 14; command = refl; plain = (refl, refl); here = refl }
 
 pub by_transaction_tree : (n tree : ℕ) → (by_transaction_at n tree).tree ≡ tree
 by_transaction_tree zero tree = refl
 by_transaction_tree (suc zero) tree = refl
 by_transaction_tree (suc (suc zero)) tree = refl
 by_transaction_tree (suc (suc (suc zero))) tree = refl
-by_transaction_tree (suc (suc (suc (suc n)))) tree = refl
+by_transaction_tree (suc (suc (suc (suc zero)))) tree = refl
+by_transaction_tree (suc (suc (suc (suc (suc n))))) tree = refl
 
 abbrev pub without_reading_transaction : ℕ → Schema
 without_reading_transaction n = without_index (without_tx_start_at n) (next_tree (tables_at n) + 4)
@@ -264,7 +275,8 @@ reading_transaction_dropped zero made = absurd (omega (arith, made))
 reading_transaction_dropped (suc zero) made = record { at = 10; command = refl; plain = (refl, refl); here = refl }
 reading_transaction_dropped (suc (suc zero)) made = record { at = 11; command = refl; plain = (refl, refl); here = refl }
 reading_transaction_dropped (suc (suc (suc zero))) made = record { at = 13; command = refl; plain = (refl, refl); here = refl }
-reading_transaction_dropped (suc (suc (suc (suc n)))) made = record { at = 14; command = refl; plain = (refl, refl); here = refl }
+reading_transaction_dropped (suc (suc (suc (suc zero)))) made = record { at = 13; command = refl; plain = (refl, refl); here = refl }
+reading_transaction_dropped (suc (suc (suc (suc (suc n))))) made = record { at = 14; command = refl; plain = (refl, refl); here = refl }
 
 -- without them
 pub all_dropped : (n : ℕ) → 0 < n → without_reading_transaction n ≡ tables_at n
@@ -272,4 +284,5 @@ all_dropped zero made = absurd (omega (arith, made))
 all_dropped (suc zero) made = refl
 all_dropped (suc (suc zero)) made = refl
 all_dropped (suc (suc (suc zero))) made = refl
-all_dropped (suc (suc (suc (suc n)))) made = refl
+all_dropped (suc (suc (suc (suc zero)))) made = refl
+all_dropped (suc (suc (suc (suc (suc n))))) made = refl

@@ -135,7 +135,7 @@ hub_grant_to tree = more_index (codes "hub_grant_to") tree 8 (3 ∷ 2 ∷ 1 ∷ 
 abbrev pub hub_tx_in_use : ℕ → Index
 hub_tx_in_use tree = more_index (codes "hub_tx_in_use") tree 10 (1 ∷ 5 ∷ 13 ∷ [])
 
--- of these columns: op, station, is_open in schemas 1 and 2, and op, is_open, station since then
+-- of these columns: op, station, is_open up to the earlier form of schema 3, and op, is_open, station since then
 abbrev pub hub_tx_is_open : List ℕ → ℕ → Index
 hub_tx_is_open columns tree = more_index (codes "hub_tx_is_open") tree 10 columns
 

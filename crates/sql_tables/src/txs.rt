@@ -20,7 +20,7 @@ pub const CREATE_IN_USE: &str = "CREATE INDEX hub_tx_in_use ON hub_tx (op, tag_k
 /// The index by what is open.
 pub const CREATE_IS_OPEN: &str = "CREATE INDEX hub_tx_is_open ON hub_tx (op, is_open, station)";
 
-/// That of schemas 1 and 2.
+/// The same index up to the earlier form of schema 3.
 pub const CREATE_EARLIER_IS_OPEN: &str =
     "CREATE INDEX hub_tx_is_open ON hub_tx (op, station, is_open)";
 

@@ -1,4 +1,4 @@
--- What the rows of hub_meta show, over each schema that has it.
+-- What the rows of hub_meta show, over each form that has it.
 use Rattle.std.proofs.Common.{◌≡◌, ◌∙◌, ◌<◌, ℕ, ℤ, zero, suc, pos, codes, List, [], ◌∷◌, Some, false, length, slice_get, ◌==◌, Equal, Ok, Err, Result, IfOk, IsTrue, map, refl, sym, ap, subst, inl, arith, rules}
 use Rattle.std.specs.List.{AllByRecursion}
 use Rattle.sqlite_tied.specs.Compute.{everything}
@@ -26,7 +26,7 @@ use Rattle.hub_rows.specs.Keyed.{key_cmp}
 use Rattle.hub_rows.proofs.ListLaws.{by_key_total}
 use Rattle.sql_tables.specs.Forms.{cols, plain_query}
 use Rattle.sql_tables.specs.Tables.{hub_meta, key_index, names_of}
-use Rattle.sql_tables.specs.Opening.{schema_at}
+use Rattle.sql_tables.specs.Opening.{number_of, schema_at}
 use Rattle.sql_tables.specs.declared.meta.TheConstants as meta
 use Rattle.sql_rows.specs.declared.meta_rows.MetaRow.{MetaRow}
 use Rattle.sql_rows.specs.TypedTable.{cmp, rows_in, typed}
@@ -62,7 +62,11 @@ lists_third : ListsMeta (schema_at 3)
 unfolding understood everything
 lists_third = record { command = refl; plain = (refl, refl); unlisted = refl }
 
-lists_fourth : ListsMeta (schema_at 4)
+lists_later_third : ListsMeta (schema_at 4)
+unfolding understood everything
+lists_later_third = record { command = refl; plain = (refl, refl); unlisted = refl }
+
+lists_fourth : ListsMeta (schema_at 5)
 unfolding understood everything
 lists_fourth = record { command = refl; plain = (refl, refl); unlisted = refl }
 
@@ -71,9 +75,10 @@ lists_meta zero some = absurd (omega (arith, some))
 lists_meta (suc zero) some = lists_first
 lists_meta (suc (suc zero)) some = lists_second
 lists_meta (suc (suc (suc zero))) some = lists_third
-lists_meta (suc (suc (suc (suc n)))) some = lists_fourth
+lists_meta (suc (suc (suc (suc zero)))) some = lists_later_third
+lists_meta (suc (suc (suc (suc (suc n))))) some = lists_fourth
 
--- ---- it is a table of each of these schemas
+-- ---- it is a table of each of these forms
 
 pub meta_named : (n : ℕ) → 0 < n → table_named (schema_at n) (codes "hub_meta") ≡ Some 0
 unfolding same_name
@@ -81,7 +86,8 @@ meta_named zero some = absurd (omega (arith, some))
 meta_named (suc zero) some = refl
 meta_named (suc (suc zero)) some = refl
 meta_named (suc (suc (suc zero))) some = refl
-meta_named (suc (suc (suc (suc n)))) some = refl
+meta_named (suc (suc (suc (suc zero)))) some = refl
+meta_named (suc (suc (suc (suc (suc n))))) some = refl
 
 abbrev ArePlain : Schema → Type 0
 ArePlain schema = AllByRecursion (λ (i : Index). i.order ≡ plain) schema.indexes
@@ -116,7 +122,8 @@ meta_at zero some = absurd (omega (arith, some))
 meta_at (suc zero) some = meta_of (schema_at 1) refl (inl refl) (inl refl) (plain_at 1) (λ olds news some. rw some refl)
 meta_at (suc (suc zero)) some = meta_of (schema_at 2) refl (inl refl) (inl refl) (plain_at 2) (λ olds news some. rw some refl)
 meta_at (suc (suc (suc zero))) some = meta_of (schema_at 3) refl (inl refl) (inl refl) (plain_at 3) (λ olds news some. rw some refl)
-meta_at (suc (suc (suc (suc n)))) some = on_metas
+meta_at (suc (suc (suc (suc zero)))) some = meta_of (schema_at 4) refl (inl refl) (inl refl) (plain_at 4) (λ olds news some. rw some refl)
+meta_at (suc (suc (suc (suc (suc n))))) some = on_metas
 
 -- ---- the rows that are listed
 
@@ -136,34 +143,34 @@ module _ (n : ℕ) (d : Database) (known : IsKnown n d) (sound : IsDatabase d) (
       let u = typed_table.row_in (schema_at n) hub_good 0 metas is d.trees known.typed r h in
       ap (λ (z : Row). eval_all (cols 1 1 2) ([] ∷ z ∷ [])) u.2 ∙ whole_metas u.1 (Int u.0) [] ∙ ap metas.row (sym (typed_table.typed_is (schema_at n) hub_good 0 metas is d.trees known.typed r h))
 
-  number_shown : Has rows (number_row (pos n))
+  number_shown : Has rows (number_row (pos (number_of n)))
   number_shown =
-      let t = typed_table.rows_from (schema_at n) hub_good 0 metas is d.trees known.typed obeys (number_meta n) known.numbered in
+      let t = typed_table.rows_from (schema_at n) hub_good 0 metas is d.trees known.typed obeys (number_meta (number_of n)) known.numbered in
       let based = subst (λ l. Has l t.0) (sym (is.base d.trees)) t.1 in
       subst (Has rows) (shown_as t.0 t.1 ∙ ap metas.row (sym t.2)) (rows_have [] (cols 1 1 2) [] (overlay d.trees []) 0 [] rows answer t.0 based refl)
 
-  same_number : (m : ℤ) (r : Row) → Has (d.trees 0) r → number_row m ≡ metas.row (typed metas r) → m ≡ pos n
+  same_number : (m : ℤ) (r : Row) → Has (d.trees 0) r → number_row m ≡ metas.row (typed metas r) → m ≡ pos (number_of n)
   same_number m r there same =
       let one = typed metas r in
       let name : one.name ≡ codes "schema" = cc in
       let number : m ≡ pos one.number = cc in
-      let tie : cmp metas one (number_meta n) ≡ Equal = ap (λ t. key_cmp (t ∷ []) (codes "schema" ∷ [])) name in
+      let tie : cmp metas one (number_meta (number_of n)) ≡ Equal = ap (λ t. key_cmp (t ∷ []) (codes "schema" ∷ [])) name in
       let all = rows_in metas d.trees in
-      let twice : one ≡ number_meta n = sorted_single (cmp metas) (by_key_total metas.key) all (is_arranged (cmp metas) (by_key_total metas.key) (map (typed metas) (d.trees 0))) one (number_meta n)
+      let twice : one ≡ number_meta (number_of n) = sorted_single (cmp metas) (by_key_total metas.key) all (is_arranged (cmp metas) (by_key_total metas.key) (map (typed metas) (d.trees 0))) one (number_meta (number_of n))
       (typed_table.rows_have (schema_at n) hub_good 0 metas is d.trees known.typed obeys r there) known.numbered tie in
       number ∙ ap (λ (w : MetaRow). pos w.number) twice
 
-  number_alone : (m : ℤ) → Has rows (number_row m) → m ≡ pos n
+  number_alone : (m : ℤ) → Has rows (number_row m) → m ≡ pos (number_of n)
   number_alone m h =
       let r = rows_from [] (cols 1 1 2) [] (overlay d.trees []) 0 [] rows answer (number_row m) h in
       let there = subst (λ l. Has l r.0) (is.base d.trees) r.1 in
       same_number m r.0 there (r.3 ∙ shown_as r.0 there)
 
-  shows_number : ShowsNumber n rows
+  shows_number : ShowsNumber (number_of n) rows
   shows_number = record { shown = number_shown; alone = number_alone }
 
 -- what the text shows, where such a database is open
-pub known_shows : (n : ℕ) {V : Type 0} (items : V → List Row) (old new : State) (r : Result V Error) → IsKnown n old.now → (IsTrue old.is_open → IsDatabase old.now) → IfOk r (λ v. Shown meta.LIST.now [] old new (items v)) → IfOk r (λ v. ShowsNumber n (items v))
+pub known_shows : (n : ℕ) {V : Type 0} (items : V → List Row) (old new : State) (r : Result V Error) → IsKnown n old.now → (IsTrue old.is_open → IsDatabase old.now) → IfOk r (λ v. Shown meta.LIST.now [] old new (items v)) → IfOk r (λ v. ShowsNumber (number_of n) (items v))
 known_shows n items old new (Ok v) known sound shown =
     let lists = lists_meta n known.tables.some in
     let read = reads_as meta.LIST.now [] old new (schema_at n) known.tables.is list_command lists.command lists.plain lists.unlisted (items v) shown in

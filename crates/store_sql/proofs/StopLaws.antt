@@ -11,7 +11,7 @@ use Rattle.sqlite.specs.State.{State, HasCleanDisk}
 use Rattle.hub_rows.specs.Rows.{Rows}
 use Rattle.hub_rows.specs.Stops.{IsKept, FindsOld, FindsOldOr}
 use Rattle.hub_rows.specs.WellFormed.{WellFormedRows}
-use Rattle.sql_tables.specs.Opening.{our_number, schema_at}
+use Rattle.sql_tables.specs.Opening.{our_form, schema_at}
 use Rattle.sql_rows.specs.Kept.{Serves, IsServing, Rests, IsUncommitted, CommitsNothing, Changes, IsMade}
 use Rattle.sql_rows.specs.Opening.{IsOurs, Prepares}
 use Rattle.sql_rows.specs.TypedTables.{rows_of}
@@ -154,7 +154,7 @@ under Q (Err e) said = tt
 module _ {S : Type 0} (g : Ghosts S) (shut : (s : S) → (g.view s).is_clean ≡ false → (g.view s).is_open ≡ false) (store : SqlView S) (rolled found : S) (conn : Held S)
     (quiet : IsQuiet g.view g.faults g.recovers g.is_shielded store.conn.store rolled) (crash_clean : doubt (g.view rolled).is_clean ≤ doubt (g.view found).is_clean)
     (leaves : IsClean (g.view found) → g.recovers rolled (g.view found).committed) (last : (g.view found).trees ≡ (g.view found).committed)
-    (over_clean : doubt (g.view found).is_clean ≤ doubt (state g conn).is_clean) (trees : HasCleanDisk (state g conn) → (state g conn).now.trees ≡ (g.view found).trees) (filled : (n : ℕ) → n < our_number → (state g conn).now.schema ≢ schema_at n) where
+    (over_clean : doubt (g.view found).is_clean ≤ doubt (state g conn).is_clean) (trees : HasCleanDisk (state g conn) → (state g conn).now.trees ≡ (g.view found).trees) (filled : (form : ℕ) → form < our_form → (state g conn).now.schema ≢ schema_at form) where
   -- what is found may be found
   found_at : {A E : Type 0} (x : A) (s : SqlView S) → Prepares {A = A} {E = E} (state g conn) (state g s.conn) (Ok x) → IsTrue (state g s.conn).is_open → sql_may_find g store (sql_rows g s)
   found_at x s prepared up =

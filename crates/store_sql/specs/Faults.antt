@@ -1,7 +1,7 @@
 -- Which faults refuse a database for what is in it, and which databases are never refused so.
 use Rattle.std.specs.Prelude.{◌≡◌, ◌≢◌, ℕ, ◌≤◌, IsTrue, Result, Ok, Err, IfErr}
 use Rattle.sqlite.specs.State.{State}
-use Rattle.sql_tables.specs.Opening.{our_number, schema_at}
+use Rattle.sql_tables.specs.Opening.{our_form, schema_at}
 use Rattle.sql_rows.specs.Kept.{IsServing}
 use Rattle.sql_rows.specs.Opening.{AreOurs}
 use Rattle.store_sql.specs.declared.fault.PrepareFault.{PrepareFault}
@@ -20,6 +20,6 @@ FindsNumber n (Err f) = IsFailure f
 abbrev pub AcceptsServing : {A : Type 0} → State → State → Result A PrepareFault → Type 0
 AcceptsServing old new r = IsServing old → IsTrue new.is_open → IfErr r IsFailure
 
--- nor is one that this program wrote, of our schema or an earlier one, or an empty one
+-- nor is one that this program wrote, of our form or an earlier one, or an empty one
 abbrev pub AcceptsOurs : {A : Type 0} → State → State → Result A PrepareFault → Type 0
-AcceptsOurs old new r = (n : ℕ) → n ≤ our_number → old.now.schema ≡ schema_at n → AreOurs n old.now.trees → IsTrue new.is_open → IfErr r IsFailure
+AcceptsOurs old new r = (form : ℕ) → form ≤ our_form → old.now.schema ≡ schema_at form → AreOurs form old.now.trees → IsTrue new.is_open → IfErr r IsFailure

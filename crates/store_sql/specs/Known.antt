@@ -5,22 +5,22 @@ use Rattle.sqlite_value.specs.declared.value.Value.TheVariants.{Int, Text}
 use Rattle.sqlite_value.specs.Order.{Row}
 use Rattle.sqlite_schema.specs.declared.schema.Schema.{Schema}
 use Rattle.sqlite.specs.Effect.{Database}
-use Rattle.sql_tables.specs.Opening.{our_number, schema_at}
+use Rattle.sql_tables.specs.Opening.{number_of, our_form, schema_at}
 use Rattle.sql_rows.specs.Opening.{IsNumberedAs}
 use Rattle.sql_rows.specs.TypedTable.{AreTyped}
 use Rattle.sql_rows.specs.TypedTables.{hub_good}
 
--- our schema or an earlier one, which has this number
-pub record IsSchemaOf (n : ℕ) (schema : Schema) : Type 0 where
-  pub some : 0 < n
-  pub known : n ≤ our_number
-  pub is : schema ≡ schema_at n
+-- the tables and indexes of this form, which is ours or an earlier one
+pub record IsSchemaOf (form : ℕ) (schema : Schema) : Type 0 where
+  pub some : 0 < form
+  pub known : form ≤ our_form
+  pub is : schema ≡ schema_at form
 
--- a database of that schema, with rows that this program writes and that number on record
-pub record IsKnown (n : ℕ) (d : Database) : Type 0 where
-  pub tables : IsSchemaOf n d.schema
-  pub typed : AreTyped (schema_at n) hub_good d.trees
-  pub numbered : IsNumberedAs n d.trees
+-- a database of that form, with rows that this program writes and the number of its schema on record
+pub record IsKnown (form : ℕ) (d : Database) : Type 0 where
+  pub tables : IsSchemaOf form d.schema
+  pub typed : AreTyped (schema_at form) hub_good d.trees
+  pub numbered : IsNumberedAs (number_of form) d.trees
 
 -- ---- the rows of hub_meta, as they are read
 

@@ -1,13 +1,13 @@
 //! How a connection is made ready: the tables of a database are taken, those that it lacks of this schema are made, and
 //! what isn't ours is refused.
-ghost use Rattle.std.specs.Prelude.{◌≡◌, ◌≢◌, ◌↔◌, [], ◌∷◌, ℕ, ℤ, ◌<◌, ◌≤◌, IfErr, IfOk, IsTrue, MatchOption, OnOk, None, Some, false, filter, find, map};
+ghost use Rattle.std.specs.Prelude.{◌≡◌, ◌≢◌, ◌↔◌, [], ◌∷◌, ℕ, ℤ, ◌<◌, ◌≤◌, ◌⊎◌, IfErr, IfOk, IsTrue, MatchOption, OnOk, None, Some, false, filter, find, map};
 ghost use Rattle.sqlite_rules.specs.Lists.{Has};
 ghost use Rattle.sqlite_value.specs.declared.value.Value.TheVariants.{Int, Text};
 ghost use Rattle.sqlite.specs.Held.{state};
 ghost use Rattle.sqlite.specs.Steps.{over_memory};
 ghost use Rattle.sqlite.specs.State.{HasCleanDisk};
 ghost use Rattle.sqlite.specs.Effect.{IsDatabase};
-ghost use Rattle.sql_tables.specs.Opening.{no_schema, our_number, schema_at};
+ghost use Rattle.sql_tables.specs.Opening.{no_schema, number_of, our_form, our_number, schema_at};
 ghost use Rattle.hub_rows.specs.Keyed.{put_all};
 ghost use Rattle.sql_rows.specs.Kept.{IsServing, changes_in, is_count};
 ghost use Rattle.sql_rows.specs.Opening.{Rested, IsSpared, Prepares};
@@ -19,7 +19,7 @@ ghost use Rattle.store_sql.specs.Simple.{IsSimple};
 
 use crate::fault::{PrepareFault, fault};
 use crate::same::{is_blank, same_schema};
-use crate::tables::{SCHEMA, make_tables, raise};
+use crate::tables::{EARLIER_THIRD, FORM, SCHEMA, make_tables, raise};
 use hub_rows::StoreFault;
 use sql_rows::{MetaRow, first_row};
 use sqlite::{Alter, Connection, Error, MemStore, Row, params};
@@ -34,7 +34,7 @@ fn meta_rows<S: Alter>(conn: &mut Connection<S>) -> Result<Vec<Row>, Error>
     requires rested { Rested (state S.Store conn.old) }
     requires autocommit { conn.old.in_transaction ≡ false }
     ensures spared { IsSpared (state S.Store conn.old) (state S.Store conn.new) }
-    ensures shown { (n : ℕ) → IsKnown n (state S.Store conn.old).now → IsTrue (state S.Store conn.new).is_open → IfOk result (λ v. ShowsNumber n v.items) }
+    ensures shown { (form : ℕ) → IsKnown form (state S.Store conn.old).now → IsTrue (state S.Store conn.new).is_open → IfOk result (λ v. ShowsNumber (number_of form) v.items) }
 {
     let mut tx = conn.transaction();
     let rows = tx.query_all(sql_tables::meta::LIST, &[]);
@@ -56,18 +56,18 @@ pub(crate) fn is_new<S: Alter>(conn: &Connection<S>) -> bool
 
 /// Whether there are as many tables as this schema has, which are more than any earlier one has.
 pub(crate) fn has_all_tables<S: Alter>(conn: &Connection<S>) -> bool
-    ensures { IsTrue result → (n : ℕ) → n < our_number → (state S.Store conn.now).now.schema ≢ schema_at n }
+    ensures { IsTrue result → (form : ℕ) → form < our_form → (state S.Store conn.now).now.schema ≢ schema_at form }
 {
     conn.schema().tables.len() >= TABLES
 }
 
-/// A database with the tables of the schema of that number, kept in memory.
-fn model(alloc: Global, number: u32) -> Result<Connection<MemStore>, Error>
-    requires { number ≤ our_number }
-    ensures { IfOk result (λ c. (state over_memory c).now.schema ≡ schema_at number) }
+/// A database with the tables and indexes of that form, kept in memory.
+fn model(alloc: Global, form: u32) -> Result<Connection<MemStore>, Error>
+    requires { form ≤ our_form }
+    ensures { IfOk result (λ c. (state over_memory c).now.schema ≡ schema_at form) }
 {
     let mut conn = Connection::open_in_memory(alloc)?;
-    make_tables(&mut conn, number)?;
+    make_tables(&mut conn, form)?;
     Ok(conn)
 }
 
@@ -94,12 +94,12 @@ fn schema_number(rows: &[Row]) -> Option<i64>
 }
 
 /// The number of the schema of a database that isn't empty, by the rows of its `hub_meta`.
-fn number_of<S: Alter>(
+fn number_on_record<S: Alter>(
     conn: &Connection<S>,
     rows: Result<Vec<Row>, Error>,
 ) -> Result<u32, PrepareFault>
     ensures known { IfOk result (λ number. number ≤ our_number) }
-    ensures finds { (n : ℕ) → IsSchemaOf n (state S.Store conn.now).now.schema → IfOk rows (λ v. ShowsNumber n v.items) → FindsNumber n result }
+    ensures finds { (form : ℕ) → IsSchemaOf form (state S.Store conn.now).now.schema → IfOk rows (λ v. ShowsNumber (number_of form) v.items) → FindsNumber (number_of form) result }
 {
     if conn.schema().table_named(b"hub_meta").is_none() {
         return Err(PrepareFault::NotOurs);
@@ -121,26 +121,54 @@ fn number_of<S: Alter>(
     Ok(number as u32)
 }
 
-/// The number of the schema, if the database has exactly its tables.
+/// Whether the database has exactly the tables and indexes of that form.
+fn has_form<S: Alter>(conn: &Connection<S>, alloc: Global, form: u32) -> Result<bool, PrepareFault>
+    requires { form ≤ our_form }
+    ensures is { IfOk result (λ has. IsTrue has ↔ ((state S.Store conn.now).now.schema ≡ schema_at form)) }
+    ensures failure { IfErr result IsFailure }
+{
+    match model(alloc, form) {
+        Ok(model) => Ok(is_like(conn, &model)),
+        Err(error) => Err(fault(error)),
+    }
+}
+
+/// The last form of the schema of that number.
+fn last_form(number: u32) -> u32
+    requires { number ≤ our_number }
+    ensures known { result ≤ our_form }
+    ensures last { (form : ℕ) → form ≤ our_form → number_of form ≡ number → (form ≡ result) ⊎ ((number ≡ 3) × (form ≡ 3)) }
+{
+    if number < 3 { number } else { number + 1 }
+}
+
+/// The form of a database with that number on record, if it has exactly the tables and indexes of one of its schema.
+fn form_of<S: Alter>(conn: &Connection<S>, alloc: Global, number: u32) -> Result<u32, PrepareFault>
+    requires { number ≤ our_number }
+    ensures form { IfOk result (λ form. (form ≤ our_form) × ((state S.Store conn.now).now.schema ≡ schema_at form)) }
+    ensures accepts { (form : ℕ) → IsSchemaOf form (state S.Store conn.now).now.schema → number_of form ≡ number → IfErr result IsFailure }
+{
+    let last = last_form(number);
+    if has_form(conn, alloc, last)? {
+        return Ok(last);
+    }
+    if number == 3 && has_form(conn, alloc, EARLIER_THIRD)? {
+        return Ok(EARLIER_THIRD);
+    }
+    Err(PrepareFault::OtherSchema)
+}
+
+/// The form of the database, by the rows of its `hub_meta` and by its tables and indexes.
 fn verdict<S: Alter>(
     conn: &Connection<S>,
     alloc: Global,
     rows: Result<Vec<Row>, Error>,
 ) -> Result<u32, PrepareFault>
-    ensures number { IfOk result (λ number. (number ≤ our_number) × ((state S.Store conn.now).now.schema ≡ schema_at number)) }
-    ensures accepts { (n : ℕ) → IsSchemaOf n (state S.Store conn.now).now.schema → IfOk rows (λ v. ShowsNumber n v.items) → IfErr result IsFailure }
+    ensures form { IfOk result (λ form. (form ≤ our_form) × ((state S.Store conn.now).now.schema ≡ schema_at form)) }
+    ensures accepts { (form : ℕ) → IsSchemaOf form (state S.Store conn.now).now.schema → IfOk rows (λ v. ShowsNumber (number_of form) v.items) → IfErr result IsFailure }
 {
-    let number = number_of(conn, rows)?;
-    match model(alloc, number) {
-        Ok(model) => {
-            if is_like(conn, &model) {
-                Ok(number)
-            } else {
-                Err(PrepareFault::OtherSchema)
-            }
-        }
-        Err(error) => Err(fault(error)),
-    }
+    let number = number_on_record(conn, rows)?;
+    form_of(conn, alloc, number)
 }
 
 /// Whether the connection is open, as it is where it compiles a text. Nothing changes.
@@ -157,36 +185,36 @@ fn still_open<S: Alter>(conn: &mut Connection<S>) -> Result<(), PrepareFault>
     }
 }
 
-/// The number of the schema of a database that isn't empty. Nothing changes.
+/// The form of a database that isn't empty. Nothing changes.
 fn look<S: Alter>(conn: &mut Connection<S>, alloc: Global) -> Result<u32, PrepareFault>
     requires rested { Rested (state S.Store conn.old) }
     requires autocommit { conn.old.in_transaction ≡ false }
     ensures spared { IsSpared (state S.Store conn.old) (state S.Store conn.new) }
     ensures up { HasCleanDisk (state S.Store conn.new) → OnOk result (IsTrue (state S.Store conn.new).is_open) }
-    ensures number { IfOk result (λ number. (number ≤ our_number) × (IsTrue (state S.Store conn.new).is_open → (state S.Store conn.new).now.schema ≡ schema_at number)) }
-    ensures accepts { (n : ℕ) → IsKnown n (state S.Store conn.old).now → IsTrue (state S.Store conn.new).is_open → IfErr result IsFailure }
+    ensures form { IfOk result (λ form. (form ≤ our_form) × (IsTrue (state S.Store conn.new).is_open → (state S.Store conn.new).now.schema ≡ schema_at form)) }
+    ensures accepts { (form : ℕ) → IsKnown form (state S.Store conn.old).now → IsTrue (state S.Store conn.new).is_open → IfErr result IsFailure }
 {
     let rows = meta_rows(conn);
-    let number = verdict(conn, alloc, rows)?;
+    let form = verdict(conn, alloc, rows)?;
     still_open(conn)?;
-    Ok(number)
+    Ok(form)
 }
 
 fn prepare_rested<S: Alter>(conn: &mut Connection<S>, alloc: Global) -> Result<(), PrepareFault>
     requires rested { Rested (state S.Store conn.old) }
     requires autocommit { conn.old.in_transaction ≡ false }
     ensures prepares { Prepares (state S.Store conn.old) (state S.Store conn.new) result }
-    ensures accepts { (n : ℕ) → IsKnown n (state S.Store conn.old).now → IsTrue (state S.Store conn.new).is_open → IfErr result IsFailure }
+    ensures accepts { (form : ℕ) → IsKnown form (state S.Store conn.old).now → IsTrue (state S.Store conn.new).is_open → IfErr result IsFailure }
     ensures accepts_empty { (state S.Store conn.old).now.schema ≡ no_schema → IfErr result IsFailure }
 {
     if is_new(conn) {
         return raise(conn, alloc, 0);
     }
-    let number = look(conn, alloc)?;
-    if number == SCHEMA {
+    let form = look(conn, alloc)?;
+    if form == FORM {
         return Ok(());
     }
-    raise(conn, alloc, number)
+    raise(conn, alloc, form)
 }
 
 fn is_settled<S: Alter>(conn: &Connection<S>) -> bool
@@ -199,7 +227,7 @@ fn is_settled<S: Alter>(conn: &Connection<S>) -> bool
 }
 
 /// Makes the tables in an empty database, or takes those that are there. A database of an earlier schema becomes one of
-/// this schema, in one transaction, and keeps its records.
+/// this schema, in one transaction, and keeps its records. Both forms of schema 3 are taken.
 ///
 /// A connection inside a transaction answers Failed. The limit of steps is taken off.
 pub fn prepare<S: Alter>(conn: &mut Connection<S>, alloc: Global) -> Result<(), PrepareFault>

@@ -1,9 +1,9 @@
-//! The tables, and how a database of an earlier schema gets those that it lacks.
+//! The tables, and how a database of an earlier form gets those that it lacks.
 ghost use Rattle.std.specs.Prelude.{◌≡◌, ◌<◌, ◌≤◌, ℕ, ◌+◌, IfErr, IsTrue, OnOk, false, ⊤};
 ghost use Rattle.sqlite_trees.specs.Tree.{Trees};
 ghost use Rattle.sqlite.specs.Held.{state};
 ghost use Rattle.sql_tables.specs.Tables.{first_tables, second_tables, third_tables, fourth_tables, hub_schema};
-ghost use Rattle.sql_tables.specs.Opening.{create_by_transaction_at, create_tx_is_open_at, create_tx_start_at, drop_by_transaction_at, no_schema, our_number, schema_at, tables_at};
+ghost use Rattle.sql_tables.specs.Opening.{create_by_transaction_at, create_tx_is_open_at, create_tx_start_at, drop_by_transaction_at, no_schema, our_form, schema_at, tables_at};
 ghost use Rattle.sql_rows.specs.Opening.{Alters, IsCutAs, IsCutTo, IsEarlier, IsInsideAs, IsInsideWith, IsPart, MakesOurs, MakesSchema, Prepares, Rested};
 ghost use Rattle.store_sql.specs.Faults.{IsFailure};
 
@@ -14,6 +14,14 @@ use std::alloc::Global;
 
 /// The number of this schema.
 pub(crate) const SCHEMA: u32 = 4;
+
+/// The form of a database with this schema. The forms are numbered in the order in which a database is raised from one to
+/// the next: 0 is empty, 1 and 2 are schemas 1 and 2, 3 and 4 are the earlier and the later form of schema 3, and 5 is
+/// schema 4.
+pub(crate) const FORM: u32 = 5;
+
+/// The earlier form of schema 3, whose index of open transactions is that of schema 2.
+pub(crate) const EARLIER_THIRD: u32 = 3;
 
 /// Makes a table or an index, or drops an index.
 fn alter<S: Alter>(tx: &mut Transaction<'_, S>, sql: &str) -> Result<usize, Error>
@@ -72,121 +80,122 @@ fn create_third<S: Alter>(tx: &mut Transaction<'_, S>) -> Result<(), Error>
 
 /// The table that schema 4 has beside those of schema 3.
 fn create_fourth<S: Alter>(tx: &mut Transaction<'_, S>) -> Result<(), Error>
-    ensures makes { MakesSchema S.Store (IsCutAs 3 third_tables) fourth_tables tx.old tx.new result }
+    ensures makes { MakesSchema S.Store (IsCutAs 4 third_tables) fourth_tables tx.old tx.new result }
 {
     then_alter(tx, Ok(()), sql_tables::meter_values::CREATE)
 }
 
-/// The tables that the schema after that of this number has beside it.
-fn create_next<S: Alter>(tx: &mut Transaction<'_, S>, number: u32) -> Result<(), Error>
-    requires earlier { number < our_number }
-    ensures makes { MakesSchema S.Store (IsCutAs number (tables_at number)) (tables_at (number + 1)) tx.old tx.new result }
+/// The tables that the form after this one has beside it. Both forms of schema 3 have the same.
+fn create_next<S: Alter>(tx: &mut Transaction<'_, S>, form: u32) -> Result<(), Error>
+    requires earlier { form < our_form }
+    ensures makes { MakesSchema S.Store (IsCutAs form (tables_at form)) (tables_at (form + 1)) tx.old tx.new result }
 {
-    match number {
+    match form {
         0 => create_first(tx),
         1 => create_second(tx),
         2 => create_third(tx),
+        3 => Ok(()),
         _ => create_fourth(tx),
     }
 }
 
-/// The tables that the schemas after that of `from` have beside it, up to that of `to`.
+/// The tables that the forms after `from` have beside it, up to `to`.
 fn create_between<S: Alter>(tx: &mut Transaction<'_, S>, from: u32, to: u32) -> Result<(), Error>
     requires order { from ≤ to }
-    requires known { to ≤ our_number }
+    requires known { to ≤ our_form }
     ensures makes { MakesSchema S.Store (IsCutAs from (tables_at from)) (tables_at to) tx.old tx.new result }
 {
-    'schemas: for number in from..to {
-        create_next(tx, number)?;
+    'forms: for form in from..to {
+        create_next(tx, form)?;
     }
     Ok(())
 }
 
-/// The text that makes the index of open transactions in the schema of that number.
-fn create_tx_is_open(number: u32) -> &'static str
-    requires { number ≤ our_number }
-    ensures { result.now ≡ create_tx_is_open_at number }
+/// The text that makes the index of open transactions in a database of that form.
+fn create_tx_is_open(form: u32) -> &'static str
+    requires { form ≤ our_form }
+    ensures { result.now ≡ create_tx_is_open_at form }
 {
-    match number {
-        0 | 1 | 2 => sql_tables::txs::CREATE_EARLIER_IS_OPEN,
+    match form {
+        0 | 1 | 2 | 3 => sql_tables::txs::CREATE_EARLIER_IS_OPEN,
         _ => sql_tables::txs::CREATE_IS_OPEN,
     }
 }
 
-/// The text that makes the index of starts in the schema of that number.
-fn create_tx_start_at(number: u32) -> &'static str
-    requires { number ≤ our_number }
-    ensures { result.now ≡ create_tx_start_at number }
+/// The text that makes the index of starts there.
+fn create_tx_start_at(form: u32) -> &'static str
+    requires { form ≤ our_form }
+    ensures { result.now ≡ create_tx_start_at form }
 {
-    match number {
-        0 | 1 | 2 | 3 => sql_tables::txs::CREATE_EARLIER_START_AT,
+    match form {
+        0 | 1 | 2 | 3 | 4 => sql_tables::txs::CREATE_EARLIER_START_AT,
         _ => sql_tables::txs::CREATE_START_AT,
     }
 }
 
-/// The text that makes the index of readings by their transaction in the schema of that number.
-fn create_by_transaction(number: u32) -> &'static str
-    requires { number ≤ our_number }
-    ensures { result.now ≡ create_by_transaction_at number }
+/// The text that makes the index of readings by their transaction there.
+fn create_by_transaction(form: u32) -> &'static str
+    requires { form ≤ our_form }
+    ensures { result.now ≡ create_by_transaction_at form }
 {
-    match number {
-        0 | 1 | 2 | 3 => sql_tables::readings::CREATE_TRANSACTION,
+    match form {
+        0 | 1 | 2 | 3 | 4 => sql_tables::readings::CREATE_TRANSACTION,
         _ => sql_tables::meter_values::CREATE_TRANSACTION,
     }
 }
 
 /// The text that drops that index there.
-fn drop_by_transaction(number: u32) -> &'static str
-    requires { number ≤ our_number }
-    ensures { result.now ≡ drop_by_transaction_at number }
+fn drop_by_transaction(form: u32) -> &'static str
+    requires { form ≤ our_form }
+    ensures { result.now ≡ drop_by_transaction_at form }
 {
-    match number {
-        0 | 1 | 2 | 3 => sql_tables::readings::DROP_TRANSACTION,
+    match form {
+        0 | 1 | 2 | 3 | 4 => sql_tables::readings::DROP_TRANSACTION,
         _ => sql_tables::meter_values::DROP_TRANSACTION,
     }
 }
 
-/// The further indexes, after the tables of the schema of that number.
-fn create_indexes<S: Alter>(tx: &mut Transaction<'_, S>, number: u32) -> Result<(), Error>
-    requires some { 0 < number }
-    requires known { number ≤ our_number }
-    ensures makes { MakesSchema S.Store (λ rows. IsInsideAs rows (tables_at number)) (schema_at number) tx.old tx.new result }
+/// The further indexes, after the tables of that form.
+fn create_indexes<S: Alter>(tx: &mut Transaction<'_, S>, form: u32) -> Result<(), Error>
+    requires some { 0 < form }
+    requires known { form ≤ our_form }
+    ensures makes { MakesSchema S.Store (λ rows. IsInsideAs rows (tables_at form)) (schema_at form) tx.old tx.new result }
 {
     let done = then_alter(tx, Ok(()), sql_tables::grants::CREATE_TO);
     let done = then_alter(tx, done, sql_tables::txs::CREATE_IN_USE);
-    let done = then_alter(tx, done, create_tx_is_open(number));
-    let done = then_alter(tx, done, create_tx_start_at(number));
-    then_alter(tx, done, create_by_transaction(number))
+    let done = then_alter(tx, done, create_tx_is_open(form));
+    let done = then_alter(tx, done, create_tx_start_at(form));
+    then_alter(tx, done, create_by_transaction(form))
 }
 
-/// Drops the further indexes of the schema of that number, so that tables are made before them.
-fn drop_indexes<S: Alter>(tx: &mut Transaction<'_, S>, number: u32) -> Result<(), Error>
-    requires some { 0 < number }
-    requires known { number ≤ our_number }
-    ensures makes { MakesSchema S.Store (λ rows. IsInsideAs rows (schema_at number)) (tables_at number) tx.old tx.new result }
+/// Drops the further indexes of that form, so that tables are made before them.
+fn drop_indexes<S: Alter>(tx: &mut Transaction<'_, S>, form: u32) -> Result<(), Error>
+    requires some { 0 < form }
+    requires known { form ≤ our_form }
+    ensures makes { MakesSchema S.Store (λ rows. IsInsideAs rows (schema_at form)) (tables_at form) tx.old tx.new result }
 {
     let done = then_alter(tx, Ok(()), sql_tables::grants::DROP_TO);
     let done = then_alter(tx, done, sql_tables::txs::DROP_IN_USE);
     let done = then_alter(tx, done, sql_tables::txs::DROP_IS_OPEN);
     let done = then_alter(tx, done, sql_tables::txs::DROP_START_AT);
-    then_alter(tx, done, drop_by_transaction(number))
+    then_alter(tx, done, drop_by_transaction(form))
 }
 
-/// Leaves the tables of the schema of that number, without its further indexes.
-fn leave_tables<S: Alter>(tx: &mut Transaction<'_, S>, number: u32) -> Result<(), Error>
-    requires known { number ≤ our_number }
-    ensures makes { MakesSchema S.Store (λ rows. IsInsideAs rows (schema_at number)) (tables_at number) tx.old tx.new result }
+/// Leaves the tables of that form, without its further indexes.
+fn leave_tables<S: Alter>(tx: &mut Transaction<'_, S>, form: u32) -> Result<(), Error>
+    requires known { form ≤ our_form }
+    ensures makes { MakesSchema S.Store (λ rows. IsInsideAs rows (schema_at form)) (tables_at form) tx.old tx.new result }
 {
-    if number == 0 {
+    if form == 0 {
         return Ok(());
     }
-    drop_indexes(tx, number)
+    drop_indexes(tx, form)
 }
 
-/// Makes of the schema of `from` that of `to`.
+/// Makes of the form `from` the form `to`.
 fn make_schema<S: Alter>(tx: &mut Transaction<'_, S>, from: u32, to: u32) -> Result<(), Error>
     requires order { from ≤ to }
-    requires known { to ≤ our_number }
+    requires known { to ≤ our_form }
     ensures makes { MakesSchema S.Store (IsCutAs from (schema_at from)) (schema_at to) tx.old tx.new result }
 {
     if from == to {
@@ -204,18 +213,18 @@ fn put_number<S: Alter>(tx: &mut Transaction<'_, S>) -> Result<usize, Error>
     tx.execute(sql_tables::meta::PUT, params!["schema", SCHEMA])
 }
 
-/// Makes of the schema of that number the tables of this one.
+/// Makes of that form the tables and indexes of this schema.
 fn reach<S: Alter>(tx: &mut Transaction<'_, S>, from: u32) -> Result<(), PrepareFault>
-    requires known { from ≤ our_number }
+    requires known { from ≤ our_form }
     ensures makes { MakesSchema S.Store (IsCutAs from (schema_at from)) hub_schema tx.old tx.new result }
     ensures failure { IfErr result IsFailure }
 {
-    told(make_schema(tx, from, SCHEMA))
+    told(make_schema(tx, from, FORM))
 }
 
-/// Makes of the schema of that number this one, with its number. Readings become meter values.
+/// Makes of that form this schema, with its number. Readings become meter values.
 fn fill<S: Alter>(tx: &mut Transaction<'_, S>, alloc: Global, from: u32) -> Result<(), PrepareFault>
-    requires earlier { from < our_number }
+    requires earlier { from < our_form }
     ensures makes { MakesOurs S.Store (IsCutTo from) (IsEarlier from) tx.old tx.new result }
     ensures failure { IfErr result IsFailure }
 {
@@ -224,7 +233,7 @@ fn fill<S: Alter>(tx: &mut Transaction<'_, S>, alloc: Global, from: u32) -> Resu
     told(put_number(tx))
 }
 
-/// Makes of a database of an earlier schema one of this schema, in one transaction.
+/// Makes of a database of an earlier form one of this schema, in one transaction.
 pub(crate) fn raise<S: Alter>(
     conn: &mut Connection<S>,
     alloc: Global,
@@ -232,7 +241,7 @@ pub(crate) fn raise<S: Alter>(
 ) -> Result<(), PrepareFault>
     requires rested { Rested (state S.Store conn.old) }
     requires autocommit { conn.old.in_transaction ≡ false }
-    requires earlier { from < our_number }
+    requires earlier { from < our_form }
     requires was { IsTrue (state S.Store conn.old).is_open → (state S.Store conn.old).now.schema ≡ schema_at from }
     ensures prepares { Prepares (state S.Store conn.old) (state S.Store conn.new) result }
     ensures failure { IfErr result IsFailure }
@@ -242,15 +251,15 @@ pub(crate) fn raise<S: Alter>(
     told(tx.commit())
 }
 
-/// Makes the tables of the schema of that number in an empty database.
-pub(crate) fn make_tables<S: Alter>(conn: &mut Connection<S>, number: u32) -> Result<(), Error>
+/// Makes the tables and indexes of that form in an empty database.
+pub(crate) fn make_tables<S: Alter>(conn: &mut Connection<S>, form: u32) -> Result<(), Error>
     requires rested { Rested (state S.Store conn.old) }
     requires autocommit { conn.old.in_transaction ≡ false }
     requires blank { (state S.Store conn.old).now.schema ≡ no_schema }
-    requires known { number ≤ our_number }
-    ensures made { IsTrue (state S.Store conn.new).is_open → OnOk result ((state S.Store conn.new).now.schema ≡ schema_at number) }
+    requires known { form ≤ our_form }
+    ensures made { IsTrue (state S.Store conn.new).is_open → OnOk result ((state S.Store conn.new).now.schema ≡ schema_at form) }
 {
     let mut tx = conn.transaction();
-    make_schema(&mut tx, 0, number)?;
+    make_schema(&mut tx, 0, form)?;
     tx.commit()
 }

@@ -1,6 +1,7 @@
 use Rattle.std.proofs.Common.{◌≡◌, IfOk, IsTrue, ap, rules, subst, sym}
 use Rattle.sqlite.specs.Effect.{IsDatabase}
 use Rattle.sqlite.specs.Held.{state}
+use Rattle.sql_tables.specs.Opening.{number_of}
 use Rattle.sql_rows.specs.Opening.{IsSpared}
 use Rattle.sql_rows.proofs.StoreLemmas.{open_is_clean}
 use Rattle.sql_rows.proofs.OpeningLemmas.{looked_spared}
@@ -30,7 +31,7 @@ returns-clause-shown g c = λ n known.
     let same : end ≡ c.conn-1.given.0 = search rules in
     let begun : (state g.S.Store tx).now ≡ (state g.S.Store old).now = ap (λ h. (state g.S.Store h).now) c.transaction-tx.ensures.begun in
     let sound : IsTrue (state g.S.Store tx).is_open → IsDatabase (state g.S.Store tx).now = subst (λ h. IsTrue (state g.S.Store h).is_open → IsDatabase (state g.S.Store h).now) (sym c.transaction-tx.ensures.begun) c.requires.rested.sound in
-    subst (λ h. IsTrue (state g.S.Store h).is_open → IfOk c.query_all-rows.result (λ v. ShowsNumber n v.items)) same
+    subst (λ h. IsTrue (state g.S.Store h).is_open → IfOk c.query_all-rows.result (λ v. ShowsNumber (number_of n) v.items)) same
     (λ up.
     let back = c.rollback.ensures.undone (open_is_clean _ _ (g.met.S.Store.shut_if_dirty end.store) up) in
     known_shows n (λ v. v.items) (state g.S.Store tx) (state g.S.Store mid) c.query_all-rows.result (subst (IsKnown n) (sym begun) known) sound (c.query_all-rows.ensures.ok (open_is_clean _ _ (g.met.S.Store.shut_if_dirty mid.store) (back.was_open up))))

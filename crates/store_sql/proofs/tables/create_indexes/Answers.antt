@@ -12,16 +12,16 @@ returns g c = record {
   makes = record {
     part = part_then (part_then (part_then (part_then c.then_alter-done.ensures.alters.part c.then_alter-done-2.ensures.alters.part) c.then_alter-done-3.ensures.alters.part) c.then_alter-done-4.ensures.alters.part) c.then_alter.ensures.alters.part;
     makes = λ rows begins.
-        let number = c.args.number in
+        let form = c.args.form in
         let made = c.requires.some in
-        let open_made = subst (λ sql. IsIndexCreate sql (with_tx_in_use number) 5 hub_tx (hub_tx_is_open (open_columns_at number) 0)) (sym c.create_tx_is_open.ensures) (tx_is_open_made number made) in
-        let start_made = subst (λ sql. IsIndexCreate sql (with_tx_is_open number) 5 hub_tx (hub_tx_start_at (start_columns_at number) 0)) (sym c.create_tx_start_at.ensures) (tx_start_at_made number made) in
-        let by_transaction_made = subst (λ sql. IsIndexCreate sql (with_tx_start_at number) (place_of_readings_at number) (readings_at number) (by_transaction_at number 0)) (sym c.create_by_transaction.ensures) (reading_transaction_made number made) in
-        let s1 = c.then_alter-done.ensures.alters.index rows _ _ _ _ (grant_to_made number made) begins in
-        let s2 = c.then_alter-done-2.ensures.alters.index rows _ _ _ _ (tx_in_use_made number made) s1 in
+        let open_made = subst (λ sql. IsIndexCreate sql (with_tx_in_use form) 5 hub_tx (hub_tx_is_open (open_columns_at form) 0)) (sym c.create_tx_is_open.ensures) (tx_is_open_made form made) in
+        let start_made = subst (λ sql. IsIndexCreate sql (with_tx_is_open form) 5 hub_tx (hub_tx_start_at (start_columns_at form) 0)) (sym c.create_tx_start_at.ensures) (tx_start_at_made form made) in
+        let by_transaction_made = subst (λ sql. IsIndexCreate sql (with_tx_start_at form) (place_of_readings_at form) (readings_at form) (by_transaction_at form 0)) (sym c.create_by_transaction.ensures) (reading_transaction_made form made) in
+        let s1 = c.then_alter-done.ensures.alters.index rows _ _ _ _ (grant_to_made form made) begins in
+        let s2 = c.then_alter-done-2.ensures.alters.index rows _ _ _ _ (tx_in_use_made form made) s1 in
         let s3 = c.then_alter-done-3.ensures.alters.index rows _ _ _ _ open_made s2 in
         let s4 = c.then_alter-done-4.ensures.alters.index rows _ _ _ _ start_made s3 in
         let s5 = c.then_alter.ensures.alters.index rows _ _ _ _ by_transaction_made s4 in
-        subst (λ s. OnOk c.then_alter.result (IsInsideAs rows s (state g.S.Store c.then_alter.new.tx.conn.now))) (all_made number made) s5;
+        subst (λ s. OnOk c.then_alter.result (IsInsideAs rows s (state g.S.Store c.then_alter.new.tx.conn.now))) (all_made form made) s5;
   };
 }

@@ -12,15 +12,15 @@ returns g c = record {
   makes = record {
     part = part_then (part_then (part_then (part_then c.then_alter-done.ensures.alters.part c.then_alter-done-2.ensures.alters.part) c.then_alter-done-3.ensures.alters.part) c.then_alter-done-4.ensures.alters.part) c.then_alter.ensures.alters.part;
     makes = λ rows begun.
-        let number = c.args.number in
+        let form = c.args.form in
         let made = c.requires.some in
-        let by_transaction_dropped = subst (λ sql. IsIndexDrop sql (without_tx_start_at number) (by_transaction_at number (next_tree (tables_at number) + 4))) (sym c.drop_by_transaction.ensures) (reading_transaction_dropped number made) in
-        let s1 = c.then_alter-done.ensures.alters.dropped rows _ _ (grant_to_dropped number made) begun in
-        let s2 = c.then_alter-done-2.ensures.alters.dropped rows _ _ (tx_in_use_dropped number made) s1 in
-        let s3 = c.then_alter-done-3.ensures.alters.dropped rows _ _ (tx_is_open_dropped number made) s2 in
-        let s4 = c.then_alter-done-4.ensures.alters.dropped rows _ _ (tx_start_at_dropped number made) s3 in
-        let s5 = subst (λ tree. OnOk c.then_alter.result (IsInsideAs rows (without_index (without_tx_start_at number) tree) (state g.S.Store c.then_alter.new.tx.conn.now))) (by_transaction_tree number (next_tree (tables_at number) + 4))
+        let by_transaction_dropped = subst (λ sql. IsIndexDrop sql (without_tx_start_at form) (by_transaction_at form (next_tree (tables_at form) + 4))) (sym c.drop_by_transaction.ensures) (reading_transaction_dropped form made) in
+        let s1 = c.then_alter-done.ensures.alters.dropped rows _ _ (grant_to_dropped form made) begun in
+        let s2 = c.then_alter-done-2.ensures.alters.dropped rows _ _ (tx_in_use_dropped form made) s1 in
+        let s3 = c.then_alter-done-3.ensures.alters.dropped rows _ _ (tx_is_open_dropped form made) s2 in
+        let s4 = c.then_alter-done-4.ensures.alters.dropped rows _ _ (tx_start_at_dropped form made) s3 in
+        let s5 = subst (λ tree. OnOk c.then_alter.result (IsInsideAs rows (without_index (without_tx_start_at form) tree) (state g.S.Store c.then_alter.new.tx.conn.now))) (by_transaction_tree form (next_tree (tables_at form) + 4))
         (c.then_alter.ensures.alters.dropped rows _ _ by_transaction_dropped s4) in
-        subst (λ s. OnOk c.then_alter.result (IsInsideAs rows s (state g.S.Store c.then_alter.new.tx.conn.now))) (all_dropped number made) s5;
+        subst (λ s. OnOk c.then_alter.result (IsInsideAs rows s (state g.S.Store c.then_alter.new.tx.conn.now))) (all_dropped form made) s5;
   };
 }

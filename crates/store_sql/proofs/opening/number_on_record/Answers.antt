@@ -1,7 +1,7 @@
 use Rattle.std.proofs.Common.{◌≡◌, ◌∙◌, Some, codes, is_some, not, true≢false, ap, sym}
 use Rattle.sqlite_schema.specs.Names.{table_named}
 use Rattle.store_sql.proofs.MetaLaws.{meta_named}
-use Rattle.store_sql.proofs.opening.number_of.Goals as goal
+use Rattle.store_sql.proofs.opening.number_on_record.Goals as goal
 
 pub returns-then-is_none-clause-finds : goal.returns-then-is_none-clause-finds
 returns-then-is_none-clause-finds g c = λ n tables shown.
