@@ -1,3 +1,4 @@
 pub mod MetaLaws
+pub mod OursLaws
 pub mod StopLaws
 pub mod StoreLaws

@@ -150,9 +150,11 @@ impl<A: Alter + Drop> SqlStore<A> {
         Ok(SqlStore::over(alloc, taken, conn, changes))
     }
 
-    /// Its connection.
+    /// Its connection. Where this project wrote what was taken over, it wrote what is there now, so that can be taken over
+    /// again.
     pub fn into_connection(self) -> Connection<A>
-        ensures { result ≡ self.conn }
+        ensures same { result ≡ self.conn }
+        ensures ours { IsOurs (state A.Store self.taken) → IsTrue (state A.Store result).is_open → IsOurs (state A.Store result) }
     {
         self.conn
     }

@@ -11,7 +11,7 @@ pub returns-else-not-has_all_tables-clause-found : goal.returns-else-not-has_all
 returns-else-not-has_all_tables-clause-found g c =
     let conn = c.in-Ok.conn in
     found_then g.A.Store g.met.A.Store.shut_if_dirty c.args.store c.into_store-pages.result c.crash_and_reopen.new.self conn
-    (subst (λ h. IsQuiet g.A.Store.view g.A.Store.faults g.A.Store.recovers g.A.Store.is_shielded h.store c.into_store-pages.result) c.into_connection.ensures c.into_store-pages.ensures.quiet)
+    (subst (λ h. IsQuiet g.A.Store.view g.A.Store.faults g.A.Store.recovers g.A.Store.is_shielded h.store c.into_store-pages.result) c.into_connection.ensures.same c.into_store-pages.ensures.quiet)
     c.crash_and_reopen.ensures.clean c.in_default.ensures.found c.in_default.ensures.fresh.clean c.in-Ok.ensures.clean c.in-Ok.ensures.trees
     (c.has_all_tables.ensures c.if-not-has_all_tables.false) _ tt c.adopt.result c.adopt.ensures.prepares
 
