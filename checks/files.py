@@ -19,6 +19,7 @@ from programs import Checks
 
 DATA = Path(__file__).resolve().parent.parent / "crates" / "check_scripts" / "data"
 OPENED = DATA / "databases" / "opened.txt"
+EARLIER_FORM = DATA / "databases" / "records_of_schema_3_earlier.db"
 # The most bytes of a log without a change.
 EMPTY_LOG = 41
 LISTS = "".join(
@@ -61,14 +62,17 @@ def run_between(db, statements):
 
 
 def check_earlier(checks):
-    """Two scripts over each file that an earlier version of the program made."""
-    for script in sorted(DATA.glob("*/*.opened")):
+    """Two scripts over each file that an earlier version of the program made, and over that of schema 3 in its earlier
+    form, which has the same records."""
+    files = [(script, script.with_suffix(".db")) for script in sorted(DATA.glob("*/*.opened"))]
+    files.append((EARLIER_FORM.with_name("records_of_schema_3.opened"), EARLIER_FORM))
+    for script, file in files:
         db = checks.new_file()
-        shutil.copy(script.with_suffix(".db"), db)
+        shutil.copy(file, db)
         for part in ("opened", "again"):
             got = checks.replay(script.with_suffix(f".{part}").read_bytes(), db, operators_of(script))
             wanted = script.with_suffix(f".{part}_expected").read_bytes().decode()
-            checks.check(f"{script.stem}, {part}", got, wanted)
+            checks.check(f"{file.stem}, {part}", got, wanted)
 
 
 def said(checks, path):

@@ -5,10 +5,12 @@ shapes.
 Run it at the top of the repository, after a change of the tables. It reads their texts from
 crates/sql_tables/src. The files are written by SQLite itself, all but records_in_each_list.db, records_of_schema_2.db
 and records_of_schema_3.db. Those have schema 1, 2 and 3: each is what `central replay --db` of that version made of the
-script of its name, with rows in each table. They are never made anew.
+script of its name, with rows in each table. They are never made anew. records_of_schema_3_earlier.db has the records of
+the last in the earlier form of its schema.
 """
 import os
 import re
+import shutil
 import sqlite3
 
 FOLDER = "crates/check_scripts/data/databases"
@@ -45,6 +47,12 @@ TABLES = tables_without(EARLIER_INDEX, *EARLIER_HAS)
 FIRST = FIRST_TABLES + [NUMBER % 1]
 SECOND = SECOND_TABLES + [NUMBER % 2]
 THIRD = THIRD_TABLES + [NUMBER % 3]
+# the further indexes from the one on that the earlier form of schema 3 has otherwise, by their names
+EARLIER_INDEXES = {
+    "hub_tx_is_open": TEXTS[EARLIER_INDEX],
+    "hub_tx_start_at": TEXTS["txs.CREATE_EARLIER_START_AT"],
+    "hub_reading_transaction": TEXTS["readings.CREATE_TRANSACTION"],
+}
 OURS = TABLES + [NUMBER % 4]
 STATION = (
     "INSERT INTO hub_station VALUES"
@@ -73,6 +81,9 @@ def with_text(texts, old, new):
     return [TEXTS[new] if text == TEXTS[old] else text for text in texts]
 
 
+EARLIER_THIRD = with_text(THIRD, "txs.CREATE_IS_OPEN", EARLIER_INDEX)
+
+
 def database(name, statements, vacuum=False):
     """A database that is made by these statements, and maybe written anew."""
     path = os.path.join(FOLDER, name + ".db")
@@ -85,6 +96,19 @@ def database(name, statements, vacuum=False):
     made.commit()
     if vacuum:
         made.execute("VACUUM")
+    made.close()
+
+
+def in_earlier_form(name, of):
+    """A copy of a database of schema 3, in the earlier form of it."""
+    path = os.path.join(FOLDER, name + ".db")
+    shutil.copy(os.path.join(FOLDER, of + ".db"), path)
+    made = sqlite3.connect(path)
+    for index in EARLIER_INDEXES:
+        made.execute(f"DROP INDEX {index}")
+    for text in EARLIER_INDEXES.values():
+        made.execute(text)
+    made.commit()
     made.close()
 
 
@@ -127,6 +151,7 @@ database("ours_without_a_table", [text for text in OURS if text != TEXTS["reserv
 database("ours_without_an_index", [text for text in OURS if text != TEXTS["txs.CREATE_IN_USE"]])
 database("ours_with_another_table", OURS + ["CREATE TABLE person (name TEXT)"])
 database("ours_with_another_column", [text.replace("until INTEGER", "until INTEGER, note TEXT") for text in OURS])
+in_earlier_form("records_of_schema_3_earlier", "records_of_schema_3")
 database("ours_with_an_earlier_index", with_text(OURS, "txs.CREATE_IS_OPEN", EARLIER_INDEX))
 database("ours_with_the_index_of_readings", with_text(OURS, "meter_values.CREATE_TRANSACTION", "readings.CREATE_TRANSACTION"))
 database("ours_with_an_earlier_index_of_starts", with_text(OURS, "txs.CREATE_START_AT", "txs.CREATE_EARLIER_START_AT"))
@@ -140,7 +165,12 @@ database("third_with_a_number_past_the_last", THIRD + [STATION, READING % 214748
 database("third_with_a_reading_of_no_station", THIRD + [READING % 1])
 database("third_without_a_table", [text for text in THIRD if text != TEXTS["uses.CREATE"]])
 database("third_with_a_table_of_ours", THIRD + [TEXTS["meter_values.CREATE"]])
-database("third_with_an_earlier_index", with_text(THIRD, "txs.CREATE_IS_OPEN", EARLIER_INDEX))
+database("third_with_an_earlier_index", EARLIER_THIRD)
+database("third_with_an_earlier_index_after_vacuum", EARLIER_THIRD + THIRD_ROWS, vacuum=True)
+database("third_with_an_earlier_index_and_rows", EARLIER_THIRD + THIRD_ROWS)
+database("third_with_an_earlier_index_and_the_number_2", EARLIER_THIRD[:-1] + [NUMBER % 2])
+database("third_with_an_earlier_index_and_the_number_4", EARLIER_THIRD[:-1] + [NUMBER % 4])
+database("third_with_an_earlier_index_last", [text for text in THIRD if text != TEXTS["txs.CREATE_IS_OPEN"]] + [TEXTS[EARLIER_INDEX]])
 database("third_with_the_index_of_ours", THIRD_TABLES[:-1] + [TEXTS["meter_values.CREATE"], TEXTS["meter_values.CREATE_TRANSACTION"], NUMBER % 3])
 database("third_with_the_number_4", THIRD_TABLES + [NUMBER % 4])
 database("second", SECOND)

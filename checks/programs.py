@@ -24,7 +24,6 @@ from heads import check_heads
 from peer import BOOT, HEAD, HEARTBEAT, Peer, frame
 
 SCRIPTS = Path(__file__).resolve().parent.parent / "crates" / "check_scripts" / "data"
-OPERATIONS = Path(__file__).resolve().parent.parent / "docs" / "OPERATIONS.md"
 # The number of the schema, and a file of each earlier one, in SCRIPTS.
 SCHEMA = 4
 EARLIER = {
@@ -377,18 +376,17 @@ def check_vacuum(checks):
         checks.check("the order after VACUUM", schema_in(db), schema_in(new))
 
 
-def check_mended(checks):
-    """A file of schema 3 with an index of schema 2 is refused, and taken once it is mended as OPERATIONS says."""
-    words, db, new = ["replay", "--operators", "ACME", "--db"], checks.new_file(), checks.new_file()
+def check_forms(checks):
+    """A file of either form of schema 3 is taken, and has the tables, the indexes and the number of a new one then."""
+    words, new = ["replay", "--operators", "ACME", "--db"], checks.new_file()
     checks.check("a new file", checks.run(*words, new), (0, "", ""))
-    shutil.copy(SCRIPTS / "databases" / "third_with_an_earlier_index.db", db)
-    refused = "fault Store: the tables and indexes of the file are not those of its schema\n"
-    checks.check("the earlier index", checks.run(*words, db), (2, "", refused))
-    mend = re.search(r'sqlite3 FILE "(DROP INDEX hub_tx_is_open;.*?)"', OPERATIONS.read_text(), re.S)[1]
-    with contextlib.closing(sqlite3.connect(db)) as database:
-        database.executescript(mend)
-    checks.check("the mended file", checks.run(*words, db, lines=b"1 ACME list open\n"), (0, "ACME ok\n", ""))
-    checks.check("its tables and indexes", schema_in(db), schema_in(new))
+    for name in ("third", "third_with_an_earlier_index"):
+        db = checks.new_file()
+        shutil.copy(SCRIPTS / "databases" / f"{name}.db", db)
+        checks.check(name, checks.run(*words, db, lines=b"1 ACME list open\n"), (0, "ACME ok\n", ""))
+        checks.check("its tables and indexes", schema_in(db), schema_in(new))
+        with contextlib.closing(sqlite3.connect(db)) as database:
+            checks.check("its number", database.execute(NUMBER).fetchall(), [(SCHEMA,)])
 
 
 def check_pages(checks):
@@ -885,7 +883,7 @@ def check_all(checks):
     check_two_runs(checks)
     check_uses(checks)
     check_restart(checks)
-    check_mended(checks)
+    check_forms(checks)
     check_pages(checks)
     check_vacuum(checks)
     check_ask(checks)

@@ -24,10 +24,9 @@ no_schema = record { tables = []; indexes = []; views = [] }
 
 -- ---- the forms of a database
 
--- The forms in the order in which a database is raised from one to the next: 0 is empty, 1 and 2 are schemas 1 and 2, 3 and
--- 4 are the earlier and the later form of schema 3, which differ in the columns of hub_tx_is_open, and 5 is schema 4.
-
--- the form of the databases of this program
+-- the form of the databases of this program; the forms are numbered in the order in which a database is raised from one to
+-- the next: 0 is empty, 1 and 2 are schemas 1 and 2, 3 and 4 are the earlier and the later form of schema 3, which differ
+-- in the columns of hub_tx_is_open, and 5 is schema 4
 abbrev pub our_form : ℕ
 our_form = 5
 
@@ -44,9 +43,7 @@ number_of (suc (suc (suc (suc (suc n))))) = 4
 abbrev pub our_number : ℕ
 our_number = number_of our_form
 
--- ---- what each form has
-
--- the tables
+-- the tables of each form
 abbrev pub tables_at : ℕ → Schema
 tables_at zero = no_schema
 tables_at (suc zero) = first_tables
@@ -55,7 +52,7 @@ tables_at (suc (suc (suc zero))) = third_tables
 tables_at (suc (suc (suc (suc zero)))) = third_tables
 tables_at (suc (suc (suc (suc (suc n))))) = fourth_tables
 
--- the columns of hub_tx_is_open
+-- the columns of hub_tx_is_open in each form
 abbrev pub open_columns_at : ℕ → List ℕ
 open_columns_at zero = []
 open_columns_at (suc zero) = 1 ∷ 2 ∷ 12 ∷ []
@@ -63,7 +60,7 @@ open_columns_at (suc (suc zero)) = 1 ∷ 2 ∷ 12 ∷ []
 open_columns_at (suc (suc (suc zero))) = 1 ∷ 2 ∷ 12 ∷ []
 open_columns_at (suc (suc (suc (suc n)))) = 1 ∷ 12 ∷ 2 ∷ []
 
--- the text that makes it
+-- the text that makes it there
 abbrev pub create_tx_is_open_at : ℕ → List ℕ
 create_tx_is_open_at zero = txs.CREATE_EARLIER_IS_OPEN.now
 create_tx_is_open_at (suc zero) = txs.CREATE_EARLIER_IS_OPEN.now
@@ -71,7 +68,7 @@ create_tx_is_open_at (suc (suc zero)) = txs.CREATE_EARLIER_IS_OPEN.now
 create_tx_is_open_at (suc (suc (suc zero))) = txs.CREATE_EARLIER_IS_OPEN.now
 create_tx_is_open_at (suc (suc (suc (suc n)))) = txs.CREATE_IS_OPEN.now
 
--- the columns of hub_tx_start_at
+-- the columns of hub_tx_start_at in each form
 abbrev pub start_columns_at : ℕ → List ℕ
 start_columns_at zero = []
 start_columns_at (suc zero) = 1 ∷ 2 ∷ 7 ∷ []
@@ -80,7 +77,7 @@ start_columns_at (suc (suc (suc zero))) = 1 ∷ 2 ∷ 7 ∷ []
 start_columns_at (suc (suc (suc (suc zero)))) = 1 ∷ 2 ∷ 7 ∷ []
 start_columns_at (suc (suc (suc (suc (suc n))))) = 1 ∷ 2 ∷ 7 ∷ 4 ∷ 6 ∷ 5 ∷ []
 
--- the text that makes it
+-- the text that makes it there
 abbrev pub create_tx_start_at : ℕ → List ℕ
 create_tx_start_at zero = txs.CREATE_EARLIER_START_AT.now
 create_tx_start_at (suc zero) = txs.CREATE_EARLIER_START_AT.now
@@ -89,7 +86,8 @@ create_tx_start_at (suc (suc (suc zero))) = txs.CREATE_EARLIER_START_AT.now
 create_tx_start_at (suc (suc (suc (suc zero)))) = txs.CREATE_EARLIER_START_AT.now
 create_tx_start_at (suc (suc (suc (suc (suc n))))) = txs.CREATE_START_AT.now
 
--- the index of readings by their transaction: of hub_reading up to schema 3, and of hub_meter_value since then
+-- the index of readings by their transaction in each form: of hub_reading up to schema 3, and of hub_meter_value since
+-- then
 abbrev pub by_transaction_at : ℕ → ℕ → Index
 by_transaction_at zero = hub_reading_transaction
 by_transaction_at (suc zero) = hub_reading_transaction
@@ -98,7 +96,7 @@ by_transaction_at (suc (suc (suc zero))) = hub_reading_transaction
 by_transaction_at (suc (suc (suc (suc zero)))) = hub_reading_transaction
 by_transaction_at (suc (suc (suc (suc (suc n))))) = hub_meter_value_transaction
 
--- its table, and the place of that table
+-- its table, and the place of that table there
 abbrev pub readings_at : ℕ → Table
 readings_at zero = hub_reading
 readings_at (suc zero) = hub_reading
@@ -115,7 +113,7 @@ place_of_readings_at (suc (suc (suc zero))) = 6
 place_of_readings_at (suc (suc (suc (suc zero)))) = 6
 place_of_readings_at (suc (suc (suc (suc (suc n))))) = 13
 
--- the texts that make it and drop it
+-- the texts that make it and drop it there
 abbrev pub create_by_transaction_at : ℕ → List ℕ
 create_by_transaction_at zero = readings.CREATE_TRANSACTION.now
 create_by_transaction_at (suc zero) = readings.CREATE_TRANSACTION.now
@@ -132,7 +130,7 @@ drop_by_transaction_at (suc (suc (suc zero))) = readings.DROP_TRANSACTION.now
 drop_by_transaction_at (suc (suc (suc (suc zero)))) = readings.DROP_TRANSACTION.now
 drop_by_transaction_at (suc (suc (suc (suc (suc n))))) = meter_values.DROP_TRANSACTION.now
 
--- all tables, and then the further indexes
+-- the schema of each form: all tables, and then the further indexes
 abbrev pub schema_at : ℕ → Schema
 schema_at zero = no_schema
 schema_at (suc n) = with_indexes (open_columns_at (suc n)) (start_columns_at (suc n)) (by_transaction_at (suc n)) (tables_at (suc n))
