@@ -3,7 +3,7 @@
 use crate::scripts::{BOOTED, BOOTED_OUTPUT, events, hosting, hub_of, lines_of, operators, run};
 use failing_store::Failing;
 use hub::Fault;
-use hub::worlds::isolated;
+use hub::worlds::{isolated, same_lists};
 use hub_rows::{Change, Edit, Store, StoreFault, Tag, TagEdit};
 use ocpp_types::{Mem, TagKey, Text};
 use station_calls::Echo;
@@ -220,6 +220,50 @@ fn a_grant_taken_back_is_seen(rt: HostRuntime) -> Result<(), Fail> {
             .as_str()
             .ends_with("{\"idTagInfo\":{\"status\":\"Accepted\"}}]\n")
     );
+    Ok(())
+}
+
+/// ACME grants K1 to BETA, and lists the uses after a stop of BETA's.
+const GRANTED_OUT: &str = r#"1704067200 ACME tag put K1 - 0 -
+1704067200 ACME grant K1 BETA -
+"#;
+
+const USES: &str = "1704070800 ACME list uses\n";
+
+/// A transaction of BETA's with K1, of 1,500 Wh.
+const USED: &str = r#"1704067200 BETA station add B1 Accepted 300
+1704067200 BETA connect B1
+1704067200 BETA frame B1 [2,"1","BootNotification",{"chargePointVendor":"V","chargePointModel":"M"}]
+1704067200 BETA frame B1 [2,"2","StartTransaction",{"connectorId":1,"idTag":"K1","meterStart":100,"timestamp":"2024-01-01T00:00:00Z"}]
+1704070800 BETA frame B1 [2,"3","StopTransaction",{"meterStop":1600,"timestamp":"2024-01-01T00:45:00Z","transactionId":1}]
+"#;
+
+/// One that is stopped at the same moment, with as many Wh: its station, its number, its connector, its start, its meters,
+/// its times, its reason and its readings are others, and the station has a transaction before it.
+const USED_OTHERWISE: &str = r#"1704067200 BETA station add B9 Accepted 60
+1704067200 BETA connect B9
+1704067200 BETA frame B9 [2,"1","BootNotification",{"chargePointVendor":"W","chargePointModel":"N"}]
+1704067200 BETA frame B9 [2,"2","StartTransaction",{"connectorId":1,"idTag":"NOBODYS","meterStart":7,"timestamp":"2024-01-01T00:00:00Z"}]
+1704067300 BETA frame B9 [2,"3","StartTransaction",{"connectorId":2,"idTag":"k1","meterStart":5000,"timestamp":"2024-01-01T00:01:00Z"}]
+1704067400 BETA frame B9 [2,"4","MeterValues",{"connectorId":2,"transactionId":2,"meterValue":[{"timestamp":"2024-01-01T00:03:00Z","sampledValue":[{"value":"5100"}]}]}]
+1704070800 BETA frame B9 [2,"5","StopTransaction",{"meterStop":6500,"timestamp":"2024-01-01T00:50:00Z","transactionId":2,"reason":"EVDisconnected"}]
+"#;
+
+const USES_OUTPUT: &str = r#"ACME ok
+ACME ok
+ACME row use 1 BETA "k1" 1704070800 1500
+ACME ok
+"#;
+
+#[test]
+fn a_use_shows_no_more_than_its_host_tag_moment_and_energy(rt: HostRuntime) -> Result<(), Fail> {
+    let alloc = rt.alloc();
+    let first = format!(in alloc; "{GRANTED_OUT}{USED}{USES}")?;
+    let second = format!(in alloc; "{GRANTED_OUT}{USED_OTHERWISE}{USES}")?;
+    let told = run_both(alloc, ("", ""), first.as_str(), second.as_str())?;
+    assert_eq!(rt; told.first.as_str(), USES_OUTPUT);
+    assert_eq!(rt; told.second.as_str(), USES_OUTPUT);
+    same_lists();
     Ok(())
 }
 
