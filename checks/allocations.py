@@ -165,6 +165,13 @@ def records(db):
         return rows, database.execute("PRAGMA integrity_check").fetchall()
 
 
+def counted(rows):
+    """Takes the count of changes out of the rows of a database, and gives it."""
+    counts = [row for row in rows["hub_meta"] if row[0] == "changes"]
+    rows["hub_meta"] = [row for row in rows["hub_meta"] if row not in counts]
+    return sum(count for _, count in counts)
+
+
 def ending(ran, whole):
     """How a replay ended whose whole output would be that, or None where it may not end so."""
     status, text, errors = ran
@@ -229,11 +236,12 @@ def check_in_memory(checks, script, last_of, what):
 
 def check_over_a_file(checks, script, start):
     """Replays over a file, of which each refuses one allocation after so many. After a fault another replay goes on, and
-    leaves the records of a whole run."""
+    leaves the records of a whole run. A change whose answer couldn't be printed is made again, and is counted twice."""
     scenario = f"{script.name} over a file, one refused"
     db = checks.new_file()
     checks.check(scenario, checks.replay(script.lines, db) != (0, script.whole, "") and "a run that isn't refused")
     count, wanted = checks.allocator.count, records(db)
+    changes = counted(wanted[0])
     endings = collections.Counter()
     for number in numbers_of(checks, start + 1, count):
         db = checks.new_file()
@@ -244,7 +252,9 @@ def check_over_a_file(checks, script, start):
         rest = checks.replay(rest_of(script.steps, script.done(ran[1])), db)
         checks.check(f"{scenario}, allocation {number}", (rest[0], rest[2]) != (0, "") and "the rest", rest)
         kept = records(db)
+        more = counted(kept[0]) - changes
         checks.check(f"{scenario}, allocation {number}", kept != wanted and "other records", (ran, rest, kept))
+        checks.check(f"{scenario}, allocation {number}", more not in (0, 1) and "another count", (ran, rest, more))
         remove(db)
     told(scenario, count, endings)
 
