@@ -1,15 +1,17 @@
 """Checks that a database that is hurt says so. The disk fails while the server runs, by failing_disk.c under the
 program: where syncs fail the server closes its connections with 1011 and ends, and where writes fail it goes on. Parts
 of the log of a database are changed or lost: it is opened with --accept-loss alone, and the fault says how many changes
-are gone. Nobody but its owner may read its files. Prints `N passed, M failed`.
+are gone. With --page-sums each changed bit of the database file is found. Nobody but its owner may read its files. Prints `N passed, M failed`.
 
     python3 checks/hurt.py crates/central/out/central
 """
 
+import contextlib
 import mmap
 import os
 import re
 import shutil
+import sqlite3
 import struct
 import subprocess
 import sys
@@ -210,11 +212,40 @@ def check_losses(checks):
     checks.check("is put right", Path(f"{copy}-count").read_bytes(), b"%020d\n" % TAGS)
 
 
+def check_sums(checks):
+    """Where the pages of a new file end in sums, each changed bit of a page is found as the file is opened. A file that is
+    there stays as it is."""
+    db, plain = checks.new_file(), checks.new_file()
+    tags = [f"T{number:03}" for number in range(480)]
+    lines = "".join(f"1704067200 ACME tag put {tag} - 0 -\n" for tag in tags).encode()
+    for path, words in ((db, ["--page-sums"]), (plain, [])):
+        ran = subprocess.run([checks.program, "replay", "--operators", "ACME", "--db", path, *words], input=lines, capture_output=True)
+        checks.check("tags", (ran.returncode, ran.stdout), (0, b"ACME ok\n" * len(tags)))
+    checks.check("room for sums", (Path(db).read_bytes()[20], Path(plain).read_bytes()[20]), (8, 0))
+    with contextlib.closing(sqlite3.connect(copied(db, checks.folder, "read.db"))) as database:
+        checks.check("sqlite3 reads it", database.execute("SELECT count(*) FROM hub_tag").fetchone(), (len(tags),))
+        checks.check("and finds it whole", database.execute("PRAGMA integrity_check").fetchall(), [("ok",)])
+    checks.check("it is taken", tags_of(checks.program, db), tags)
+    checks.check("a file without sums is taken", tags_of(checks.program, plain, ("--page-sums",)), tags)
+    checks.check("and has none", Path(plain).read_bytes()[20], 0)
+    for suffix in ("-wal", "-count"):
+        os.remove(db + suffix)
+    page = int.from_bytes(Path(db).read_bytes()[16:18], "big")
+    pages = os.path.getsize(db) // page
+    for number in range(1, pages, max(1, pages // 20)):
+        copy = copied(db, checks.folder, "changed.db")
+        content = bytearray(Path(copy).read_bytes())
+        content[number * page + 7 * number % page] ^= 1 << number % 8
+        Path(copy).write_bytes(content)
+        checks.check(f"a bit of page {number + 1}", tags_of(checks.program, copy), (2, "fault Store: a page of the file is damaged\n"))
+
+
 def main():
     with tempfile.TemporaryDirectory() as folder:
         checks = Checks(os.path.abspath(sys.argv[1]), folder)
         check_modes(checks)
         check_losses(checks)
+        check_sums(checks)
         if shutil.which("gcc"):
             disk = Disk(folder)
             check_syncs(checks, disk)

@@ -2,6 +2,7 @@
 
 use crate::help;
 use crate::journal::level_of;
+use crate::records::FileOptions;
 use clap::error::ErrorKind;
 use clap::{Arg, ArgAction, ArgMatches, Command, Error, value_parser};
 use clients::{AskOptions, ForgetOptions, SimOptions, days_of};
@@ -40,8 +41,7 @@ pub struct ReplayOptions {
     pub operators: Vec<Text>,
     /// The path of the file with the records; without it they are in memory.
     pub db: Option<Text>,
-    /// A file that lacks changes is taken.
-    pub accepts_loss: bool,
+    pub file: FileOptions,
 }
 
 /// What a server is to do.
@@ -52,8 +52,7 @@ pub struct ServeOptions {
     pub operators: Vec<Text>,
     /// The path of the file with the records.
     pub db: Text,
-    /// A file that lacks changes is taken.
-    pub accepts_loss: bool,
+    pub file: FileOptions,
     /// It ends after so many turns; without them it serves until it is ended.
     pub turns: Option<u32>,
     /// Which lines its log has.
@@ -93,8 +92,15 @@ fn replay_options(alloc: Global, found: &ArgMatches) -> Result<ReplayOptions, Al
     Ok(ReplayOptions {
         operators: parts(alloc, found.get_str("operators"))?,
         db: text_if_any(alloc, found.get_str("db"))?,
-        accepts_loss: found.get_flag("accept-loss"),
+        file: file_options(found),
     })
+}
+
+fn file_options(found: &ArgMatches) -> FileOptions {
+    FileOptions {
+        accepts_loss: found.get_flag("accept-loss"),
+        page_sums: found.get_flag("page-sums"),
+    }
 }
 
 /// A value, if it was given.
@@ -110,7 +116,7 @@ fn serve_options(alloc: Global, found: &ArgMatches) -> Result<ServeOptions, Erro
         address: SocketAddr::new(bind_of(alloc, found)?, port_of(found)),
         operators: parts(alloc, found.get_str("operators"))?,
         db: Text::from(found.get_str("db").unwrap_or("").to_string(alloc)?),
-        accepts_loss: found.get_flag("accept-loss"),
+        file: file_options(found),
         turns: found.get_one::<u32>("turns"),
         log: level_of(found.get_str("log").unwrap_or("connections")),
     })
@@ -199,7 +205,8 @@ fn replay_command<'a>(alloc: Global) -> Result<Command<'a>, AllocError> {
             alloc,
             "The file with the records, made if there is none; else they are in memory",
         ))?
-        .arg(accept_loss_arg(alloc))
+        .arg(accept_loss_arg(alloc))?
+        .arg(page_sums_arg(alloc))
 }
 
 fn serve_command<'a>(alloc: Global) -> Result<Command<'a>, AllocError> {
@@ -229,6 +236,7 @@ fn serve_command<'a>(alloc: Global) -> Result<Command<'a>, AllocError> {
         .arg(bind)?
         .arg(db_arg(alloc, "The file with the records, made if there is none").required(true))?
         .arg(accept_loss_arg(alloc))?
+        .arg(page_sums_arg(alloc))?
         .arg(operators_arg(alloc))?
         .arg(turns)?
         .arg(log)
@@ -319,6 +327,15 @@ fn accept_loss_arg<'a>(alloc: Global) -> Arg<'a> {
     Arg::new(alloc, "accept-loss")
         .long("accept-loss")
         .help("Takes a file that lacks changes which were synced, as FILE-count says")
+        .action(ArgAction::SetTrue)
+}
+
+fn page_sums_arg<'a>(alloc: Global) -> Arg<'a> {
+    Arg::new(alloc, "page-sums")
+        .long("page-sums")
+        .help(
+            "Ends each page of a new file in a sum, so that a start finds changed bits; sqlite3 may then not write into it",
+        )
         .action(ArgAction::SetTrue)
 }
 

@@ -12,10 +12,15 @@ const MODE: u32 = 0o600;
 /// whole. So small pages make a change cheaper.
 const PAGE_SIZE: usize = 1024;
 
+/// The sum at the end of the first page of a new file, where its pages have sums: that of SQLite's cksumvfs over the bytes
+/// before it.
+const FIRST_SUM: [u8; 8] = [110, 168, 217, 73, 4, 89, 165, 179];
+
 /// Makes a database without tables at a path where there is no file. It is written as `PATH.new`, which then gets its
 /// name: so it is there whole or not at all, and no file that is there is changed. Where a log is left of a file that
-/// is gone, where there is a file `PATH.new`, or where something fails, none is made.
-pub fn make_if_new(rt: &HostRuntime, path: &str) -> io::Result<()> {
+/// is gone, where there is a file `PATH.new`, or where something fails, none is made. Its pages end in sums, if they are to:
+/// an opening finds that by the first page.
+pub fn make_if_new(rt: &HostRuntime, path: &str, sums: bool) -> io::Result<()> {
     let log = format!(in rt.alloc(); "{path}-wal")?;
     if fs::exists(rt, path)? || fs::exists(rt, log.as_str())? {
         return Ok(());
@@ -26,7 +31,7 @@ pub fn make_if_new(rt: &HostRuntime, path: &str) -> io::Result<()> {
         .create_new(true)
         .mode(MODE)
         .open(rt, draft.as_str())?;
-    let made = write_page(&mut file)
+    let made = write_page(&mut file, sums)
         .and_then(|()| fs::hard_link(rt, draft.as_str(), path))
         // so that a power cut leaves the new name too
         .and_then(|()| file.sync_all());
@@ -34,8 +39,13 @@ pub fn make_if_new(rt: &HostRuntime, path: &str) -> io::Result<()> {
     made
 }
 
-fn write_page(file: &mut File) -> io::Result<()> {
-    file.write_all(&first_page())?;
+fn write_page(file: &mut File, sums: bool) -> io::Result<()> {
+    let page = if sums {
+        first_page_with_sum()
+    } else {
+        first_page()
+    };
+    file.write_all(&page)?;
     file.sync_all()
 }
 
@@ -60,5 +70,15 @@ fn first_page() -> [u8; PAGE_SIZE] {
     // the leaf of a tree of rows, with no row; what rows there are ends with the page
     page[100] = 13;
     page[105..107].copy_from_slice(&(PAGE_SIZE as u16).to_be_bytes());
+    page
+}
+
+/// The same, with room for a sum at the end of each page.
+fn first_page_with_sum() -> [u8; PAGE_SIZE] {
+    let end = PAGE_SIZE - FIRST_SUM.len();
+    let mut page = first_page();
+    page[20] = FIRST_SUM.len() as u8;
+    page[105..107].copy_from_slice(&(end as u16).to_be_bytes());
+    page[end..].copy_from_slice(&FIRST_SUM);
     page
 }

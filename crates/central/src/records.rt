@@ -17,18 +17,27 @@ pub fn size_of(rt: &HostRuntime, path: &str) -> u64 {
     }
 }
 
+/// How a file is opened, or made.
+#[derive(Clone, Copy, Drop)]
+pub struct FileOptions {
+    /// A file that lacks changes is taken.
+    pub accepts_loss: bool,
+    /// The pages of a new file end in sums.
+    pub page_sums: bool,
+}
+
 /// Opens the store in the file at a path, which is made if there is none. Its mark is beside it. A file with fewer changes
 /// than its mark counts is refused, unless the loss is accepted.
 pub fn open(
     rt: &HostRuntime,
     path: &str,
-    accepts_loss: bool,
+    options: FileOptions,
 ) -> Result<SqlStore<FileStore<FileFrom<Unknown>>>, RunFault> {
-    // what was not made here is made below, with larger pages
-    let _made = make_if_new(rt, path);
+    // what was not made here is made below, with larger pages and without sums
+    let _made = make_if_new(rt, path, options.page_sums);
     let mut store = SqlStore::open(rt, path, Unknown)?;
     let place = format!(in rt.alloc(); "{path}-count")?;
-    let mark = Mark::open(rt, place.as_str(), store.changes(), accepts_loss)?;
+    let mark = Mark::open(rt, place.as_str(), store.changes(), options.accepts_loss)?;
     store.keep_mark(mark);
     Ok(store)
 }

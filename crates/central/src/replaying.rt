@@ -22,7 +22,7 @@ pub fn replay_lines<V: VendorHandler>(
     let operators = options.operators;
     match &options.db {
         Some(path) => {
-            let store = open(rt, path.as_str(), options.accepts_loss)?;
+            let store = open(rt, path.as_str(), options.file)?;
             replay_database(rt, store, operators, vendors)
         }
         None => {

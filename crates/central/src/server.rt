@@ -89,7 +89,7 @@ pub fn serve<V: VendorHandler>(
     let streams = listen(rt, options.address)?;
     tell_opening(rt, &options)?;
     let began = Instant::now(rt)?;
-    let store = open(rt, options.db.as_str(), options.accepts_loss)?;
+    let store = open(rt, options.db.as_str(), options.file)?;
     let opening = began.elapsed(rt)?;
     serve_database(rt, store, streams, options, vendors, opening)
 }
