@@ -16,6 +16,9 @@ const PAGE_SIZE: usize = 1024;
 /// before it.
 const FIRST_SUM: [u8; 8] = [110, 168, 217, 73, 4, 89, 165, 179];
 
+/// Where a page has its sum: in its last 8 bytes.
+const SUM_AT: usize = 1016;
+
 /// Makes a database without tables at a path where there is no file. It is written as `PATH.new`, which then gets its
 /// name: so it is there whole or not at all, and no file that is there is changed. Where a log is left of a file that
 /// is gone, where there is a file `PATH.new`, or where something fails, none is made. Its pages end in sums, if they are to:
@@ -75,10 +78,9 @@ fn first_page() -> [u8; PAGE_SIZE] {
 
 /// The same, with room for a sum at the end of each page.
 fn first_page_with_sum() -> [u8; PAGE_SIZE] {
-    let end = PAGE_SIZE - FIRST_SUM.len();
     let mut page = first_page();
-    page[20] = FIRST_SUM.len() as u8;
-    page[105..107].copy_from_slice(&(end as u16).to_be_bytes());
-    page[end..].copy_from_slice(&FIRST_SUM);
+    page[20] = 8;
+    page[105..107].copy_from_slice(&(SUM_AT as u16).to_be_bytes());
+    page[SUM_AT..].copy_from_slice(&FIRST_SUM);
     page
 }
