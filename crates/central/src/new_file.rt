@@ -16,9 +16,6 @@ const PAGE_SIZE: usize = 1024;
 /// before it.
 const FIRST_SUM: [u8; 8] = [110, 168, 217, 73, 4, 89, 165, 179];
 
-/// Where a page has its sum: in its last 8 bytes.
-const SUM_AT: usize = 1016;
-
 /// Makes a database without tables at a path where there is no file. It is written as `PATH.new`, which then gets its
 /// name: so it is there whole or not at all, and no file that is there is changed. Where a log is left of a file that
 /// is gone, where there is a file `PATH.new`, or where something fails, none is made. Its pages end in sums, if they are to:
@@ -43,18 +40,14 @@ pub fn make_if_new(rt: &HostRuntime, path: &str, sums: bool) -> io::Result<()> {
 }
 
 fn write_page(file: &mut File, sums: bool) -> io::Result<()> {
-    let page = if sums {
-        first_page_with_sum()
-    } else {
-        first_page()
-    };
+    let page = first_page(sums);
     file.write_all(&page)?;
     file.sync_all()
 }
 
 /// The one page of a database without tables, which is to be written by a log (the SQLite database file format,
 /// sections 1.3 and 1.6).
-fn first_page() -> [u8; PAGE_SIZE] {
+fn first_page(sums: bool) -> [u8; PAGE_SIZE] {
     let mut page = [0; PAGE_SIZE];
     page[..16].copy_from_slice(b"SQLite format 3\0");
     page[16..18].copy_from_slice(&(PAGE_SIZE as u16).to_be_bytes());
@@ -73,14 +66,11 @@ fn first_page() -> [u8; PAGE_SIZE] {
     // the leaf of a tree of rows, with no row; what rows there are ends with the page
     page[100] = 13;
     page[105..107].copy_from_slice(&(PAGE_SIZE as u16).to_be_bytes());
-    page
-}
-
-/// The same, with room for a sum at the end of each page.
-fn first_page_with_sum() -> [u8; PAGE_SIZE] {
-    let mut page = first_page();
-    page[20] = 8;
-    page[105..107].copy_from_slice(&(SUM_AT as u16).to_be_bytes());
-    page[SUM_AT..].copy_from_slice(&FIRST_SUM);
+    if sums {
+        // room for a sum at the end of each page, before which the rows end
+        page[20] = 8;
+        page[105..107].copy_from_slice(&1016_u16.to_be_bytes());
+        page[1016..1024].copy_from_slice(&FIRST_SUM);
+    }
     page
 }
