@@ -41,6 +41,7 @@ pub struct ReplayOptions {
     pub operators: Vec<Text>,
     /// The path of the file with the records; without it they are in memory.
     pub db: Option<Text>,
+    /// How that file is opened, or made.
     pub file: FileOptions,
 }
 
@@ -52,6 +53,7 @@ pub struct ServeOptions {
     pub operators: Vec<Text>,
     /// The path of the file with the records.
     pub db: Text,
+    /// How that file is opened, or made.
     pub file: FileOptions,
     /// It ends after so many turns; without them it serves until it is ended.
     pub turns: Option<u32>,
