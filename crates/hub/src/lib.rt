@@ -5,9 +5,11 @@ mod call_outputs;
 mod commit;
 mod fault;
 mod hub;
+mod stop;
 mod tick;
 pub mod worlds;
 
 pub use fault::Fault;
 pub use hub::{BadOperators, Hub};
 pub use hub_events::{Admin, Event, Listing, Out, Outcome, Row, Said, What};
+pub use stop::run_and_stop;

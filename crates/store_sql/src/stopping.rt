@@ -8,6 +8,7 @@ ghost use Rattle.store_sql.specs.Store.{IsCleanSql, sql_rows, sql_may_find, sql_
 use crate::fault::{PrepareFault, fault};
 use crate::opening::has_all_tables;
 use crate::sql_store::SqlStore;
+use hub_rows::Reopens;
 use sqlite::{Alter, Connection};
 use sqlite_trees::error::StoreError;
 use sqlite_trees::store::Reopen;
@@ -37,6 +38,16 @@ pub fn stopped_and_opened<A: Alter + Reopen + Drop>(
             SqlStore::adopt(alloc, conn)
         }
         Err((error, _pages)) => Err(fault(error)),
+    }
+}
+
+impl<A: Alter + Reopen + Drop> Reopens for SqlStore<A> {
+    type Refused = PrepareFault;
+
+    ghost is_open = { λ s. IsTrue (state A.Store s.conn).is_open };
+
+    fn stop_and_reopen(self, alloc: Global) -> Result<SqlStore<A>, PrepareFault> {
+        stopped_and_opened(alloc, self)
     }
 }
 
