@@ -8,7 +8,7 @@
 Each program is a folder, with a line in programs.txt. Its sources are Rattle. They end in `.rs`, since `rt ci` refuses
 an `.rt` file that it doesn't prove. They are copied as `.rt` into a root beside the crates, where `rt try` builds and
 runs them. A program has to end by itself, with status 0, after no access out of bounds, overflow or failed unwrap. Its
-files in data/ lie in the folder that it runs in, under their names alone. A folder with no src/main.rs has test
+files in data/ lie in the folder that it runs in. A folder with no src/main.rs has test
 functions, which have to pass.
 
 The last line is `N passed, M failed`: a program counts as one, and so does a test function.
@@ -63,11 +63,9 @@ def make_root(root):
 
 def data_of(name):
     """The words by which `rt try` takes the files of a program."""
-    files = {}
-    for file in sorted((TESTS / name / "data").rglob("*")):
-        if file.is_file() and files.setdefault(file.name, file) != file:
-            sys.exit(f"{file} and {files[file.name]} have one name")
-    return [word for known, file in files.items() for word in ("--data", f"{known}={file}")]
+    data = TESTS / name / "data"
+    files = sorted(file for file in data.rglob("*") if file.is_file())
+    return [word for file in files for word in ("--data", f"{file.relative_to(data)}={file}")]
 
 
 def tried(root, name, words):

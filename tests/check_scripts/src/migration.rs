@@ -1,5 +1,5 @@
-//! A database of an earlier schema whose opening is stopped at each call on its log, and which is opened again. Nothing is
-//! written to its own file.
+//! A database of an earlier schema whose opening is stopped at calls on its log, and which is opened again. Nothing is written
+//! to its own file.
 
 use crate::disks::{At, Database, File, Leaves, Opened, close, open_again, open_file};
 use crate::runs::records_in;
@@ -42,14 +42,14 @@ impl Earlier {
         })
     }
 
-    /// Stops the opening at each call on the log, and opens the files again.
-    pub fn try_stops(&self, alloc: Global, leaves: Leaves) -> Result<Stops> {
+    /// Stops the opening at one call on the log in so many, from the first on, and opens the files again.
+    pub fn try_stops(&self, alloc: Global, leaves: Leaves, every: u64) -> Result<Stops> {
         let mut tally = Stops::default();
-        for calls in 0..MAX_CALLS {
+        for tried in 0..MAX_CALLS {
             let at = At {
                 file: File::Log,
                 leaves,
-                calls,
+                calls: tried.saturating_mul(every),
             };
             let (is_done, files) = match open_file(alloc, at, self.database.as_slice())? {
                 Opened::Database(store) => (true, close(store)),

@@ -1,6 +1,6 @@
-//! Scripts that are stopped at each call on the files of a database, which is opened again: whether the records found are
-//! those after the events taken, or with the one in progress. The openings of databases of earlier schemas are stopped in
-//! the same way.
+//! Scripts that are stopped at calls on the files of a database, which is opened again: whether the records found are those
+//! after the events taken, or with the one in progress. The openings of databases of earlier schemas are stopped in the
+//! same way.
 
 use crate::disks::{File, Leaves};
 use crate::migration::{Earlier, Stops};
@@ -24,10 +24,10 @@ const SCRIPTS: &[&str] = &[
 ];
 
 /// A script whose log is copied into the database file under way. It has more calls on the log than are tried. Of those on
-/// the database file one in seven is, since a sync of a file in memory copies all of it.
+/// the database file one is where seven of another script are, since a sync of a file in memory copies all of it.
 const LONG: &str = "log_is_copied";
 
-const ONE_IN: u64 = 7;
+const OF_LONG: u64 = 7;
 
 /// The databases of earlier schemas, by their numbers.
 const EARLIER: &[(u32, &str)] = &[
@@ -48,24 +48,20 @@ const OF_DATABASE: &[(&str, File, Leaves)] = &[
     ("the database, synced", File::Database, Leaves::Synced),
 ];
 
-/// Stops all of them, and prints how many stops there were of each. Whether none left other records.
-pub fn try_stops(rt: &HostRuntime) -> Result<bool> {
+/// Stops all of them at one call in so many, and prints how many stops there were of each. Whether none left other records.
+pub fn try_stops(rt: &HostRuntime, every: u64) -> Result<bool> {
     let mut wrong = 0u64;
     for (number, name) in EARLIER {
-        let stops = try_earlier(rt, *number, name).context(format_args!("database {name}"))?;
+        let stops = try_earlier(rt, *number, name, every).context(format_args!("database {name}"))?;
         wrong = wrong.saturating_add(stops);
     }
     for name in SCRIPTS {
-        wrong = wrong.saturating_add(try_script(rt, name).context(format_args!("script {name}"))?);
+        let stops = try_script(rt, name, every).context(format_args!("script {name}"))?;
+        wrong = wrong.saturating_add(stops);
     }
-    wrong = wrong.saturating_add(try_kinds(
-        rt,
-        LONG,
-        &Script::read(rt, LONG)?,
-        OF_DATABASE,
-        ONE_IN,
-    )?);
-    Ok(wrong == 0)
+    let long = Script::read(rt, LONG)?;
+    let stops = try_kinds(rt, LONG, &long, OF_DATABASE, every.saturating_mul(OF_LONG))?;
+    Ok(wrong.saturating_add(stops) == 0)
 }
 
 /// Prints a tally. How many were wrong.
@@ -82,12 +78,12 @@ fn told(rt: &HostRuntime, name: &str, kind: &str, tally: Tally) -> Result<u64> {
 }
 
 /// Tries a script in all ways. How many stops were wrong.
-fn try_script(rt: &HostRuntime, name: &str) -> Result<u64> {
+fn try_script(rt: &HostRuntime, name: &str, every: u64) -> Result<u64> {
     let alloc = rt.alloc();
     let script = Script::read(rt, name)?;
-    let mut wrong = try_kinds(rt, name, &script, OF_LOG, 1)?;
-    wrong = wrong.saturating_add(try_kinds(rt, name, &script, OF_DATABASE, 1)?);
-    let tally = try_in_place(alloc, &script, File::Log, Leaves::Written)?;
+    let mut wrong = try_kinds(rt, name, &script, OF_LOG, every)?;
+    wrong = wrong.saturating_add(try_kinds(rt, name, &script, OF_DATABASE, every)?);
+    let tally = try_in_place(alloc, &script, every)?;
     Ok(wrong.saturating_add(told(rt, name, "opened in place", tally)?))
 }
 
@@ -108,14 +104,14 @@ fn try_kinds(
 }
 
 /// Stops the opening of a database of an earlier schema. How many stops were wrong.
-fn try_earlier(rt: &HostRuntime, number: u32, name: &str) -> Result<u64> {
+fn try_earlier(rt: &HostRuntime, number: u32, name: &str, every: u64) -> Result<u64> {
     let alloc = rt.alloc();
     let database = fs::read(rt, name)?;
     let lists = events(alloc, fs::read(rt, LISTS)?.as_slice())?;
     let earlier = Earlier::new(alloc, database, lists)?;
     let mut all = 0u64;
     for (kind, leaves) in [("written", Leaves::Written), ("synced", Leaves::Synced)] {
-        let Stops { stops, wrong } = earlier.try_stops(alloc, leaves).context(kind)?;
+        let Stops { stops, wrong } = earlier.try_stops(alloc, leaves, every).context(kind)?;
         println!(rt;
             "a database of schema {number} is opened, the log, {kind}: {stops} stops, {wrong} wrong"
         )?;

@@ -1,4 +1,4 @@
-//! A script that is stopped at each call on a file.
+//! A script that is stopped at calls on a file.
 
 use crate::disks::{At, File, Leaves, Opened, close, open_again, open_new};
 use crate::runs::{records_in, take_all_in, take_and_stop};
@@ -83,14 +83,14 @@ fn stop(alloc: Global, script: &Script, at: At) -> Result<Found> {
     }
 }
 
-/// Stops the script at each call on the file once the tables stand, and opens the database again in place.
-pub fn try_in_place(alloc: Global, script: &Script, file: File, leaves: Leaves) -> Result<Tally> {
+/// Stops the script at one call on the log in so many once the tables stand, and opens the database again in place.
+pub fn try_in_place(alloc: Global, script: &Script, every: u64) -> Result<Tally> {
     let mut tally = Tally::default();
-    for calls in 0..MAX_CALLS {
+    for tried in 0..MAX_CALLS {
         let at = At {
-            file,
-            leaves,
-            calls,
+            file: File::Log,
+            leaves: Leaves::Written,
+            calls: tried.saturating_mul(every),
         };
         let Some(found) = stop_in_place(alloc, script, at)? else {
             continue;

@@ -1,5 +1,4 @@
 //! Where two texts differ.
-ghost use Rattle.std.specs.Prelude.{◌≡◌, ◌≢◌, IfNone, IfSome};
 
 use std::fmt;
 
@@ -21,10 +20,7 @@ impl fmt::Display for Difference<'_> {
 }
 
 /// The first difference between what is wanted and what was got, `None` where they are equal.
-pub fn first_difference<'a>(wanted: &'a str, got: &'a str) -> Option<Difference<'a>>
-    ensures equal { IfNone result (wanted.now ≡ got.now) }
-    ensures apart { IfSome result (λ _. wanted.now ≢ got.now) }
-{
+pub fn first_difference<'a>(wanted: &'a str, got: &'a str) -> Option<Difference<'a>> {
     if wanted == got {
         return None;
     }

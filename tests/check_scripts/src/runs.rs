@@ -1,8 +1,7 @@
 //! Events over any store, and its records.
 
-use crate::run_and_stop::run_and_stop;
 use anyhow::{Result, bail};
-use hub::{Event, Hub};
+use hub::{Event, Hub, run_and_stop};
 use hub_rows::Store;
 use lines::{Line, print_out, read_line};
 use ocpp_types::Text;

@@ -1,10 +1,12 @@
-//! Scripts compared with what they are to write.
+//! Scripts over caches, compared with what they are to write.
 
 use crate::difference::first_difference;
+use crate::replayed::written;
 use crate::script::{lines_of, names, operators_of, wanted_of};
-use crate::stores::Replays;
 use anyhow::{Context, Result};
+use cached::Cached;
 use std::rt::Files;
+use store_mem::MemStore;
 
 /// How many scripts passed, and how many failed.
 #[derive(Drop)]
@@ -30,32 +32,26 @@ impl Tally {
     }
 }
 
-/// Checks the scripts, each over a new store.
-pub fn check_all<R, M>(rt: &R, stores: &M) -> Result<Tally>
+/// Checks the scripts, each over a new cache of so many answers, before a store in memory.
+pub fn check_all<R>(rt: &R, capacity: usize) -> Result<Tally>
 where
     R: Files + AllocGlobal + Print + Clone + Drop,
-    M: Replays,
 {
     let mut tally = Tally::new();
     for name in &names(rt, ".script")? {
-        let passes = passes(rt, stores, name.as_str()).context(format_args!("script {name}"))?;
+        let passes = passes(rt, capacity, name.as_str()).context(format_args!("script {name}"))?;
         tally.count(passes);
     }
     Ok(tally)
 }
 
-/// Whether a replay of the script of that name writes what it is to write.
-fn passes<R, M>(rt: &R, stores: &M, name: &str) -> Result<bool>
+/// Whether a replay of the script of that name writes what it is to write. If not, prints the first line that differs.
+fn passes<R>(rt: &R, capacity: usize, name: &str) -> Result<bool>
 where
     R: Files + AllocGlobal + Print,
-    M: Replays,
 {
-    let got = got_of(rt, stores, name)?;
-    is_wanted(rt, name, &wanted_of(rt, name)?, &got)
-}
-
-/// Whether that is what was wanted of the script; if not, prints the first line that differs.
-pub fn is_wanted<R: Print>(rt: &R, name: &str, wanted: &String, got: &String) -> Result<bool> {
+    let wanted = wanted_of(rt, name)?;
+    let got = got_of(rt, capacity, name)?;
     let Some(difference) = first_difference(wanted.as_str(), got.as_str()) else {
         return Ok(true);
     };
@@ -64,12 +60,12 @@ pub fn is_wanted<R: Print>(rt: &R, name: &str, wanted: &String, got: &String) ->
 }
 
 /// What a replay of the script of that name writes.
-pub fn got_of<R, M>(rt: &R, stores: &M, name: &str) -> Result<String>
+fn got_of<R>(rt: &R, capacity: usize, name: &str) -> Result<String>
 where
     R: Files + AllocGlobal,
-    M: Replays,
 {
-    let operators = operators_of(rt, name)?;
+    let alloc = rt.alloc();
+    let store = Cached::new(alloc, MemStore::new(alloc), capacity)?;
     let lines = lines_of(rt, name)?;
-    stores.written(operators, lines.as_slice())
+    written(alloc, store, operators_of(rt, name)?, lines.as_slice())
 }
