@@ -1,27 +1,37 @@
 /* Makes the disk of a program fail. It is put under the program by LD_PRELOAD.
 
-   The file that FAILING_DISK names has two numbers of 64 bits: whether syncs fail, and whether writes at an offset do.
-   It is mapped, so that they can be set while the program runs. What fails answers EIO. */
+   The file that FAILING_DISK names has numbers of 64 bits, which are mapped, so that they can be set while the program
+   runs: whether syncs fail, and whether writes at an offset do; how many calls that change files there were, after how
+   many each fails, if not 0, and whether the first of these, if it is a write, writes the first half of its bytes. What
+   fails answers EIO.
+
+   Where FAILING_DISK_SYNCED names a folder, each sync copies its file there, under the number of its inode. */
 
 #define _GNU_SOURCE
 #include <dlfcn.h>
 #include <errno.h>
 #include <fcntl.h>
+#include <limits.h>
 #include <stdint.h>
+#include <stdio.h>
 #include <stdlib.h>
 #include <sys/mman.h>
+#include <sys/sendfile.h>
+#include <sys/stat.h>
 #include <unistd.h>
 
 struct numbers {
-    volatile uint64_t syncs, writes;
+    volatile uint64_t syncs, writes, calls, most, halves;
 };
 
 static struct numbers *numbers;
+static const char *synced;
 
 __attribute__((constructor)) static void map_numbers(void)
 {
     const char *path = getenv("FAILING_DISK");
     int file = path ? open(path, O_RDWR | O_CLOEXEC) : -1;
+    synced = getenv("FAILING_DISK_SYNCED");
     if (file < 0)
         return;
     void *place = mmap(NULL, sizeof *numbers, PROT_READ | PROT_WRITE, MAP_SHARED, file, 0);
@@ -30,29 +40,94 @@ __attribute__((constructor)) static void map_numbers(void)
         numbers = place;
 }
 
+/* Counts a call. Whether it is to fail. */
+static int is_past(void)
+{
+    if (!numbers)
+        return 0;
+    numbers->calls++;
+    return numbers->most && numbers->calls > numbers->most;
+}
+
 static int fails(void)
 {
     errno = EIO;
     return -1;
 }
 
+/* Copies a file that was synced, whole or not at all. */
+static void keep(int file)
+{
+    char path[PATH_MAX], draft[PATH_MAX];
+    struct stat about;
+    if (!synced || fstat(file, &about))
+        return;
+    snprintf(path, sizeof path, "%s/%llu", synced, (unsigned long long)about.st_ino);
+    snprintf(draft, sizeof draft, "%s/draft", synced);
+    int copy = open(draft, O_WRONLY | O_CREAT | O_TRUNC | O_CLOEXEC, 0600);
+    char from[64];
+    snprintf(from, sizeof from, "/proc/self/fd/%d", file);
+    int source = open(from, O_RDONLY | O_CLOEXEC);
+    off_t at = 0;
+    if (copy < 0 || source < 0 || sendfile(copy, source, &at, about.st_size) != about.st_size)
+        abort();
+    close(source);
+    close(copy);
+    int (*move)(const char *, const char *) = dlsym(RTLD_NEXT, "rename");
+    if (move(draft, path))
+        abort();
+}
+
+static int sync_by(const char *name, int file)
+{
+    if (is_past() || (numbers && numbers->syncs))
+        return fails();
+    int status = ((int (*)(int))dlsym(RTLD_NEXT, name))(file);
+    if (!status)
+        keep(file);
+    return status;
+}
+
 int fdatasync(int file)
 {
-    if (numbers && numbers->syncs)
-        return fails();
-    return ((int (*)(int))dlsym(RTLD_NEXT, "fdatasync"))(file);
+    return sync_by("fdatasync", file);
 }
 
 int fsync(int file)
 {
-    if (numbers && numbers->syncs)
-        return fails();
-    return ((int (*)(int))dlsym(RTLD_NEXT, "fsync"))(file);
+    return sync_by("fsync", file);
 }
 
 ssize_t pwrite(int file, const void *bytes, size_t count, off_t offset)
 {
+    ssize_t (*write_at)(int, const void *, size_t, off_t) = dlsym(RTLD_NEXT, "pwrite");
+    if (is_past()) {
+        if (numbers->halves && numbers->calls == numbers->most + 1)
+            write_at(file, bytes, count / 2, offset);
+        return fails();
+    }
     if (numbers && numbers->writes)
         return fails();
-    return ((ssize_t (*)(int, const void *, size_t, off_t))dlsym(RTLD_NEXT, "pwrite"))(file, bytes, count, offset);
+    return write_at(file, bytes, count, offset);
+}
+
+int ftruncate(int file, off_t length)
+{
+    if (is_past())
+        return fails();
+    return ((int (*)(int, off_t))dlsym(RTLD_NEXT, "ftruncate"))(file, length);
+}
+
+int unlink(const char *path)
+{
+    if (is_past())
+        return fails();
+    return ((int (*)(const char *))dlsym(RTLD_NEXT, "unlink"))(path);
+}
+
+int link(const char *from, const char *to)
+{
+    if (is_past())
+        return fails();
+    return ((int (*)(const char *, const char *))dlsym(RTLD_NEXT, "link"))(from, to);
 }

@@ -1,4 +1,4 @@
-"""Checks the built program over databases in files, by the data of tests/check_scripts. Each script writes over a new file
+"""Checks the built program over databases in files, by the scripts of tests/check_cases. Each script writes over a new file
 what it writes in memory; scripts go on over the file that one before them left, and over files of earlier versions of the
 program. Each database of data/databases is opened: what the program says of it is in its opened.txt, and one that is
 refused stays as it is. Prints `N passed, M failed`.
@@ -17,7 +17,7 @@ from pathlib import Path
 
 from programs import Checks
 
-DATA = Path(__file__).resolve().parent.parent / "tests" / "check_scripts" / "data"
+DATA = Path(__file__).resolve().parent.parent / "tests" / "check_cases" / "data" / "scripts"
 OPENED = DATA / "databases" / "opened.txt"
 EARLIER_FORM = DATA / "databases" / "records_of_schema_3_earlier.db"
 # The most bytes of a log without a change.

@@ -1,5 +1,5 @@
 #!/usr/bin/env python3
-"""Makes the databases in tests/check_scripts/data/databases: files of other programs, of later versions and of odd
+"""Makes the databases in tests/check_cases/data/scripts/databases: files of other programs, of later versions and of odd
 shapes.
 
 Run it at the top of the repository, after a change of the tables. It reads their texts from
@@ -13,7 +13,7 @@ import re
 import shutil
 import sqlite3
 
-FOLDER = "tests/check_scripts/data/databases"
+FOLDER = "tests/check_cases/data/scripts/databases"
 SUBJECTS = (
     "meta", "stations", "connectors", "tags", "grants", "txs", "readings", "reservations", "lists", "list_entries",
     "reports", "tx_owners", "uses", "meter_values",

@@ -23,7 +23,7 @@ from pathlib import Path
 from heads import check_heads
 from peer import BOOT, HEAD, HEARTBEAT, Peer, frame
 
-SCRIPTS = Path(__file__).resolve().parent.parent / "tests" / "check_scripts" / "data"
+SCRIPTS = Path(__file__).resolve().parent.parent / "tests" / "check_cases" / "data" / "scripts"
 # The number of the schema, and a file of each earlier one, in SCRIPTS.
 SCHEMA = 4
 EARLIER = {

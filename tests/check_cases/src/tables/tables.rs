@@ -1,12 +1,12 @@
 //! The function of each table.
 
-use crate::commands::{answer_told, command_accepted, command_sent};
-use crate::enumerations::{class_of_action, name_read};
-use crate::frames::{frame_read, frame_written};
-use crate::paths::path_followed;
-use crate::readings::{readings_grouped, sampled_values};
-use crate::requests::request_read;
-use crate::values::{
+use crate::tables::commands::{answer_told, command_accepted, command_sent};
+use crate::tables::enumerations::{class_of_action, name_read};
+use crate::tables::frames::{frame_read, frame_written};
+use crate::tables::paths::path_followed;
+use crate::tables::readings::{readings_grouped, sampled_values};
+use crate::tables::requests::request_read;
+use crate::tables::values::{
     characters, moment_printed, number_of_reading, operators_hosted, tag_key, time_read,
 };
 use anyhow::{Result, bail};

@@ -1,8 +1,8 @@
 //! Scripts over caches, compared with what they are to write.
 
-use crate::difference::first_difference;
-use crate::replayed::written;
-use crate::script::{lines_of, names, operators_of, wanted_of};
+use crate::scripts::difference::first_difference;
+use crate::scripts::replayed::written;
+use crate::scripts::script::{lines_of, names, operators_of, wanted_of};
 use anyhow::{Context, Result};
 use cached::Cached;
 use std::rt::Files;

@@ -1,8 +1,8 @@
 //! Scripts of connections.
 
-use crate::client::Client;
-use crate::server::Server;
-use crate::station::Station;
+use crate::connections::client::Client;
+use crate::connections::server::Server;
+use crate::connections::station::Station;
 use anyhow::{Context, Result, bail};
 use std::alloc::Global;
 use std::net::TcpStream;

@@ -47,16 +47,7 @@ pub fn take_all<S: Store + Drop>(alloc: Global, store: S, events: &[Event]) -> R
     Ok((taken, hub.into_store()))
 }
 
-/// The same over a database.
-pub fn take_all_in<A: Alter + Drop>(
-    alloc: Global,
-    store: SqlStore<A>,
-    events: &[Event],
-) -> Result<(usize, SqlStore<A>)> {
-    take_all(alloc, store, events)
-}
-
-/// The same over a database that is opened again where the first fault is. `None` where it can't be.
+/// The same over a database, which is opened again where the first fault is. `None` where it can't be.
 pub fn take_and_stop<A: Alter + Reopen + Drop>(
     alloc: Global,
     store: SqlStore<A>,

@@ -7,7 +7,10 @@ use std::fs;
 use std::path::Path;
 use std::rt::Files;
 
-/// The folders of scripts and databases, by subject.
+/// The folder of the scripts.
+pub const FOLDER: &str = "scripts";
+
+/// The folders of scripts and databases in it, by subject.
 const FOLDERS: &[&str] = &[
     "commands",
     "connections",
@@ -33,7 +36,7 @@ pub fn names<R: Files + AllocGlobal + Clone + Drop>(rt: &R, ending: &str) -> Res
     let alloc = rt.alloc();
     let mut names = Vec::new(alloc);
     for folder in FOLDERS {
-        for entry in fs::read_dir(rt, *folder)? {
+        for entry in fs::read_dir(rt, format!(in alloc; "{FOLDER}/{folder}")?)? {
             let entry = entry?;
             if let Some(name) = entry.file_name().strip_suffix(ending) {
                 names.push(format!(in alloc; "{folder}/{name}")?)?;
@@ -46,19 +49,19 @@ pub fn names<R: Files + AllocGlobal + Clone + Drop>(rt: &R, ending: &str) -> Res
 
 /// The lines of a script.
 pub fn lines_of<R: Files + AllocGlobal>(rt: &R, name: &str) -> Result<Vec<u8>> {
-    let path = format!(in rt.alloc(); "{name}.script")?;
+    let path = format!(in rt.alloc(); "{FOLDER}/{name}.script")?;
     Ok(fs::read(rt, path)?)
 }
 
 /// What a replay of a script is to write.
 pub fn wanted_of<R: Files + AllocGlobal>(rt: &R, name: &str) -> Result<String> {
-    let path = format!(in rt.alloc(); "{name}.expected")?;
+    let path = format!(in rt.alloc(); "{FOLDER}/{name}.expected")?;
     Ok(fs::read_to_string(rt, path)?)
 }
 
 /// The operators of a script: those of its file, commas between them, or else ACME and BETA.
 pub fn operators_of<R: Files + AllocGlobal>(rt: &R, name: &str) -> Result<Vec<Text>> {
-    let path = format!(in rt.alloc(); "{name}.operators")?;
+    let path = format!(in rt.alloc(); "{FOLDER}/{name}.operators")?;
     if !Path::new(path.as_str()).exists(rt) {
         return parts(rt.alloc(), "ACME,BETA");
     }

@@ -1,15 +1,13 @@
 //! Scripts over stores of which one call fails.
 
-use crate::handed_again::{Answers, hand_all};
-use crate::script::{lines_of, operators_of, wanted_of};
+use crate::scripts::handed_again::{Answers, hand_all};
+use crate::scripts::script::{lines_of, operators_of, wanted_of};
 use anyhow::{Context, Result};
 use cached::Cached;
 use failing_store::Failing;
-use sqlite::Alter;
 use std::alloc::Global;
 use std::rt::Files;
 use store_mem::MemStore;
-use store_sql::SqlStore;
 
 /// The scripts that are tried.
 const SCRIPTS: &[&str] = &[
@@ -33,7 +31,7 @@ const MAX_CALLS: u64 = 100_000;
 pub enum Kind {
     /// A store in memory.
     Memory,
-    /// A database before which is a cache of so many answers.
+    /// A cache of so many answers, before a store in memory.
     Cache(usize),
 }
 
@@ -72,7 +70,7 @@ fn try_script<R: Files + AllocGlobal>(rt: &R, kind: Kind, name: &str, met: &mut 
 }
 
 /// What the script of that name is answered, where the call after so many fails.
-pub fn answered<R: Files + AllocGlobal>(
+fn answered<R: Files + AllocGlobal>(
     rt: &R,
     kind: Kind,
     name: &str,
@@ -81,19 +79,12 @@ pub fn answered<R: Files + AllocGlobal>(
     let alloc = rt.alloc();
     let operators = operators_of(rt, name)?;
     let lines = lines_of(rt, name)?;
+    let store = Failing::new(MemStore::new(alloc), before);
     match kind {
-        Kind::Memory => {
-            let store = Failing::new(MemStore::new(alloc), before);
-            hand_all(alloc, store, operators, lines.as_slice())
-        }
+        Kind::Memory => hand_all(alloc, store, operators, lines.as_slice()),
         Kind::Cache(capacity) => {
-            let store = failing(SqlStore::open_in_memory(alloc)?, before);
             let store = Cached::new(alloc, store, capacity)?;
             hand_all(alloc, store, operators, lines.as_slice())
         }
     }
-}
-
-fn failing<A: Alter + Drop>(store: SqlStore<A>, before: u64) -> Failing<SqlStore<A>> {
-    Failing::new(store, before)
 }

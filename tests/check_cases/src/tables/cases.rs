@@ -1,6 +1,6 @@
 //! The files of tables, and the cases in them.
 
-use crate::tables::given;
+use crate::tables::tables::given;
 use anyhow::{Context, Result, ensure};
 use serde_json::Value;
 use std::alloc::Global;
@@ -34,7 +34,7 @@ impl Tally {
 /// The names of the tables of this folder, in their order.
 pub fn tables<R: Files + AllocGlobal + Clone + Drop>(rt: &R) -> Result<Vec<String>> {
     let mut tables = Vec::new(rt.alloc());
-    for entry in fs::read_dir(rt, ".")? {
+    for entry in fs::read_dir(rt, "tables")? {
         let entry = entry?;
         if let Some(table) = entry.file_name().strip_suffix(".txt") {
             tables.push(table.to_string(rt.alloc())?)?;
@@ -50,7 +50,7 @@ pub fn check_table<R: Files + AllocGlobal + Print>(
     table: &str,
     tally: &mut Tally,
 ) -> Result<()> {
-    let file = format!(in rt.alloc(); "{table}.txt")?;
+    let file = format!(in rt.alloc(); "tables/{table}.txt")?;
     let text = fs::read_to_string(rt, file).context(format_args!("reading {table}"))?;
     let mut is_empty = true;
     for (number, line) in (1..u64::MAX).zip(text.as_str().lines()) {

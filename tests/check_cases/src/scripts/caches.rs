@@ -1,6 +1,6 @@
 //! What a cache takes, and that it asks its store once.
 
-use crate::runs::{events, take_all};
+use crate::scripts::runs::{events, take_all};
 use anyhow::Result;
 use cached::Cached;
 use failing_store::Failing;
@@ -11,7 +11,7 @@ use std::fs;
 use store_mem::MemStore;
 
 /// A script of which BETA has a tag that it granted to ACME, and ACME a station.
-const RECORDED: &str = "stopped/use_of_a_granted_tag.script";
+const RECORDED: &str = "scripts/stopped/use_of_a_granted_tag.script";
 
 /// Prints what caches of several capacities answer, and what look-ups are answered whose second asking would fail.
 pub fn try_caches(rt: &HostRuntime) -> Result<()> {

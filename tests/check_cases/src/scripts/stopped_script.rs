@@ -1,6 +1,6 @@
 //! A script that is stopped, and the records after each of its events.
 
-use crate::runs::{events, records, take_all};
+use crate::scripts::runs::{events, records, take_all};
 use anyhow::Result;
 use hub::Event;
 use std::alloc::Global;
@@ -9,7 +9,7 @@ use std::rt::Files;
 use store_mem::MemStore;
 
 /// The lines that list all records.
-pub const LISTS: &str = "stopped/lists.txt";
+pub const LISTS: &str = "scripts/stopped/lists.txt";
 
 /// The events of a script, those that list all records, and what these print after each number of events.
 #[derive(Drop)]
@@ -23,9 +23,9 @@ impl Script {
     /// Reads the script of that name. What is printed is that of a store in memory.
     pub fn read<R: Files + AllocGlobal>(rt: &R, name: &str) -> Result<Script> {
         let alloc = rt.alloc();
-        let path = format!(in alloc; "stopped/{name}.script")?;
+        let path = format!(in alloc; "scripts/stopped/{name}.script")?;
         let events = events(alloc, fs::read(rt, path)?.as_slice())?;
-        let lists = crate::runs::events(alloc, fs::read(rt, LISTS)?.as_slice())?;
+        let lists = crate::scripts::runs::events(alloc, fs::read(rt, LISTS)?.as_slice())?;
         let after = all_records(alloc, &events, &lists)?;
         Ok(Script {
             events,

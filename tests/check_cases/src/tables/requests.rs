@@ -1,6 +1,6 @@
 //! The table of requests.
 
-use crate::commands::fault_told;
+use crate::tables::commands::fault_told;
 use anyhow::{Result, bail};
 use ocpp_payload::{Action, read_request};
 use ocpp_types::Named;

@@ -1,6 +1,6 @@
 //! A client's end of a connection.
 
-use crate::head::{read_head, write_head};
+use crate::connections::head::{read_head, write_head};
 use anyhow::{Result, bail};
 use std::alloc::Global;
 use std::io::{ErrorKind, Write};

@@ -1,7 +1,7 @@
 //! A simulated station over a client's connection.
 
-use crate::client::SampleKey;
-use crate::server::Server;
+use crate::connections::client::SampleKey;
+use crate::connections::server::Server;
 use anyhow::{Result, bail};
 use ocpp_types::{Moment, Text};
 use station_sim::{Drove, Script, Sim, drive};
