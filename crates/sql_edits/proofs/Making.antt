@@ -59,14 +59,14 @@ module _ {S : Type 0} {g : Ghosts S} where
         goes = λ inside. goes_if IsSame before (state g new.conn.now) r q ok (shows.goes inside);
       }
 
-  -- by the number of the last row, which stands at that place
-  pub asks_last : {V T F : Type 0} {items : V → List Row} {s : TypedTable T} {number : T → ℕ} {p : T → Bool} {old new : Transaction S} {r : Result V Error} {q : Result ℕ F} {P : Rows → ℕ → Type 0} (at : ℕ) → ((x : Row) → count_in (column x at) ≡ number (s.read x)) → ShowsLastInside g items s number p old new r → OnOk q (IsOk r)
+  -- by the last number
+  pub asks_last : {V T F : Type 0} {items : V → List Row} {at : ℕ} {s : TypedTable T} {number : T → ℕ} {p : T → Bool} {old new : Transaction S} {r : Result V Error} {q : Result ℕ F} {P : Rows → ℕ → Type 0} → ShowsLastInside g items at s number p old new r → OnOk q (IsOk r)
       → IfOk r (λ v. IfOk q (λ n. n ≡ greatest (map (λ x. count_in (column x at)) (items v)))) → ((db : Trees) (n : ℕ) → n ≡ greatest (map number (filter p (rows_in s db))) → P (rows_of db) n) → AsksInside g old new q P
-  asks_last {V} {T} {F} {items} {s} {number} {p} {old} {new} {r} {q} {P} at same shows ok last means =
+  asks_last {V} {T} {F} {items} {at} {s} {number} {p} {old} {new} {r} {q} {P} shows ok last means =
       let before = state g old.conn.now in
       record {
         same_reference = shows.same_reference;
-        found = λ inside up. if_ok q (means before.now.trees) (last_finds items s number at p before.now.trees r q same ok last (shows.ok inside up));
+        found = λ inside up. if_ok q (means before.now.trees) (last_finds items at (greatest (map number (filter p (rows_in s before.now.trees)))) r q ok last (shows.ok inside up));
         goes = λ inside. goes_if IsSame before (state g new.conn.now) r q ok (shows.goes inside);
       }
 

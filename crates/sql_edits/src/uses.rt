@@ -69,7 +69,7 @@ fn owner_row<S: Alter>(
 }
 
 fn find_last<S: Alter>(tx: &mut Transaction<'_, S>, owner: &str) -> Result<Vec<Row>, Error>
-    ensures shows { ShowsLastInside S.Store (λ v. v.items) uses (λ r. r.number) (λ r. bytes_eq r.op owner.now && true) tx.old tx.new result }
+    ensures shows { ShowsLastInside S.Store (λ v. v.items) 1 uses (λ r. r.number) (λ r. bytes_eq r.op owner.now && true) tx.old tx.new result }
 {
     tx.query_all(sql_tables::uses::FIND_LAST, params![owner])
 }

@@ -65,11 +65,11 @@ asks_first {V} {T} {F} {items} {s} {p} {old} {new} {r} {q} {P} shows ok row mean
   stops = commits_as old new r q ok (λ serves. (shows serves).stops);
 }
 
--- the number of the last row, which stands at that place
-pub asks_last : {V T F : Type 0} {items : V → List Row} {s : TypedTable T} {number : T → ℕ} {p : T → Bool} {old new : State} {r : Result V Error} {q : Result ℕ F} {P : Trees → ℕ → Type 0} (at : ℕ) → ((x : Row) → count_in (column x at) ≡ number (s.read x)) → (IsServing old → ShowsLast items s number p old new r) → OnOk q (IsOk r)
+-- the last number
+pub asks_last : {V T F : Type 0} {items : V → List Row} {at : ℕ} {s : TypedTable T} {number : T → ℕ} {p : T → Bool} {old new : State} {r : Result V Error} {q : Result ℕ F} {P : Trees → ℕ → Type 0} → (IsServing old → ShowsLast items at s number p old new r) → OnOk q (IsOk r)
     → IfOk r (λ v. IfOk q (λ n. n ≡ greatest (map (λ x. count_in (column x at)) (items v)))) → ((db : Trees) (n : ℕ) → n ≡ greatest (map number (filter p (rows_in s db))) → P db n) → AsksIn old new q P
-asks_last {V} {T} {F} {items} {s} {number} {p} {old} {new} {r} {q} {P} at same shows ok last means = record {
-  found = λ serves up. if_ok q (means old.now.trees) (last_finds items s number at p old.now.trees r q same ok last ((shows serves).ok up));
+asks_last {V} {T} {F} {items} {at} {s} {number} {p} {old} {new} {r} {q} {P} shows ok last means = record {
+  found = λ serves up. if_ok q (means old.now.trees) (last_finds items at (greatest (map number (filter p (rows_in s old.now.trees)))) r q ok last ((shows serves).ok up));
   same = λ serves up. (shows serves).same up;
   stops = commits_as old new r q ok (λ serves. (shows serves).stops);
 }

@@ -1,5 +1,5 @@
 -- What look-ups of readings answer, by the meter values that are shown.
-use Rattle.std.proofs.Common.{◌≡◌, ◌∙◌, ◌+◌, ◌++◌, ℕ, ℤ, arith, length, List, [], ◌∷◌, Option, None, Result, Ok, Err, IfOk, IsOk, OnOk, ap, filter, flat_map, map, refl, sym, subst, Bool, ◌&&◌}
+use Rattle.std.proofs.Common.{◌≡◌, ◌∙◌, ◌+◌, ◌++◌, ℕ, ℤ, arith, length, List, [], ◌∷◌, Option, None, Result, Ok, Err, IfOk, IsOk, OnOk, ap, filter, flat_map, map, option_map, refl, sym, subst, Bool, ◌&&◌}
 use Rattle.std.specs.List.Sorted.{IsStrictlySortedBy}
 use Rattle.std.specs.Str.{bytes_eq}
 use Rattle.std.proofs.lemmas.List.{length-map, map-append}
@@ -14,13 +14,14 @@ use Rattle.meter_values.specs.declared.meter_value.MeterValue.{MeterValue}
 use Rattle.meter_values.specs.declared.meter_value.Sampled.{Sampled}
 use Rattle.meter_values.specs.Readings.{reading_of}
 use Rattle.sql_rows.specs.declared.meter_value_rows.MeterValueRow.{MeterValueRow}
-use Rattle.sql_rows.specs.Kept.{IsServing, IsTop, ShowsTop}
+use Rattle.sql_rows.specs.Kept.{AreTopCells, IsServing, IsTop, ShowsTop, ShowsTopCells}
 use Rattle.sql_rows.specs.TypedTable.{TypedTable, cmp, rows_in}
-use Rattle.sql_rows.specs.TypedTables.{is_meter_value, sampled_row, sampled_rows, unfolded, IsLastOf}
+use Rattle.sql_rows.specs.TypedTables.{meter_values, first_and_count, first_and_count_cells, is_meter_value, sampled_row, sampled_rows, unfolded, IsLastOf}
+use Rattle.sql_rows.specs.Values.{numbers_in}
 use Rattle.sql_rows.proofs.MeterValueLaws.{filter-unfolded, last_of_top}
 use Rattle.sql_rows.proofs.RowEdits.{rows-last}
 use Rattle.sql_rows.proofs.StoreLemmas.{commits_as}
-use Rattle.sql_lookups.specs.Asks.{AsksIn, IsTopRow}
+use Rattle.sql_lookups.specs.Asks.{AreLastNumbers, AsksIn, IsTopRow}
 
 -- one more reading of a meter value
 pub sampled_more : (op station : List ℕ) (first connector : ℕ) (transaction : Option ℤ) (at : ℤ) (xs : List Sampled) (x : Sampled) (n : ℕ) → n ≡ first + length xs
@@ -59,6 +60,28 @@ pub asks_top : {V T F : Type 0} {items : V → List Row} {s : TypedTable T} {num
     → IfOk r (λ v. IfOk q (λ o. o ≡ first (put_all (cmp s) (map s.read (items v)) []))) → AsksIn old new q (λ db. IsTopRow number (filter p (rows_in s db)))
 asks_top {V} {T} {F} {items} {s} {number} {p} {old} {new} {r} {q} shows ok row = record {
   found = λ serves up. top_row items s number (filter p (rows_in s old.now.trees)) r q ok row ((shows serves).ok up);
+  same = λ serves up. (shows serves).same up;
+  stops = commits_as old new r q ok (λ serves. (shows serves).stops);
+}
+
+-- ---- its numbers alone
+
+numbers_shown : (ts : List MeterValueRow) → option_map numbers_in (first (map first_and_count_cells ts)) ≡ option_map first_and_count (first ts)
+numbers_shown [] = refl
+numbers_shown (t ∷ ts) = refl
+
+numbers_found : {V E F : Type 0} (items : V → List Row) (all : List MeterValueRow) (r : Result V E) (q : Result (Option (ℕ × ℕ)) F) → OnOk q (IsOk r) → IfOk r (λ v. IfOk q (λ pair. pair ≡ option_map numbers_in (first (items v))))
+    → IfOk r (λ v. AreTopCells first_and_count_cells (λ m. m.first) all (items v)) → IfOk q (AreLastNumbers all)
+numbers_found items all (Ok v) (Ok o) ok is top = (first top.0, (top.0, top.1, refl), is ∙ ap (λ l. option_map numbers_in (first l)) top.2 ∙ numbers_shown top.0)
+numbers_found items all (Ok v) (Err e) ok is top = tt
+numbers_found items all (Err x) (Ok o) ok is top = absurd cc
+numbers_found items all (Err x) (Err e) ok is top = tt
+
+-- the numbers of the meter value with the greatest
+pub asks_numbers : {V F : Type 0} {items : V → List Row} {p : MeterValueRow → Bool} {old new : State} {r : Result V Error} {q : Result (Option (ℕ × ℕ)) F} → (IsServing old → ShowsTopCells items meter_values first_and_count_cells (λ m. m.first) p old new r) → OnOk q (IsOk r)
+    → IfOk r (λ v. IfOk q (λ pair. pair ≡ option_map numbers_in (first (items v)))) → AsksIn old new q (λ db. AreLastNumbers (filter p (rows_in meter_values db)))
+asks_numbers {V} {F} {items} {p} {old} {new} {r} {q} shows ok pair = record {
+  found = λ serves up. numbers_found items (filter p (rows_in meter_values old.now.trees)) r q ok pair ((shows serves).ok up);
   same = λ serves up. (shows serves).same up;
   stops = commits_as old new r q ok (λ serves. (shows serves).stops);
 }

@@ -1,11 +1,12 @@
 -- What a look-up says.
-use Rattle.std.specs.Prelude.{◌≡◌, ℕ, List, Option, Result}
+use Rattle.std.specs.Prelude.{◌≡◌, ℕ, List, Option, option_map, Result}
 use Rattle.sqlite_trees.specs.Tree.{Trees}
 use Rattle.sqlite.specs.State.{State}
 use Rattle.hub_rows.specs.Keyed.{first}
 use Rattle.hub_rows.specs.Rows.{Rows}
 use Rattle.sql_rows.specs.Kept.{CommitsNothing, FindsIn, IsTop, Rests}
-use Rattle.sql_rows.specs.TypedTables.{rows_of}
+use Rattle.sql_rows.specs.TypedTables.{first_and_count, rows_of}
+use Rattle.sql_rows.specs.declared.meter_value_rows.MeterValueRow.{MeterValueRow}
 
 -- what a look-up says, of the tables
 pub record AsksIn {A E : Type 0} (old new : State) (r : Result A E) (P : Trees → A → Type 0) : Type 0 where
@@ -23,3 +24,7 @@ Asks old new r P = AsksIn old new r (λ db. P (rows_of db))
 -- the row with the greatest number, if there are any
 abbrev pub IsTopRow : {T : Type 0} → (T → ℕ) → List T → Option T → Type 0
 IsTopRow {T} number all row = (ts : List T) × IsTop number all ts × (row ≡ first ts)
+
+-- the first number of the last of some meter values, and how many readings it is, if there are any
+abbrev pub AreLastNumbers : List MeterValueRow → Option (ℕ × ℕ) → Type 0
+AreLastNumbers values numbers = (row : Option MeterValueRow) × IsTopRow (λ m. m.first) values row × (numbers ≡ option_map first_and_count row)

@@ -6,17 +6,17 @@ ghost use Rattle.sqlite.specs.Held.{state};
 ghost use Rattle.hub_rows.specs.Keyed.{by_key};
 ghost use Rattle.hub_rows.specs.Rows.{reading_key};
 ghost use Rattle.hub_rows.specs.Transactions.{is_sent_with, readings_in, last_reading_in};
-ghost use Rattle.sql_rows.specs.Kept.{IsPage, IsServing, Shows, ShowsPage, ShowsTop};
+ghost use Rattle.sql_rows.specs.Kept.{IsPage, IsServing, Shows, ShowsPage, ShowsTop, ShowsTopCells};
 ghost use Rattle.sql_rows.specs.TypedTable.{rows_in};
-ghost use Rattle.sql_rows.specs.TypedTables.{meter_values, is_meter_value, sampled_row, sampled_rows, unfolded, IsLastOf};
-ghost use Rattle.sql_lookups.specs.Asks.{Asks, AsksIn, IsTopRow};
+ghost use Rattle.sql_rows.specs.TypedTables.{meter_values, first_and_count_cells, is_meter_value, sampled_row, sampled_rows, unfolded, IsLastIn, IsLastOf};
+ghost use Rattle.sql_lookups.specs.Asks.{AreLastNumbers, Asks, AsksIn, IsTopRow};
 ghost use Rattle.sql_lookups.specs.Forgotten.{readings_from};
 ghost use Rattle.sql_lookups.specs.Pages.{is_between};
 
 use hub_rows::{Reading, ReadingRow, StoreFault, is_sent_with};
 use meter_values::Sampled;
 use ocpp_types::{Listed, Text};
-use sql_rows::{MeterValueRow, first_row, listed};
+use sql_rows::{MeterValueRow, first_row, listed, only_pair};
 use sqlite::{Alter, Connection, Error, Row, params};
 use std::alloc::Global;
 
@@ -45,6 +45,16 @@ fn find_last<S: Alter>(conn: &mut Connection<S>, op: &str, station: &str) -> Res
     ensures shows { IsServing (state S.Store conn.old) → ShowsTop (λ v. v.items) meter_values (λ m. m.first) (λ m. bytes_eq m.op op.now && is_meter_value station.now None m) (state S.Store conn.old) (state S.Store conn.new) result }
 {
     conn.query_all(sql_tables::meter_values::FIND_LAST, params![op, station])
+}
+
+fn find_last_numbers<S: Alter>(
+    conn: &mut Connection<S>,
+    op: &str,
+    station: &str,
+) -> Result<Vec<Row>, Error>
+    ensures shows { IsServing (state S.Store conn.old) → ShowsTopCells (λ v. v.items) meter_values first_and_count_cells (λ m. m.first) (λ m. bytes_eq m.op op.now && is_meter_value station.now None m) (state S.Store conn.old) (state S.Store conn.new) result }
+{
+    conn.query_all(sql_tables::meter_values::LAST_NUMBERS, params![op, station])
 }
 
 /// All meter values of a station.
@@ -307,6 +317,27 @@ pub(crate) fn readings_from(
     Ok(Listed::from(left))
 }
 
+/// The first number of a station's last meter value, and how many readings it is.
+fn last_numbers<S: Alter>(
+    conn: &mut Connection<S>,
+    op: &str,
+    station: &str,
+) -> Result<Option<(u32, u32)>, StoreFault>
+    ensures asks { AsksIn (state S.Store conn.old) (state S.Store conn.new) result (λ db numbers. AreLastNumbers (filter (λ m. bytes_eq m.op op.now && is_meter_value station.now None m) (rows_in meter_values db)) numbers) }
+{
+    only_pair(find_last_numbers(conn, op, station))
+}
+
+/// The last of so many numbers from the first on, 0 where there are none.
+fn last_in(numbers: Option<(u32, u32)>) -> Result<u32, StoreFault>
+    ensures { IfOk result (IsLastIn numbers) }
+{
+    match numbers {
+        Some((first, count)) => last_of(first, count as usize),
+        None => Ok(0),
+    }
+}
+
 /// The number of a station's last reading, 0 where it has none, if the readings are in the order of
 /// their keys.
 pub fn last_reading<S: Alter>(
@@ -316,6 +347,6 @@ pub fn last_reading<S: Alter>(
 ) -> Result<u32, StoreFault>
     ensures asks { Asks (state S.Store conn.old) (state S.Store conn.new) result (λ rows n. IsStrictlySortedBy (by_key reading_key) rows.readings → n ≡ last_reading_in op.now station.now rows.readings) }
 {
-    let row = last_value(conn, op, station)?;
-    last_number(&row)
+    let numbers = last_numbers(conn, op, station)?;
+    last_in(numbers)
 }

@@ -42,9 +42,9 @@ fn find_from<S: Alter>(
 }
 
 fn find_last<S: Alter>(conn: &mut Connection<S>, op: &str, station: &str) -> Result<Vec<Row>, Error>
-    ensures shows { IsServing (state S.Store conn.old) → ShowsLast (λ v. v.items) txs (λ r. r.number) (λ r. bytes_eq r.op op.now && bytes_eq r.station station.now) (state S.Store conn.old) (state S.Store conn.new) result }
+    ensures shows { IsServing (state S.Store conn.old) → ShowsLast (λ v. v.items) 0 txs (λ r. r.number) (λ r. bytes_eq r.op op.now && bytes_eq r.station station.now) (state S.Store conn.old) (state S.Store conn.new) result }
 {
-    conn.query_all(sql_tables::txs::FIND_LAST, params![op, station])
+    conn.query_all(sql_tables::txs::LAST_NUMBER, params![op, station])
 }
 
 fn list_in_use<S: Alter>(conn: &mut Connection<S>, op: &str, key: &str) -> Result<Vec<Row>, Error>
@@ -248,5 +248,5 @@ pub fn last_tx<S: Alter>(
 ) -> Result<u32, StoreFault>
     ensures asks { Asks (state S.Store conn.old) (state S.Store conn.new) result (λ rows n. n ≡ last_tx_in op.now station.now rows.transactions) }
 {
-    only_number(find_last(conn, op, station), 2)
+    only_number(find_last(conn, op, station), 0)
 }

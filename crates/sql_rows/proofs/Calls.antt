@@ -65,17 +65,13 @@ chosen_finds op station o n rows all (Ok l) is whole chosen =
     ∙ ap (λ k. readings_in op station k rows) (sym is)
 chosen_finds op station o n rows all (Err e) is whole chosen = tt
 
-numbers_read : {T : Type 0} (s : TypedTable T) (number : T → ℕ) (at : ℕ) → ((r : Row) → count_in (column r at) ≡ number (s.read r)) → (rows : List Row) → map (λ r. count_in (column r at)) rows ≡ map number (map s.read rows)
-numbers_read s number at same [] = refl
-numbers_read s number at same (r ∷ rows) = λ i. same r i ∷ numbers_read s number at same rows i
-
--- the number of the row that is shown is the greatest
-pub last_finds : {V T E F : Type 0} (items : V → List Row) (s : TypedTable T) (number : T → ℕ) (at : ℕ) (p : T → Bool) (db : Trees) (r : Result V E) (q : Result ℕ F) → ((x : Row) → count_in (column x at) ≡ number (s.read x)) → OnOk q (IsOk r)
-    → IfOk r (λ v. IfOk q (λ n. n ≡ greatest (map (λ x. count_in (column x at)) (items v)))) → IfOk r (λ v. greatest (map number (map s.read (items v))) ≡ greatest (map number (filter p (rows_in s db)))) → IfOk q (λ n. n ≡ greatest (map number (filter p (rows_in s db))))
-last_finds items s number at p db (Ok v) (Ok n) same ok is shown = is ∙ ap greatest (numbers_read s number at same (items v)) ∙ shown
-last_finds items s number at p db (Ok v) (Err e) same ok is shown = tt
-last_finds items s number at p db (Err x) (Ok n) same ok is shown = absurd cc
-last_finds items s number at p db (Err x) (Err e) same ok is shown = tt
+-- the number that is shown is the last
+pub last_finds : {V E F : Type 0} (items : V → List Row) (at last : ℕ) (r : Result V E) (q : Result ℕ F) → OnOk q (IsOk r)
+    → IfOk r (λ v. IfOk q (λ n. n ≡ greatest (map (λ x. count_in (column x at)) (items v)))) → IfOk r (λ v. greatest (map (λ x. count_in (column x at)) (items v)) ≡ last) → IfOk q (λ n. n ≡ last)
+last_finds items at last (Ok v) (Ok n) ok is shown = is ∙ shown
+last_finds items at last (Ok v) (Err e) ok is shown = tt
+last_finds items at last (Err x) (Ok n) ok is shown = absurd cc
+last_finds items at last (Err x) (Err e) ok is shown = tt
 
 pub regrouped : (a b c d : Bool) → ((a && (b && c)) && d) ≡ (a && (c && (b && d)))
 regrouped true true true d = refl

@@ -27,9 +27,13 @@ use Rattle.sql_rows.proofs.TypedTableLemmas.{IsTypedTable}
 abbrev pub IsTest : {T : Type 0} → TypedTable T → List Term → Row → (T → Bool) → Type 0
 IsTest {T} s filter params p = (id : ℤ) (t : T) → list_all (holds (params ∷ (Int id ∷ s.row t) ∷ [])) filter ≡ p t
 
+-- the terms are these cells of a row
+abbrev pub AreCells : {T : Type 0} → TypedTable T → List Term → (T → Row) → Type 0
+AreCells {T} s project cells = (t : T) (v : Value) (params : Row) → eval_all project (params ∷ (v ∷ s.row t) ∷ []) ≡ cells t
+
 -- the terms are the columns of the table
 abbrev pub IsWhole : {T : Type 0} → TypedTable T → List Term → Type 0
-IsWhole {T} s project = (t : T) (v : Value) (params : Row) → eval_all project (params ∷ (v ∷ s.row t) ∷ []) ≡ s.row t
+IsWhole s project = AreCells s project s.row
 
 -- the column at that place is the number of a row
 abbrev pub IsNumbered : {T : Type 0} → TypedTable T → (T → ℕ) → ℕ → Type 0
@@ -42,11 +46,15 @@ module _ {T : Type 0} (schema : Schema) (good : ℕ → Row → Type 0) (at : �
       let u = typed_table.row_in schema good at s is db kept r h in
       ap (λ (x : Row). list_all (holds (params ∷ x ∷ [])) wanted) u.2 ∙ test u.0 u.1 ∙ ap p (sym (typed_table.typed_is schema good at s is db kept r h))
 
+  -- the cells of a row of the table
+  pub cells_are : (project : List Term) (cells : T → Row) → AreCells s project cells → (r : Row) → Has (db s.table.tree) r → eval_all project (params ∷ r ∷ []) ≡ cells (typed s r)
+  cells_are project cells shown r h =
+      let u = typed_table.row_in schema good at s is db kept r h in
+      ap (λ (z : Row). eval_all project (params ∷ z ∷ [])) u.2 ∙ shown u.1 (Int u.0) params ∙ ap cells (sym (typed_table.typed_is schema good at s is db kept r h))
+
   -- a row of the table, as all its columns are read
   pub read_is : (project : List Term) → IsWhole s project → (r : Row) → Has (db s.table.tree) r → s.read (eval_all project (params ∷ r ∷ [])) ≡ typed s r
-  read_is project whole r h =
-      let u = typed_table.row_in schema good at s is db kept r h in
-      ap (λ (z : Row). s.read (eval_all project (params ∷ z ∷ []))) u.2 ∙ ap s.read (whole u.1 (Int u.0) params) ∙ is.round u.1 ∙ sym (typed_table.typed_is schema good at s is db kept r h)
+  read_is project whole r h = ap s.read (cells_are project s.row whole r h) ∙ is.round (typed s r)
 
   -- the number of a row, which stands at that place
   pub number_of : (place : ℕ) (number : T → ℕ) → IsNumbered s number place → (r : Row) → Has (db s.table.tree) r → column r place ≡ Int (pos (number (typed s r)))

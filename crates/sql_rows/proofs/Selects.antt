@@ -3,7 +3,7 @@ use Rattle.sqlite_rules.specs.Lists.{Has}
 use Rattle.std.proofs.Common.{◌≡◌, ◌<◌, Equal, ℕ, List, [], Bool, Ok, Err, Result, IsTrue, IfOk, IfErr, map, filter, sym, subst, inl, inr}
 use Rattle.sqlite_value.specs.declared.value.Value.TheVariants.{Null}
 use Rattle.sqlite_value.specs.declared.keys.Key as sort
-use Rattle.sqlite_value.specs.Order.{Row}
+use Rattle.sqlite_value.specs.Order.{Row, column}
 use Rattle.sqlite_trees.specs.Tree.{Trees}
 use Rattle.sqlite_sql.specs.Term.{Term}
 use Rattle.sqlite_sql.specs.Query.{Query, inner, end, IsAnswer}
@@ -20,10 +20,11 @@ use Rattle.sql_tables.specs.Forms.{any_query, plain_query, last_query, page_quer
 use Rattle.sql_tables.specs.Meanings.{IsRead}
 use Rattle.sql_rows.specs.TypedTable.{TypedTable, cmp, rows_in, AreTyped}
 use Rattle.sql_rows.specs.TypedTables.{hub_good}
-use Rattle.sql_rows.specs.Kept.{IsServing, IsAsBefore, IsUncommitted, CommitsNothing, IsPage, IsTop, Shows, ShowsLast, ShowsPage, ShowsTop}
+use Rattle.sql_rows.specs.Kept.{AreTopCells, IsServing, IsAsBefore, IsUncommitted, CommitsNothing, IsPage, IsTop, Shows, ShowsLast, ShowsPage, ShowsTop, ShowsTopCells}
+use Rattle.sql_rows.specs.Values.{count_in}
 use Rattle.sql_rows.proofs.TypedTableLemmas.{IsTypedTable}
-use Rattle.sql_rows.proofs.ReadLaws.{IsNumbered, IsTest, IsWhole, lists_those, once}
-use Rattle.sql_rows.proofs.DownLaws.{last_is, top_is}
+use Rattle.sql_rows.proofs.ReadLaws.{AreCells, IsNumbered, IsTest, IsWhole, lists_those, once}
+use Rattle.sql_rows.proofs.DownLaws.{last_is, top_is, top_read}
 use Rattle.sql_rows.proofs.PageLaws.{IsApart, page_is}
 use Rattle.sql_rows.proofs.StoreLemmas.{obeys_in, serves_still, shown_was, shown_up, shown_unchanged, commits_none, failed_was, fails_before}
 
@@ -85,13 +86,13 @@ pub record ReadsAny {T : Type 0} (sql : List ℕ) (s : TypedTable T) : Type 1 wh
   pub names : List (List ℕ)
   pub text : IsRead sql (any_query s.table.tree project) names
 
--- it shows the row that passes and has the greatest number, which stands at that place
-pub record ReadsLast {T : Type 0} (sql : List ℕ) (params : Row) (s : TypedTable T) (number : T → ℕ) (p : T → Bool) : Type 1 where
+-- it shows these cells of the row that passes and has the greatest number, which stands at that place
+pub record ReadsLast {T : Type 0} (sql : List ℕ) (params : Row) (s : TypedTable T) (cells : T → Row) (number : T → ℕ) (p : T → Bool) : Type 1 where
   pub at : ℕ
   pub is : IsTypedTable hub_schema hub_good at s
   pub wanted : List Term
   pub project : List Term
-  pub whole : IsWhole s project
+  pub shown : AreCells s project cells
   pub place : ℕ
   pub numbered : IsNumbered s number place
   pub names : List (List ℕ)
@@ -126,12 +127,12 @@ shows {T} {sql} {params} {s} {p} f items old new values r ok err survives given 
   stops = stops sql (plain_query (inner s.table.tree end) f.wanted f.project f.order) f.names f.text params items old new values r survives ok;
 }
 
-pub shows_last : {T : Type 0} {sql : List ℕ} {params : Row} {s : TypedTable T} {number : T → ℕ} {p : T → Bool} → ReadsLast sql params s number p
+pub shows_last : {T : Type 0} {sql : List ℕ} {params : Row} {s : TypedTable T} {cells : T → Row} {number : T → ℕ} {p : T → Bool} → ReadsLast sql params s cells number p → (at : ℕ) → ((t : T) → count_in (column (cells t) at) ≡ number t)
     → {V : Type 0} (items : V → List Row) (old new : State) (values : Row) (r : Result V Error) → (HasCleanDisk new → IfOk r (λ v. Shown sql values old new (items v))) → (HasCleanDisk new → IfErr r (FailsToQuery sql values old new))
-    → Survives old new (CommitsShowing sql values old) → values ≡ params → IsServing old → (IsTrue new.is_open → HasCleanDisk new) → ShowsLast items s number p old new r
-shows_last {T} {sql} {params} {s} {number} {p} f items old new values r ok err survives given h clean = record {
-  ok = λ up. answers sql (last_query s.table.tree f.wanted f.project f.place) f.names f.text params (λ db rows. greatest (map number (map s.read rows)) ≡ greatest (map number (filter p (rows_in s db))))
-      (λ db kept obeys rows answer. last_is f.at s f.is f.wanted f.project f.whole params p f.test f.place number f.numbered db kept obeys rows answer) items old new values r given h (ok (clean up));
+    → Survives old new (CommitsShowing sql values old) → values ≡ params → IsServing old → (IsTrue new.is_open → HasCleanDisk new) → ShowsLast items at s number p old new r
+shows_last {T} {sql} {params} {s} {cells} {number} {p} f at counted items old new values r ok err survives given h clean = record {
+  ok = λ up. answers sql (last_query s.table.tree f.wanted f.project f.place) f.names f.text params (λ db rows. greatest (map (λ x. count_in (column x at)) rows) ≡ greatest (map number (filter p (rows_in s db))))
+      (λ db kept obeys rows answer. last_is f.at s f.is f.wanted f.project cells f.shown params p f.test f.place number f.numbered db kept obeys rows answer at counted) items old new values r given h (ok (clean up));
   same = λ up. stays sql (last_query s.table.tree f.wanted f.project f.place) f.names f.text params items old new values r survives.limit h up (ok (clean up)) (err (clean up));
   stops = stops sql (last_query s.table.tree f.wanted f.project f.place) f.names f.text params items old new values r survives ok;
 }
@@ -146,12 +147,22 @@ shows_page {T} {sql} {params} {s} {number} {p} f items old new values r ok err s
   stops = stops sql (page_query s.table.tree f.wanted f.project f.place f.most) f.names f.text params items old new values r survives ok;
 }
 
-pub shows_top : {T : Type 0} {sql : List ℕ} {params : Row} {s : TypedTable T} {number : T → ℕ} {p : T → Bool} → ReadsLast sql params s number p
+pub shows_top : {T : Type 0} {sql : List ℕ} {params : Row} {s : TypedTable T} {number : T → ℕ} {p : T → Bool} → ReadsLast sql params s s.row number p
     → {V : Type 0} (items : V → List Row) (old new : State) (values : Row) (r : Result V Error) → (HasCleanDisk new → IfOk r (λ v. Shown sql values old new (items v))) → (HasCleanDisk new → IfErr r (FailsToQuery sql values old new))
     → Survives old new (CommitsShowing sql values old) → values ≡ params → IsServing old → (IsTrue new.is_open → HasCleanDisk new) → ShowsTop items s number p old new r
 shows_top {T} {sql} {params} {s} {number} {p} f items old new values r ok err survives given h clean = record {
   ok = λ up. answers sql (last_query s.table.tree f.wanted f.project f.place) f.names f.text params (λ db rows. IsTop number (filter p (rows_in s db)) (map s.read rows))
-      (λ db kept obeys rows answer. top_is f.at s f.is f.wanted f.project f.whole params p f.test f.place number f.numbered db kept obeys rows answer) items old new values r given h (ok (clean up));
+      (λ db kept obeys rows answer. top_read s f.is.round number (filter p (rows_in s db)) rows (top_is f.at s f.is f.wanted f.project s.row f.shown params p f.test f.place number f.numbered db kept obeys rows answer)) items old new values r given h (ok (clean up));
+  same = λ up. stays sql (last_query s.table.tree f.wanted f.project f.place) f.names f.text params items old new values r survives.limit h up (ok (clean up)) (err (clean up));
+  stops = stops sql (last_query s.table.tree f.wanted f.project f.place) f.names f.text params items old new values r survives ok;
+}
+
+pub shows_top_cells : {T : Type 0} {sql : List ℕ} {params : Row} {s : TypedTable T} {cells : T → Row} {number : T → ℕ} {p : T → Bool} → ReadsLast sql params s cells number p
+    → {V : Type 0} (items : V → List Row) (old new : State) (values : Row) (r : Result V Error) → (HasCleanDisk new → IfOk r (λ v. Shown sql values old new (items v))) → (HasCleanDisk new → IfErr r (FailsToQuery sql values old new))
+    → Survives old new (CommitsShowing sql values old) → values ≡ params → IsServing old → (IsTrue new.is_open → HasCleanDisk new) → ShowsTopCells items s cells number p old new r
+shows_top_cells {T} {sql} {params} {s} {cells} {number} {p} f items old new values r ok err survives given h clean = record {
+  ok = λ up. answers sql (last_query s.table.tree f.wanted f.project f.place) f.names f.text params (λ db rows. AreTopCells cells number (filter p (rows_in s db)) rows)
+      (λ db kept obeys rows answer. top_is f.at s f.is f.wanted f.project cells f.shown params p f.test f.place number f.numbered db kept obeys rows answer) items old new values r given h (ok (clean up));
   same = λ up. stays sql (last_query s.table.tree f.wanted f.project f.place) f.names f.text params items old new values r survives.limit h up (ok (clean up)) (err (clean up));
   stops = stops sql (last_query s.table.tree f.wanted f.project f.place) f.names f.text params items old new values r survives ok;
 }

@@ -1,6 +1,6 @@
 -- Transactions, the owners of their tags, readings and uses: their typed tables, and what the texts that write and show them
 -- mean.
-use Rattle.std.proofs.Common.{◌&&◌, ◌++◌, ◌∷◌, ◌≡◌, ◌∙◌, ℕ, nat_le, pos, List, [], Bool, Option, Some, None, option_map, unwrap_or, length, refl, sym, ap, arith, inl, inr, true, Equal}
+use Rattle.std.proofs.Common.{◌&&◌, ◌++◌, ◌∷◌, ◌≡◌, ◌∙◌, ℕ, nat_le, pos, codes, List, [], Bool, Option, Some, None, option_map, unwrap_or, length, refl, sym, ap, arith, inl, inr, true, Equal}
 use Rattle.std.proofs.lemmas.Bool.{and_parts}
 use Rattle.std.proofs.lemmas.Cmp.{tied_itself}
 use Rattle.sqlite_value.specs.Order.{Row}
@@ -10,7 +10,7 @@ use Rattle.sqlite_schema.specs.Names.{same_name}
 use Rattle.sqlite_rules.specs.Action.{works}
 use Rattle.sql_tables.specs.Tables.{hub_schema, hub_tx, names_of, hub_reading, hub_tx_owner, hub_use, hub_meter_value}
 use Rattle.sql_tables.specs.Forms.{cols, where_is, range_is, by_column}
-use Rattle.sql_rows.specs.TypedTables.{hub_good, txs, tx_owners, readings, meter_values, is_meter_value, uses, stop_tag, rows_of}
+use Rattle.sql_rows.specs.TypedTables.{hub_good, txs, tx_owners, readings, meter_values, first_and_count_cells, is_meter_value, uses, stop_tag, rows_of}
 use Rattle.sql_rows.proofs.TableLemmas.{cast_int}
 use Rattle.sql_rows.proofs.ValueLaws.{text_cast, number_cast, count_cast, flag_cast, text_back, number_back}
 use Rattle.sql_rows.proofs.TypedTableLemmas.{IsTypedTable}
@@ -128,8 +128,12 @@ reads_tx op station n = record { at = 5; is = on_txs; wanted = where_is 0 (1 ∷
 pub reads_txs : (op station : List ℕ) (n : ℕ) → ReadsRows sql_txs.FIND.now (Text op ∷ Text station ∷ Int (pos n) ∷ Blob [] ∷ []) txs (λ r. bytes_eq r.op op && (bytes_eq r.station station && nat_le n r.number))
 reads_txs op station n = record { at = 5; is = on_txs; wanted = where_is 0 (1 ∷ 2 ∷ []) ++ range_is 2 3; project = cols 1 1 18; whole = whole_txs; order = by_column 3 ∷ []; names = names_of hub_tx; text = texts.find_txs_is; test = tests.txs_from op station n }
 
-pub reads_last_tx : (op station : List ℕ) → ReadsLast sql_txs.FIND_LAST.now (Text op ∷ Text station ∷ []) txs (λ r. r.number) (λ r. bytes_eq r.op op && bytes_eq r.station station)
-reads_last_tx op station = record { at = 5; is = on_txs; wanted = where_is 0 (1 ∷ 2 ∷ []); project = cols 1 1 18; whole = whole_txs; place = 3; numbered = λ id r. refl; names = names_of hub_tx; text = texts.find_last_tx_is; test = tests.of_txs op station }
+-- its number alone
+abbrev tx_number : TxRow → Row
+tx_number t = Int (pos t.number) ∷ []
+
+pub reads_last_tx_number : (op station : List ℕ) → ReadsLast sql_txs.LAST_NUMBER.now (Text op ∷ Text station ∷ []) txs tx_number (λ r. r.number) (λ r. bytes_eq r.op op && bytes_eq r.station station)
+reads_last_tx_number op station = record { at = 5; is = on_txs; wanted = where_is 0 (1 ∷ 2 ∷ []); project = cols 1 3 1; shown = λ t v params. refl; place = 3; numbered = λ id r. refl; names = codes "number" ∷ []; text = texts.last_tx_number_is; test = tests.of_txs op station }
 
 -- rows of one station with one number have one key
 same_numbered : {R : Type 0} (op station : R → List ℕ) (number : R → ℕ) (b st : List ℕ) (within : R → Bool) → (x y : R)
@@ -316,16 +320,19 @@ reads_meter_values op station = record { at = 13; is = on_meter_values; wanted =
 pub reads_tx_meter_values : (op station : List ℕ) (n : ℕ) → ReadsRows sql_meter_values.LIST_OF_TX.now (Text op ∷ Text station ∷ Int (pos n) ∷ []) meter_values (λ m. bytes_eq m.op op && is_meter_value station (Some n) m)
 reads_tx_meter_values op station n = record { at = 13; is = on_meter_values; wanted = where_is 0 (1 ∷ 2 ∷ 5 ∷ []); project = cols 1 1 8; whole = whole_meter_values; order = by_column 3 ∷ []; names = names_of hub_meter_value; text = texts.list_tx_meter_values_is; test = tests.tx_meter_values op station n }
 
-pub reads_last_meter_value : (op station : List ℕ) → ReadsLast sql_meter_values.FIND_LAST.now (Text op ∷ Text station ∷ []) meter_values (λ m. m.first) (λ m. bytes_eq m.op op && is_meter_value station None m)
-reads_last_meter_value op station = record { at = 13; is = on_meter_values; wanted = where_is 0 (1 ∷ 2 ∷ []); project = cols 1 1 8; whole = whole_meter_values; place = 3; numbered = λ id m. refl; names = names_of hub_meter_value; text = texts.find_last_meter_value_is; test = tests.of_meter_values op station }
+pub reads_last_meter_value : (op station : List ℕ) → ReadsLast sql_meter_values.FIND_LAST.now (Text op ∷ Text station ∷ []) meter_values meter_values.row (λ m. m.first) (λ m. bytes_eq m.op op && is_meter_value station None m)
+reads_last_meter_value op station = record { at = 13; is = on_meter_values; wanted = where_is 0 (1 ∷ 2 ∷ []); project = cols 1 1 8; shown = whole_meter_values; place = 3; numbered = λ id m. refl; names = names_of hub_meter_value; text = texts.find_last_meter_value_is; test = tests.of_meter_values op station }
 
-pub last_meter_value_between : (op station : List ℕ) (low high : ℕ) → ReadsLast sql_meter_values.LAST_BETWEEN.now (Text op ∷ Text station ∷ Int (pos low) ∷ Int (pos high) ∷ []) meter_values (λ m. m.first) (λ m. bytes_eq m.op op && (bytes_eq m.station station && (nat_le low m.first && nat_le m.first high)))
+pub reads_last_meter_value_numbers : (op station : List ℕ) → ReadsLast sql_meter_values.LAST_NUMBERS.now (Text op ∷ Text station ∷ []) meter_values first_and_count_cells (λ m. m.first) (λ m. bytes_eq m.op op && is_meter_value station None m)
+reads_last_meter_value_numbers op station = record { at = 13; is = on_meter_values; wanted = where_is 0 (1 ∷ 2 ∷ []); project = cols 1 3 1 ++ cols 1 7 1; shown = λ m v params. refl; place = 3; numbered = λ id m. refl; names = codes "first" ∷ codes "count" ∷ []; text = texts.last_meter_value_numbers_is; test = tests.of_meter_values op station }
+
+pub last_meter_value_between : (op station : List ℕ) (low high : ℕ) → ReadsLast sql_meter_values.LAST_BETWEEN.now (Text op ∷ Text station ∷ Int (pos low) ∷ Int (pos high) ∷ []) meter_values meter_values.row (λ m. m.first) (λ m. bytes_eq m.op op && (bytes_eq m.station station && (nat_le low m.first && nat_le m.first high)))
 last_meter_value_between op station low high = record {
   at = 13;
   is = on_meter_values;
   wanted = where_is 0 (1 ∷ 2 ∷ []) ++ range_is 2 3;
   project = cols 1 1 8;
-  whole = whole_meter_values;
+  shown = whole_meter_values;
   place = 3;
   numbered = λ id m. refl;
   names = names_of hub_meter_value;
@@ -396,5 +403,5 @@ adds_use r = means_as (adds 12 uses on_uses sql_uses.ADD.now (λ e. cc) 4 put_us
 pub reads_uses : (op : List ℕ) → ReadsRows sql_uses.LIST.now (Text op ∷ []) uses (λ r. bytes_eq r.op op && true)
 reads_uses op = record { at = 12; is = on_uses; wanted = where_is 0 (1 ∷ []); project = cols 1 1 6; whole = whole_uses; order = by_column 2 ∷ []; names = names_of hub_use; text = texts.list_uses_is; test = tests.of_uses op }
 
-pub reads_last_use : (op : List ℕ) → ReadsLast sql_uses.FIND_LAST.now (Text op ∷ []) uses (λ r. r.number) (λ r. bytes_eq r.op op && true)
-reads_last_use op = record { at = 12; is = on_uses; wanted = where_is 0 (1 ∷ []); project = cols 1 1 6; whole = whole_uses; place = 2; numbered = λ id r. refl; names = names_of hub_use; text = texts.find_last_use_is; test = tests.of_uses op }
+pub reads_last_use : (op : List ℕ) → ReadsLast sql_uses.FIND_LAST.now (Text op ∷ []) uses uses.row (λ r. r.number) (λ r. bytes_eq r.op op && true)
+reads_last_use op = record { at = 12; is = on_uses; wanted = where_is 0 (1 ∷ []); project = cols 1 1 6; shown = whole_uses; place = 2; numbered = λ id r. refl; names = names_of hub_use; text = texts.find_last_use_is; test = tests.of_uses op }

@@ -3,7 +3,7 @@ use Rattle.std.specs.Prelude.{◌≡◌, ◌⊎◌, ◌&&◌, ℕ, ◌+◌, code
 use Rattle.std.specs.declared.cmp.Ordering.TheVariants.{Equal}
 use Rattle.std.specs.Str.{bytes_eq}
 use Rattle.sqlite_rules.specs.Lists.{Has}
-use Rattle.sqlite_value.specs.Order.{Row}
+use Rattle.sqlite_value.specs.Order.{Row, column}
 use Rattle.sqlite_trees.specs.Tree.{Trees}
 use Rattle.sqlite_trees.specs.View.{doubt}
 use Rattle.sqlite.specs.declared.error.Error.{Error}
@@ -19,6 +19,7 @@ use Rattle.sql_tables.specs.Tables.{hub_schema}
 use Rattle.sql_rows.specs.declared.meta_rows.MetaRow.{MetaRow}
 use Rattle.sql_rows.specs.TypedTable.{TypedTable, cmp, rows_in, AreTyped, Spares}
 use Rattle.sql_rows.specs.TypedTables.{hub_good, metas, rows_of}
+use Rattle.sql_rows.specs.Values.{count_in}
 
 -- ---- the rows of hub_meta
 
@@ -99,9 +100,9 @@ pub record Shows {V T : Type 0} (items : V → List Row) (s : TypedTable T) (p :
   pub same : IsTrue new.is_open → IsAsBefore old new
   pub stops : CommitsNothing old new r
 
--- the greatest number that is shown is that of the rows that pass, and nothing changes
-pub record ShowsLast {V T : Type 0} (items : V → List Row) (s : TypedTable T) (number : T → ℕ) (p : T → Bool) (old new : State) (r : Result V Error) : Type 0 where
-  pub ok : IsTrue new.is_open → IfOk r (λ v. greatest (map number (map s.read (items v))) ≡ greatest (map number (filter p (rows_in s old.now.trees))))
+-- the number that is shown in that column is the greatest of the rows that pass, and nothing changes
+pub record ShowsLast {V T : Type 0} (items : V → List Row) (at : ℕ) (s : TypedTable T) (number : T → ℕ) (p : T → Bool) (old new : State) (r : Result V Error) : Type 0 where
+  pub ok : IsTrue new.is_open → IfOk r (λ v. greatest (map (λ x. count_in (column x at)) (items v)) ≡ greatest (map number (filter p (rows_in s old.now.trees))))
   pub same : IsTrue new.is_open → IsAsBefore old new
   pub stops : CommitsNothing old new r
 
@@ -125,6 +126,16 @@ IsTop {T} number all (t ∷ ts) = (ts ≡ []) × Has all t × ((u : T) → Has a
 -- the row that is shown has the greatest number of those that pass, and nothing changes
 pub record ShowsTop {V T : Type 0} (items : V → List Row) (s : TypedTable T) (number : T → ℕ) (p : T → Bool) (old new : State) (r : Result V Error) : Type 0 where
   pub ok : IsTrue new.is_open → IfOk r (λ v. IsTop number (filter p (rows_in s old.now.trees)) (map s.read (items v)))
+  pub same : IsTrue new.is_open → IsAsBefore old new
+  pub stops : CommitsNothing old new r
+
+-- the cells of a row with the greatest number, if there are any
+abbrev pub AreTopCells : {T : Type 0} → (T → Row) → (T → ℕ) → List T → List Row → Type 0
+AreTopCells {T} cells number all rows = (ts : List T) × IsTop number all ts × (rows ≡ map cells ts)
+
+-- the cells that are shown are those of the row with the greatest number of those that pass, and nothing changes
+pub record ShowsTopCells {V T : Type 0} (items : V → List Row) (s : TypedTable T) (cells : T → Row) (number : T → ℕ) (p : T → Bool) (old new : State) (r : Result V Error) : Type 0 where
+  pub ok : IsTrue new.is_open → IfOk r (λ v. AreTopCells cells number (filter p (rows_in s old.now.trees)) (items v))
   pub same : IsTrue new.is_open → IsAsBefore old new
   pub stops : CommitsNothing old new r
 
@@ -267,8 +278,8 @@ pub record ShowsAnyInside {V T S : Type 0} (g : Ghosts S) (items : V → List Ro
   pub ok : IsInside (state g old.conn.now) → IsTrue (state g new.conn.now).is_open → IfOk r (λ v. IsAny (rows_in s (state g old.conn.now).now.trees) (map s.read (items v)))
   pub goes : IsInside (state g old.conn.now) → Goes IsSame (state g old.conn.now) (state g new.conn.now) r
 
--- the greatest number that is shown inside a transaction is that of the rows that pass, and nothing changes
-pub record ShowsLastInside {V T S : Type 0} (g : Ghosts S) (items : V → List Row) (s : TypedTable T) (number : T → ℕ) (p : T → Bool) (old new : Transaction S) (r : Result V Error) : Type 0 where
+-- the number that is shown in that column inside a transaction is the greatest of the rows that pass, and nothing changes
+pub record ShowsLastInside {V T S : Type 0} (g : Ghosts S) (items : V → List Row) (at : ℕ) (s : TypedTable T) (number : T → ℕ) (p : T → Bool) (old new : Transaction S) (r : Result V Error) : Type 0 where
   pub same_reference : new.conn.ghost_name ≡ old.conn.ghost_name
-  pub ok : IsInside (state g old.conn.now) → IsTrue (state g new.conn.now).is_open → IfOk r (λ v. greatest (map number (map s.read (items v))) ≡ greatest (map number (filter p (rows_in s (state g old.conn.now).now.trees))))
+  pub ok : IsInside (state g old.conn.now) → IsTrue (state g new.conn.now).is_open → IfOk r (λ v. greatest (map (λ x. count_in (column x at)) (items v)) ≡ greatest (map number (filter p (rows_in s (state g old.conn.now).now.trees))))
   pub goes : IsInside (state g old.conn.now) → Goes IsSame (state g old.conn.now) (state g new.conn.now) r

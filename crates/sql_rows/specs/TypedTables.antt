@@ -256,10 +256,22 @@ abbrev pub value_rows : List ℕ → List ℕ → ℕ → List MeterValue → Li
 value_rows op station first [] = []
 value_rows op station first (v ∷ vs) = record { op = op; station = station; first = first; value = v } ∷ value_rows op station (first + length v.sampled) vs
 
+-- the first number of a meter value, and how many readings it is
+abbrev pub first_and_count : MeterValueRow → ℕ × ℕ
+first_and_count m = (m.first, length m.value.sampled)
+
+-- the same, in their columns
+abbrev pub first_and_count_cells : MeterValueRow → Row
+first_and_count_cells m = Int (pos m.first) ∷ Int (pos (length m.value.sampled)) ∷ []
+
+-- the last of so many numbers from the first on; 0 where there are none
+abbrev pub IsLastIn : Option (ℕ × ℕ) → ℕ → Type 0
+IsLastIn None n = n ≡ 0
+IsLastIn (Some (first, count)) n = (first ≤ n) × (n + 1 ≡ first + count)
+
 -- the number of the last reading of a meter value, which has some; 0 where there is no meter value
 abbrev pub IsLastOf : Option MeterValueRow → ℕ → Type 0
-IsLastOf None n = n ≡ 0
-IsLastOf (Some m) n = (m.first ≤ n) × (n + 1 ≡ m.first + length m.value.sampled)
+IsLastOf m = IsLastIn (option_map first_and_count m)
 
 abbrev pub reservations : TypedTable ReservationRow
 reservations = record {

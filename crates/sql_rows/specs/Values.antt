@@ -3,6 +3,7 @@ use Rattle.std.specs.Prelude.{ℕ, ℤ, pos, Bool, false, not, if◌then◌else�
 use Rattle.std.specs.Ordering.{int_eq}
 use Rattle.sqlite_value.specs.declared.value.Value.{Value}
 use Rattle.sqlite_value.specs.declared.value.Value.TheVariants.{Int, Text}
+use Rattle.sqlite_value.specs.Order.{Row, column}
 use Rattle.sqlite.specs.Values.{or_null, bound_value}
 use Rattle.ocpp_types.specs.Named.{named}
 
@@ -25,6 +26,10 @@ count_if_any _ = None
 abbrev pub count_in : Value → ℕ
 count_in (Int (pos n)) = n
 count_in _ = 0
+
+-- the numbers in the first two columns
+abbrev pub numbers_in : Row → ℕ × ℕ
+numbers_in r = (count_in (column r 0), count_in (column r 1))
 
 abbrev pub number_in : Value → ℤ
 number_in (Int n) = n

@@ -1,8 +1,8 @@
 //! Rows of an answer, read as typed rows.
-ghost use Rattle.std.specs.Prelude.{◌≡◌, [], map, IfOk, IsOk, OnOk, is_some};
+ghost use Rattle.std.specs.Prelude.{◌≡◌, [], map, option_map, IfOk, IsOk, OnOk, is_some};
 ghost use Rattle.hub_rows.specs.Keyed.{by_key, first, put_all, found, greatest};
 ghost use Rattle.sqlite_value.specs.Order.{column};
-ghost use Rattle.sql_rows.specs.Values.{count_in};
+ghost use Rattle.sql_rows.specs.Values.{count_in, numbers_in};
 
 use crate::columns::{count, told};
 use hub_rows::{Keyed, StoreFault, put_row};
@@ -76,6 +76,27 @@ fn number_of(rows: &[Row], at: usize) -> Result<u32, StoreFault>
     match rows {
         [] => Ok(0),
         [row] => count(row, at),
+        _ => Err(StoreFault::Failed),
+    }
+}
+
+/// The numbers in the first two columns of the row of an answer of one row at most.
+pub fn only_pair(answer: Result<Vec<Row>, Error>) -> Result<Option<(u32, u32)>, StoreFault>
+    ensures ok { OnOk result (IsOk answer) }
+    ensures pair { IfOk answer (λ rows. IfOk result (λ pair. pair ≡ option_map numbers_in (first rows.items))) }
+{
+    match answer {
+        Ok(rows) => pair_of(&rows),
+        Err(error) => Err(told(error)),
+    }
+}
+
+fn pair_of(rows: &[Row]) -> Result<Option<(u32, u32)>, StoreFault>
+    ensures { IfOk result (λ pair. pair ≡ option_map numbers_in (first rows.now)) }
+{
+    match rows {
+        [] => Ok(None),
+        [row] => Ok(Some((count(row, 0)?, count(row, 1)?))),
         _ => Err(StoreFault::Failed),
     }
 }

@@ -1,5 +1,5 @@
 -- What each text means over the whole schema.
-use Rattle.std.proofs.Common.{[], ◌∷◌, ◌++◌, refl}
+use Rattle.std.proofs.Common.{[], ◌∷◌, ◌++◌, codes, refl}
 use Rattle.sqlite_tied.specs.Compute.{everything}
 use Rattle.sqlite.specs.Listing.{understood}
 use Rattle.sqlite_sql.specs.Query.{inner, end}
@@ -141,9 +141,9 @@ pub find_txs_is : IsRead txs.FIND.now (plain_query (inner 10 end) (where_is 0 (1
 unfolding understood everything
 find_txs_is = (refl, (refl, refl), refl)
 
-pub find_last_tx_is : IsRead txs.FIND_LAST.now (last_query 10 (where_is 0 (1 ∷ 2 ∷ [])) (cols 1 1 18) 3) (names_of hub_tx)
+pub last_tx_number_is : IsRead txs.LAST_NUMBER.now (last_query 10 (where_is 0 (1 ∷ 2 ∷ [])) (cols 1 3 1) 3) (codes "number" ∷ [])
 unfolding understood everything
-find_last_tx_is = (refl, (refl, refl), refl)
+last_tx_number_is = (refl, (refl, refl), refl)
 
 pub page_of_txs_is : IsRead txs.PAGE.now (page_query 10 (where_is 0 (1 ∷ 2 ∷ []) ++ range_is 2 3) (cols 1 1 18) 3 256) (names_of hub_tx)
 unfolding understood everything
@@ -184,6 +184,10 @@ list_tx_meter_values_is = (refl, (refl, refl), refl)
 pub find_last_meter_value_is : IsRead meter_values.FIND_LAST.now (last_query 26 (where_is 0 (1 ∷ 2 ∷ [])) (cols 1 1 8) 3) (names_of hub_meter_value)
 unfolding understood everything
 find_last_meter_value_is = (refl, (refl, refl), refl)
+
+pub last_meter_value_numbers_is : IsRead meter_values.LAST_NUMBERS.now (last_query 26 (where_is 0 (1 ∷ 2 ∷ [])) (cols 1 3 1 ++ cols 1 7 1) 3) (codes "first" ∷ codes "count" ∷ [])
+unfolding understood everything
+last_meter_value_numbers_is = (refl, (refl, refl), refl)
 
 pub last_meter_value_between_is : IsRead meter_values.LAST_BETWEEN.now (last_query 26 (where_is 0 (1 ∷ 2 ∷ []) ++ range_is 2 3) (cols 1 1 8) 3) (names_of hub_meter_value)
 unfolding understood everything

@@ -38,6 +38,10 @@ pub const FIND_LAST: &str = with_columns!(
     " FROM hub_meter_value WHERE op = ?1 AND station = ?2 ORDER BY first DESC LIMIT 1"
 );
 
+/// The numbers of the last meter value of a station: its first number, and how many readings it is.
+pub const LAST_NUMBERS: &str =
+    "SELECT first, count FROM hub_meter_value WHERE op = ?1 AND station = ?2 ORDER BY first DESC LIMIT 1";
+
 /// The last meter value of a station whose first number lies in a range.
 pub const LAST_BETWEEN: &str = with_columns!(
     "SELECT ",

@@ -44,11 +44,9 @@ pub const FIND: &str = with_columns!(
     " FROM hub_tx WHERE op = ?1 AND station = ?2 AND number BETWEEN ?3 AND ?4 ORDER BY number"
 );
 
-/// The transaction of a station with the last number.
-pub const FIND_LAST: &str = with_columns!(
-    "SELECT ",
-    " FROM hub_tx WHERE op = ?1 AND station = ?2 ORDER BY number DESC LIMIT 1"
-);
+/// The last number of a station's transactions.
+pub const LAST_NUMBER: &str =
+    "SELECT number FROM hub_tx WHERE op = ?1 AND station = ?2 ORDER BY number DESC LIMIT 1";
 
 /// The first transactions of a station whose numbers lie in a range.
 pub const PAGE: &str = with_columns!(

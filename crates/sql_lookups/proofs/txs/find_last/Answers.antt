@@ -1,6 +1,6 @@
 use Rattle.std.proofs.Common.{refl}
 use Rattle.sqlite.specs.Held.{state}
-use Rattle.sql_rows.proofs.TxTables.{reads_last_tx}
+use Rattle.sql_rows.proofs.TxTables.{reads_last_tx_number}
 use Rattle.sql_rows.proofs.Selects.{shows_last}
 use Rattle.sql_rows.proofs.StoreLemmas.{open_is_clean}
 use Rattle.sql_lookups.proofs.txs.find_last.Goals as goal
@@ -9,6 +9,6 @@ pub returns : goal.returns
 returns g c =
     let new = c.query_all.new.self in
     record {
-      shows = λ serves. shows_last (reads_last_tx c.args.op.now c.args.station.now) (λ v. v.items) (state g.S.Store c.args.conn.now) (state g.S.Store new) _ c.query_all.result c.query_all.ensures.ok c.query_all.ensures.err c.query_all.ensures.survives
+      shows = λ serves. shows_last (reads_last_tx_number c.args.op.now c.args.station.now) 0 (λ t. refl) (λ v. v.items) (state g.S.Store c.args.conn.now) (state g.S.Store new) _ c.query_all.result c.query_all.ensures.ok c.query_all.ensures.err c.query_all.ensures.survives
           (rw (c.params-to_sql.ensures, c.params-to_sql-2.ensures) refl) serves (open_is_clean _ _ (g.met.S.Store.shut_if_dirty new.store));
     }
