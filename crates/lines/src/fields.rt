@@ -1,5 +1,5 @@
 //! The fields of a listing's line (docs/TABLES.md, Listing lines).
-ghost use Rattle.std.specs.Prelude.{◌≡◌, IfOk, codes, string_bytes};
+ghost use Rattle.std.specs.Prelude.{◌≡◌, IfOk, Some, codes, string_bytes};
 ghost use Rattle.lines.specs.RowLines.{quoted, text_field, signed_field, moment_field, boot_field, mark};
 
 use hub_rows::Boot;

@@ -1,5 +1,5 @@
 //! Lines of listings (docs/TABLES.md, Listing lines).
-ghost use Rattle.std.specs.Prelude.{◌≡◌, IfOk, false, option_map, string_bytes};
+ghost use Rattle.std.specs.Prelude.{◌≡◌, IfOk, Some, false, option_map, string_bytes};
 ghost use Rattle.std.specs.Fmt.{signed_decimal};
 ghost use Rattle.serde_json.specs.View.{view};
 ghost use Rattle.serde_json.specs.Written.{has_float};
@@ -8,7 +8,9 @@ ghost use Rattle.ocpp_types.specs.UnitOfMeasure.{unit_of_measure_name};
 ghost use Rattle.hub_rows.specs.Reservations.{unshifted};
 ghost use Rattle.lines.specs.RowLines.{row_line, station_line, tag_line, grant_line, granted_line, use_line, connector_line, tx_line, reading_line, reservation_line, local_tag_line, report_line, entry_data, reading_fields, report_fields, reservation_fields, start_fields, stop_fields, taken_fields, sampled_fields, value_fields, name_field, micro_of};
 
-use crate::fields::{Signed, boot_field, mark, moment_field, quoted, signed_field, text_field, widened};
+use crate::fields::{
+    Signed, boot_field, mark, moment_field, quoted, signed_field, text_field, widened,
+};
 use hub_events::Row;
 use hub_rows::{
     ConnectorReport, ConnectorRow, GrantRow, GrantedTag, LocalTag, Reading, ReadingRow, ReportRow,
@@ -200,7 +202,10 @@ impl fmt::Display for Sampled<'_> {
         let phase = phase_field(self.0.phase);
         let location = self.0.location.name();
         let unit = unit_field(self.0.unit);
-        write!(f, "{context} {format} {measurand} {phase} {location} {unit}")
+        write!(
+            f,
+            "{context} {format} {measurand} {phase} {location} {unit}"
+        )
     }
 }
 

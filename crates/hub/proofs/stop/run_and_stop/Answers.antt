@@ -9,5 +9,5 @@ each P Q (Err e) then said = said
 
 pub returns : goal.returns
 returns g c = λ kept.
-    each (λ s. g.S.is_open s → (g.S.view c.into_store.result).may_find (g.S.view s).rows) _ c.stop_and_reopen.result
-    (λ s found up. c.run-taken.ensures.stopped kept (g.S.view s).rows (subst (λ st. (g.S.view st).may_find (g.S.view s).rows) c.into_store.ensures (found up))) c.stop_and_reopen.ensures.found
+    each (λ s. g.S.Reopens.is_open s → (g.S.Store.view c.into_store.result).may_find (g.S.Store.view s).rows) _ c.stop_and_reopen.result
+    (λ s found up. c.run-taken.ensures.stopped kept (g.S.Store.view s).rows (subst (λ st. (g.S.Store.view st).may_find (g.S.Store.view s).rows) c.into_store.ensures (found up))) c.stop_and_reopen.ensures.found
