@@ -1,9 +1,8 @@
 """Checks that a refused allocation costs no more than the event that met it. Each allocation of replays, of the opening
 of a file of each earlier schema and of a session at the server is refused once, by refusing_malloc.c under the built
-program, and each of scripts whose events are handed once more, under the program of the scripts. Prints a line for each
-scenario, then `N passed, M failed`. With --small it refuses fewer.
+program. Prints a line for each scenario, then `N passed, M failed`. With --small it refuses fewer.
 
-    python3 checks/allocations.py crates/central/out/central crates/check_scripts/out/check_scripts [--small]
+    python3 checks/allocations.py crates/central/out/central [--small]
 
 What is refused are the calls of the C library's allocator, so the program has to be linked to that dynamically.
 """
@@ -87,9 +86,8 @@ class Allocator:
 
 
 class Checks:
-    def __init__(self, program, scripts, folder, small):
+    def __init__(self, program, folder, small):
         self.program = program
-        self.scripts = scripts
         self.folder = folder
         self.small = small
         self.allocator = Allocator(folder)
@@ -306,41 +304,6 @@ def check_earlier_schema(checks, earlier):
     told(scenario, count, endings)
 
 
-HANDED = (*REPLAYED, "reservations/reservations_follow_the_answer", "operators/day_of_two_operators")
-FAULTS = re.compile(r"faults: ([01])\n")
-
-
-def handed_again(checks, kind, name, number):
-    """How a script went with that allocation refused, whose events that end in a fault are handed once more."""
-    checks.allocator.refuse(number, number)
-    words = [checks.scripts, kind, name]
-    ran = subprocess.run(
-        words, capture_output=True, timeout=60, env=checks.allocator.environment, cwd=SCRIPTS, text=True
-    )
-    faults = FAULTS.fullmatch(ran.stderr)
-    if ran.returncode == 0 and faults and ran.stdout == (SCRIPTS / f"{name}.expected").read_text():
-        return "handed again" if faults[1] == "1" else "no event met it"
-    return "the start met it" if ran.returncode == 1 and not ran.stdout else None
-
-
-def check_handed_again(checks, kind, name):
-    """Each allocation is refused that the start and then the events of a script come to. Once one was refused to an
-    event, no later one is refused to the start."""
-    scenario = f"{name}, {kind}, events handed again"
-    handed_again(checks, kind, "lines/no_lines", NEVER)
-    start = checks.allocator.count
-    checks.check(scenario, handed_again(checks, kind, name, NEVER) != "no event met it" and "a run that isn't refused")
-    count = checks.allocator.count
-    endings = collections.Counter()
-    for number in spread(1, start, 20) + numbers_of(checks, start + 1, count):
-        how = handed_again(checks, kind, name, number)
-        endings[how or "OTHERWISE"] += 1
-        fault = not how and "another end" or how == "the start met it" and endings["handed again"] and "no start"
-        checks.check(f"{scenario}, allocation {number}", fault)
-    checks.check(scenario, not endings["handed again"] and "no event met a refusal")
-    told(scenario, count, endings)
-
-
 class Server:
     """A server over a copy of the recorded file. It listens, or has ended, once it is made."""
 
@@ -503,14 +466,10 @@ def check_serve(checks):
 
 def main():
     with tempfile.TemporaryDirectory() as folder:
-        program, scripts = map(os.path.abspath, sys.argv[1:3])
-        checks = Checks(program, scripts, folder, "--small" in sys.argv[3:])
+        checks = Checks(os.path.abspath(sys.argv[1]), folder, "--small" in sys.argv[2:])
         checks.replay("")
         if not checks.allocator.count:
             sys.exit("the program's allocations aren't those of the C library, so none can be refused")
-        for kind in ("memory", "cache"):
-            for name in HANDED:
-                check_handed_again(checks, kind, name)
         check_replays(checks)
         for earlier in EARLIER:
             check_earlier_schema(checks, earlier)

@@ -7,41 +7,23 @@ are gone. With --page-sums each changed bit of the database file is found. Nobod
 """
 
 import contextlib
-import mmap
 import os
 import re
 import shutil
 import sqlite3
-import struct
 import subprocess
 import sys
 import tempfile
 from pathlib import Path
 
+from disk import Disk
 from peer import BOOT, CLOSE, HEARTBEAT, Peer, close_code, health
 from programs import TIME, Checks, wait_for
 
 PORT = 9286
-SOURCE = Path(__file__).with_name("failing_disk.c")
 TAGS = 40
 FRAME = 24
 LOG_HEAD = 32
-
-
-class Disk:
-    """The library under the program, and the numbers that it shares with this check."""
-
-    def __init__(self, folder):
-        self.library = os.path.join(folder, "failing_disk.so")
-        subprocess.run(["gcc", "-O2", "-shared", "-fPIC", "-o", self.library, SOURCE, "-ldl"], check=True)
-        self.path = os.path.join(folder, "disk")
-        Path(self.path).write_bytes(bytes(16))
-        with open(self.path, "r+b") as file:
-            self.numbers = mmap.mmap(file.fileno(), 16)
-        self.environment = {**os.environ, "LD_PRELOAD": self.library, "FAILING_DISK": self.path}
-
-    def fail(self, syncs=False, writes=False):
-        self.numbers[:] = struct.pack("2Q", syncs, writes)
 
 
 class Server:

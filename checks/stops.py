@@ -1,0 +1,154 @@
+"""Stops the program at each call that changes a file, and opens the file again: the records found are those after the
+events that were answered, or after one more. A stop is a disk whose calls fail from one on, by failing_disk.c under the
+program. It leaves what was written; or that and half of what the first call that fails was to write; or what was synced.
+The scripts are those of tests/check_cases/data/scripts/stopped, and the openings of files of each earlier schema. Prints
+how many stops there were of each, then `N passed, M failed`. With --small one call in four is stopped. Needs gcc.
+
+    python3 checks/stops.py crates/central/out/central [--small]
+"""
+
+import contextlib
+import os
+import shutil
+import sqlite3
+import subprocess
+import sys
+import tempfile
+from pathlib import Path
+
+from disk import Disk
+from programs import EARLIER, SCRIPTS, Checks
+
+STOPPED = SCRIPTS / "stopped"
+LISTS = (STOPPED / "lists.txt").read_text()
+# A script whose log is copied into the database file under way has so many times the calls of another.
+LONG, OF_LONG = "log_is_copied", 23
+ENDS = ("", "-wal", "-count", ".new")
+KINDS = ("written", "half written", "synced")
+
+
+class Stops(Checks):
+    def __init__(self, program, folder):
+        super().__init__(program, folder)
+        self.synced = os.path.join(folder, "synced")
+        os.mkdir(self.synced)
+        self.disk = Disk(folder, self.synced)
+
+    def replay(self, lines, db=None, fails=False):
+        """The status of a replay, and what it writes."""
+        words = [self.program, "replay", "--operators", "ACME,BETA", *(["--db", db] if db else [])]
+        environment = self.disk.environment if fails else None
+        ran = subprocess.run(words, input=lines.encode(), capture_output=True, timeout=60, env=environment)
+        return ran.returncode, ran.stdout.decode()
+
+    def stopped(self, lines, db, calls, kind):
+        """What a replay writes that is stopped after so many calls, of whose files then is left what that kind leaves."""
+        shutil.rmtree(self.synced)
+        os.mkdir(self.synced)
+        for path in files_of(db):
+            shutil.copy(path, self.kept(path))
+        self.disk.stop_after(calls, kind == "half written")
+        status, written = self.replay(lines, db, fails=True)
+        if kind == "synced":
+            self.lose(db)
+        return status, written
+
+    def lose(self, db):
+        """Leaves of the files of a database what was synced. Of one that never was its name is left."""
+        for path in files_of(db):
+            kept = self.kept(path)
+            path.write_bytes(kept.read_bytes() if kept.exists() else b"")
+
+    def kept(self, path):
+        """Where there is a copy of a file as it was synced."""
+        return Path(self.synced, str(path.stat().st_ino))
+
+    def found(self, what, db, wanted):
+        """Checks that a file opens with one of those lists of records, and that SQLite finds it whole."""
+        status, listed = self.replay(LISTS, db)
+        self.check(f"{what}: status", status, 0)
+        self.check(f"{what}: the records", listed in wanted, True)
+        with contextlib.closing(sqlite3.connect(db)) as database:
+            self.check(f"{what}: whole", database.execute("PRAGMA integrity_check").fetchall(), [("ok",)])
+        remove(db)
+
+
+def files_of(db):
+    """The files of a database that there are."""
+    return [path for path in (Path(db + end) for end in ENDS) if path.exists()]
+
+
+def remove(db):
+    for path in (*files_of(db), Path(f"{db}-shm")):
+        path.unlink(missing_ok=True)
+
+
+def fronts(checks, script):
+    """What is written, and what is listed, after each number of the events of a script."""
+    lines = script.splitlines(keepends=True)
+    for taken in range(len(lines) + 1):
+        front = "".join(lines[:taken])
+        _, written = checks.replay(front)
+        _, all_written = checks.replay(front + LISTS)
+        yield written, all_written.removeprefix(written)
+
+
+def wanted_by_output(checks, script):
+    """The lists of records that may be found after a stop, by what was written before it."""
+    pairs = list(fronts(checks, script))
+    wanted = {}
+    for taken, (written, _) in enumerate(pairs):
+        wanted.setdefault(written, set()).update(listed for _, listed in pairs[taken : taken + 2])
+    return wanted
+
+
+def check_script(checks, name, one_in):
+    script = (STOPPED / f"{name}.script").read_text()
+    wanted = wanted_by_output(checks, script)
+    db = checks.new_file()
+    checks.disk.stop_after(0)
+    status, _ = checks.replay(script, db, fails=True)
+    checks.check(f"{name}: a run that isn't stopped", status, 0)
+    count = checks.disk.calls
+    remove(db)
+    for kind in KINDS:
+        for calls in range(1, count, one_in):
+            what, db = f"{name}, {kind}, after {calls} calls", checks.new_file()
+            status, written = checks.stopped(script, db, calls, kind)
+            checks.check(f"{what}: what was written", written in wanted, True)
+            checks.found(what, db, wanted.get(written, ()))
+        print(f"{name}, {kind}: one in {one_in} of {count} calls", flush=True)
+
+
+def check_earlier(checks, schema, one_in):
+    source = (SCRIPTS / EARLIER[schema]).with_suffix(".db")
+    db = checks.new_file()
+    shutil.copy(source, db)
+    checks.disk.stop_after(0)
+    checks.replay("", db, fails=True)
+    count = checks.disk.calls
+    _, listed = checks.replay(LISTS, db)
+    for kind in KINDS:
+        for calls in range(1, count, one_in):
+            db = checks.new_file()
+            shutil.copy(source, db)
+            checks.stopped("", db, calls, kind)
+            checks.found(f"schema {schema}, {kind}, after {calls} calls", db, {listed})
+        print(f"schema {schema}, {kind}: one in {one_in} of {count} calls", flush=True)
+
+
+def main():
+    one_in = 4 if "--small" in sys.argv[2:] else 1
+    with tempfile.TemporaryDirectory() as folder:
+        checks = Stops(os.path.abspath(sys.argv[1]), folder)
+        for schema in EARLIER:
+            check_earlier(checks, schema, one_in)
+        for script in sorted(STOPPED.glob("*.script")):
+            name = script.stem
+            check_script(checks, name, one_in * OF_LONG if name == LONG else one_in)
+    print(f"{checks.passed} passed, {checks.failed} failed")
+    sys.exit(checks.failed > 0)
+
+
+if __name__ == "__main__":
+    main()
