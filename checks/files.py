@@ -1,5 +1,5 @@
-"""Checks the built program over databases in files, by the scripts of tests/check_cases. Each script writes over a new file
-what it writes in memory; scripts go on over the file that one before them left, and over files of earlier versions of the
+"""Checks the built program over databases in files, by the scripts of tests/check_cases. Each script writes what it is to
+write, in memory and over a new file; scripts go on over the file that one before them left, and over files of earlier versions of the
 program. Each database of data/databases is opened: what the program says of it is in its opened.txt, and one that is
 refused stays as it is. Prints `N passed, M failed`.
 
@@ -40,14 +40,15 @@ def operators_of(script):
     return names.read_text().rstrip("\n") if names.exists() else "ACME,BETA"
 
 
-def check_scripts(checks):
-    """Each script over a new file, and the script that goes on over it."""
+def check_each(checks):
+    """Each script in memory and over a new file, and the script that goes on over it."""
     scripts = sorted(path for path in DATA.glob("*/*.script") if path.with_suffix(".expected").exists())
     checks.check("more than 150 scripts", len(scripts) > 150, True)
     for script in scripts:
         db, operators = checks.new_file(), operators_of(script)
-        got = checks.replay(script.read_bytes(), db, operators)
-        checks.check(script.stem, got, script.with_suffix(".expected").read_bytes().decode())
+        wanted = script.with_suffix(".expected").read_bytes().decode()
+        checks.check(f"{script.stem}, in memory", checks.replay(script.read_bytes(), None, operators), wanted)
+        checks.check(script.stem, checks.replay(script.read_bytes(), db, operators), wanted)
         later = script.with_suffix(".later")
         if later.exists():
             run_between(db, script.with_suffix(".between"))
@@ -122,7 +123,7 @@ def check_many(checks):
 def main():
     with tempfile.TemporaryDirectory() as folder:
         checks = Files(os.path.abspath(sys.argv[1]), folder)
-        check_scripts(checks)
+        check_each(checks)
         check_earlier(checks)
         check_databases(checks)
         check_many(checks)
