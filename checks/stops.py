@@ -139,8 +139,7 @@ def check_earlier(checks, schema, one_in):
 
 def main():
     one_in = 4 if "--small" in sys.argv[2:] else 1
-    # in memory, where there is room, since a sync is free there
-    with tempfile.TemporaryDirectory(dir="/dev/shm" if os.path.isdir("/dev/shm") else None) as folder:
+    with tempfile.TemporaryDirectory() as folder:
         checks = Stops(os.path.abspath(sys.argv[1]), folder)
         for schema in EARLIER:
             check_earlier(checks, schema, one_in)

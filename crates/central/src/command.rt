@@ -51,6 +51,8 @@ pub struct ServeOptions {
     /// Where it listens.
     pub address: SocketAddr,
     pub operators: Vec<Text>,
+    /// The origins whose pages are served in a browser.
+    pub origins: Vec<Text>,
     /// The path of the file with the records.
     pub db: Text,
     /// How that file is opened, or made.
@@ -117,6 +119,10 @@ fn serve_options(alloc: Global, found: &ArgMatches) -> Result<ServeOptions, Erro
     Ok(ServeOptions {
         address: SocketAddr::new(bind_of(alloc, found)?, port_of(found)),
         operators: parts(alloc, found.get_str("operators"))?,
+        origins: match found.get_str("origin") {
+            Some(origins) => parts(alloc, Some(origins))?,
+            None => Vec::new(alloc),
+        },
         db: Text::from(found.get_str("db").unwrap_or("").to_string(alloc)?),
         file: file_options(found),
         turns: found.get_one::<u32>("turns"),
@@ -231,6 +237,13 @@ fn serve_command<'a>(alloc: Global) -> Result<Command<'a>, AllocError> {
             "What is written to standard error: faults alone, what went wrong, or each connection too",
         )
         .value_parser(LOGS);
+    let origin = Arg::new(alloc, "origin")
+        .long("origin")
+        .value_name("ORIGINS")
+        .help(
+            "The origins whose pages are served in a browser, parted by commas, as https://console.example or null; else none is",
+        )
+        .allow_hyphen_values(true);
     Command::new(alloc, "serve")
         .about("Serves stations and operators over WebSocket")
         .after_help(help::SERVE)
@@ -240,6 +253,7 @@ fn serve_command<'a>(alloc: Global) -> Result<Command<'a>, AllocError> {
         .arg(accept_loss_arg(alloc))?
         .arg(page_sums_arg(alloc))?
         .arg(operators_arg(alloc))?
+        .arg(origin)?
         .arg(turns)?
         .arg(log)
 }

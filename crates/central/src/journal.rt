@@ -143,6 +143,7 @@ fn reason(refusal: Refusal) -> &'static str {
         Refusal::TooLarge => "head too large (431)",
         Refusal::Crowded => "too many wait",
         Refusal::Unknown => "unknown (404)",
+        Refusal::Foreign => "a page of another origin (403)",
         Refusal::TooMany => "too many of this operator (503)",
         Refusal::NoHandshake => "no handshake (405 or 426)",
         Refusal::NoSubprotocol => "no subprotocol ocpp1.6",

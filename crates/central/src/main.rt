@@ -10,6 +10,7 @@ mod new_file;
 mod records;
 mod replaying;
 mod server;
+mod service;
 mod status;
 
 use clap::error::ErrorKind;

@@ -5,6 +5,7 @@ use crate::fault::RunFault;
 use crate::hosted::hub_of;
 use crate::journal::{opening_text, start_text, write_notes, write_start};
 use crate::records::{ANSWERS, open, size_of};
+use crate::service::Service;
 use cached::Cached;
 use clients::now;
 use hub::{Fault, Hub};
@@ -25,8 +26,12 @@ use ws_server::{Gateway, Lobby};
 /// The most seconds between two turns. Calls that stations leave unanswered end in such turns.
 const MAX_WAIT: u64 = 1;
 
-/// The milliseconds after a turn that ended in a fault, if nothing is reported meanwhile.
-const PAUSE: u64 = 10;
+/// The nanoseconds after a turn that ended in a fault, if nothing is reported meanwhile.
+const PAUSE: u64 = 10_000_000;
+
+/// The nanoseconds in which a turn begins to serve connections. Those that are left are served in the next one, after what
+/// is reported meanwhile.
+const SERVES: u64 = 1_000_000;
 
 /// The bytes of a file whose opening takes long.
 const LARGE: u64 = 10_000_000;
@@ -56,20 +61,19 @@ struct Server<S, V> {
     gateway: Gateway<ReadyStream>,
     lobby: Lobby<ReadyStream>,
     streams: Streams,
-    /// What the clock showed last.
-    second: Moment,
     /// The moment of the last turn.
     moment: Moment,
-    /// The places of the peers that are served in a turn.
-    places: Vec<usize>,
-    /// The place of the operator's connection that was served last.
-    last_operator: usize,
+    /// When it began.
+    begun: Instant,
+    /// The seconds since then, in the last turn.
+    second: u64,
+    service: Service,
     /// Accepting a connection failed in this second. It isn't tried again in it.
     failed_accept: bool,
     /// The last turn ended in a fault.
     has_faulted: bool,
-    /// When the store failed last, though it still answers.
-    hurt: Option<Moment>,
+    /// The second in which the store failed last, though it still answers.
+    hurt: Option<u64>,
     /// The store answers no more. Nothing is handed to the hub.
     is_store_shut: bool,
     /// Memory that is set aside. It is given up after an event that found none, so that connections can end, and no
@@ -199,21 +203,22 @@ impl<S: Store + Drop, V: VendorHandler> Server<S, V> {
         vendors: Vec<V>,
     ) -> Result<Server<S, V>, RunFault> {
         let alloc = rt.alloc();
-        let second = now(rt).ok_or(RunFault::Clock)?;
+        let moment = now(rt).ok_or(RunFault::Clock)?;
+        let service = Service::new(alloc, options.operators.as_slice())?;
         let hub = hub_of(alloc, store, options.operators, vendors)?;
         let address = options.address;
-        streams.set_second(second.seconds());
+        streams.set_second(0);
         Ok(Server {
             alloc,
             address,
             hub,
             gateway: Gateway::new(alloc),
-            lobby: Lobby::new(alloc)?,
+            lobby: Lobby::new(alloc, options.origins)?,
             streams,
-            second,
-            moment: second,
-            places: Vec::new(alloc),
-            last_operator: 0,
+            moment,
+            begun: Instant::now(rt)?,
+            second: 0,
+            service,
             failed_accept: false,
             has_faulted: false,
             hurt: None,
@@ -231,7 +236,7 @@ impl<S: Store + Drop, V: VendorHandler> Server<S, V> {
         turns: Option<u32>,
     ) -> Result<(), RunFault> {
         for _ in 0..turns.map_or(u64::MAX, u64::from) {
-            self.wait(turns.is_none())?;
+            self.wait(rt, turns.is_none())?;
             self.tick(rt)?;
             self.turn(rt);
             self.write_log(log);
@@ -242,14 +247,10 @@ impl<S: Store + Drop, V: VendorHandler> Server<S, V> {
         Ok(())
     }
 
-    /// Takes the system's reports on streams. It waits for one where nothing can be done without, and at most 10 ms after
-    /// a turn that ended in a fault, so that a fault that stays doesn't take a whole processor.
-    fn wait(&mut self, may_wait: bool) -> Result<(), RunFault> {
-        let accepts = self.may_accept() && self.lobby.has_room(self.moment);
-        let time = if may_wait && !self.streams.is_pending(accepts) {
-            Duration::from_secs(MAX_WAIT)
-        } else if may_wait && self.has_faulted {
-            Duration::from_millis(PAUSE)
+    /// Takes the system's reports on streams. It waits for one where nothing can be done without.
+    fn wait(&mut self, rt: &HostRuntime, may_wait: bool) -> Result<(), RunFault> {
+        let time = if may_wait {
+            self.pause(rt)
         } else {
             Duration::from_secs(0)
         };
@@ -259,10 +260,38 @@ impl<S: Store + Drop, V: VendorHandler> Server<S, V> {
         }
     }
 
-    /// Reads the clock. A moment is never before that of the turn before, so that a clock that is set back ends no
-    /// call before its time. In a new second the streams that are gone are closed.
+    /// How long nothing can be done, if nothing is reported: until the operators that rest are served again, and 10 ms
+    /// after a turn that ended in a fault, so that a fault that stays doesn't take a whole processor.
+    fn pause(&mut self, rt: &HostRuntime) -> Duration {
+        let longest = Duration::from_secs(MAX_WAIT);
+        let accepts = self.may_accept() && self.lobby.has_room(self.second);
+        let least = if self.has_faulted { PAUSE } else { 0 };
+        if accepts && self.streams.may_accept() {
+            return Duration::from_nanos(least);
+        }
+        let now = self.nanoseconds(rt);
+        let places = self.streams.readable_peers();
+        match self.service.pause(&self.gateway, places, now) {
+            Some(pause) => Duration::from_nanos(pause.max(least)).min(longest),
+            None => longest,
+        }
+    }
+
+    /// The nanoseconds since the start.
+    fn nanoseconds(&self, rt: &HostRuntime) -> u64 {
+        let nanoseconds = self.begun.elapsed(rt).map_or(0, |time| time.as_nanos());
+        u64::try_from(nanoseconds).unwrap_or(u64::MAX)
+    }
+
+    /// Reads the clocks. A moment is never before that of the turn before, so that a clock that is set back ends no
+    /// call before its time. What becomes of connections goes by the seconds since the start, which no clock that is set
+    /// moves. In a new one the streams that are gone are closed, and silent peers are found.
     fn tick(&mut self, rt: &HostRuntime) -> Result<(), RunFault> {
-        let second = now(rt).ok_or(RunFault::Clock)?;
+        let moment = now(rt).ok_or(RunFault::Clock)?;
+        if moment > self.moment {
+            self.moment = moment;
+        }
+        let second = self.begun.elapsed(rt)?.as_secs();
         if second != self.second {
             self.second = second;
             self.failed_accept = false;
@@ -270,9 +299,6 @@ impl<S: Store + Drop, V: VendorHandler> Server<S, V> {
             if self.reserve.is_none() {
                 self.reserve = set_aside(self.alloc).ok();
             }
-        }
-        if second > self.moment {
-            self.moment = second;
             self.lobby.set_hurt(is_recent(self.hurt, second));
             self.probe();
         }
@@ -282,14 +308,14 @@ impl<S: Store + Drop, V: VendorHandler> Server<S, V> {
     /// Sends a Ping to the peers that are silent, and ends the connections of those that stay silent after one: their
     /// system or the way to it may be gone without a word. What is read of a peer ends its silence.
     fn probe(&mut self) {
-        self.streams.set_second(self.moment.seconds());
+        self.streams.set_second(self.second);
         self.streams.find_silent(PING_AFTER, ANSWER_WITHIN);
         self.gateway.ping(self.streams.to_ping());
         self.gateway.end_silent(self.streams.to_end());
     }
 
-    /// One turn: accepts connections, polls those that wait, and serves each peer whose stream may be read. Where the
-    /// database is shut, all connections are closed. What was written is then given to the system.
+    /// One turn: accepts connections, polls those that wait, and serves peers whose streams may be read. Where the database
+    /// is shut, all connections are closed. What was written is then given to the system.
     fn turn(&mut self, rt: &HostRuntime) {
         if let Err(fault) = self.accept() {
             self.failed_accept = true;
@@ -298,15 +324,15 @@ impl<S: Store + Drop, V: VendorHandler> Server<S, V> {
         }
         let welcomed = self
             .lobby
-            .serve(&mut self.gateway, &mut self.hub, self.moment);
+            .serve(&mut self.gateway, &mut self.hub, self.moment, self.second);
         self.has_faulted = false;
         self.report(rt, welcomed);
         if !self.is_store_shut {
-            self.choose();
-            let served = self
-                .gateway
-                .turn(&mut self.hub, self.moment, self.places.as_slice());
-            self.report(rt, served);
+            self.serve_some(rt);
+        }
+        if !self.is_store_shut {
+            let ended = self.gateway.turn(&mut self.hub, self.moment, &[]);
+            self.report(rt, ended);
         }
         if self.is_store_shut {
             self.gateway.fail_all();
@@ -321,7 +347,7 @@ impl<S: Store + Drop, V: VendorHandler> Server<S, V> {
         };
         self.has_faulted = true;
         if matches!(fault, Fault::Store) {
-            self.hurt = Some(self.moment);
+            self.hurt = Some(self.second);
             self.lobby.set_hurt(true);
             self.is_store_shut = matches!(self.hub.probe(), Err(Fault::Store));
         }
@@ -339,19 +365,30 @@ impl<S: Store + Drop, V: VendorHandler> Server<S, V> {
         let _ = eprintln!(rt; "fault {fault}");
     }
 
-    /// Chooses whom to serve in this turn: each station whose stream may be read, and one such connection of an
-    /// operator, in turn, since its order may take long. One for which there is no memory is served later.
-    fn choose(&mut self) {
-        let readable = self.streams.readable_peers();
-        let operator = next_operator(&self.gateway, readable, self.last_operator);
-        self.places.clear();
-        for place in readable {
-            if operator == Some(*place) || !self.gateway.is_operator(*place) {
-                let _later = self.places.push(*place);
+    /// Serves connections that have something to read, until none has, the time for it is over, or an event ends in a
+    /// fault. Each operator is charged for the time of its events, and the one that was charged least is next.
+    fn serve_some(&mut self, rt: &HostRuntime) {
+        let begun = self.nanoseconds(rt);
+        let places = self.streams.readable_peers();
+        self.service.begin(&self.gateway, places);
+        let mut now = begun;
+        for _ in 0..u64::MAX {
+            let Some((owner, place)) = self.service.next(now) else {
+                return;
+            };
+            if place >= self.gateway.count() {
+                continue;
             }
-        }
-        if let Some(place) = operator {
-            self.last_operator = place;
+            let served = self.gateway.serve(&mut self.hub, place, self.moment);
+            let then = self.nanoseconds(rt);
+            let cost = then.saturating_sub(now);
+            self.service.charge(&self.gateway, owner, cost, then);
+            now = then;
+            let is_over = served.is_err() || now.saturating_sub(begun) >= SERVES;
+            self.report(rt, served);
+            if is_over {
+                return;
+            }
         }
     }
 
@@ -374,12 +411,12 @@ impl<S: Store + Drop, V: VendorHandler> Server<S, V> {
             return Ok(());
         }
         for _ in 0..MAX_ACCEPTS {
-            if !self.lobby.has_room(self.moment) {
+            if !self.lobby.has_room(self.second) {
                 break;
             }
             match self.streams.accept() {
                 Ok(Some((stream, client))) => {
-                    self.lobby.enter(stream, Some(client), self.moment)?;
+                    self.lobby.enter(stream, Some(client), self.second)?;
                 }
                 Ok(None) => break,
                 Err(error) => return Err(RunFault::at(self.address, error)),
@@ -389,23 +426,9 @@ impl<S: Store + Drop, V: VendorHandler> Server<S, V> {
     }
 }
 
-/// The first place of an operator's connection after the last one, or else the first of all.
-fn next_operator(gateway: &Gateway<ReadyStream>, places: &[usize], last: usize) -> Option<usize> {
-    let mut first = None;
-    for place in places {
-        if gateway.is_operator(*place) {
-            if *place > last {
-                return Some(*place);
-            }
-            first = first.or(Some(*place));
-        }
-    }
-    first
-}
-
-/// Whether a fault was a short time ago.
-fn is_recent(fault: Option<Moment>, moment: Moment) -> bool {
-    fault.is_some_and(|fault| moment.seconds() < fault.seconds().saturating_add(HURT))
+/// Whether a fault was a short time before that second.
+fn is_recent(fault: Option<u64>, second: u64) -> bool {
+    fault.is_some_and(|fault| second < fault.saturating_add(HURT))
 }
 
 /// Sets memory aside.

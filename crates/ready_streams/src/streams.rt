@@ -122,17 +122,9 @@ impl Streams {
         Ok(token)
     }
 
-    /// Whether something can be done without a wait: a stream can be read on, or, where connections are
-    /// accepted, there may be one.
-    pub fn is_pending(&self, accepts: bool) -> bool {
-        (accepts && self.may_accept) || self.readable.iter().any(|token| self.is_read_on(*token))
-    }
-
-    fn is_read_on(&self, token: usize) -> bool {
-        match self.links.get(token) {
-            Some(Some(link)) => link.readiness.is_pending(),
-            Some(None) | None => false,
-        }
+    /// Whether there may be a connection to accept.
+    pub fn may_accept(&self) -> bool {
+        self.may_accept
     }
 
     /// Waits for a report of the system, but no longer than that, and takes up to 1,024 reports; the others come

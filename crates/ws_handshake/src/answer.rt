@@ -13,6 +13,8 @@ pub enum Answer {
     Healthy,
     /// 400: no request of HTTP/1.1, or no handshake of RFC 6455.
     BadRequest,
+    /// 403: the request is of a page of another origin.
+    Forbidden,
     /// 404: the path leads to nothing that is known here.
     NotFound,
     /// 405: a method other than GET and HEAD.
@@ -35,6 +37,8 @@ impl Answer {
             Answer::Healthy => "HTTP/1.1 200 OK\r\nContent-Length: 0\r\nConnection: close\r\n\r\n",
             Answer::BadRequest =>
                 "HTTP/1.1 400 Bad Request\r\nContent-Length: 0\r\nConnection: close\r\n\r\n",
+            Answer::Forbidden =>
+                "HTTP/1.1 403 Forbidden\r\nContent-Length: 0\r\nConnection: close\r\n\r\n",
             Answer::NotFound =>
                 "HTTP/1.1 404 Not Found\r\nContent-Length: 0\r\nConnection: close\r\n\r\n",
             Answer::NotAllowed =>

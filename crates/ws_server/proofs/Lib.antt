@@ -1,5 +1,6 @@
 pub mod StepLaws
 pub mod HandshakeLaws
+pub mod LobbyLaws
 pub mod AdmitLaws
 pub mod ProbeLaws
 pub mod SayLaws

@@ -242,11 +242,11 @@ above-over last n xs ys is below = ap (ascending last) is ∙ ap (λ b. if b the
 
 module _ {T : Type 0} (remaining contents : T → Option (List ℕ)) (m : ℕ) where
   -- one more connection is welcomed
-  pub welcomes-more : (old mid new : List (Peer T)) (before after : List Step) → WelcomesSome remaining contents m old mid before (Ok tt) → WelcomesOne remaining contents m mid new after (Ok tt) → WelcomesSome remaining contents m old new (before ++ after) (Ok tt)
-  welcomes-more old mid new before after first more = (first.0 + 1, place_more (λ _. WelcomesOne remaining contents m) first.0 old mid new before after first.1 more)
+  pub welcomes-more : (origins : List (List ℕ)) (old mid new : List (Peer T)) (before after : List Step) → WelcomesSome remaining contents m origins old mid before (Ok tt) → WelcomesOne remaining contents m origins mid new after (Ok tt) → WelcomesSome remaining contents m origins old new (before ++ after) (Ok tt)
+  welcomes-more origins old mid new before after first more = (first.0 + 1, place_more (λ _. WelcomesOne remaining contents m origins) first.0 old mid new before after first.1 more)
 
   -- one that ends in a fault is the last
-  pub welcomes-fails : (old mid new : List (Peer T)) (before after : List Step) (f : Fault) (r : Result (Unit {0}) Fault) → IsErr r → IsErrAnd r (λ e. e ≡ f)
-      → WelcomesSome remaining contents m old mid before (Ok tt) → WelcomesOne remaining contents m mid new after (Err f) → WelcomesSome remaining contents m old new (before ++ after) r
-  welcomes-fails old mid new before after f (Ok u) err same first more = absurd (true≢false (sym err))
-  welcomes-fails old mid new before after f (Err e) err same first more = subst (λ x. WelcomesSome remaining contents m old new (before ++ after) (Err x)) (sym same) (first.0, mid, before, after, first.1, more, refl)
+  pub welcomes-fails : (origins : List (List ℕ)) (old mid new : List (Peer T)) (before after : List Step) (f : Fault) (r : Result (Unit {0}) Fault) → IsErr r → IsErrAnd r (λ e. e ≡ f)
+      → WelcomesSome remaining contents m origins old mid before (Ok tt) → WelcomesOne remaining contents m origins mid new after (Err f) → WelcomesSome remaining contents m origins old new (before ++ after) r
+  welcomes-fails origins old mid new before after f (Ok u) err same first more = absurd (true≢false (sym err))
+  welcomes-fails origins old mid new before after f (Err e) err same first more = subst (λ x. WelcomesSome remaining contents m origins old new (before ++ after) (Err x)) (sym same) (first.0, mid, before, after, first.1, more, refl)

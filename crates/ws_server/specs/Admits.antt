@@ -67,9 +67,9 @@ abbrev pub ComeNext : Option (List ℕ) → List ℕ → Type 0
 ComeNext None bytes = ⊤
 ComeNext (Some all) bytes = take (length bytes) all ≡ bytes
 
--- the next bytes of a stream are a head that asks for that upgrade
-abbrev pub AsksFor : {T : Type 0} → (T → Option (List ℕ)) → T → Upgrade → Type 0
-AsksFor remaining stream upgrade = (bytes : List ℕ) × ComeNext (remaining stream) bytes × Asks bytes (Upgraded upgrade)
+-- the next bytes of a stream are a head that asks for that upgrade, where pages of these origins are served
+abbrev pub AsksFor : {T : Type 0} → List (List ℕ) → (T → Option (List ℕ)) → T → Upgrade → Type 0
+AsksFor origins remaining stream upgrade = (bytes : List ℕ) × ComeNext (remaining stream) bytes × Asks origins bytes (Upgraded upgrade)
 
 module _ {T : Type 0} (remaining contents : T → Option (List ℕ)) (m : ℕ) where
   -- a connection is welcomed: its handshake is done and it is admitted, or nothing changes
@@ -78,12 +78,12 @@ module _ {T : Type 0} (remaining contents : T → Option (List ℕ)) (m : ℕ) w
       ((new ≡ old) × (steps ≡ [])) ⊎ ((socket : Socket T) × Shaken remaining contents upgrade stream socket × Admits contents socket m upgrade.route upgrade.offers_ocpp old new steps r)
 
   -- one is welcomed, by the upgrade that its own head asks for, or nothing changes
-  abbrev pub WelcomesOne : Change (Peer T)
-  WelcomesOne old new steps r =
-      ((new ≡ old) × (steps ≡ [])) ⊎ ((stream : T) × (upgrade : Upgrade) × AsksFor remaining stream upgrade × Welcomes stream upgrade old new steps r)
+  abbrev pub WelcomesOne : List (List ℕ) → Change (Peer T)
+  WelcomesOne origins old new steps r =
+      ((new ≡ old) × (steps ≡ [])) ⊎ ((stream : T) × (upgrade : Upgrade) × AsksFor origins remaining stream upgrade × Welcomes stream upgrade old new steps r)
 
   -- some are welcomed, one after the other, up to the first fault
-  abbrev pub WelcomesSome : Change (Peer T)
-  WelcomesSome old new steps (Ok u) = (n : ℕ) × FirstPlaces (λ _. WelcomesOne) n old new steps
-  WelcomesSome old new steps (Err fault) =
-      (n : ℕ) × (mid : List (Peer T)) × (before after : List Step) × FirstPlaces (λ _. WelcomesOne) n old mid before × WelcomesOne mid new after (Err fault) × (steps ≡ before ++ after)
+  abbrev pub WelcomesSome : List (List ℕ) → Change (Peer T)
+  WelcomesSome origins old new steps (Ok u) = (n : ℕ) × FirstPlaces (λ _. WelcomesOne origins) n old new steps
+  WelcomesSome origins old new steps (Err fault) =
+      (n : ℕ) × (mid : List (Peer T)) × (before after : List Step) × FirstPlaces (λ _. WelcomesOne origins) n old mid before × WelcomesOne origins mid new after (Err fault) × (steps ≡ before ++ after)

@@ -1,7 +1,8 @@
 //! The gateway.
-ghost use Rattle.std.specs.Prelude.{◌≡◌, ◌<◌, ◌≤◌, false, [], length, slice_index_or};
+ghost use Rattle.std.specs.Prelude.{◌≡◌, ◌<◌, ◌≤◌, [], length, slice_index_or, option_map, Some, None};
 
 use crate::notes::{Note, Notes};
+use ocpp_types::Text;
 use ready_streams::Served;
 use std::alloc::Global;
 use std::io::{Read, Write};
@@ -19,7 +20,8 @@ pub struct Gateway<T> {
 
 impl<T: Read + Write + Served + Drop> Gateway<T> {
     ghost use Rattle.std.specs.List.{AllZip};
-    ghost use Rattle.ws_peers.specs.Peers.{is_operator_peer};
+    ghost use Rattle.ws_peers.specs.Routes.{named_operator};
+    ghost use Rattle.ws_peers.specs.Peers.{route_of};
     ghost use Rattle.ws_peers.specs.Sends.{Failed};
     ghost use Rattle.ws_server.specs.Tells.{peers_of};
 
@@ -63,11 +65,16 @@ impl<T: Read + Write + Served + Drop> Gateway<T> {
         self.peers.fail_all();
     }
 
-    /// Whether there is a peer at that place that is an operator.
-    pub fn is_operator(&self, place: usize) -> bool
-        ensures there { (other : Peer T) → place < length (peers_of self.now) → result ≡ is_operator_peer (slice_index_or (peers_of self.now) place other) }
-        ensures missing { length (peers_of self.now) ≤ place → result ≡ false }
+    /// The operator that the peer at that place names, if there is a peer.
+    pub fn operator(&self, place: usize) -> Option<&Text>
+        ensures there { (other : Peer T) → place < length (peers_of self.now)
+            → option_map (λ op. op.now) result ≡ Some (named_operator (route_of (slice_index_or (peers_of self.now) place other))) }
+        ensures missing { length (peers_of self.now) ≤ place → result ≡ None }
     {
-        place < self.count() && self.peers.peer(place).route().is_operator()
+        if place < self.count() {
+            Some(self.peers.peer(place).route().operator())
+        } else {
+            None
+        }
     }
 }

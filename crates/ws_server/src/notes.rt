@@ -22,6 +22,8 @@ pub enum Refusal {
     Crowded,
     /// The path leads to no station and no operator that is known here. It was answered 404.
     Unknown,
+    /// A page of another origin asked. It was answered 403.
+    Foreign,
     /// The operator has as many connections as it may have. It was answered 503.
     TooMany,
     /// The request is no handshake of WebSocket 13. It was answered 405 or 426.
@@ -38,6 +40,7 @@ impl Refusal {
         match answer {
             Answer::Healthy => None,
             Answer::BadRequest => Some(Refusal::NoRequest),
+            Answer::Forbidden => Some(Refusal::Foreign),
             Answer::NotFound => Some(Refusal::Unknown),
             Answer::NotAllowed | Answer::UpgradeRequired => Some(Refusal::NoHandshake),
             Answer::TooLarge => Some(Refusal::TooLarge),
