@@ -9,7 +9,8 @@ mod script;
 mod server;
 mod station;
 
-use script::{Tally, check_all};
+use crate::tally::Tally;
+use script::check_all;
 use std::fs;
 
 /// Whether each client reads what it is to read.

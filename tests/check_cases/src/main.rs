@@ -4,6 +4,7 @@
 mod connections;
 mod scripts;
 mod tables;
+mod tally;
 
 use std::process::ExitCode;
 

@@ -28,8 +28,9 @@ mod script;
 mod stopped_script;
 mod stops;
 
+use crate::tally::Tally;
 use caches::try_caches;
-use checked::{Tally, check_all};
+use checked::check_all;
 use failures::{Kind, Met, try_failures};
 use stops::try_stops;
 

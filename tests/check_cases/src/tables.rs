@@ -15,11 +15,12 @@ mod requests;
 mod tables;
 mod values;
 
-use cases::{Tally, check_table, tables};
+use crate::tally::Tally;
+use cases::{check_table, tables};
 
 /// Whether every case gives what it is to give.
 pub fn check(rt: &HostRuntime) -> anyhow::Result<bool> {
-    let mut tally = Tally::new();
+    let mut tally = Tally::default();
     for table in &tables(rt)? {
         check_table(rt, table.as_str(), &mut tally)?;
     }

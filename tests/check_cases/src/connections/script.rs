@@ -3,6 +3,7 @@
 use crate::connections::client::Client;
 use crate::connections::server::Server;
 use crate::connections::station::Station;
+use crate::tally::Tally;
 use anyhow::{Context, Result, bail};
 use std::alloc::Global;
 use std::net::TcpStream;
@@ -12,23 +13,6 @@ use tungstenite::{Bytes, Message};
 
 /// How many turns more a line waits for what it is to give. Loopback may deliver bytes late.
 const MORE_TURNS: usize = 2_000;
-
-/// How many lines passed, and how many failed.
-#[derive(Drop)]
-pub struct Tally {
-    pub passed: u64,
-    pub failed: u64,
-}
-
-impl Tally {
-    fn count(&mut self, passes: bool) {
-        if passes {
-            self.passed = self.passed.saturating_add(1);
-        } else {
-            self.failed = self.failed.saturating_add(1);
-        }
-    }
-}
 
 /// One script as it goes.
 #[derive(Drop)]
@@ -41,10 +25,7 @@ struct Script {
 
 /// Runs the scripts of a text, each with a server of its own. A line `== TITLE` begins one.
 pub fn check_all(rt: &HostRuntime, text: &str) -> Result<Tally> {
-    let mut tally = Tally {
-        passed: 0,
-        failed: 0,
-    };
+    let mut tally = Tally::default();
     let mut script = Script::new(rt)?;
     for (place, line) in text.lines().enumerate() {
         let number = place.saturating_add(1);

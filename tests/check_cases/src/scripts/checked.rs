@@ -3,41 +3,18 @@
 use crate::scripts::difference::first_difference;
 use crate::scripts::replayed::written;
 use crate::scripts::script::{lines_of, names, operators_of, wanted_of};
+use crate::tally::Tally;
 use anyhow::{Context, Result};
 use cached::Cached;
 use std::rt::Files;
 use store_mem::MemStore;
-
-/// How many scripts passed, and how many failed.
-#[derive(Drop)]
-pub struct Tally {
-    pub passed: u64,
-    pub failed: u64,
-}
-
-impl Tally {
-    pub fn new() -> Tally {
-        Tally {
-            passed: 0,
-            failed: 0,
-        }
-    }
-
-    pub fn count(&mut self, passes: bool) {
-        if passes {
-            self.passed = self.passed.saturating_add(1);
-        } else {
-            self.failed = self.failed.saturating_add(1);
-        }
-    }
-}
 
 /// Checks the scripts, each over a new cache of so many answers, before a store in memory.
 pub fn check_all<R>(rt: &R, capacity: usize) -> Result<Tally>
 where
     R: Files + AllocGlobal + Print + Clone + Drop,
 {
-    let mut tally = Tally::new();
+    let mut tally = Tally::default();
     for name in &names(rt, ".script")? {
         let passes = passes(rt, capacity, name.as_str()).context(format_args!("script {name}"))?;
         tally.count(passes);

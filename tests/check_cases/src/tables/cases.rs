@@ -1,35 +1,12 @@
 //! The files of tables, and the cases in them.
 
 use crate::tables::tables::given;
+use crate::tally::Tally;
 use anyhow::{Context, Result, ensure};
 use serde_json::Value;
 use std::alloc::Global;
 use std::fs;
 use std::rt::Files;
-
-/// How many cases passed, and how many failed.
-#[derive(Drop)]
-pub struct Tally {
-    pub passed: u64,
-    pub failed: u64,
-}
-
-impl Tally {
-    pub fn new() -> Tally {
-        Tally {
-            passed: 0,
-            failed: 0,
-        }
-    }
-
-    fn count(&mut self, passes: bool) {
-        if passes {
-            self.passed = self.passed.saturating_add(1);
-        } else {
-            self.failed = self.failed.saturating_add(1);
-        }
-    }
-}
 
 /// The names of the tables of this folder, in their order.
 pub fn tables<R: Files + AllocGlobal + Clone + Drop>(rt: &R) -> Result<Vec<String>> {
