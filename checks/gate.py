@@ -30,8 +30,6 @@ TESTS = [["rt", "ci"], ["python3", "tests/run.py"]]
 OF_PROGRAM = [
     # the scripts over files, files of earlier versions, and which databases are taken
     ["python3", "checks/files.py", PROGRAM],
-    # statuses and messages, servers over loopback, restarts, and what is done with a file by sqlite3
-    ["python3", "checks/programs.py", PROGRAM],
     # how frames of hostile stations are answered
     ["python3", "checks/hostile.py", PROGRAM],
     # what is served over a full disk
