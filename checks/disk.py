@@ -30,14 +30,18 @@ class Disk:
         """Lets syncs or writes fail from now on, or neither."""
         self.set(syncs, writes, 0, False)
 
-    def stop_after(self, calls, halves=False):
-        """Lets each call that changes files fail after so many. The first of these, if it is a write, writes half."""
-        self.set(False, False, calls, halves)
+    def count(self):
+        """Counts calls on files from now on, of which none fails."""
+        self.set(False, False, 0, False)
 
-    def set(self, syncs, writes, most, halves):
-        self.numbers[:] = struct.pack(NUMBERS, syncs, writes, 0, most, halves)
+    def stop_after(self, calls, halves=False):
+        """Lets each call on files fail after so many. The first of these, if it is a write, writes half of its bytes."""
+        self.set(False, False, calls + 1, halves)
+
+    def set(self, syncs, writes, first, halves):
+        self.numbers[:] = struct.pack(NUMBERS, syncs, writes, 0, first, halves)
 
     @property
     def calls(self):
-        """How many calls there were that change files."""
+        """How many calls on files there were."""
         return struct.unpack_from(NUMBERS, self.numbers)[2]

@@ -1,9 +1,10 @@
 /* Makes the disk of a program fail. It is put under the program by LD_PRELOAD.
 
    The file that FAILING_DISK names has numbers of 64 bits, which are mapped, so that they can be set while the program
-   runs: whether syncs fail, and whether writes at an offset do; how many calls that change files there were, after how
-   many each fails, if not 0, and whether the first of these, if it is a write, writes the first half of its bytes. What
-   fails answers EIO.
+   runs: whether syncs fail, and whether writes at an offset do; how many calls on files there were, which is the first
+   that fails with all after it, if not 0, and whether that one, if it is a write, writes the first half of its bytes. What
+   fails answers EIO. The calls are writes to files, syncs, changes of a file's length, and links and names of files that
+   are made, changed or removed. That a file is opened or made is no such call.
 
    Where FAILING_DISK_SYNCED names a folder, each sync copies its file there, under the number of its inode. */
 
@@ -21,7 +22,7 @@
 #include <unistd.h>
 
 struct numbers {
-    volatile uint64_t syncs, writes, calls, most, halves;
+    volatile uint64_t syncs, writes, calls, first, halves;
 };
 
 static struct numbers *numbers;
@@ -46,13 +47,19 @@ static int is_past(void)
     if (!numbers)
         return 0;
     numbers->calls++;
-    return numbers->most && numbers->calls > numbers->most;
+    return numbers->first && numbers->calls >= numbers->first;
 }
 
 static int fails(void)
 {
     errno = EIO;
     return -1;
+}
+
+/* Whether the call that was counted last is to write the first half of its bytes. */
+static int is_halved(void)
+{
+    return numbers->halves && numbers->calls == numbers->first;
 }
 
 /* Copies a file that was synced, whole or not at all. */
@@ -102,13 +109,35 @@ ssize_t pwrite(int file, const void *bytes, size_t count, off_t offset)
 {
     ssize_t (*write_at)(int, const void *, size_t, off_t) = dlsym(RTLD_NEXT, "pwrite");
     if (is_past()) {
-        if (numbers->halves && numbers->calls == numbers->most + 1)
+        if (is_halved())
             write_at(file, bytes, count / 2, offset);
         return fails();
     }
     if (numbers && numbers->writes)
         return fails();
     return write_at(file, bytes, count, offset);
+}
+
+/* A write to a pipe or a socket is none of these calls. */
+ssize_t write(int file, const void *bytes, size_t count)
+{
+    ssize_t (*put)(int, const void *, size_t) = dlsym(RTLD_NEXT, "write");
+    struct stat about;
+    if (!numbers || fstat(file, &about) || !S_ISREG(about.st_mode))
+        return put(file, bytes, count);
+    if (is_past()) {
+        if (is_halved())
+            put(file, bytes, count / 2);
+        return fails();
+    }
+    return put(file, bytes, count);
+}
+
+int rename(const char *from, const char *to)
+{
+    if (is_past())
+        return fails();
+    return ((int (*)(const char *, const char *))dlsym(RTLD_NEXT, "rename"))(from, to);
 }
 
 int ftruncate(int file, off_t length)

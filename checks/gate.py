@@ -34,7 +34,7 @@ OF_PROGRAM = [
     ["python3", "checks/hostile.py", PROGRAM],
     # what is served over a full disk
     ["python3", "checks/full_disk.py", PROGRAM],
-    # what is on record after a stop at a call that changes a file
+    # what is on record after a stop at a call on a file
     ["python3", "checks/stops.py", PROGRAM, "--small"],
     # what is told where the disk fails, and where changes are gone
     ["python3", "checks/hurt.py", PROGRAM],
