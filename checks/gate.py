@@ -40,6 +40,10 @@ OF_PROGRAM = [
     ["python3", "checks/hurt.py", PROGRAM],
     # what is on record after kills
     ["python3", "checks/kills.py", PROGRAM, "20"],
+    # how the server tells what it does, what it bounds, and how it ends
+    ["python3", "checks/serving.py", PROGRAM],
+    # the program's statuses and texts, and sessions over sockets
+    ["python3", "checks/programs.py", PROGRAM],
     # what one operator's connections cost another's stations
     ["python3", "checks/load.py", PROGRAM, "--small"],
 ]

@@ -20,6 +20,21 @@ VERSION = "Sec-WebSocket-Version: 13"
 OCPP = "Sec-WebSocket-Protocol: ocpp1.6"
 GOOD = (STATION, HOST, UPGRADE, CONNECTION, KEY, VERSION, OCPP)
 
+# The origins whose pages are served, and fields that name them.
+ORIGINS = "https://console.example,null"
+SERVED = ("Origin: https://console.example", "origin:null", "Origin: \tnull ", "Origin: null\nOrigin: null")
+FOREIGN = (
+    "https://other.example",
+    "https://console.example:8443",
+    "http://console.example",
+    "https://CONSOLE.example",
+    "https://console.example/",
+    "https://console.example, null",
+    "NULL",
+    "",
+    "null\nOrigin: https://other.example",
+)
+
 # The fields of answers (the answer to the key is that of RFC 6455, section 1.3).
 AGREED = {"sec-websocket-protocol": "ocpp1.6"}
 SWITCHED = {"connection": "Upgrade", "upgrade": "websocket", "sec-websocket-accept": "s3pPLMBiTxaQ9kYGzzhZRbK+xOo="}
@@ -86,7 +101,7 @@ ADMITTED = {
         "GET http://a/ocpp/ACME/CP01 HTTP/1.1",
         OPERATOR,
     ],
-    HOST: ["host: b:9000", "HOST:a", "X-Forwarded-For: 10.0.0.1\nHost: a\nUser-Agent: b\nOrigin: null"],
+    HOST: ["host: b:9000", "HOST:a", "X-Forwarded-For: 10.0.0.1\nHost: a\nUser-Agent: b", *(f"Host: a\n{line}" for line in SERVED)],
     UPGRADE: [
         "upgrade: WEBSOCKET",
         "Upgrade:websocket",
@@ -150,7 +165,14 @@ REFUSED = [
     (400, {KEY: "Sec-WebSocket-Key: dGhlIHNhbXBsZSBub25j"}),
     (400, {KEY: "Sec-WebSocket-Key: dGhlIHNhbXBsZSBub25jZWU="}),
     (400, {KEY: "Sec-WebSocket-Key: dGhlIHNhbXBsZSBub25j!Q=="}),
+    *((403, {HOST: f"Host: a\nOrigin: {origin}"}) for origin in FOREIGN),
+    *((403, {STATION: OPERATOR, HOST: f"Host: a\nOrigin: {origin}"}) for origin in FOREIGN),
     # what is looked at first
+    (404, {STATION: "GET / HTTP/1.1", HOST: "Host: a\nOrigin: http://a"}),
+    (400, {HOST: "Origin: http://a"}),
+    (403, {HOST: "Host: a\nOrigin: http://a", VERSION: "", KEY: ""}),
+    (403, {STATION: "GET /ocpp/ACME/CP09 HTTP/1.1", HOST: "Host: a\nOrigin: http://a"}),
+    (426, {UPGRADE: "", HOST: "Host: a\nOrigin: http://a"}),
     (404, {STATION: "GET / HTTP/1.1", VERSION: "", KEY: ""}),
     (400, {STATION: "GET / HTTP/1.1", HOST: ""}),
     (426, {VERSION: "", KEY: ""}),
@@ -329,7 +351,7 @@ def check_at_once(checks):
 
 def check_heads(checks):
     check_at_once(checks)
-    with checks.serve("--operators", "ACME,BETA"):
+    with checks.serve("--operators", "ACME,BETA", "--origin", ORIGINS):
         Peer(checks.port, "/operator/ACME").ask("station add CP01 Accepted 300")
         beta = [Peer(checks.port, "/operator/BETA") for _ in range(32)]
         check_plain(checks)

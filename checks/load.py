@@ -33,8 +33,8 @@ import tempfile
 import time
 
 from loads import (
-    FLOODS,
     HELD,
+    HOSTILE,
     METER_VALUES,
     PORT,
     Load,
@@ -55,6 +55,7 @@ from programs import memory, spent
 BOUNDS = {
     "wait": (50, 500),
     "wait in a flood": (20, 500),
+    "order": (1000, 2000),
     "readings of 1 MiB": (20, 8000),
     "median": (0.2, 10),
     "storm": (10, None),
@@ -320,6 +321,30 @@ def measure_consoles(run):
     run.tell("consoles", "the time until all have arrived", listing[1] - listing[0], "s")
 
 
+def measure_shares(run):
+    """Operators share by what their events cost: consoles that list all at once, whose rows are told to each of them, and
+    many stations whose messages are synced. Another operator's order and V wait for the event in progress at most."""
+    count, rows = run.size(32, 8), run.size(20_000, 2000)
+    words = (0, count, count, count, "list tags", run.patience)
+    with run.serve(tags(rows)) as server, run.watch(server) as v, Load(load_listings, *words) as load:
+        load.phase()
+        load.begin()
+        time.sleep(0.2)
+        order, longest = Peer(PORT, "/operator/BETA", run.patience), 0.0
+        for _ in range(3):
+            order.ask("list tags")
+            longest = max(longest, time.perf_counter() - order.sent_at)
+        _, listing = load.end()
+    run.tell("shares", "an order beside consoles that list: its longest wait", 1000 * longest, "ms", run.most("order"))
+    run.tell_waits("shares", "beside consoles that list", v, listing, run.most("order"))
+    count, seconds = run.size(500, 50), run.size(3, 1)
+    words = ("statuses", count, seconds)
+    with run.serve(stations(count)) as server, run.watch(server) as v, Load(load_flood, *words) as load:
+        load.phase()
+        _, window = load.phase()
+    run.tell_waits("shares", f"beside {count} stations whose messages are synced", v, window, run.most("wait in a flood"))
+
+
 def is_held(port):
     """Whether the server has its connection from that port of a client open."""
     ends = f":{PORT:04X}", f":{port:04X}"
@@ -375,7 +400,7 @@ def tell_life(run, name, v, lives, since):
 def measure_hostile(run):
     """Stations that send what costs much, as fast as they can."""
     count, seconds = run.size(50, 20), run.size(3, 1)
-    for kind in (*FLOODS, HELD):
+    for kind in (*HOSTILE, HELD):
         words = (kind, count, seconds)
         with run.serve(stations(count)) as server, run.watch(server) as v, Load(load_flood, *words) as load:
             load.phase()
@@ -457,6 +482,7 @@ SCENARIOS = {
     "lines": measure_lines,
     "listing": measure_listing,
     "consoles": measure_consoles,
+    "shares": measure_shares,
     "deaf": measure_deaf,
     "hostile": measure_hostile,
     "storm": measure_storm,

@@ -25,6 +25,7 @@ METER_VALUES = (
     '[2,"3","MeterValues",{"connectorId":1,"meterValue":[{"timestamp":"2026-01-01T00:00:00Z","sampledValue":[%s]}]}]'
 )
 SMALLEST = '{"value":"1"}'
+STATUS = '[2,"4","StatusNotification",{"connectorId":1,"errorCode":"NoError","status":"Available"}]'
 READINGS = METER_VALUES % ",".join([SMALLEST] * ((MIB - len(METER_VALUES)) // (len(SMALLEST) + 1)))
 
 
@@ -271,9 +272,11 @@ FLOODS = {
     "pings": lambda: (b"", frame("x" * 125, 0x89) * 8000),
     "heartbeats, not reading": lambda: (b"", frame(HEARTBEAT) * 40_000, False),
     "readings of 1 MiB": lambda: (b"", frame(READINGS)),
+    "statuses": lambda: (b"", frame(STATUS)),
     "garbage": lambda: (b"", b"x"),
 }
 HELD = "last bytes held back"
+HOSTILE = [kind for kind in FLOODS if kind != "statuses"]
 
 
 def load_nothing(seconds):
@@ -320,12 +323,20 @@ class Load:
         self.process.start()
         theirs.close()
 
-    def phase(self):
-        """What the next phase gives, and when it began and ended."""
-        began = time.perf_counter()
+    def begin(self):
+        """The next phase begins."""
+        self.began = time.perf_counter()
         self.pipe.send(True)
+
+    def end(self):
+        """What the phase gives, and when it began and ended."""
         result = self.pipe.recv()
-        return result, (began, time.perf_counter())
+        return result, (self.began, time.perf_counter())
+
+    def phase(self):
+        """The same of the next phase."""
+        self.begin()
+        return self.end()
 
     def __enter__(self):
         return self

@@ -1,10 +1,8 @@
 """Stops the program at each call on its files, and opens the file again: the records found are those after the
 events that were answered, or after one more. A stop is a disk whose calls fail from one on, by failing_disk.c under the
 program. It leaves what was written; or that and half of what the first call that fails was to write; or what was synced.
-The scripts are those of tests/check_cases/data/scripts/stopped, and the openings of files of each earlier schema. After
-two stops a file doesn't open until its operator has done what docs/OPERATIONS.md says: where FILE and FILE.new are one
-file, FILE.new is removed, and where FILE-count was half written, --accept-loss is given. Then it has these records too.
-Prints how many stops there were of each, how many such openings, then `N passed, M failed`. With --small one call in four is stopped. Needs gcc.
+The scripts are those of tests/check_cases/data/scripts/stopped, and the openings of files of each earlier schema.
+Prints how many stops there were of each, then `N passed, M failed`. With --small one call in four is stopped. Needs gcc.
 
     python3 checks/stops.py crates/central/out/central [--small]
 """
@@ -26,15 +24,12 @@ LISTS = (STOPPED / "lists.txt").read_text()
 # A script whose log is copied into the database file under way has so many times the calls of another.
 LONG, OF_LONG = "log_is_copied", 23
 ENDS = ("", "-wal", "-count", ".new")
-# The bytes of a whole FILE-count.
-WHOLE_COUNT = 21
 KINDS = ("written", "half written", "synced")
 
 
 class Stops(Checks):
     def __init__(self, program, folder):
         super().__init__(program, folder)
-        self.mended = 0
         self.synced = os.path.join(folder, "synced")
         os.mkdir(self.synced)
         self.disk = Disk(folder, self.synced)
@@ -70,27 +65,12 @@ class Stops(Checks):
 
     def found(self, what, db, wanted):
         """Checks that a file opens with one of those lists of records, and that SQLite finds it whole."""
-        status, listed = self.opened(db)
+        status, listed = self.replay(LISTS, db)
         self.check(f"{what}: status", status, 0)
         self.check(f"{what}: the records", listed in wanted, True)
         with contextlib.closing(sqlite3.connect(db)) as database:
             self.check(f"{what}: whole", database.execute("PRAGMA integrity_check").fetchall(), [("ok",)])
         remove(db)
-
-
-    def opened(self, db):
-        """The status of a replay that lists the records, and what it writes, after what an operator may have to do."""
-        status, listed = self.replay(LISTS, db)
-        draft, count = Path(f"{db}.new"), Path(f"{db}-count")
-        options = ()
-        if status and draft.exists() and draft.samefile(db):
-            draft.unlink()
-        elif status and count.exists() and 0 < count.stat().st_size < WHOLE_COUNT:
-            options = ("--accept-loss",)
-        else:
-            return status, listed
-        self.mended += 1
-        return self.replay(LISTS, db, options=options)
 
 
 def files_of(db):
@@ -159,15 +139,13 @@ def check_earlier(checks, schema, one_in):
 
 def main():
     one_in = 4 if "--small" in sys.argv[2:] else 1
-    # in memory, where there is room, since a sync is free there
-    with tempfile.TemporaryDirectory(dir="/dev/shm" if os.path.isdir("/dev/shm") else None) as folder:
+    with tempfile.TemporaryDirectory() as folder:
         checks = Stops(os.path.abspath(sys.argv[1]), folder)
         for schema in EARLIER:
             check_earlier(checks, schema, one_in)
         for script in sorted(STOPPED.glob("*.script")):
             name = script.stem
             check_script(checks, name, one_in * OF_LONG if name == LONG else one_in)
-    print(f"openings after which an operator had to act: {checks.mended}")
     print(f"{checks.passed} passed, {checks.failed} failed")
     sys.exit(checks.failed > 0)
 

@@ -56,7 +56,7 @@ def time_text(seconds):
 
 def check_program(cases, program):
     with tempfile.TemporaryDirectory() as folder:
-        server = subprocess.Popen([program, "serve", "--port", str(PORT), "--db", f"{folder}/hub.db", "--operators", "ACME,BETA", "--log", "none"])
+        server = subprocess.Popen([program, "serve", "--port", str(PORT), "--db", f"{folder}/hub.db", "--operators", "ACME,BETA", "--origin", "null", "--log", "none"])
         try:
             cases.check("the program listens", is_listening())
             check_session(cases)

@@ -20,6 +20,12 @@ const LOGS: &[&str] = &["none", "errors", "connections"];
 /// The most turns that `--turns` takes.
 const MAX_TURNS: i64 = 1_000_000;
 
+/// The most connections of stations that an operator has, if nothing else is said.
+const MOST_STATIONS: u32 = 10_000;
+
+/// The most that can be said.
+const MAX_STATIONS: i64 = 1_000_000;
+
 /// What a command line asks for.
 #[derive(Drop)]
 pub enum Plan {
@@ -51,12 +57,18 @@ pub struct ServeOptions {
     /// Where it listens.
     pub address: SocketAddr,
     pub operators: Vec<Text>,
+    /// The origins whose pages are served in a browser.
+    pub origins: Vec<Text>,
     /// The path of the file with the records.
     pub db: Text,
     /// How that file is opened, or made.
     pub file: FileOptions,
     /// It ends after so many turns; without them it serves until it is ended.
     pub turns: Option<u32>,
+    /// The most connections of stations that an operator has.
+    pub most_stations: u32,
+    /// The path of a file that ends it as it appears.
+    pub stop_file: Option<Text>,
     /// Which lines its log has.
     pub log: LevelFilter,
 }
@@ -117,9 +129,17 @@ fn serve_options(alloc: Global, found: &ArgMatches) -> Result<ServeOptions, Erro
     Ok(ServeOptions {
         address: SocketAddr::new(bind_of(alloc, found)?, port_of(found)),
         operators: parts(alloc, found.get_str("operators"))?,
+        origins: match found.get_str("origin") {
+            Some(origins) => parts(alloc, Some(origins))?,
+            None => Vec::new(alloc),
+        },
         db: Text::from(found.get_str("db").unwrap_or("").to_string(alloc)?),
         file: file_options(found),
         turns: found.get_one::<u32>("turns"),
+        most_stations: found
+            .get_one::<u32>("connections-per-operator")
+            .unwrap_or(MOST_STATIONS),
+        stop_file: text_if_any(alloc, found.get_str("stop-file"))?,
         log: level_of(found.get_str("log").unwrap_or("connections")),
     })
 }
@@ -212,36 +232,84 @@ fn replay_command<'a>(alloc: Global) -> Result<Command<'a>, AllocError> {
 }
 
 fn serve_command<'a>(alloc: Global) -> Result<Command<'a>, AllocError> {
-    let bind = Arg::new(alloc, "bind")
+    Command::new(alloc, "serve")
+        .about("Serves stations and operators over WebSocket")
+        .after_help(help::SERVE)
+        .arg(port_arg(alloc, "The port to listen on, from 1 to 65535"))?
+        .arg(bind_arg(alloc))?
+        .arg(db_arg(alloc, "The file with the records, made if there is none").required(true))?
+        .arg(accept_loss_arg(alloc))?
+        .arg(page_sums_arg(alloc))?
+        .arg(operators_arg(alloc))?
+        .arg(origin_arg(alloc))?
+        .arg(most_stations_arg(alloc))?
+        .arg(turns_arg(alloc))?
+        .arg(stop_file_arg(alloc))?
+        .arg(log_arg(alloc))
+}
+
+/// The address to listen on.
+fn bind_arg<'a>(alloc: Global) -> Arg<'a> {
+    Arg::new(alloc, "bind")
         .long("bind")
         .value_name("ADDRESS")
         .help(
             "The IP address to listen on. Nobody is authenticated, so one that other machines reach has to stand behind a proxy that does",
         )
-        .default_value("127.0.0.1");
-    let turns = Arg::new(alloc, "turns")
+        .default_value("127.0.0.1")
+}
+
+/// How many turns are made.
+fn turns_arg<'a>(alloc: Global) -> Arg<'a> {
+    Arg::new(alloc, "turns")
         .long("turns")
         .value_name("N")
         .help("Ends after N turns, up to 1000000, without waiting; else serves until it is ended")
-        .value_parser(value_parser!(u32).range(..=MAX_TURNS));
-    let log = Arg::new(alloc, "log")
+        .value_parser(value_parser!(u32).range(..=MAX_TURNS))
+}
+
+/// The most connections of stations that an operator has.
+fn most_stations_arg<'a>(alloc: Global) -> Arg<'a> {
+    Arg::new(alloc, "connections-per-operator")
+        .long("connections-per-operator")
+        .value_name("N")
+        .help(
+            "The most connections of stations that an operator has at once, 10000 if it isn't given",
+        )
+        .value_parser(value_parser!(u32).range(1..=MAX_STATIONS))
+}
+
+/// The file that ends the server.
+fn stop_file_arg<'a>(alloc: Global) -> Arg<'a> {
+    Arg::new(alloc, "stop-file")
+        .long("stop-file")
+        .value_name("PATH")
+        .help(
+            "Ends as a file of that name appears, after what was taken is answered, and removes it; one that is there at the start is removed first",
+        )
+        .allow_hyphen_values(true)
+}
+
+/// What is written to standard error.
+fn log_arg<'a>(alloc: Global) -> Arg<'a> {
+    Arg::new(alloc, "log")
         .long("log")
         .value_name("LEVEL")
         .help(
             "What is written to standard error: faults alone, what went wrong, or each connection too",
         )
-        .value_parser(LOGS);
-    Command::new(alloc, "serve")
-        .about("Serves stations and operators over WebSocket")
-        .after_help(help::SERVE)
-        .arg(port_arg(alloc, "The port to listen on, from 1 to 65535"))?
-        .arg(bind)?
-        .arg(db_arg(alloc, "The file with the records, made if there is none").required(true))?
-        .arg(accept_loss_arg(alloc))?
-        .arg(page_sums_arg(alloc))?
-        .arg(operators_arg(alloc))?
-        .arg(turns)?
-        .arg(log)
+        .value_parser(LOGS)
+}
+
+/// The origins whose pages are served.
+fn origin_arg<'a>(alloc: Global) -> Arg<'a> {
+    Arg::new(alloc, "origin")
+        .long("origin")
+        .value_name("ORIGINS")
+        .help(
+            "The origins whose pages are served in a browser, parted by commas, as https://console.example or null; else none is",
+        )
+        .allow_hyphen_values(true)
 }
 
 fn sim_command<'a>(alloc: Global) -> Result<Command<'a>, AllocError> {

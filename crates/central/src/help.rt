@@ -26,7 +26,7 @@ Example:
 It has no TLS and authenticates nobody: a connection is the station or the operator that its path names.
 
 Exit statuses:
-  0  the turns of --turns were made
+  0  the turns of --turns were made, or the file of --stop-file appeared
   1  the command line can't be read
   2  a fault, which standard error names
 

@@ -1,7 +1,10 @@
 //! The log of a server, on standard error: a line for what became of each connection.
 
+use crate::causes::place_of;
 use crate::command::{ServeOptions, VERSION};
-use log::{LevelFilter, Log, error, info, warn};
+use crate::stderr::takes_line;
+use log::sink::Console;
+use log::{LevelFilter, Log, Logged, error, info, warn};
 use ocpp_types::{Mem, Moment, print_time};
 use std::alloc::Global;
 use std::fmt;
@@ -58,23 +61,137 @@ pub fn start_text(
     )?)
 }
 
-/// Writes the line with which a log begins.
-pub fn write_start<L: Log>(log: &L, alloc: Global, moment: Moment, text: &str) {
-    if let Ok(time) = print_time(alloc, moment) {
-        info!(log; "{time} {text}");
+/// The most lines of a cause in a second: of refusals of a kind, of faults, of ends of a kind that isn't usual.
+const MOST_UNUSUAL: u32 = 20;
+
+/// The most lines in a second that tell that stations come and go.
+const MOST_USUAL: u32 = 1000;
+
+/// How many causes of lines there are.
+const CAUSES: usize = 32;
+
+/// The log of a server. It never waits: a line that standard error doesn't take at once is left out, as are those of one
+/// cause that are too many in a second. The next second tells how many were left out.
+#[derive(Drop)]
+pub struct Journal {
+    rt: HostRuntime,
+    log: Logged<HostRuntime, Console<HostRuntime>>,
+    /// By cause: how many lines there were in this second.
+    counts: [u32; CAUSES],
+    /// How many lines were left out, in all.
+    left_out: u64,
+    /// How many of them were told.
+    told: u64,
+}
+
+impl Journal {
+    /// A log that has lines of that level.
+    pub fn new(rt: &HostRuntime, level: LevelFilter) -> Journal {
+        Journal {
+            rt: *rt,
+            log: Logged::new(*rt, level, Console(*rt)),
+            counts: [0; CAUSES],
+            left_out: 0,
+            told: 0,
+        }
+    }
+
+    /// How many lines were left out.
+    pub fn left_out(&self) -> u64 {
+        self.left_out
+    }
+
+    /// A new second begins. Lines that were left out are told.
+    pub fn begin_second(&mut self, moment: Moment) {
+        self.counts = [0; CAUSES];
+        let untold = self.left_out.saturating_sub(self.told);
+        if untold == 0 || !takes_line(0) {
+            return;
+        }
+        if let Ok(time) = print_time(self.rt.alloc(), moment) {
+            warn!(&self.log; "{time} {untold} lines left out");
+            self.told = self.left_out;
+        }
+    }
+
+    /// Writes a line by itself, as that of the start.
+    pub fn write_line(&mut self, moment: Moment, text: &str) {
+        let time = print_time(self.rt.alloc(), moment);
+        match time {
+            Ok(time) if takes_line(0) => info!(&self.log; "{time} {text}"),
+            Ok(_) | Err(_) => self.leave_out(),
+        }
+    }
+
+    /// Writes a fault to standard error. It gives whether that was written.
+    pub fn write_fault<F: Display>(&mut self, fault: &F) -> bool {
+        if !self.has_room(0, MOST_UNUSUAL) {
+            return false;
+        }
+        let _lost = eprintln!(&self.rt; "fault {fault}");
+        true
+    }
+
+    /// Writes notes of that moment. Where there is no memory for the time, they are left out.
+    pub fn write_notes(&mut self, moment: Moment, notes: &[Note]) {
+        if notes.is_empty() {
+            return;
+        }
+        let Ok(time) = print_time(self.rt.alloc(), moment) else {
+            return;
+        };
+        for note in notes {
+            self.write_note(time.as_str(), note);
+        }
+    }
+
+    fn write_note(&mut self, time: &str, note: &Note) {
+        let most = if is_usual(note.happened) {
+            MOST_USUAL
+        } else {
+            MOST_UNUSUAL
+        };
+        if self.has_room(cause_of(note.happened), most) {
+            write_note(&self.log, time, note);
+        }
+    }
+
+    /// Whether a line of that cause is written. One that isn't is left out.
+    fn has_room(&mut self, cause: usize, most: u32) -> bool {
+        let Some(count) = self.counts.get_mut(cause) else {
+            return false;
+        };
+        *count = count.saturating_add(1);
+        let has_room = *count <= most && takes_line(0);
+        if !has_room {
+            self.leave_out();
+        }
+        has_room
+    }
+
+    fn leave_out(&mut self) {
+        self.left_out = self.left_out.saturating_add(1);
     }
 }
 
-/// Writes notes of that moment. Where there is no memory for the time, they are left out.
-pub fn write_notes<L: Log>(log: &L, alloc: Global, moment: Moment, notes: &[Note]) {
-    if notes.is_empty() {
-        return;
+/// The number of a cause of lines. 0 is that of faults of turns.
+fn cause_of(happened: Happened) -> usize {
+    match happened {
+        Happened::Connected => 1,
+        Happened::Replaced => 2,
+        Happened::Failed(_) => 3,
+        Happened::Ended(cause) if is_usual_end(cause) => 4,
+        Happened::Ended(_) => 5,
+        Happened::Refused(refusal) => place_of(refusal).saturating_add(6),
     }
-    let Ok(time) = print_time(alloc, moment) else {
-        return;
-    };
-    for note in notes {
-        write_note(log, time.as_str(), note);
+}
+
+/// Whether that happens in the ordinary course.
+fn is_usual(happened: Happened) -> bool {
+    match happened {
+        Happened::Connected | Happened::Replaced => true,
+        Happened::Ended(cause) => is_usual_end(cause),
+        Happened::Failed(_) | Happened::Refused(_) => false,
     }
 }
 
@@ -85,7 +202,7 @@ fn write_note<L: Log>(log: &L, time: &str, note: &Note) {
         Happened::Refused(refusal) => warn!(log; "{time} {who} refused: {}", reason(refusal)),
         Happened::Connected => info!(log; "{time} {who} connected"),
         Happened::Replaced => info!(log; "{time} {who} replaced by another connection"),
-        Happened::Ended(cause) if is_usual(cause) => {
+        Happened::Ended(cause) if is_usual_end(cause) => {
             info!(log; "{time} {who} ended: {}", end(cause))
         }
         Happened::Ended(cause) => warn!(log; "{time} {who} ended: {}", end(cause)),
@@ -117,7 +234,7 @@ impl Display for Who<'_> {
 }
 
 /// Whether a connection ends so in the ordinary course.
-fn is_usual(cause: Cause) -> bool {
+fn is_usual_end(cause: Cause) -> bool {
     matches!(cause, Cause::Closed | Cause::Lost)
 }
 
@@ -132,6 +249,7 @@ fn end(cause: Cause) -> &'static str {
         Cause::NoMemory => "no memory",
         Cause::Fault => "fault",
         Cause::Silent => "silent for too long",
+        Cause::Stopped => "the server stops (1001)",
     }
 }
 
@@ -143,6 +261,7 @@ fn reason(refusal: Refusal) -> &'static str {
         Refusal::TooLarge => "head too large (431)",
         Refusal::Crowded => "too many wait",
         Refusal::Unknown => "unknown (404)",
+        Refusal::Foreign => "a page of another origin (403)",
         Refusal::TooMany => "too many of this operator (503)",
         Refusal::NoHandshake => "no handshake (405 or 426)",
         Refusal::NoSubprotocol => "no subprotocol ocpp1.6",

@@ -1,33 +1,46 @@
 //! The program: replays lines, serves connections, and simulates a station.
 #![tactic(auto)]
 
+mod causes;
 mod command;
 mod fault;
 mod help;
 mod hosted;
 mod journal;
+mod measured;
+mod metrics;
+mod metrics_page;
 mod new_file;
 mod records;
 mod replaying;
 mod server;
+mod service;
+mod serving;
 mod status;
+mod stderr;
 
 use clap::error::ErrorKind;
 use clients::{ask, forget, simulate};
 use command::Plan;
 use fault::RunFault;
 use replaying::replay_lines;
-use server::serve;
+use serving::serve;
 use station_calls::{Echo, VendorHandler};
 use std::env;
 use std::process::ExitCode;
+use stderr::takes_line;
+
+/// The milliseconds that the program waits for standard error as it ends.
+const LAST_WAIT: u16 = 1000;
 
 /// Statuses: 0 done, 1 usage, 2 a fault, which is named on standard error, 3 a line of an operator that was refused.
 fn main(rt: HostRuntime) -> anyhow::Result<ExitCode> {
     let answer = run(&rt);
     if let Err(fault) = &answer {
-        eprintln!(rt; "fault {fault}")?;
-        fault.write_detail(&rt)?;
+        if takes_line(LAST_WAIT) {
+            eprintln!(rt; "fault {fault}")?;
+            fault.write_detail(&rt)?;
+        }
     }
     Ok(ExitCode::from(status::of_run(&answer)))
 }

@@ -2,7 +2,7 @@
 
 use std::fs::{File, OpenOptions};
 use std::io::Write;
-use std::os::unix::fs::OpenOptionsExt;
+use std::os::unix::fs::{MetadataExt, OpenOptionsExt};
 use std::{fs, io};
 
 /// Who may read and write a new file: its owner alone, since id tags are credentials. Its log gets the same mode.
@@ -19,13 +19,17 @@ const FIRST_SUM: [u8; 8] = [110, 168, 217, 73, 4, 89, 165, 179];
 /// Makes a database without tables at a path where there is no file. It is written as `PATH.new`, which then gets its
 /// name: so it is there whole or not at all, and no file that is there is changed. Where a log is left of a file that
 /// is gone, where there is a file `PATH.new`, or where something fails, none is made. Its pages end in sums, if they are to:
-/// an opening finds that by the first page.
+/// an opening finds that by the first page. A file that has both names, as a stop leaves it, keeps its own alone: one with
+/// two isn't opened.
 pub fn make_if_new(rt: &HostRuntime, path: &str, sums: bool) -> io::Result<()> {
     let log = format!(in rt.alloc(); "{path}-wal")?;
-    if fs::exists(rt, path)? || fs::exists(rt, log.as_str())? {
+    let draft = format!(in rt.alloc(); "{path}.new")?;
+    if fs::exists(rt, path)? {
+        return unname(rt, draft.as_str(), path);
+    }
+    if fs::exists(rt, log.as_str())? {
         return Ok(());
     }
-    let draft = format!(in rt.alloc(); "{path}.new")?;
     let mut file = OpenOptions::new()
         .write(true)
         .create_new(true)
@@ -37,6 +41,18 @@ pub fn make_if_new(rt: &HostRuntime, path: &str, sums: bool) -> io::Result<()> {
         .and_then(|()| file.sync_all());
     fs::remove_file(rt, draft.as_str())?;
     made
+}
+
+/// Takes a name from the file at a path, if it is a name of that.
+fn unname(rt: &HostRuntime, name: &str, path: &str) -> io::Result<()> {
+    let Ok(named) = fs::metadata(rt, name) else {
+        return Ok(());
+    };
+    let file = fs::metadata(rt, path)?;
+    if named.ino() == file.ino() && named.dev() == file.dev() {
+        fs::remove_file(rt, name)?;
+    }
+    Ok(())
 }
 
 fn write_page(file: &mut File, sums: bool) -> io::Result<()> {

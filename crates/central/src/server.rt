@@ -3,33 +3,44 @@
 use crate::command::ServeOptions;
 use crate::fault::RunFault;
 use crate::hosted::hub_of;
-use crate::journal::{opening_text, start_text, write_notes, write_start};
-use crate::records::{ANSWERS, open, size_of};
-use cached::Cached;
+use crate::journal::Journal;
+use crate::measured::{connected_of, now_of};
+use crate::metrics::{Counts, Metrics};
+use crate::metrics_page::page_of;
+use crate::service::Service;
 use clients::now;
 use hub::{Fault, Hub};
 use hub_rows::Store;
-use log::sink::Console;
-use log::{LevelFilter, Log, Logged};
 use ocpp_types::{Mem, Moment, Text};
 use ready_streams::{ReadyStream, Streams};
-use sqlite::Alter;
 use station_calls::VendorHandler;
 use std::alloc::Global;
 use std::fmt::Display;
+use std::fs;
 use std::net::SocketAddr;
 use std::time::{Duration, Instant};
-use store_sql::SqlStore;
+use ws_peers::Route;
 use ws_server::{Gateway, Lobby};
 
 /// The most seconds between two turns. Calls that stations leave unanswered end in such turns.
 const MAX_WAIT: u64 = 1;
 
-/// The milliseconds after a turn that ended in a fault, if nothing is reported meanwhile.
-const PAUSE: u64 = 10;
+/// The nanoseconds after a turn that ended in a fault, if nothing is reported meanwhile.
+const PAUSE: u64 = 10_000_000;
 
-/// The bytes of a file whose opening takes long.
-const LARGE: u64 = 10_000_000;
+/// The nanoseconds in which a turn begins to serve connections. Those that are left are served in the next one, after what
+/// is reported meanwhile.
+const SERVES: u64 = 1_000_000;
+
+/// The nanoseconds between two looks for the file that ends the server.
+const LOOKS: u64 = 50_000_000;
+
+/// The nanoseconds that peers have at most, as the server ends, to take what waits for them.
+const LAST_WAIT: u64 = 2_000_000_000;
+
+/// Those that they have at least, so that what the system has taken arrives: a stream that is closed while bytes wait to be
+/// read is reset, and drops what is on its way.
+const LEAST_WAIT: u64 = 300_000_000;
 
 /// The seconds after a fault of the store in which health checks are answered 503.
 const HURT: u64 = 60;
@@ -48,7 +59,7 @@ const MAX_ACCEPTS: usize = 64;
 
 /// A server as it runs.
 #[derive(Drop)]
-struct Server<S, V> {
+pub struct Server<S, V> {
     alloc: Global,
     /// Where it listens.
     address: SocketAddr,
@@ -56,20 +67,33 @@ struct Server<S, V> {
     gateway: Gateway<ReadyStream>,
     lobby: Lobby<ReadyStream>,
     streams: Streams,
-    /// What the clock showed last.
-    second: Moment,
     /// The moment of the last turn.
     moment: Moment,
-    /// The places of the peers that are served in a turn.
-    places: Vec<usize>,
-    /// The place of the operator's connection that was served last.
-    last_operator: usize,
+    /// When it began.
+    begun: Instant,
+    /// The nanoseconds since then, as they were read last.
+    now: u64,
+    /// The seconds since then, in the last turn.
+    second: u64,
+    service: Service,
+    journal: Journal,
+    metrics: Metrics,
+    /// The metrics as they were printed last, and in which second.
+    page: Option<(u64, String)>,
+    /// The most connections of stations that an operator has.
+    most_stations: u64,
+    /// The path of the file of the records.
+    db: Text,
+    /// The path of the file that ends it.
+    stop_file: Option<Text>,
+    /// The nanoseconds since the start from which on that is looked for again.
+    next_look: u64,
     /// Accepting a connection failed in this second. It isn't tried again in it.
     failed_accept: bool,
     /// The last turn ended in a fault.
     has_faulted: bool,
-    /// When the store failed last, though it still answers.
-    hurt: Option<Moment>,
+    /// The second in which the store failed last, though it still answers.
+    hurt: Option<u64>,
     /// The store answers no more. Nothing is handed to the hub.
     is_store_shut: bool,
     /// Memory that is set aside. It is given up after an event that found none, so that connections can end, and no
@@ -77,143 +101,45 @@ struct Server<S, V> {
     reserve: Option<Vec<u8>>,
 }
 
-/// Serves, by the records of a file and by those handlers of vendors' messages. A fault of a turn is written to
-/// standard error as `fault NAME`, and the next turn follows. Errors: a file that can't be opened or isn't ours, or that
-/// fails later, operators that can't be hosted, an address that can't be listened on, a wait that fails, a clock without
-/// a moment, no memory at the start.
-pub fn serve<V: VendorHandler>(
-    rt: &HostRuntime,
-    options: ServeOptions,
-    vendors: Vec<V>,
-) -> Result<(), RunFault> {
-    let streams = listen(rt, options.address)?;
-    tell_opening(rt, &options)?;
-    let began = Instant::now(rt)?;
-    let store = open(rt, options.db.as_str(), options.file)?;
-    let opening = began.elapsed(rt)?;
-    serve_database(rt, store, streams, options, vendors, opening)
-}
-
-/// Listens at an address. Until the file is open, who connects waits in the system's queue.
-fn listen(rt: &HostRuntime, address: SocketAddr) -> Result<Streams, RunFault> {
-    match Streams::listen(rt.alloc(), rt, address) {
-        Ok(streams) => Ok(streams),
-        Err(error) => Err(RunFault::at(address, error)),
-    }
-}
-
-/// Writes to the log how large the file is and what its opening takes, where that is long.
-fn tell_opening(rt: &HostRuntime, options: &ServeOptions) -> Result<(), RunFault> {
-    let size = size_of(rt, options.db.as_str());
-    if size < LARGE {
-        return Ok(());
-    }
-    let text = opening_text(rt.alloc(), options.db.as_str(), size)?;
-    let log = Logged::new(*rt, options.log, Console(*rt));
-    let moment = now(rt).ok_or(RunFault::Clock)?;
-    write_start(&log, rt.alloc(), moment, text.as_str());
-    Ok(())
-}
-
-/// Serves by the records of a database.
-fn serve_database<A: Alter + Drop, V: VendorHandler>(
-    rt: &HostRuntime,
-    store: SqlStore<A>,
-    streams: Streams,
-    options: ServeOptions,
-    vendors: Vec<V>,
-    opening: Duration,
-) -> Result<(), RunFault> {
-    serve_cached(rt, store, streams, options, vendors, opening)
-}
-
-/// Serves by the records of a store, behind a cache.
-fn serve_cached<S: Store + Drop, V: VendorHandler>(
-    rt: &HostRuntime,
-    store: S,
-    streams: Streams,
-    options: ServeOptions,
-    vendors: Vec<V>,
-    opening: Duration,
-) -> Result<(), RunFault> {
-    let store = Cached::new(rt.alloc(), store, ANSWERS)?;
-    serve_over(rt, store, streams, options, vendors, opening)
-}
-
-/// Serves by the records of a store, whose opening took so long.
-fn serve_over<S: Store + Drop, V: VendorHandler>(
-    rt: &HostRuntime,
-    mut store: S,
-    streams: Streams,
-    options: ServeOptions,
-    vendors: Vec<V>,
-    opening: Duration,
-) -> Result<(), RunFault> {
-    let stations = count_stations(&mut store, options.operators.as_slice());
-    let start = start_text(rt.alloc(), &options, opening, stations)?;
-    let turns = options.turns;
-    let level = options.log;
-    let address = options.address;
-    let mut server = Server::new(rt, store, streams, options, vendors)?;
-    if level != LevelFilter::Off {
-        server.lobby.keep_notes();
-        server.gateway.keep_notes();
-    }
-    warn_of(rt, address);
-    let log = Logged::new(*rt, level, Console(*rt));
-    write_start(
-        &log,
-        rt.alloc(),
-        now(rt).ok_or(RunFault::Clock)?,
-        start.as_str(),
-    );
-    server.run(rt, &log, turns)
-}
-
-/// Warns on standard error of an address that is reached from other machines. If the warning can't be written it is lost.
-fn warn_of(rt: &HostRuntime, address: SocketAddr) {
-    if !address.ip().is_loopback() {
-        let _ = eprintln!(rt;
-            "warning: {address} may be reached from other machines, and the server authenticates nobody (docs/OPERATIONS.md, A TLS proxy)"
-        );
-    }
-}
-
-/// How many stations the operators have on record. Those that can't be read don't count.
-fn count_stations<S: Store>(store: &mut S, operators: &[Text]) -> usize {
-    let mut count = 0_usize;
-    for operator in operators {
-        if let Ok(found) = store.stations(operator.as_str()) {
-            count = count.saturating_add(found.as_slice().len());
-        }
-    }
-    count
-}
-
 impl<S: Store + Drop, V: VendorHandler> Server<S, V> {
-    fn new(
+    /// A server over a store. Errors: operators that can't be hosted, a clock without a moment, no memory.
+    pub fn new(
         rt: &HostRuntime,
         store: S,
         mut streams: Streams,
         options: ServeOptions,
         vendors: Vec<V>,
+        journal: Journal,
     ) -> Result<Server<S, V>, RunFault> {
         let alloc = rt.alloc();
-        let second = now(rt).ok_or(RunFault::Clock)?;
+        let moment = now(rt).ok_or(RunFault::Clock)?;
+        let service = Service::new(alloc, options.operators.as_slice())?;
+        let metrics = Metrics::new(alloc, service.operators())?;
         let hub = hub_of(alloc, store, options.operators, vendors)?;
-        let address = options.address;
-        streams.set_second(second.seconds());
+        let mut gateway = Gateway::new(alloc);
+        gateway.keep_notes();
+        let mut lobby = Lobby::new(alloc, options.origins)?;
+        lobby.keep_notes();
+        streams.set_second(0);
         Ok(Server {
             alloc,
-            address,
+            address: options.address,
             hub,
-            gateway: Gateway::new(alloc),
-            lobby: Lobby::new(alloc)?,
+            gateway,
+            lobby,
             streams,
-            second,
-            moment: second,
-            places: Vec::new(alloc),
-            last_operator: 0,
+            moment,
+            begun: Instant::now(rt)?,
+            now: 0,
+            second: 0,
+            service,
+            journal,
+            metrics,
+            page: None,
+            most_stations: u64::from(options.most_stations),
+            db: options.db,
+            stop_file: options.stop_file,
+            next_look: 0,
             failed_accept: false,
             has_faulted: false,
             hurt: None,
@@ -222,47 +148,126 @@ impl<S: Store + Drop, V: VendorHandler> Server<S, V> {
         })
     }
 
+    /// Writes the line with which its log begins.
+    pub fn tell_start(&mut self, text: &str) {
+        self.journal.write_line(self.moment, text);
+    }
+
     /// Makes that many turns, without waiting, or goes on until it is ended. It ends where the database is shut, as it is
-    /// after a failed sync until it is opened anew.
-    fn run<L: Log>(
-        &mut self,
-        rt: &HostRuntime,
-        log: &L,
-        turns: Option<u32>,
-    ) -> Result<(), RunFault> {
+    /// after a failed sync until it is opened anew, and where its file is found that ends it.
+    pub fn run(&mut self, rt: &HostRuntime, turns: Option<u32>) -> Result<(), RunFault> {
         for _ in 0..turns.map_or(u64::MAX, u64::from) {
-            self.wait(turns.is_none())?;
+            self.wait(rt, turns.is_none())?;
+            let began = self.read_clock(rt);
             self.tick(rt)?;
             self.turn(rt);
-            self.write_log(log);
+            self.write_log();
+            let took = self.read_clock(rt).saturating_sub(began);
+            self.metrics.turn.add(took, self.second);
             if self.is_store_shut {
                 return Err(RunFault::Store);
+            }
+            if self.is_ended(rt) {
+                return self.end(rt);
             }
         }
         Ok(())
     }
 
-    /// Takes the system's reports on streams. It waits for one where nothing can be done without, and at most 10 ms after
-    /// a turn that ended in a fault, so that a fault that stays doesn't take a whole processor.
-    fn wait(&mut self, may_wait: bool) -> Result<(), RunFault> {
-        let accepts = self.may_accept() && self.lobby.has_room(self.moment);
-        let time = if may_wait && !self.streams.is_pending(accepts) {
-            Duration::from_secs(MAX_WAIT)
-        } else if may_wait && self.has_faulted {
-            Duration::from_millis(PAUSE)
+    /// Reads the nanoseconds since the start.
+    fn read_clock(&mut self, rt: &HostRuntime) -> u64 {
+        let nanoseconds = self.begun.elapsed(rt).map_or(0, |time| time.as_nanos());
+        let now = u64::try_from(nanoseconds).unwrap_or(u64::MAX);
+        self.now = self.now.max(now);
+        self.now
+    }
+
+    /// Whether the file is found that ends the server. It is looked for once in 50 ms at most.
+    fn is_ended(&mut self, rt: &HostRuntime) -> bool {
+        let Some(path) = &self.stop_file else {
+            return false;
+        };
+        if self.now < self.next_look {
+            return false;
+        }
+        self.next_look = self.now.saturating_add(LOOKS);
+        matches!(fs::exists(rt, path.as_str()), Ok(true))
+    }
+
+    /// Ends: what was read is answered, and nothing more is read. Connections are closed with the code 1001. Their peers
+    /// have two seconds to take what waits for them.
+    fn end(&mut self, rt: &HostRuntime) -> Result<(), RunFault> {
+        let count = self.gateway.count();
+        self.gateway.end_all();
+        self.streams.end_turn();
+        self.wait_for_peers(rt)?;
+        if let Some(path) = &self.stop_file {
+            let _gone = fs::remove_file(rt, path.as_str());
+        }
+        let text = format!(in self.alloc; "central ends: {count} connections closed")?;
+        self.journal.write_line(self.moment, text.as_str());
+        Ok(())
+    }
+
+    /// Waits until peers have taken what waits for them, within bounds.
+    fn wait_for_peers(&mut self, rt: &HostRuntime) -> Result<(), RunFault> {
+        let begun = self.read_clock(rt);
+        for _ in 0..u64::MAX {
+            let waited = self.read_clock(rt).saturating_sub(begun);
+            let is_taken = self.streams.count_unsent() == 0 && waited >= LEAST_WAIT;
+            if is_taken || waited >= LAST_WAIT {
+                break;
+            }
+            if let Err(error) = self.streams.wait(Duration::from_millis(100)) {
+                return Err(RunFault::at(self.address, error));
+            }
+            self.streams.end_turn();
+        }
+        Ok(())
+    }
+
+    /// Takes the system's reports on streams. It waits for one where nothing can be done without.
+    fn wait(&mut self, rt: &HostRuntime, may_wait: bool) -> Result<(), RunFault> {
+        let time = if may_wait {
+            self.pause()
         } else {
             Duration::from_secs(0)
         };
-        match self.streams.wait(time) {
+        let before = self.now;
+        let waited = self.streams.wait(time);
+        let idle = self.read_clock(rt).saturating_sub(before);
+        self.metrics.idle = self.metrics.idle.saturating_add(idle);
+        match waited {
             Ok(()) => Ok(()),
             Err(error) => Err(RunFault::at(self.address, error)),
         }
     }
 
-    /// Reads the clock. A moment is never before that of the turn before, so that a clock that is set back ends no
-    /// call before its time. In a new second the streams that are gone are closed.
+    /// How long nothing can be done, if nothing is reported: until the operators that rest are served again, and 10 ms
+    /// after a turn that ended in a fault, so that a fault that stays doesn't take a whole processor.
+    fn pause(&mut self) -> Duration {
+        let longest = Duration::from_secs(MAX_WAIT);
+        let accepts = self.may_accept() && self.lobby.has_room(self.second);
+        let least = if self.has_faulted { PAUSE } else { 0 };
+        if accepts && self.streams.may_accept() {
+            return Duration::from_nanos(least);
+        }
+        let places = self.streams.readable_peers();
+        match self.service.pause(&self.gateway, places, self.now) {
+            Some(pause) => Duration::from_nanos(pause.max(least)).min(longest),
+            None => longest,
+        }
+    }
+
+    /// Reads the clocks. A moment is never before that of the turn before, so that a clock that is set back ends no
+    /// call before its time. What becomes of connections goes by the seconds since the start, which no clock that is set
+    /// moves. In a new one the streams that are gone are closed, and silent peers are found.
     fn tick(&mut self, rt: &HostRuntime) -> Result<(), RunFault> {
-        let second = now(rt).ok_or(RunFault::Clock)?;
+        let moment = now(rt).ok_or(RunFault::Clock)?;
+        if moment > self.moment {
+            self.moment = moment;
+        }
+        let second = self.now / 1_000_000_000;
         if second != self.second {
             self.second = second;
             self.failed_accept = false;
@@ -270,10 +275,9 @@ impl<S: Store + Drop, V: VendorHandler> Server<S, V> {
             if self.reserve.is_none() {
                 self.reserve = set_aside(self.alloc).ok();
             }
-        }
-        if second > self.moment {
-            self.moment = second;
             self.lobby.set_hurt(is_recent(self.hurt, second));
+            self.journal.begin_second(moment);
+            self.count_stations();
             self.probe();
         }
         Ok(())
@@ -282,31 +286,35 @@ impl<S: Store + Drop, V: VendorHandler> Server<S, V> {
     /// Sends a Ping to the peers that are silent, and ends the connections of those that stay silent after one: their
     /// system or the way to it may be gone without a word. What is read of a peer ends its silence.
     fn probe(&mut self) {
-        self.streams.set_second(self.moment.seconds());
+        self.streams.set_second(self.second);
         self.streams.find_silent(PING_AFTER, ANSWER_WITHIN);
         self.gateway.ping(self.streams.to_ping());
         self.gateway.end_silent(self.streams.to_end());
     }
 
-    /// One turn: accepts connections, polls those that wait, and serves each peer whose stream may be read. Where the
-    /// database is shut, all connections are closed. What was written is then given to the system.
+    /// One turn: accepts connections, polls those that wait, and serves peers whose streams may be read. Where the database
+    /// is shut, all connections are closed. What was written is then given to the system.
     fn turn(&mut self, rt: &HostRuntime) {
         if let Err(fault) = self.accept() {
             self.failed_accept = true;
-            self.tell_fault(rt, &fault, matches!(&fault, RunFault::NoMemory));
-            let _ = fault.write_detail(rt);
+            if self.tell_fault(&fault, matches!(&fault, RunFault::NoMemory)) {
+                let _lost = fault.write_detail(rt);
+            }
         }
         let welcomed = self
             .lobby
-            .serve(&mut self.gateway, &mut self.hub, self.moment);
+            .serve(&mut self.gateway, &mut self.hub, self.moment, self.second);
         self.has_faulted = false;
-        self.report(rt, welcomed);
+        self.report(welcomed);
+        if self.lobby.has_readers() {
+            self.answer_readers(rt);
+        }
         if !self.is_store_shut {
-            self.choose();
-            let served = self
-                .gateway
-                .turn(&mut self.hub, self.moment, self.places.as_slice());
-            self.report(rt, served);
+            self.serve_some(rt);
+        }
+        if !self.is_store_shut {
+            let ended = self.gateway.turn(&mut self.hub, self.moment, &[]);
+            self.report(ended);
         }
         if self.is_store_shut {
             self.gateway.fail_all();
@@ -315,52 +323,119 @@ impl<S: Store + Drop, V: VendorHandler> Server<S, V> {
     }
 
     /// Tells the fault of a turn, if it ended in one. That of a store that is shut is told as the server ends.
-    fn report(&mut self, rt: &HostRuntime, answer: Result<(), Fault>) {
+    fn report(&mut self, answer: Result<(), Fault>) {
         let Err(fault) = answer else {
             return;
         };
         self.has_faulted = true;
         if matches!(fault, Fault::Store) {
-            self.hurt = Some(self.moment);
+            self.hurt = Some(self.second);
             self.lobby.set_hurt(true);
             self.is_store_shut = matches!(self.hub.probe(), Err(Fault::Store));
         }
         if !self.is_store_shut {
-            self.tell_fault(rt, &fault, matches!(fault, Fault::NoMemory));
+            let _told = self.tell_fault(&fault, matches!(fault, Fault::NoMemory));
         }
     }
 
-    /// Writes a fault to standard error, and gives up the memory that is set aside where none was found. If the fault
-    /// can't be written it is lost.
-    fn tell_fault<F: Display>(&mut self, rt: &HostRuntime, fault: &F, found_no_memory: bool) {
+    /// Writes a fault to standard error, and gives up the memory that is set aside where none was found. It gives whether the
+    /// fault was written.
+    fn tell_fault<F: Display>(&mut self, fault: &F, found_no_memory: bool) -> bool {
         if found_no_memory {
             self.reserve = None;
         }
-        let _ = eprintln!(rt; "fault {fault}");
+        self.journal.write_fault(fault)
     }
 
-    /// Chooses whom to serve in this turn: each station whose stream may be read, and one such connection of an
-    /// operator, in turn, since its order may take long. One for which there is no memory is served later.
-    fn choose(&mut self) {
-        let readable = self.streams.readable_peers();
-        let operator = next_operator(&self.gateway, readable, self.last_operator);
-        self.places.clear();
-        for place in readable {
-            if operator == Some(*place) || !self.gateway.is_operator(*place) {
-                let _later = self.places.push(*place);
+    /// Answers those that ask for the metrics, which are printed once in a second at most.
+    fn answer_readers(&mut self, rt: &HostRuntime) {
+        let is_new = self.page.as_ref().is_none_or(|page| page.0 != self.second);
+        if is_new {
+            let second = self.second;
+            self.page = self.print_page(rt).ok().map(|text| (second, text));
+        }
+        let text = self.page.as_ref().map_or("", |page| page.1.as_str());
+        self.lobby.answer_readers(text);
+    }
+
+    fn print_page(&self, rt: &HostRuntime) -> Mem<String> {
+        let connected = connected_of(self.alloc, &self.service, &self.gateway, &self.hub)?;
+        let mut now = now_of(rt, self.db.as_str())?;
+        now.since_start = self.now;
+        now.waiting = self.lobby.count() as u64;
+        now.unsent = self.streams.count_unsent() as u64;
+        now.left_out = self.journal.left_out();
+        page_of(self.alloc, &self.metrics, connected.as_slice(), &now)
+    }
+
+    /// Serves connections that have something to read, until none has, the time for it is over, or an event ends in a
+    /// fault. Each operator is charged for the time of its events, and the one that was charged least is next.
+    fn serve_some(&mut self, rt: &HostRuntime) {
+        let begun = self.now;
+        let places = self.streams.readable_peers();
+        self.service.begin(&self.gateway, places);
+        for _ in 0..u64::MAX {
+            let Some((owner, place)) = self.service.next(self.now) else {
+                return;
+            };
+            let served = self.serve_one(rt, owner, place);
+            let is_over = served.is_err() || self.now.saturating_sub(begun) >= SERVES;
+            self.report(served);
+            if is_over {
+                return;
             }
         }
-        if let Some(place) = operator {
-            self.last_operator = place;
+    }
+
+    /// Serves the connection of an operator at a place, if there is one, and charges the operator for it.
+    fn serve_one(&mut self, rt: &HostRuntime, owner: usize, place: usize) -> Result<(), Fault> {
+        if place >= self.gateway.count() {
+            return Ok(());
+        }
+        let before = self.now;
+        let taken = self.gateway.taken();
+        let is_station = matches!(self.gateway.route(place), Some(Route::Station(_, _)));
+        let served = self.gateway.serve(&mut self.hub, place, self.moment);
+        let events = self.gateway.taken().wrapping_sub(taken);
+        let cost = self.read_clock(rt).saturating_sub(before);
+        self.metrics
+            .serve(owner, is_station, events, cost, self.second);
+        self.service.charge(&self.gateway, owner, cost, self.now);
+        served
+    }
+
+    /// Counts the notes of a turn, and writes them to the log.
+    fn write_log(&mut self) {
+        let refused = self.lobby.take_notes();
+        self.metrics.note(refused.as_slice());
+        self.journal.write_notes(self.moment, refused.as_slice());
+        let notes = self.gateway.take_notes();
+        self.metrics.note(notes.as_slice());
+        self.journal.write_notes(self.moment, notes.as_slice());
+        if !notes.is_empty() {
+            self.name_full();
         }
     }
 
-    /// Writes the notes of a turn to the log.
-    fn write_log<L: Log>(&mut self, log: &L) {
-        let notes = self.lobby.take_notes();
-        write_notes(log, self.alloc, self.moment, notes.as_slice());
-        let notes = self.gateway.take_notes();
-        write_notes(log, self.alloc, self.moment, notes.as_slice());
+    /// Names those operators to the gateway that have as many connections of stations as they may have. Where there is no
+    /// memory for it, those that were named last are.
+    fn name_full(&mut self) {
+        if let Ok(full) = self.metrics.full(self.alloc, self.most_stations) {
+            self.gateway.set_full(full);
+        }
+    }
+
+    /// Counts the connections of stations anew where an operator seems full, since a note may be left out for want of memory.
+    fn count_stations(&mut self) {
+        let is_full = |counts: &Counts| counts.stations >= self.most_stations;
+        if !self.metrics.counts.iter().any(is_full) {
+            return;
+        }
+        let connected = connected_of(self.alloc, &self.service, &self.gateway, &self.hub);
+        if let Ok(connected) = connected {
+            self.metrics.set_stations(connected.as_slice());
+            self.name_full();
+        }
     }
 
     /// Whether connections are accepted in this second.
@@ -374,12 +449,12 @@ impl<S: Store + Drop, V: VendorHandler> Server<S, V> {
             return Ok(());
         }
         for _ in 0..MAX_ACCEPTS {
-            if !self.lobby.has_room(self.moment) {
+            if !self.lobby.has_room(self.second) {
                 break;
             }
             match self.streams.accept() {
                 Ok(Some((stream, client))) => {
-                    self.lobby.enter(stream, Some(client), self.moment)?;
+                    self.lobby.enter(stream, Some(client), self.second)?;
                 }
                 Ok(None) => break,
                 Err(error) => return Err(RunFault::at(self.address, error)),
@@ -389,23 +464,9 @@ impl<S: Store + Drop, V: VendorHandler> Server<S, V> {
     }
 }
 
-/// The first place of an operator's connection after the last one, or else the first of all.
-fn next_operator(gateway: &Gateway<ReadyStream>, places: &[usize], last: usize) -> Option<usize> {
-    let mut first = None;
-    for place in places {
-        if gateway.is_operator(*place) {
-            if *place > last {
-                return Some(*place);
-            }
-            first = first.or(Some(*place));
-        }
-    }
-    first
-}
-
-/// Whether a fault was a short time ago.
-fn is_recent(fault: Option<Moment>, moment: Moment) -> bool {
-    fault.is_some_and(|fault| moment.seconds() < fault.seconds().saturating_add(HURT))
+/// Whether a fault was a short time before that second.
+fn is_recent(fault: Option<u64>, second: u64) -> bool {
+    fault.is_some_and(|fault| second < fault.saturating_add(HURT))
 }
 
 /// Sets memory aside.

@@ -390,7 +390,7 @@ pub plan_fits : (is_hosted : List ℕ → Bool) (answers : Answers) (what : What
 plan_fits is_hosted answers (what.Connect station) m f = elim (f.lookups.registration station) as (λ o. f.lookups.registration station ≡ o → PlanFits m f (connect_plan station o)) [ None ↦ λ e. tt | Some r ↦ λ e. ap is_some e ] refl
 plan_fits is_hosted answers (what.Disconnect station) m f = tt
 plan_fits is_hosted answers (what.Frame station text) m f = elim (f.slot station).is_connected as (λ c. PlanFits m f (cond c (frame_plan answers station (frame text) m f) (turned_plan station))) [ true ↦ frame_fits answers station (frame text) m f | false ↦ tt ]
-plan_fits is_hosted answers (what.Do station command) m f = command_fits m station command (command_rule station command (f.lookups.registration station) (f.slot station) m f.lookups) f
+plan_fits is_hosted answers (what.Do station command) m f = command_fits m station command (command_rule station command (f.lookups.registration station) f.slots (f.slot station) m f.lookups) f
 plan_fits is_hosted answers (what.Admin a) m f = admin_fits is_hosted a m f
 plan_fits is_hosted answers what.Connections m f = tt
 plan_fits is_hosted answers (what.Forget station until) m f = forget_fits station until m f

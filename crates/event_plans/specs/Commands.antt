@@ -22,7 +22,8 @@ use Rattle.operator_cmds.specs.Answer.{is_accepted, known_members}
 use Rattle.operator_cmds.specs.Command.{action_name_of, bad_field, command_data}
 use Rattle.operator_cmds.specs.declared.command.Command.{Command}
 use Rattle.operator_cmds.specs.declared.command.Command.TheVariants.{CancelReservation, RemoteStartTransaction, RemoteStopTransaction, ReserveNow}
-use Rattle.pending_calls.specs.Slot.{answered_command, ready}
+use Rattle.pending_calls.specs.OwnSlots.{ready_among}
+use Rattle.pending_calls.specs.Slot.{answered_command}
 use Rattle.hub_events.specs.declared.out.Outcome.{Outcome}
 use Rattle.hub_events.specs.declared.out.Outcome.TheVariants as outcome
 use Rattle.hub_events.specs.declared.out.Said.TheVariants as said
@@ -80,10 +81,11 @@ abbrev pub number_of_ready : Option Refusal → Result ℕ Refusal → Result �
 number_of_ready refusal (Ok n) = number_unless refusal n
 number_of_ready refusal (Err unready) = Err unready
 
--- the number of the call that a command becomes, or its first refusal
-abbrev pub command_rule : List ℕ → Command → Option Registration → StationSlot → ℕ → Lookups → Result ℕ Refusal
-command_rule station c None s m l = Err NoSuchStation
-command_rule station c (Some r) s m l = number_of_ready (command_refusal station c r m l) (ready s)
+-- the number of the call that a command becomes, or its first refusal, by the slots of its operator and
+-- that of the station
+abbrev pub command_rule : List ℕ → Command → Option Registration → List StationSlot → StationSlot → ℕ → Lookups → Result ℕ Refusal
+command_rule station c None slots s m l = Err NoSuchStation
+command_rule station c (Some r) slots s m l = number_of_ready (command_refusal station c r m l) (ready_among slots s)
 
 -- ---- its plan
 

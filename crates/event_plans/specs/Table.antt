@@ -102,7 +102,7 @@ abbrev pub plan : (List ℕ → Bool) → Answers → What → ℕ → Facts →
 plan is_hosted answers (what.Connect station) m f = connect_plan station (f.lookups.registration station)
 plan is_hosted answers (what.Disconnect station) m f = disconnect_plan station
 plan is_hosted answers (what.Frame station text) m f = text_plan answers station text m f
-plan is_hosted answers (what.Do station command) m f = command_plan station command (command_rule station command (f.lookups.registration station) (f.slot station) m f.lookups)
+plan is_hosted answers (what.Do station command) m f = command_plan station command (command_rule station command (f.lookups.registration station) f.slots (f.slot station) m f.lookups)
 plan is_hosted answers (what.Admin a) m f = edit_plan (admin_rule is_hosted a m f.lookups)
 plan is_hosted answers (what.List listing) m f = list_plan (rows_rule listing m f.lookups)
 plan is_hosted answers what.Connections m f = list_plan (Ok (connections f.slots))

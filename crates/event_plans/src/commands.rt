@@ -3,7 +3,8 @@ ghost use Rattle.std.specs.Prelude.{◌≡◌, Ok, Err, IsOk, IfOk};
 ghost use Rattle.hub_rows.specs.Reads.{OnlyReads};
 ghost use Rattle.hub_rows.specs.Lookups.{lookups_at};
 ghost use Rattle.pending_calls.specs.Slot.{ready};
-ghost use Rattle.pending_calls.specs.Slots.{slot_at};
+ghost use Rattle.pending_calls.specs.OwnSlots.{own_slots};
+ghost use Rattle.pending_calls.specs.Slots.{all_slots, slot_at};
 ghost use Rattle.event_plans.specs.Commands.{is_remote, is_command_allowed, transaction_number, transaction_refusal, record_refusal, command_refusal, command_rule, command_plan, call_text};
 ghost use Rattle.event_plans.specs.Effects.{IsReady};
 ghost use Rattle.event_plans.specs.declared.plan.Effect.TheVariants as effect;
@@ -31,7 +32,7 @@ pub fn plan_command<S: Store>(
     ensures reads { OnlyReads S.view store.old store.new result }
     ensures plan { (S.view store.new).clean → IfOk result (λ p. p ≡ command_plan at.now.station.now command.now
         (command_rule at.now.station.now command.now ((lookups_at at.now.op.now (S.view store.old).rows).registration at.now.station.now)
-        (slot_at at.now.op.now at.now.station.now slots.now) at.now.moment (lookups_at at.now.op.now (S.view store.old).rows))) }
+        (own_slots at.now.op.now (all_slots slots.now)) (slot_at at.now.op.now at.now.station.now slots.now) at.now.moment (lookups_at at.now.op.now (S.view store.old).rows))) }
     ensures ready { IfOk result (λ p. IsReady (λ st. slot_at at.now.op.now st slots.now) p.effect) }
 {
     match number_of_call(alloc, store, slots, at, command)? {
@@ -52,7 +53,7 @@ fn number_of_call<S: Store>(
     ensures reads { OnlyReads S.view store.old store.new result }
     ensures number { (S.view store.new).clean → IfOk result (λ n. n
         ≡ command_rule at.now.station.now command.now ((lookups_at at.now.op.now (S.view store.old).rows).registration at.now.station.now)
-        (slot_at at.now.op.now at.now.station.now slots.now) at.now.moment (lookups_at at.now.op.now (S.view store.old).rows)) }
+        (own_slots at.now.op.now (all_slots slots.now)) (slot_at at.now.op.now at.now.station.now slots.now) at.now.moment (lookups_at at.now.op.now (S.view store.old).rows)) }
     ensures ready { IfOk result (λ n. IfOk n (λ _. IsOk (ready (slot_at at.now.op.now at.now.station.now slots.now)))) }
 {
     let Some(registration) = store.station(at.op.as_str(), at.station.as_str())? else {

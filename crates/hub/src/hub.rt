@@ -27,7 +27,7 @@ pub struct Hub<S, V> {
     alloc: Global,
     book: Book<S, V>,
     hosted: Vec<Text>,
-    slots: Slots<Boxed<Command>>,
+    pub(crate) slots: Slots<Boxed<Command>>,
 }
 
 /// These operators can't be hosted: there is none, one comes twice, or a name isn't of 1 to 32

@@ -5,6 +5,7 @@ mod call_outputs;
 mod commit;
 mod fault;
 mod hub;
+mod in_flight;
 mod stop;
 mod tick;
 pub mod worlds;

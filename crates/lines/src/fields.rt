@@ -1,5 +1,5 @@
 //! The fields of a listing's line (docs/TABLES.md, Listing lines).
-ghost use Rattle.std.specs.Prelude.{◌≡◌, IfOk, codes, string_bytes};
+ghost use Rattle.std.specs.Prelude.{◌≡◌, IfOk, Some, codes, string_bytes};
 ghost use Rattle.lines.specs.RowLines.{quoted, text_field, signed_field, moment_field, boot_field, mark};
 
 use hub_rows::Boot;
@@ -7,6 +7,7 @@ use ocpp_payload::write_boot;
 use ocpp_types::{Mem, Moment, Text};
 use serde_json::Value;
 use std::alloc::Global;
+use std::fmt;
 
 /// A text of a peer, as JSON.
 pub fn quoted(alloc: Global, text: &str) -> Mem<String>
@@ -39,6 +40,21 @@ pub fn signed_field(alloc: Global, number: Option<i128>) -> Mem<String>
     match number {
         Some(number) => Ok(format!(in alloc; "{number}")?),
         None => dash(alloc),
+    }
+}
+
+/// A number that may be missing, as it is printed.
+#[derive(Drop)]
+pub struct Signed(pub Option<i128>);
+
+impl fmt::Display for Signed {
+    ghost output = { λ number. Some (signed_field number.0) };
+
+    fn fmt<W: fmt::Write>(&self, f: &mut fmt::Formatter<W>) -> fmt::Result {
+        match self.0 {
+            Some(number) => write!(f, "{number}"),
+            None => f.write_str("-"),
+        }
     }
 }
 

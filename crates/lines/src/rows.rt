@@ -1,5 +1,5 @@
 //! Lines of listings (docs/TABLES.md, Listing lines).
-ghost use Rattle.std.specs.Prelude.{◌≡◌, IfOk, false, option_map, string_bytes};
+ghost use Rattle.std.specs.Prelude.{◌≡◌, IfOk, Some, false, option_map, string_bytes};
 ghost use Rattle.std.specs.Fmt.{signed_decimal};
 ghost use Rattle.serde_json.specs.View.{view};
 ghost use Rattle.serde_json.specs.Written.{has_float};
@@ -8,7 +8,9 @@ ghost use Rattle.ocpp_types.specs.UnitOfMeasure.{unit_of_measure_name};
 ghost use Rattle.hub_rows.specs.Reservations.{unshifted};
 ghost use Rattle.lines.specs.RowLines.{row_line, station_line, tag_line, grant_line, granted_line, use_line, connector_line, tx_line, reading_line, reservation_line, local_tag_line, report_line, entry_data, reading_fields, report_fields, reservation_fields, start_fields, stop_fields, taken_fields, sampled_fields, value_fields, name_field, micro_of};
 
-use crate::fields::{boot_field, mark, moment_field, quoted, signed_field, text_field, widened};
+use crate::fields::{
+    Signed, boot_field, mark, moment_field, quoted, signed_field, text_field, widened,
+};
 use hub_events::Row;
 use hub_rows::{
     ConnectorReport, ConnectorRow, GrantRow, GrantedTag, LocalTag, Reading, ReadingRow, ReportRow,
@@ -18,6 +20,7 @@ use ocpp_payload::Tabled;
 use ocpp_types::{Mem, Named, Phase, Text, UnitOfMeasure, ValueFormat, read_micro};
 use serde_json::{Map, Value, put};
 use std::alloc::Global;
+use std::fmt;
 
 /// The line of a row, without a line feed.
 pub fn print_row(alloc: Global, op: &Text, row: &Row) -> Mem<String>
@@ -170,39 +173,47 @@ fn print_reading(alloc: Global, op: &Text, row: &ReadingRow) -> Mem<String>
 fn print_fields(alloc: Global, reading: &Reading) -> Mem<String>
     ensures { IfOk result (λ s. string_bytes s ≡ reading_fields reading.now) }
 {
-    let taken = print_taken(alloc, reading)?;
-    let sampled = print_sampled(alloc, reading)?;
-    let value = print_value(alloc, reading)?;
-    Ok(format!(in alloc; "{taken} {sampled} {value}")?)
-}
-
-fn print_taken(alloc: Global, reading: &Reading) -> Mem<String>
-    ensures { IfOk result (λ s. string_bytes s ≡ taken_fields reading.now) }
-{
-    let connector = reading.connector;
-    let transaction = signed_field(alloc, widened(reading.transaction))?;
-    let at = reading.at;
-    Ok(format!(in alloc; "{connector} {transaction} {at}")?)
-}
-
-fn print_value(alloc: Global, reading: &Reading) -> Mem<String>
-    ensures { IfOk result (λ s. string_bytes s ≡ value_fields reading.now) }
-{
-    let micro = signed_field(alloc, micro_of(reading))?;
+    let taken = Taken(reading);
+    let sampled = Sampled(reading);
+    let micro = Signed(micro_of(reading));
     let text = quoted(alloc, reading.text.as_str())?;
-    Ok(format!(in alloc; "{micro} {text}")?)
+    Ok(format!(in alloc; "{taken} {sampled} {micro} {text}")?)
 }
 
-fn print_sampled(alloc: Global, reading: &Reading) -> Mem<String>
-    ensures { IfOk result (λ s. string_bytes s ≡ sampled_fields reading.now) }
-{
-    let context = reading.context.name();
-    let format = reading.format.name();
-    let measurand = reading.measurand.name();
-    let phase = phase_field(reading.phase);
-    let location = reading.location.name();
-    let unit = unit_field(reading.unit);
-    Ok(format!(in alloc; "{context} {format} {measurand} {phase} {location} {unit}")?)
+/// Of what a reading was taken, and when.
+#[derive(Drop)]
+struct Taken<'a>(&'a Reading);
+
+impl fmt::Display for Taken<'_> {
+    ghost output = { λ taken. Some (taken_fields taken.0.now) };
+
+    fn fmt<W: fmt::Write>(&self, f: &mut fmt::Formatter<W>) -> fmt::Result {
+        let connector = self.0.connector;
+        let transaction = Signed(widened(self.0.transaction));
+        let at = self.0.at;
+        write!(f, "{connector} {transaction} {at}")
+    }
+}
+
+/// What the number of a reading means.
+#[derive(Drop)]
+struct Sampled<'a>(&'a Reading);
+
+impl fmt::Display for Sampled<'_> {
+    ghost output = { λ sampled. Some (sampled_fields sampled.0.now) };
+
+    fn fmt<W: fmt::Write>(&self, f: &mut fmt::Formatter<W>) -> fmt::Result {
+        let context = self.0.context.name();
+        let format = self.0.format.name();
+        let measurand = self.0.measurand.name();
+        let phase = phase_field(self.0.phase);
+        let location = self.0.location.name();
+        let unit = unit_field(self.0.unit);
+        write!(
+            f,
+            "{context} {format} {measurand} {phase} {location} {unit}"
+        )
+    }
 }
 
 fn phase_field(phase: Option<Phase>) -> &'static str

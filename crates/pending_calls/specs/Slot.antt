@@ -1,5 +1,5 @@
 -- The calls of one station: the one in flight, those that wait, and how they move.
-use Rattle.std.specs.Prelude.{◌≡◌, ℕ, ◌+◌, ◌≤◌, nat_le, List, [], ◌∷◌, ◌++◌, length, map, drop, Option, Some, None, Bool, true, false, if◌then◌else◌, not, Result, Ok, Err, decimal, option_map}
+use Rattle.std.specs.Prelude.{◌≡◌, ℕ, ◌+◌, ◌≤◌, nat_le, List, [], ◌∷◌, ◌++◌, length, map, drop, Option, Some, None, Bool, true, false, if◌then◌else◌, not, ◌||◌, is_some, sum_by, Result, Ok, Err, decimal, option_map}
 use Rattle.std.specs.Str.{bytes_eq}
 use Rattle.ocpp_types.specs.declared.refusal.Refusal.{Refusal}
 use Rattle.ocpp_types.specs.declared.refusal.Refusal.TheVariants.{NotConnected, QueueFull, NumberSpent}
@@ -7,7 +7,7 @@ use Rattle.hub_rows.specs.Transactions.{last_of_all}
 use Rattle.pending_calls.specs.declared.call.Call.{Call}
 use Rattle.pending_calls.specs.declared.call.Message.{Message}
 use Rattle.pending_calls.specs.declared.call.Moved.{Moved}
-use Rattle.pending_calls.specs.declared.slot.TheConstants.{ANSWER_SECONDS, MOST_CALLS}
+use Rattle.pending_calls.specs.declared.slot.TheConstants.{ANSWER_SECONDS, MOST_CALLS, MOST_WAITING_BYTES}
 
 -- a call that was sent, and the moment when it was
 pub record Flight (C : Type 0) : Type 0 where
@@ -34,6 +34,10 @@ pub record SlotState (C : Type 0) : Type 0 where
 abbrev pub most_calls : ℕ
 most_calls = MOST_CALLS
 
+-- no further call waits where the texts that wait at its station have this many bytes together
+abbrev pub most_waiting_bytes : ℕ
+most_waiting_bytes = MOST_WAITING_BYTES
+
 -- how many seconds a call waits for its answer
 abbrev pub answer_time : ℕ
 answer_time = ANSWER_SECONDS
@@ -52,6 +56,14 @@ module _ {C : Type 0} where
   abbrev pub count_calls : SlotState C → ℕ
   count_calls s = count_in_flight s.in_flight + length s.waiting
 
+  -- how many bytes the texts that wait have together
+  abbrev pub waiting_bytes : SlotState C → ℕ
+  waiting_bytes s = sum_by (λ q. length q.text) s.waiting
+
+  -- whether a call is in flight, so that the next one would wait
+  abbrev pub is_busy : SlotState C → Bool
+  is_busy s = is_some s.in_flight
+
   -- what is true of every slot: at most 16 calls, none in flight unless it is connected, and none
   -- waits where none is in flight
   pub record IsSlot (s : SlotState C) : Type 0 where
@@ -59,11 +71,16 @@ module _ {C : Type 0} where
     pub unconnected : s.is_connected ≡ false → s.in_flight ≡ None
     pub in_order : s.in_flight ≡ None → s.waiting ≡ []
 
-  -- the next call's number, or the first reason that there can be none
+  -- whether no further call may wait: 16 calls are in flight and waiting, or the texts that wait, which
+  -- are none where no call is in flight, have 1,048,576 bytes or more together
+  abbrev pub is_full : SlotState C → Bool
+  is_full s = nat_le most_calls (count_calls s) || nat_le most_waiting_bytes (waiting_bytes s)
+
+  -- the next call's number, or the first reason that there can be none, by the slot alone
   abbrev pub ready : SlotState C → Result ℕ Refusal
   ready s =
       if not s.is_connected then Err NotConnected
-      else if nat_le most_calls (count_calls s) then Err QueueFull
+      else if is_full s then Err QueueFull
       else if nat_le s.next_number last_of_all then Ok s.next_number
       else Err NumberSpent
 

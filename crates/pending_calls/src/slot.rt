@@ -1,6 +1,6 @@
 //! The calls of one station.
-ghost use Rattle.std.specs.Prelude.{◌≡◌, ◌≤◌, false, length, option_map, IsOk, IfOk, OnOk, OnErr, OnSome, IfNone};
-ghost use Rattle.pending_calls.specs.Slot.{IsSlot, most_calls, count_calls, fresh, ready, call_of, message_of, answered_command, submitted, sent_now, moved_on, move, is_answered, answered, answer_move, is_overdue, expired, expiry, cut, ended_calls, with_connection};
+ghost use Rattle.std.specs.Prelude.{◌≡◌, ◌≤◌, ◌-◌, false, length, option_map, IsOk, IfOk, OnOk, OnErr, OnSome, IfNone};
+ghost use Rattle.pending_calls.specs.Slot.{IsSlot, most_calls, count_calls, waiting_bytes, is_busy, is_full, fresh, ready, call_of, message_of, answered_command, submitted, sent_now, moved_on, move, is_answered, answered, answer_move, is_overdue, expired, expiry, cut, ended_calls, with_connection};
 
 use crate::call::{Call, InFlight, Message, Moved, NewCall, Waiting};
 use crate::ended::Ended;
@@ -13,6 +13,9 @@ use std::mem;
 
 /// How many calls of a station may be in flight and waiting together.
 const MOST_CALLS: usize = 16;
+
+/// No further call waits where the texts that wait at its station have this many bytes together.
+const MOST_WAITING_BYTES: usize = 1_048_576;
 
 /// The answer time: how many seconds a call waits for its answer.
 pub const ANSWER_SECONDS: u64 = 30;
@@ -93,14 +96,39 @@ impl<C: Drop> Slot<C> {
         in_flight + self.waiting.len()
     }
 
-    /// The number of the next call, or why there can be none.
+    /// Whether a call is in flight.
+    pub(crate) fn is_busy(&self) -> bool
+        ensures { result ≡ is_busy self.now }
+    {
+        self.in_flight.is_some()
+    }
+
+    /// What is left of so many bytes beside the texts that wait: 0 where these have as many or more.
+    pub(crate) fn room_beside(&self, room: usize) -> usize
+        ensures { result ≡ room - waiting_bytes self.now }
+    {
+        let mut left = room;
+        for waiting in &self.waiting {
+            left = left.saturating_sub(waiting.message.text.as_str().len());
+        }
+        left
+    }
+
+    /// Whether no further call may wait, by the number of the calls or the bytes of those that wait.
+    fn is_full(&self) -> bool
+        ensures { result ≡ is_full self.now }
+    {
+        MOST_CALLS <= self.call_count() || self.room_beside(MOST_WAITING_BYTES) == 0
+    }
+
+    /// The number of the next call, or why there can be none, by this slot alone.
     pub(crate) fn ready(&self) -> Result<u32, Refusal>
         ensures number { result ≡ ready self.now }
         ensures slot { IsSlot self.now }
     {
         if !self.is_connected {
             Err(Refusal::NotConnected)
-        } else if MOST_CALLS <= self.call_count() {
+        } else if self.is_full() {
             Err(Refusal::QueueFull)
         } else if self.next_number <= LAST_NUMBER {
             Ok(self.next_number)

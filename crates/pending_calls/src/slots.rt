@@ -4,7 +4,7 @@ ghost use Rattle.std.specs.List.Sorted.{IsStrictlySortedBy};
 ghost use Rattle.std.proofs.Props.{props};
 ghost use Rattle.hub_rows.specs.Keyed.{by_key, put};
 ghost use Rattle.pending_calls.specs.Slot.{IsSlot, most_calls, ready, answered_command, submitted, sent_now, expired, answered, answer_move, is_overdue, cut, ended_calls, with_connection};
-ghost use Rattle.pending_calls.specs.OwnSlots.{own_slots};
+ghost use Rattle.pending_calls.specs.OwnSlots.{own_slots, are_full, ready_among};
 ghost use Rattle.pending_calls.specs.SlotList.{slot_key, changed_at, first_changed, next_expiry, IsFirstThat, NoneDue};
 
 use crate::call::{Message, Moved, NewCall};
@@ -14,6 +14,10 @@ use crate::slot::{ANSWER_SECONDS, Slot};
 use hub_rows::{place_of_name, row_of};
 use ocpp_types::{Boxed, Mem, Moment, Refusal, Text};
 use std::alloc::Global;
+
+/// No further call waits at any station of an operator where the texts that wait at all its stations
+/// have this many bytes together.
+const MOST_OPERATOR_BYTES: usize = 16_777_216;
 
 /// The calls of all stations, in the order of their operators and names. A station that was never
 /// connected has no slot.
@@ -79,16 +83,43 @@ impl<C: Drop> Slots<C> {
     }
 
     /// The number that the next call of a station will have, or why the station takes no call:
-    /// `NotConnected`, `QueueFull` where 16 calls are in flight and waiting, `NumberSpent` where
-    /// the number would be past 2147483647. It takes no memory.
+    /// `NotConnected`, `QueueFull`, `NumberSpent` where the number would be past 2147483647. It is
+    /// `QueueFull` where 16 calls are in flight and waiting, and, where a call is in flight, also
+    /// where the texts that wait have 1,048,576 bytes or more together at the station, or 16,777,216
+    /// or more at all stations of the operator. It takes no memory.
     pub fn ready(&self, op: &str, station: &str) -> Result<u32, Refusal>
-        ensures number { result ≡ ready (slot_at op.now station.now self.now) }
+        ensures number { result ≡ ready_among (own_slots op.now (all_slots self.now)) (slot_at op.now station.now self.now) }
+        ensures ready { IfOk result (λ _. IsOk (ready (slot_at op.now station.now self.now))) }
         ensures slot { IsSlot (slot_at op.now station.now self.now) }
     {
         match row_of(&self.list, op, station) {
-            Some(slot) => slot.as_ref().ready(),
+            Some(slot) => self.ready_among(op, slot.as_ref()),
             None => Err(Refusal::NotConnected),
         }
+    }
+
+    /// The number of the next call of one of an operator's slots, or why there can be none.
+    fn ready_among(&self, op: &str, slot: &Slot<C>) -> Result<u32, Refusal>
+        ensures number { result ≡ ready_among (own_slots op.now (all_slots self.now)) slot.now }
+        ensures ready { IfOk result (λ _. IsOk (ready slot.now)) }
+        ensures slot { IsSlot slot.now }
+    {
+        let alone = slot.ready();
+        if slot.is_busy() && self.are_full(op) {
+            return Err(Refusal::QueueFull);
+        }
+        alone
+    }
+
+    /// Whether no further call may wait at any station of an operator.
+    fn are_full(&self, op: &str) -> bool
+        ensures { result ≡ are_full (own_slots op.now (all_slots self.now)) }
+    {
+        let mut room = MOST_OPERATOR_BYTES;
+        for slot in self.of_operator(op) {
+            room = slot.as_ref().room_beside(room);
+        }
+        room == 0
     }
 
     /// The command of a station's call in flight, where an answer with that `id` ends it: where

@@ -31,6 +31,8 @@ pub struct Link {
     room: Cell<usize>,
     /// The bytes that were read since it was last written to.
     unanswered: Cell<usize>,
+    /// The turn in which it wasn't read as others send long messages too, if it was neither read nor written to since.
+    refused_in: Cell<Option<u64>>,
     silence: Silence,
     /// The place of its peer, or `NOWHERE`.
     pub place: Cell<usize>,
@@ -49,6 +51,7 @@ impl Link {
             unsent: RefCell::new(Unsent::new(turn.alloc)),
             room: Cell::new(ROOM),
             unanswered: Cell::new(0),
+            refused_in: Cell::new(None),
             silence: Silence::new(turn.second()),
             place: Cell::new(NOWHERE),
             is_listed: Cell::new(true),
@@ -109,10 +112,22 @@ impl Link {
     /// By which right the next read asks the system, if it does.
     fn right(&self, turn: &Turn) -> Option<Right> {
         let is_long = self.unanswered.get() > MAX_SHORT_MESSAGE && self.readiness.has_bytes();
-        if is_long && !turn.admits_long(self.token) {
+        if is_long && !self.has_turn(turn) {
             return None;
         }
         self.readiness.asks(turn)
+    }
+
+    /// Whether it is read in this turn, though it sends a long message.
+    fn has_turn(&self, turn: &Turn) -> bool {
+        let is_admitted = turn.admits_long(self.token, self.refused_in.get());
+        let refused_in = if is_admitted {
+            None
+        } else {
+            Some(turn.number())
+        };
+        self.refused_in.set(refused_in);
+        is_admitted
     }
 
     /// Copies the next bytes, where the system has reported since the last call.
@@ -136,12 +151,21 @@ impl Link {
     {
         self.note(turn);
         self.unanswered.set(0);
+        self.refused_in.set(None);
         match self.unsent.try_borrow_mut() {
             Ok(mut unsent) => {
                 unsent.add(&mut &self.stream, buf, self.room.get())?;
                 Ok(buf.len())
             }
             Err(_) => Err(Error::from(ErrorKind::WriteZero)),
+        }
+    }
+
+    /// How many bytes wait in it.
+    pub fn count_unsent(&self) -> usize {
+        match self.unsent.try_borrow() {
+            Ok(unsent) => unsent.len(),
+            Err(_) => 0,
         }
     }
 

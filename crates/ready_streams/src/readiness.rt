@@ -21,8 +21,6 @@ pub struct Readiness {
     expected: Cell<Expected>,
     /// The peer sends no more, so reads go on up to the end of the stream.
     is_ending: Cell<bool>,
-    /// It has been read from.
-    is_read: Cell<bool>,
     /// The turn in which it was last read.
     read_in: Cell<u64>,
     /// There may be bytes that no peek has read: the stream is new, or the system has reported
@@ -36,7 +34,6 @@ impl Readiness {
         Readiness {
             expected: Cell::new(Expected::Bytes),
             is_ending: Cell::new(false),
-            is_read: Cell::new(false),
             read_in: Cell::new(0),
             is_unseen: Cell::new(true),
         }
@@ -61,11 +58,6 @@ impl Readiness {
         self.expected.get() == Expected::Bytes
     }
 
-    /// Whether a reader may go on reading. Bytes that were only peeked at don't count.
-    pub fn is_pending(&self) -> bool {
-        self.is_read.get() && self.may_find()
-    }
-
     /// Whether a peek may find bytes that none has read. It does so once.
     pub fn is_unseen(&self) -> bool {
         self.is_unseen.replace(false)
@@ -74,7 +66,6 @@ impl Readiness {
     /// Whether the next read asks the system, and by which right. One that doesn't finds nothing; the bytes stay for
     /// the next turn where all that further reads may take was taken.
     pub fn asks(&self, turn: &Turn) -> Option<Right> {
-        self.is_read.set(true);
         if self.expected.get() != Expected::Bytes {
             self.expected.set(Expected::Nothing);
             return None;

@@ -28,7 +28,8 @@ impl Read for ReadyStream {
     /// The first read of a stream in a turn takes what its buffer holds. All later ones of a turn, by all streams
     /// together, take 65,536 bytes at most. The others find nothing, so that a peer that sends without a pause holds no
     /// reader.
-    /// Of the streams that have sent more than 8,192 bytes since they were last written to, one is read in a turn.
+    /// Of the streams that have sent more than 8,192 bytes since they were last written to, one is read in a turn, each
+    /// in its turn, and beside it one that missed its turn.
     fn read(&mut self, buf: &mut [u8]) -> io::Result<usize> {
         self.link.read(&self.turn, buf)
     }

@@ -122,17 +122,9 @@ impl Streams {
         Ok(token)
     }
 
-    /// Whether something can be done without a wait: a stream can be read on, or, where connections are
-    /// accepted, there may be one.
-    pub fn is_pending(&self, accepts: bool) -> bool {
-        (accepts && self.may_accept) || self.readable.iter().any(|token| self.is_read_on(*token))
-    }
-
-    fn is_read_on(&self, token: usize) -> bool {
-        match self.links.get(token) {
-            Some(Some(link)) => link.readiness.is_pending(),
-            Some(None) | None => false,
-        }
+    /// Whether there may be a connection to accept.
+    pub fn may_accept(&self) -> bool {
+        self.may_accept
     }
 
     /// Waits for a report of the system, but no longer than that, and takes up to 1,024 reports; the others come
@@ -219,6 +211,17 @@ impl Streams {
     /// The places of the peers whose end is due, in ascending order, as `find_silent` found them last.
     pub fn to_end(&self) -> &[usize] {
         self.to_end.as_slice()
+    }
+
+    /// How many bytes wait in all streams until the system takes them, by a walk over all.
+    pub fn count_unsent(&self) -> usize {
+        let mut count = 0_usize;
+        for link in &self.links {
+            if let Some(link) = link {
+                count = count.saturating_add(link.count_unsent());
+            }
+        }
+        count
     }
 
     /// Ends a turn: what was written is given to the system, and the streams that are gone are closed.

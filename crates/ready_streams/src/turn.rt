@@ -1,5 +1,6 @@
 //! What the streams of a listener share.
 
+use crate::round::Round;
 use std::alloc::{AllocError, Global};
 use std::cell::{Cell, RefCell};
 
@@ -16,10 +17,8 @@ pub struct Turn {
     number: Cell<u64>,
     /// The bytes that further reads may still take.
     further: Cell<usize>,
-    /// The token of the stream that sends a long message and is read in this turn.
-    long: Cell<Option<usize>>,
-    /// Such a stream is read in this turn if its token is not below this.
-    next_long: Cell<usize>,
+    /// The streams that send a long message take turns.
+    long: Cell<Round>,
     /// The places of the streams that were read or written. It has room for all.
     used: RefCell<Vec<usize>>,
 }
@@ -31,8 +30,7 @@ impl Turn {
             second: Cell::new(0),
             number: Cell::new(1),
             further: Cell::new(FURTHER_BYTES),
-            long: Cell::new(None),
-            next_long: Cell::new(0),
+            long: Cell::new(Round::new()),
             used: RefCell::new(Vec::new(alloc)),
         }
     }
@@ -41,23 +39,24 @@ impl Turn {
     pub fn begin(&self) {
         self.number.set(self.number.get().wrapping_add(1));
         self.further.set(FURTHER_BYTES);
-        match self.long.replace(None) {
-            Some(token) => self.next_long.set(token.saturating_add(1)),
-            None => self.next_long.set(0),
-        }
+        let mut long = self.long.get();
+        long.begin();
+        self.long.set(long);
     }
 
     /// Whether the stream with that token, which sends a long message, is read in this turn. One such stream is, and
-    /// they take turns: so messages that all become whole at once are handled one a turn.
-    pub fn admits_long(&self, token: usize) -> bool {
-        match self.long.get() {
-            Some(admitted) => admitted == token,
-            None if token < self.next_long.get() => false,
-            None => {
-                self.long.set(Some(token));
-                true
-            }
-        }
+    /// they take turns: so messages that all become whole at once are handled one a turn. A stream that isn't read in
+    /// each turn, as that of one of several operators, would miss its turn: it is late at its next read, and one that is
+    /// late is read beside the other. `refused_in` is the turn in which it was refused last, if it wasn't read since.
+    pub fn admits_long(&self, token: usize, refused_in: Option<u64>) -> bool {
+        let is_late = match refused_in {
+            Some(turn) => turn != self.number() && turn.wrapping_add(1) != self.number(),
+            None => false,
+        };
+        let mut long = self.long.get();
+        let is_admitted = long.ask(token, is_late);
+        self.long.set(long);
+        is_admitted
     }
 
     pub fn set_second(&self, second: u64) {

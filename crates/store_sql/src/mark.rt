@@ -67,9 +67,10 @@ impl Mark {
         Ok(mark)
     }
 
-    /// Refuses a count that is greater, and a file with anything but a count. An empty one is new.
+    /// Refuses a count that is greater, and a file with anything but a count. One that is shorter is new: its first count
+    /// was cut, as by a stop.
     fn check(&self, changes: u64) -> Result<(), MarkFault> {
-        if self.file.metadata()?.len() == 0 {
+        if self.file.metadata()?.len() < LEN as u64 {
             return Ok(());
         }
         let mut bytes = [0; LEN];

@@ -51,6 +51,14 @@ lists_exactly name item fields = list_any (λ f. eq_ignore_case f.0 name && has_
 abbrev pub offers_ocpp : Fields → Bool
 offers_ocpp fields = lists_exactly (codes "Sec-WebSocket-Protocol") (codes "ocpp1.6") fields
 
+-- an origin is one of these
+abbrev pub is_among : List (List ℕ) → List ℕ → Bool
+is_among origins value = list_any (λ o. bytes_eq o value) origins
+
+-- a page of an origin asks that isn't one of these (RFC 6455, sections 4.2.2 and 10.2)
+abbrev pub has_foreign_origin : List (List ℕ) → Fields → Bool
+has_foreign_origin origins fields = list_any (λ f. eq_ignore_case f.0 (codes "Origin") && not (is_among origins f.1)) fields
+
 -- the value of the field of that name, if there is exactly one
 abbrev pub only_value : List ℕ → Fields → Option (List ℕ)
 only_value name fields = if count_of name fields == 1 then header_value fields name else None
@@ -73,11 +81,26 @@ abbrev pub Either : Bool → Type 0 → Type 0 → Type 0
 Either true A B = A
 Either false A B = B
 
--- the answer to a request that asks for no upgrade, by its path
+-- the answer to a request of what the server measures of itself: a GET has a body
+abbrev pub metrics_answer : List ℕ → Answer
+metrics_answer method = if bytes_eq method (codes "GET") then answer.Metrics else answer.MetricsHead
+
+-- the answer to a GET or a HEAD that asks for no upgrade, by its path; None is a path that leads nowhere
+abbrev pub read_answer : List ℕ → List ℕ → Option Route → Option Answer
+read_answer method path (Some route) = Some answer.UpgradeRequired
+read_answer method path None =
+    if bytes_eq path (codes "/health") then Some answer.Healthy
+    else if bytes_eq path (codes "/metrics") then Some (metrics_answer method)
+    else None
+
+-- other methods are answered alike on each path that leads somewhere
+abbrev pub if_read : Bool → Option Answer → Answer
+if_read is_read None = answer.NotFound
+if_read is_read (Some a) = if is_read then a else answer.NotAllowed
+
+-- the answer to a request that asks for no upgrade
 abbrev pub plain_answer : List ℕ → List ℕ → Option Route → Answer
-plain_answer method path None =
-    if bytes_eq path (codes "/health") then (if is_read method then answer.Healthy else answer.NotAllowed) else answer.NotFound
-plain_answer method path (Some route) = if is_read method then answer.UpgradeRequired else answer.NotAllowed
+plain_answer method path route = if_read (is_read method) (read_answer method path route)
 
 -- the version is 13 (RFC 6455, section 4.2.2)
 abbrev pub is_version : Option (List ℕ) → Bool
@@ -91,32 +114,38 @@ KeyJudged route fields len (Some key) asked =
     (IsValidKey key × (asked ≡ Upgraded record { route = route; offers_ocpp = offers_ocpp fields; accept = accept_key_of key; len = len }))
     ⊎ (¬ (IsValidKey key) × (asked ≡ Plain answer.BadRequest))
 
--- an upgrade, by where its path leads
-abbrev pub UpgradeJudged : Option Route → Fields → ℕ → Asked → Type 0
-UpgradeJudged None fields len asked = asked ≡ Plain answer.NotFound
-UpgradeJudged (Some route) fields len asked =
+-- an upgrade to a route, by its version
+abbrev pub VersionJudged : Route → Fields → ℕ → Asked → Type 0
+VersionJudged route fields len asked =
     Either (is_version (only_value (codes "Sec-WebSocket-Version") fields))
     (KeyJudged route fields len (only_value (codes "Sec-WebSocket-Key") fields) asked)
     (asked ≡ Plain answer.UpgradeRequired)
 
+-- an upgrade, by where its path leads; a page of an origin that isn't one of these gets none
+abbrev pub UpgradeJudged : List (List ℕ) → Option Route → Fields → ℕ → Asked → Type 0
+UpgradeJudged origins None fields len asked = asked ≡ Plain answer.NotFound
+UpgradeJudged origins (Some route) fields len asked =
+    Either (has_foreign_origin origins fields) (asked ≡ Plain answer.Forbidden)
+    (VersionJudged route fields len asked)
+
 -- a request of a path, with a head of so many bytes
-abbrev pub PathJudged : List ℕ → List ℕ → ℕ → Fields → ℕ → Asked → Type 0
-PathJudged path method minor fields len asked =
-    Either (asks_upgrade method minor fields) (UpgradeJudged (route_of path) fields len asked) (asked ≡ Plain (plain_answer method path (route_of path)))
+abbrev pub PathJudged : List (List ℕ) → List ℕ → List ℕ → ℕ → Fields → ℕ → Asked → Type 0
+PathJudged origins path method minor fields len asked =
+    Either (asks_upgrade method minor fields) (UpgradeJudged origins (route_of path) fields len asked) (asked ≡ Plain (plain_answer method path (route_of path)))
 
 -- a request: one without a host, and one whose target spells no URI, is a bad one
-abbrev pub Judged : List ℕ → List ℕ → ℕ → Fields → ℕ → Asked → Type 0
-Judged target method minor fields len asked =
+abbrev pub Judged : List (List ℕ) → List ℕ → List ℕ → ℕ → Fields → ℕ → Asked → Type 0
+Judged origins target method minor fields len asked =
     Either (lacks_host minor fields) (asked ≡ Plain answer.BadRequest)
-    ((SpellsNone target × (asked ≡ Plain answer.BadRequest)) ⊎ ((uri : _) × Spells target uri × PathJudged (uri_path uri) method minor fields len asked))
+    ((SpellsNone target × (asked ≡ Plain answer.BadRequest)) ⊎ ((uri : _) × Spells target uri × PathJudged origins (uri_path uri) method minor fields len asked))
 
 -- what a head asks for
-abbrev pub HeadJudged : RequestHead → Asked → Type 0
-HeadJudged h asked = Judged h.target h.method h.minor (map name_and_value h.fields) (length (print_request h)) asked
+abbrev pub HeadJudged : List (List ℕ) → RequestHead → Asked → Type 0
+HeadJudged origins h asked = Judged origins h.target h.method h.minor (map name_and_value h.fields) (length (print_request h)) asked
 
 -- the bytes begin with a head that asks for that
-abbrev pub Asks : List ℕ → Asked → Type 0
-Asks bytes asked = (h : RequestHead) × (rest : List ℕ) × ReadsRequest bytes h rest × HeadJudged h asked
+abbrev pub Asks : List (List ℕ) → List ℕ → Asked → Type 0
+Asks origins bytes asked = (h : RequestHead) × (rest : List ℕ) × ReadsRequest bytes h rest × HeadJudged origins h asked
 
 -- what bytes ask for that begin with no head of at most 64 fields. More is to come while they can become a request and
 -- are fewer than a head may have. They are answered where no bytes can follow that make a request of them, where they
@@ -128,6 +157,6 @@ NoHeadJudged bytes (Plain a) =
     ⊎ ((a ≡ answer.TooLarge) × (RequestExceeds MAX_FIELDS bytes ⊎ ((MAX_HEAD ≤ length bytes) × HasNoRequest bytes)))
 NoHeadJudged bytes (Upgraded upgrade) = ⊥
 
--- what the first bytes of a connection ask for
-abbrev pub BytesJudged : List ℕ → Asked → Type 0
-BytesJudged bytes asked = Asks bytes asked ⊎ NoHeadJudged bytes asked
+-- what the first bytes of a connection ask for, where pages of these origins are served
+abbrev pub BytesJudged : List (List ℕ) → List ℕ → Asked → Type 0
+BytesJudged origins bytes asked = Asks origins bytes asked ⊎ NoHeadJudged bytes asked

@@ -11,8 +11,15 @@ use std::io::{Error, ErrorKind, Read, Write};
 pub enum Answer {
     /// 200: a health check.
     Healthy,
+    /// 200: a GET of what the server measures of itself. A body follows, up to the end of the connection (RFC 9112,
+    /// section 6.3).
+    Metrics,
+    /// 200: a HEAD of the same. No body follows (RFC 9110, section 9.3.2).
+    MetricsHead,
     /// 400: no request of HTTP/1.1, or no handshake of RFC 6455.
     BadRequest,
+    /// 403: the request is of a page of another origin.
+    Forbidden,
     /// 404: the path leads to nothing that is known here.
     NotFound,
     /// 405: a method other than GET and HEAD.
@@ -26,15 +33,19 @@ pub enum Answer {
 }
 
 impl Answer {
-    /// The bytes of the answer. It has no body, and the connection ends after it (RFC 9112, section 9.6). 426 names the
-    /// protocol and its version (RFC 9110, section 15.5.22; RFC 6455, section 4.2.2).
+    /// The bytes of the answer, without the body of `Metrics`; the others have none. The connection ends after it (RFC
+    /// 9112, section 9.6). 426 names the protocol and its version (RFC 9110, section 15.5.22; RFC 6455, section 4.2.2).
     pub fn text(self) -> &'static str
         ensures { result.now ≡ answer_text self }
     {
         match self {
             Answer::Healthy => "HTTP/1.1 200 OK\r\nContent-Length: 0\r\nConnection: close\r\n\r\n",
+            Answer::Metrics | Answer::MetricsHead =>
+                "HTTP/1.1 200 OK\r\nContent-Type: text/plain; version=0.0.4\r\nConnection: close\r\n\r\n",
             Answer::BadRequest =>
                 "HTTP/1.1 400 Bad Request\r\nContent-Length: 0\r\nConnection: close\r\n\r\n",
+            Answer::Forbidden =>
+                "HTTP/1.1 403 Forbidden\r\nContent-Length: 0\r\nConnection: close\r\n\r\n",
             Answer::NotFound =>
                 "HTTP/1.1 404 Not Found\r\nContent-Length: 0\r\nConnection: close\r\n\r\n",
             Answer::NotAllowed =>

@@ -2,9 +2,10 @@
 ghost use Rattle.std.specs.Prelude.{◌≡◌, length, All, option_map};
 ghost use Rattle.httparse.specs.Spans.{IsHeaderWithin};
 ghost use Rattle.websocket.specs.Headers.{eq_ignore_case, fields_of, header_value};
-ghost use Rattle.ws_handshake.specs.Heads.{is_between, has_item, has_exactly, count_of, lists, lists_exactly, offers_ocpp, only_value};
+ghost use Rattle.ws_handshake.specs.Heads.{is_between, has_item, has_exactly, has_foreign_origin, count_of, is_among, lists, lists_exactly, offers_ocpp, only_value};
 
 use httparse::spans::HeaderSpan;
+use ocpp_types::Text;
 
 /// The subprotocol of a station (OCPP-J 1.6, section 3.1.2).
 const SUBPROTOCOL: &[u8] = b"ocpp1.6";
@@ -42,6 +43,29 @@ fn lists_exactly(head: &[u8], fields: &[HeaderSpan], name: &[u8], item: &[u8]) -
         }
     }
     false
+}
+
+/// Whether a page of an origin asks that isn't among these (RFC 6455, sections 4.2.2 and 10.2). Only a browser names one.
+pub fn has_foreign_origin(head: &[u8], fields: &[HeaderSpan], origins: &[Text]) -> bool
+    requires { All (IsHeaderWithin (length head.now)) fields.now }
+    ensures { result ≡ has_foreign_origin origins.now (fields_of head.now fields.now) }
+{
+    for field in fields {
+        if eq_ignore_case(field.name.of(head), b"Origin")
+            && !is_among(field.value.of(head), origins)
+        {
+            return true;
+        }
+    }
+    false
+}
+
+fn is_among(value: &[u8], origins: &[Text]) -> bool
+    ensures { result ≡ is_among origins.now value.now }
+{
+    origins
+        .iter()
+        .any(|origin| origin.as_str().as_bytes() == value)
 }
 
 /// The value of the field of that name, if there is exactly one.

@@ -2,14 +2,14 @@
 ghost use Rattle.std.specs.Prelude.{◌≡◌, ℕ, List, ◌≤◌, true, length, IfOk, Some, option_map};
 ghost use Rattle.httparse.specs.Grammar.{RequestHead, ReadsRequest};
 ghost use Rattle.ws_handshake.specs.declared.head.TheConstants.{MAX_FIELDS};
-ghost use Rattle.ws_handshake.specs.Heads.{BytesJudged, HeadJudged, Judged, PathJudged, UpgradeJudged, KeyJudged, HasFieldsWithin, fields_in, asks_upgrade, lacks_host, is_version, plain_answer};
+ghost use Rattle.ws_handshake.specs.Heads.{BytesJudged, HeadJudged, Judged, PathJudged, UpgradeJudged, VersionJudged, KeyJudged, HasFieldsWithin, fields_in, asks_upgrade, lacks_host, is_version, plain_answer, read_answer};
 
 use crate::answer::Answer;
-use crate::fields::{count_of, lists, offers_ocpp, only_value};
+use crate::fields::{count_of, has_foreign_origin, lists, offers_ocpp, only_value};
 use http::uri::{Uri, UriError};
 use httparse::Status;
 use httparse::spans::{EMPTY_HEADER_SPAN, HeaderSpan, parse_request};
-use ocpp_types::{Mem, NoMemory};
+use ocpp_types::{Mem, NoMemory, Text};
 use std::alloc::Global;
 use websocket::handshake::server::accept_key;
 use ws_peers::Route;
@@ -46,11 +46,11 @@ pub struct Upgrade {
 }
 
 /// What the first bytes of a connection ask for (RFC 9112; RFC 6455, section 4.2.1). A head has at most 8,192 bytes and
-/// 64 fields.
-pub fn judge(alloc: Global, bytes: &[u8]) -> Mem<Asked>
+/// 64 fields. Of pages in a browser those of these origins alone are served (RFC 6454, section 7).
+pub fn judge(alloc: Global, bytes: &[u8], origins: &[Text]) -> Mem<Asked>
     ensures judged { IfOk result (λ a. (h : RequestHead) (rest : List ℕ) → ReadsRequest bytes.now h rest
-        → length h.fields ≤ MAX_FIELDS → HeadJudged h a) }
-    ensures bytes { IfOk result (BytesJudged bytes.now) }
+        → length h.fields ≤ MAX_FIELDS → HeadJudged origins.now h a) }
+    ensures bytes { IfOk result (BytesJudged origins.now bytes.now) }
 {
     let mut fields = [EMPTY_HEADER_SPAN; MAX_FIELDS];
     match parse_request(bytes, &mut fields) {
@@ -60,6 +60,7 @@ pub fn judge(alloc: Global, bytes: &[u8]) -> Mem<Asked>
                 minor: found.version,
                 bytes,
                 fields: &fields[..found.headers],
+                origins,
                 len: found.len,
             };
             judge_request(alloc, found.path.of(bytes), &request)
@@ -79,6 +80,8 @@ struct Request<'b> {
     minor: u8,
     bytes: &'b [u8],
     fields: &'b [HeaderSpan],
+    /// The origins whose pages are served.
+    origins: &'b [Text],
     /// How many bytes the head has.
     len: usize,
 }
@@ -86,7 +89,7 @@ struct Request<'b> {
 /// What a request with that target asks for.
 fn judge_request(alloc: Global, target: &[u8], request: &Request<'_>) -> Mem<Asked>
     requires { HasFieldsWithin request.now }
-    ensures { IfOk result (Judged target.now request.now.method.now request.now.minor
+    ensures { IfOk result (Judged request.now.origins.now target.now request.now.method.now request.now.minor
         (fields_in request.now) request.now.len) }
 {
     if lacks_host(request) {
@@ -110,7 +113,7 @@ fn lacks_host(request: &Request<'_>) -> bool
 /// What a request of that path asks for.
 fn judge_path(alloc: Global, path: &str, request: &Request<'_>) -> Mem<Asked>
     requires { HasFieldsWithin request.now }
-    ensures { IfOk result (PathJudged path.now request.now.method.now request.now.minor
+    ensures { IfOk result (PathJudged request.now.origins.now path.now request.now.method.now request.now.minor
         (fields_in request.now) request.now.len) }
 {
     let route = route(alloc, path)?;
@@ -137,27 +140,47 @@ fn asks_upgrade(request: &Request<'_>) -> bool
 fn plain_answer(method: &[u8], path: &str, route: Option<&Route>) -> Answer
     ensures { result ≡ plain_answer method.now path.now (option_map (λ r. r.now) route.entry) }
 {
-    let is_health = path == "/health";
-    if route.is_none() && !is_health {
-        Answer::NotFound
-    } else if method != b"GET".as_slice() && method != b"HEAD".as_slice() {
-        Answer::NotAllowed
-    } else if route.is_none() {
-        Answer::Healthy
-    } else {
-        Answer::UpgradeRequired
+    match read_answer(method, path, route) {
+        None => Answer::NotFound,
+        Some(answer) if method == b"GET".as_slice() || method == b"HEAD".as_slice() => answer,
+        Some(_) => Answer::NotAllowed,
     }
 }
 
-/// An upgrade to that route, if its path leads to one: its version is 13 (RFC 6455, section 4.2.2), and its key is the
-/// base64 of 16 bytes.
+/// The answer to a GET or a HEAD that asks for no upgrade, if its path leads somewhere.
+fn read_answer(method: &[u8], path: &str, route: Option<&Route>) -> Option<Answer>
+    ensures { result ≡ read_answer method.now path.now (option_map (λ r. r.now) route.entry) }
+{
+    if route.is_some() {
+        return Some(Answer::UpgradeRequired);
+    }
+    match path {
+        "/health" => Some(Answer::Healthy),
+        "/metrics" if method == b"GET".as_slice() => Some(Answer::Metrics),
+        "/metrics" => Some(Answer::MetricsHead),
+        _ => None,
+    }
+}
+
+/// An upgrade to that route, if its path leads to one and no page of another origin asks.
 fn judge_upgrade(route: Option<Route>, request: &Request<'_>) -> Asked
     requires { HasFieldsWithin request.now }
-    ensures { UpgradeJudged route (fields_in request.now) request.now.len result }
+    ensures { UpgradeJudged request.now.origins.now route (fields_in request.now) request.now.len result }
 {
     let Some(route) = route else {
         return Asked::Plain(Answer::NotFound);
     };
+    if has_foreign_origin(request.bytes, request.fields, request.origins) {
+        return Asked::Plain(Answer::Forbidden);
+    }
+    judge_version(route, request)
+}
+
+/// An upgrade to that route: its version is 13 (RFC 6455, section 4.2.2), and its key is the base64 of 16 bytes.
+fn judge_version(route: Route, request: &Request<'_>) -> Asked
+    requires { HasFieldsWithin request.now }
+    ensures { VersionJudged route (fields_in request.now) request.now.len result }
+{
     let version = only_value(request.bytes, request.fields, b"Sec-WebSocket-Version");
     if !is_version(version) {
         return Asked::Plain(Answer::UpgradeRequired);

@@ -17,7 +17,9 @@ use Rattle.ws_peers.specs.declared.peer.Peer.{Peer}
 use Rattle.ws_peers.specs.declared.routes.Route.{Route}
 use Rattle.ws_peers.specs.declared.routes.Route.TheVariants.{Station, Operator}
 use Rattle.ws_peers.specs.Routes.{is_operator, key_of, is_operator_of, is_station}
-use Rattle.ws_peers.specs.Sends.{Sent, Failed, Replaced}
+use Rattle.websocket.specs.declared.protocol.frame.coding.CloseCode.{CloseCode}
+use Rattle.ws_peers.specs.declared.cause.Cause.{Cause}
+use Rattle.ws_peers.specs.Sends.{Sent, EndsWith, Replaced}
 use Rattle.ws_peers.specs.Stages.{is_open}
 
 pub at_set : {A : Type 0} (R : A → A → Type 0) (n : ℕ) (xs : List A) (d y : A) → n < length xs → R (get_or xs n d) y → At R n xs (set xs n y)
@@ -51,6 +53,10 @@ module _ {T : Type 0} where
     keys_zip (p ∷ ps) [] z = absurd z
     keys_zip (p ∷ ps) (q ∷ qs) z = ap (λ k. k ∷ map key_of_peer ps) (ap (λ r. key_of r) (sym (same p q z.0))) ∙ ap (λ ks. key_of_peer q ∷ ks) (keys_zip ps qs z.1)
 
+  pub keyed_map : (g : Peer T → Peer T) → ((p : Peer T) → key_of_peer (g p) ≡ key_of_peer p) → (ps : List (Peer T)) → map key_of_peer (map g ps) ≡ map key_of_peer ps
+  keyed_map g same [] = refl
+  keyed_map g same (p ∷ ps) = ap (λ k. k ∷ map key_of_peer (map g ps)) (same p) ∙ ap (λ ks. key_of_peer p ∷ ks) (keyed_map g same ps)
+
   pub keyed_pushed : (keys more : List ℕ) (key : ℕ) (ps qs : List (Peer T)) (p : Peer T) → key ≡ key_of_peer p → keys ≡ map key_of_peer ps → more ≡ keys ++ key ∷ [] → qs ≡ ps ++ p ∷ [] → more ≡ map key_of_peer qs
   keyed_pushed keys more key ps qs p same is put added =
       put ∙ ap (λ k. keys ++ k ∷ []) same ∙ ap (λ ks. ks ++ key_of_peer p ∷ []) is ∙ sym (map-append key_of_peer ps (p ∷ [])) ∙ ap (map key_of_peer) (sym added)
@@ -80,12 +86,16 @@ pub both : {P : Type 0} (b : Bool) → (b ≡ true → P) → (b ≡ false → P
 both true is isnt = is refl
 both false is isnt = isnt refl
 
+-- one that is no operator isn't an open connection of one
+pub no_operator : {T : Type 0} (op : List ℕ) (p : Peer T) → is_operator_peer p ≡ false → is_open_for op p ≡ false
+no_operator op p e = both (is_open_for op p) (λ is. absurd (true≢false (sym (operator_is op p is) ∙ e))) (λ isnt. isnt)
+
 module _ {T : Type 0} (contents : T → Option (List ℕ)) where
   replaced_route : (p q : Peer T) → Replaced contents p q → q.route ≡ p.route
   replaced_route p q r = both (is_open p.stage) (λ e. ap (λ x. x.route) (r.while_open e).rest) (λ e. ap (λ x. x.route) (r.once_ended e))
 
-  pub failed_route : (p q : Peer T) → Failed contents p q → q.route ≡ p.route
-  failed_route p q r = both (is_open p.stage) (λ e. ap (λ x. x.route) (r.while_open e).rest) (λ e. ap (λ x. x.route) (r.once_ended e))
+  pub ended_route : (code : CloseCode) (cause : Cause) (p q : Peer T) → EndsWith contents code cause p q → q.route ≡ p.route
+  ended_route code cause p q r = both (is_open p.stage) (λ e. ap (λ x. x.route) (r.while_open e).rest) (λ e. ap (λ x. x.route) (r.once_ended e))
 
   pub way_route : (op station : List ℕ) (p q : Peer T) → GivesWay contents op station p q → q.route ≡ p.route
   way_route op station p q w = both (is_station op station p.route) (λ e. replaced_route p q (w.same e)) (λ e. ap (λ x. x.route) (w.other e))

@@ -1,7 +1,8 @@
 -- The places of the items that pass a test.
-use Rattle.std.proofs.Common.{arith, add-one, ◌≡◌, ◌∙◌, ℕ, zero, suc, ◌+◌, ◌<◌, ◌≤◌, List, [], ◌∷◌, ◌++◌, length, drop, get_or, set, sym, ap, refl, Bool, true, false, subst, append_assoc, drop-cons, length-drop, drop_of_length-le, if◌then◌else◌, ◌-◌}
-use Rattle.std.proofs.lemmas.List.{drop-set-lt, drop-drop}
-use Rattle.std.specs.List.{AllZip}
+use Rattle.std.proofs.Common.{arith, add-one, ◌≡◌, ◌∙◌, ℕ, zero, suc, ◌+◌, ◌<◌, ◌≤◌, List, [], ◌∷◌, ◌++◌, length, map, drop, get_or, set, sym, ap, refl, Bool, true, false, subst, append_assoc, drop-cons, length-drop, drop_of_length-le, if◌then◌else◌, ◌-◌}
+use Rattle.std.proofs.Math.Bool.{cond}
+use Rattle.std.proofs.lemmas.List.{drop-set-lt, drop-drop, get_or-drop}
+use Rattle.std.specs.List.{AllZip, filter}
 use Rattle.ws_peers.specs.Lists.{Front}
 use Rattle.ws_peers.specs.Peers.{places_of}
 
@@ -67,6 +68,12 @@ module _ {A : Type 0} (f : A → Bool) where
   places_zip R same n (x ∷ xs) (y ∷ ys) z =
       ap (λ b. if b then n ∷ places_of f (suc n) ys else places_of f (suc n) ys) (same x y z.0)
       ∙ ap (λ ps. if f x then n ∷ ps else ps) (places_zip R same (suc n) xs ys z.1)
+
+  pub places_map : (g : A → A) → ((x : A) → f (g x) ≡ f x) → (n : ℕ) (xs : List A) → places_of f n (map g xs) ≡ places_of f n xs
+  places_map g same n [] = refl
+  places_map g same n (x ∷ xs) =
+      ap (λ b. if b then n ∷ places_of f (suc n) (map g xs) else places_of f (suc n) (map g xs)) (same x)
+      ∙ ap (λ ps. if f x then n ∷ ps else ps) (places_map g same (suc n) xs)
 
   -- a list of places as one more item is looked at
   pub listed : (ps qs : List ℕ) (n : ℕ) (xs : List A) (d : A) → ps ++ places_of f n (drop n xs) ≡ places_of f 0 xs → n < length xs
@@ -152,3 +159,59 @@ module _ {A : Type 0} (f : A → Bool) where
         let front : Front R (w.0 + length (drop w.0 now)) old now = front_past w.0 (length (drop w.0 now)) (w.0 + length (drop w.0 now)) old now refl w.1 (past w.0 (drop w.0 now) (sym none ∙ w.2)) in
         let size : length (drop w.0 now) ≡ length now - w.0 = length-drop w.0 now in
         front_all R (w.0 + length (drop w.0 now)) old now front (omega (arith, size))
+
+  -- ---- how many pass a test that passes only where this one does
+
+  module _ (g : A → Bool) (fails : (x : A) → f x ≡ false → g x ≡ false) where
+    abbrev Without : A → A → Type 0
+    Without x y = g x ≡ false
+
+    before : (q : ℕ) (xs : List A) → Front Without q xs xs → filter g xs ≡ filter g (drop q xs)
+    before zero xs front = refl
+    before (suc q) [] front = refl
+    before (suc q) (x ∷ xs) front = ap (λ b. cond b (x ∷ filter g xs) (filter g xs)) front.0 ∙ before q xs front.1
+
+    -- those at the places up to i are counted
+    abbrev pub Counted : ℕ → List ℕ → List A → ℕ → Type 0
+    Counted i places xs count = (b : ℕ) × (drop i places ≡ places_of f b (drop b xs)) × (count + length (filter g (drop b xs)) ≡ length (filter g xs))
+
+    pub count_start : (places : List ℕ) (xs : List A) → places ≡ places_of f 0 xs → Counted 0 places xs 0
+    count_start places xs e = (0, e, omega arith)
+
+    next_counted : (i : ℕ) (places : List ℕ) (xs : List A) (count : ℕ) → (c : Counted i places xs count) → i < length places → Jump Without fails c.0 (drop c.0 xs) (get_or places i 0) (drop (suc i) places)
+    next_counted i places xs count c small = jump Without fails c.0 (drop c.0 xs) (get_or places i 0) (drop (suc i) places) (sym (drop-cons places i 0 small) ∙ c.1)
+
+    pub count_within : (i : ℕ) (places : List ℕ) (xs : List A) (count : ℕ) → Counted i places xs count → i < length places → get_or places i 0 < length xs
+    count_within i places xs count c small =
+        let j = next_counted i places xs count c small in
+        let size : length (drop c.0 xs) ≡ length xs - c.0 = length-drop c.0 xs in
+        omega (arith, j.1, j.2, size)
+
+    pub count_on : (i : ℕ) (places : List ℕ) (xs : List A) (count more : ℕ) (d : A) (one : Bool) → Counted i places xs count → i < length places → one ≡ g (get_or xs (get_or places i 0) d) → more ≡ (if one then count + 1 else count) → Counted (i + 1) places xs more
+    count_on i places xs count more d one c small is put =
+        let j = next_counted i places xs count c small in
+        let p = get_or places i 0 in
+        let from = drop c.0 xs in
+        let after : c.0 + suc j.0 ≡ suc p = omega (arith, j.1) in
+        let here : get_or from j.0 d ≡ get_or xs p d = get_or-drop c.0 xs j.0 d ∙ ap (λ k. get_or xs k d) (sym j.1) in
+        let rest : drop (suc j.0) from ≡ drop (suc p) xs = drop-drop (suc j.0) c.0 xs ∙ ap (λ k. drop k xs) after in
+        let split : filter g from ≡ filter g (get_or from j.0 d ∷ drop (suc j.0) from) = before j.0 from j.3 ∙ ap (filter g) (drop-cons from j.0 d j.2) in
+        let parts : filter g from ≡ cond one (get_or xs p d ∷ filter g (drop (suc p) xs)) (filter g (drop (suc p) xs)) =
+        split ∙ ap (λ y. filter g (y ∷ drop (suc j.0) from)) here ∙ ap (λ ys. filter g (get_or xs p d ∷ ys)) rest ∙ ap (λ b. cond b (get_or xs p d ∷ filter g (drop (suc p) xs)) (filter g (drop (suc p) xs))) (sym is) in
+        let total : count + length (cond one (get_or xs p d ∷ filter g (drop (suc p) xs)) (filter g (drop (suc p) xs))) ≡ length (filter g xs) = sym (ap (λ ys. count + length ys) parts) ∙ c.2 in (
+          suc p,
+          rw add-one (j.4 ∙ ap (places_of f (suc p)) rest),
+          elim one as (λ b. more ≡ (if b then count + 1 else count) → count + length (cond b (get_or xs p d ∷ filter g (drop (suc p) xs)) (filter g (drop (suc p) xs))) ≡ length (filter g xs) → more + length (filter g (drop (suc p) xs)) ≡ length (filter g xs)) [
+            | true ↦ λ put total. omega (arith, put, total)
+            | false ↦ λ put total. omega (arith, put, total)
+          ] put total,
+        )
+
+    pub count_end : (i : ℕ) (places : List ℕ) (xs : List A) (count : ℕ) → Counted i places xs count → length places ≤ i → count ≡ length (filter g xs)
+    count_end i places xs count c all =
+        let from = drop c.0 xs in
+        let none : drop i places ≡ [] = drop_of_length-le places all in
+        let left : filter g from ≡ filter g (drop (length from) from) = before (length from) from (past Without fails c.0 from (sym none ∙ c.1)) in
+        let over : drop (length from) from ≡ [] = drop_of_length-le from (omega arith) in
+        let zero_left : length (filter g from) ≡ 0 = ap length (left ∙ ap (filter g) over) in
+        omega (arith, zero_left, c.2)

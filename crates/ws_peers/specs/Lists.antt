@@ -1,6 +1,7 @@
--- All peers, in order of admission.
+-- All peers, by place.
 use Rattle.std.specs.Prelude.{ℕ, zero, suc, List, [], ◌∷◌, ◌++◌, ◌≡◌, ◌+◌, ◌≤◌, ◌⊎◌, Bool, true, false, ◌&&◌, Option, None, Some, ⊤, vec_len, vec_capacity}
-use Rattle.std.specs.List.{AllZip, list_any}
+use Rattle.std.specs.List.{All, AllZip, list_any}
+use Rattle.std.specs.List.Sorted.{IsPermutation}
 use Rattle.tungstenite.specs.Socket.{Socket}
 use Rattle.websocket.specs.declared.protocol.frame.coding.CloseCode.TheVariants.{Policy}
 use Rattle.ws_peers.specs.declared.peer.Peer.{Peer}
@@ -8,7 +9,7 @@ use Rattle.ws_peers.specs.declared.peers.Peers.{Peers}
 use Rattle.ws_peers.specs.declared.routes.Route.{Route}
 use Rattle.ws_peers.specs.declared.routes.Route.TheVariants.{Station, Operator}
 use Rattle.ws_peers.specs.Routes.{is_station, is_operator_of}
-use Rattle.ws_peers.specs.Peers.{open_peer}
+use Rattle.ws_peers.specs.Peers.{open_peer, is_held_peer}
 use Rattle.ws_peers.specs.Sends.{Sent, Closed, Replaced}
 use Rattle.ws_peers.specs.declared.stage.Stage.TheVariants.{Gone}
 use Rattle.ws_peers.specs.Stages.{is_open}
@@ -24,9 +25,10 @@ module _ {T : Type 0} where
   abbrev pub peers : Peers T → List (Peer T)
   peers all = all.items.items
 
-  -- there is room for one more, for its place among those of the operators, and for its key
+  -- there is room for one more, for its place among those of the operators and among those that have ended, and for
+  -- its key
   abbrev pub has_room : Peers T → Type 0
-  has_room all = (vec_len all.items + 1 ≤ vec_capacity all.items) × (vec_len all.items + 1 ≤ vec_capacity all.operators) × (vec_len all.items + 1 ≤ vec_capacity all.keys)
+  has_room all = (vec_len all.items + 1 ≤ vec_capacity all.items) × (vec_len all.items + 1 ≤ vec_capacity all.operators) × (vec_len all.items + 1 ≤ vec_capacity all.ended) × (vec_len all.items + 1 ≤ vec_capacity all.keys)
 
   -- an open connection of that station
   abbrev pub is_open_at : List ℕ → List ℕ → Peer T → Bool
@@ -68,6 +70,17 @@ module _ {T : Type 0} where
   -- a connection that isn't admitted: its socket is closed with the code 1008 and a reason, and it is gone
   abbrev pub Shut : (T → Option (List ℕ)) → List ℕ → Socket T → Route → List (Peer T) → List (Peer T) → Type 0
   Shut contents reason socket route old new = (p : Peer T) × Closed contents (Some (Policy, reason)) Gone (open_peer socket route) p × (new ≡ old ++ p ∷ [])
+
+  -- some peers are dropped that are gone, and the others stay, each once, in some order
+  pub record Drops (old new : List (Peer T)) : Type 0 where
+    pub dropped : List (Peer T)
+    pub others : IsPermutation old (dropped ++ new)
+    pub gone : All (λ p. is_held_peer p ≡ false) dropped
+
+  -- all that are gone are dropped
+  pub record Swept (old new : List (Peer T)) : Type 0 where
+    pub drops : Drops old new
+    pub held : All (λ p. is_held_peer p ≡ true) new
 
 -- what holds of a text, or of any text where there was no memory for it
 abbrev pub ForText : Option (List ℕ) → (List ℕ → Type 0) → Type 0

@@ -1,5 +1,6 @@
 -- A peer, as contracts see it: its route and its stage.
-use Rattle.std.specs.Prelude.{◌≡◌, ℕ, suc, List, [], ◌∷◌, Bool, false, if◌then◌else◌}
+use Rattle.std.specs.Prelude.{◌≡◌, ℕ, zero, suc, List, [], ◌∷◌, Bool, true, false, not, nat_eq, if◌then◌else◌}
+use Rattle.std.specs.List.{list_any}
 use Rattle.tungstenite.specs.Socket.{Socket}
 use Rattle.ws_peers.specs.declared.peer.Peer.{Peer}
 use Rattle.ws_peers.specs.declared.cause.Cause.{Cause}
@@ -44,6 +45,10 @@ module _ {T : Type 0} where
   abbrev pub is_open_peer : Peer T → Bool
   is_open_peer p = is_open p.stage
 
+  -- it isn't gone
+  abbrev pub is_held_peer : Peer T → Bool
+  is_held_peer p = is_held p.stage
+
   -- the peer keeps its route, and one that is gone stays gone
   pub record Kept (old new : Peer T) : Type 0 where
     pub route : new.route ≡ old.route
@@ -53,3 +58,13 @@ module _ {T : Type 0} where
 abbrev pub places_of : {A : Type 0} → (A → Bool) → ℕ → List A → List ℕ
 places_of f n [] = []
 places_of f n (x ∷ xs) = if f x then n ∷ places_of f (suc n) xs else places_of f (suc n) xs
+
+-- there is an item at that place, and it fails a test
+abbrev pub fails_at : {A : Type 0} → (A → Bool) → List A → ℕ → Bool
+fails_at f [] n = false
+fails_at f (x ∷ xs) zero = not (f x)
+fails_at f (x ∷ xs) (suc n) = fails_at f xs n
+
+-- each item that fails a test is at one of those places
+abbrev pub FailsOnlyAt : {A : Type 0} → (A → Bool) → List ℕ → List A → Type 0
+FailsOnlyAt f places xs = (n : ℕ) → fails_at f xs n ≡ true → list_any (λ k. nat_eq k n) places ≡ true

@@ -32,3 +32,8 @@ station_key op station = fold mixed (fold mixed 0 op) station
 abbrev pub key_of : Route → ℕ
 key_of (Station op station) = station_key op station
 key_of (Operator op) = 0
+
+-- the operator that it names
+abbrev pub named_operator : Route → List ℕ
+named_operator (Station op station) = op
+named_operator (Operator op) = op

@@ -7,10 +7,11 @@ use Rattle.tungstenite.specs.Connection.{write_step, close_step}
 use Rattle.tungstenite.specs.Content.{Content, ping, text as text_content}
 use Rattle.tungstenite.specs.Failure.{WriteFails, IsIo}
 use Rattle.websocket.specs.declared.protocol.frame.coding.CloseCode.{CloseCode}
-use Rattle.websocket.specs.declared.protocol.frame.coding.CloseCode.TheVariants.{Policy, Error as Broken}
+use Rattle.websocket.specs.declared.protocol.frame.coding.CloseCode.TheVariants.{Policy, Away, Error as Broken}
 use Rattle.tungstenite.specs.declared.error.Error.{Error}
 use Rattle.tungstenite.specs.declared.error.Error.TheVariants.{OutOfMemory, WriteBufferFull}
-use Rattle.ws_peers.specs.declared.cause.Cause.TheVariants.{Fault}
+use Rattle.ws_peers.specs.declared.cause.Cause.{Cause}
+use Rattle.ws_peers.specs.declared.cause.Cause.TheVariants.{Fault, Stopped as HasStopped}
 use Rattle.ws_peers.specs.declared.peer.Peer.{Peer}
 use Rattle.ws_peers.specs.declared.stage.Stage.{Stage}
 use Rattle.ws_peers.specs.declared.stage.Stage.TheVariants.{Ended, Gone}
@@ -49,10 +50,18 @@ module _ {T : Type 0} where
     pub sends : SendGives contents (close_step old.socket.conn code) old.socket new.socket gave
     pub rest : new ≡ record old { socket = new.socket; stage = stage }
 
-  -- the connection of a peer ends for a fault: an open one is closed with the code 1011
-  pub record Failed (contents : T → Option (List ℕ)) (old new : Peer T) : Type 0 where
-    pub while_open : is_open old.stage ≡ true → Closed contents (Some (Broken, [])) (Ended Fault) old new
+  -- the connection of a peer ends for that cause: an open one is closed with that code
+  pub record EndsWith (contents : T → Option (List ℕ)) (code : CloseCode) (cause : Cause) (old new : Peer T) : Type 0 where
+    pub while_open : is_open old.stage ≡ true → Closed contents (Some (code, [])) (Ended cause) old new
     pub once_ended : is_open old.stage ≡ false → new ≡ old
+
+  -- it ends for a fault: the code is 1011
+  abbrev pub Failed : (T → Option (List ℕ)) → Peer T → Peer T → Type 0
+  Failed contents = EndsWith contents Broken Fault
+
+  -- it ends as the server stops: the code is 1001
+  abbrev pub Stopped : (T → Option (List ℕ)) → Peer T → Peer T → Type 0
+  Stopped contents = EndsWith contents Away HasStopped
 
   -- another connection takes the place of a peer: it is gone, and an open one is closed with the code 1008 and a reason
   pub record Replaced (contents : T → Option (List ℕ)) (old new : Peer T) : Type 0 where

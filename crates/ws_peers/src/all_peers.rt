@@ -1,26 +1,27 @@
 //! All connected peers: sends to them, admission and removal.
 ghost use Rattle.std.specs.Prelude.{◌+◌, ◌≤◌, vec_len, vec_capacity, ℕ, List, ◌≡◌, ◌++◌, ◌∷◌, [], map, length, OnOk, OnErr, IfSome, IfNone, true, false, ◌<◌, slice_index_or, option_map};
-ghost use Rattle.std.specs.List.{AllZip, filter, list_all, list_any, position};
+ghost use Rattle.std.specs.List.{AllZip, list_any, position};
 ghost use Rattle.ws_peers.specs.Lists.{is_open_at};
-ghost use Rattle.ws_peers.specs.Peers.{is_open_peer};
 
-use crate::operators::{list_operators, list_place, tell};
+use crate::cause::Cause;
+use crate::ended::{keep_ended, leave_each, list_all_ended, list_ended};
+use crate::operators::{list_place, relist_operators, tell};
 use crate::peer::Peer;
 use crate::peers::Peers;
 use crate::reserved::push_reserved;
 use crate::routes::Route;
-use crate::stations::{first_open, give_way, list_keys};
+use crate::stations::{first_open, give_way};
+use crate::sweep::drop_each;
 use ocpp_types::Mem;
 use ready_streams::Served;
 use std::io::{Read, Write};
-use tungstenite::{NoMask, WebSocket};
+use tungstenite::{CloseCode, NoMask, WebSocket};
 
 #[tactic(auto, using(crate::proofs::ListLaws::sent_at, crate::proofs::ListLaws::to_nobody, crate::proofs::ListLaws::position_within, crate::proofs::ListLaws::position_found, crate::proofs::ListLaws::position_missing))]
 impl<T: Read + Write + Served + Drop> Peers<T> {
-    ghost use Rattle.ws_peers.specs.Lists.{peers, has_room, is_connected, ForText, ToStation, ToOperator, GivesWay, GiveWay, Shut};
-    ghost use Rattle.ws_peers.specs.Peers.{stage_of, open_peer, leaves};
-    ghost use Rattle.ws_peers.specs.Sends.{Failed};
-    ghost use Rattle.ws_peers.specs.Stages.{is_held};
+    ghost use Rattle.ws_peers.specs.Lists.{peers, has_room, is_connected, ForText, ToStation, ToOperator, GivesWay, GiveWay, Shut, Swept};
+    ghost use Rattle.ws_peers.specs.Peers.{open_peer, leaves};
+    ghost use Rattle.ws_peers.specs.Sends.{EndsWith, Failed, Stopped};
 
     /// Sends a text to a station, on an open connection of it, if there is one. The peer at `near`
     /// is tried first.
@@ -66,17 +67,37 @@ impl<T: Read + Write + Served + Drop> Peers<T> {
         ensures sent { ForText (option_map (λ t. t.now) text.entry) (λ t. ToOperator T.contents op.now t (peers self.old) (peers self.new)) }
         ensures count { length (peers self.new) ≡ length (peers self.old) }
     {
-        self.has_ended |= tell(&mut self.items, &self.operators, self.alloc, op, text);
+        tell(
+            &mut self.items,
+            &self.operators,
+            &mut self.ended,
+            self.alloc,
+            op,
+            text,
+        );
     }
 
     /// All connections end for a fault. Those that are open are closed with the code 1011.
     pub fn fail_all(&mut self)
         ensures { AllZip (Failed T.contents) (peers self.old) (peers self.new) }
     {
+        self.end_each(CloseCode::Error, Cause::Fault);
+    }
+
+    /// All connections end as the server stops. Those that are open are closed with the code 1001.
+    pub fn end_all(&mut self)
+        ensures { AllZip (Stopped T.contents) (peers self.old) (peers self.new) }
+    {
+        self.end_each(CloseCode::Away, Cause::Stopped);
+    }
+
+    fn end_each(&mut self, code: CloseCode, cause: Cause)
+        ensures { AllZip (EndsWith T.contents code cause) (peers self.old) (peers self.new) }
+    {
         for peer in self.items.iter_mut() {
-            peer.fail();
+            peer.end_with(code, cause);
         }
-        self.has_ended = true;
+        list_all_ended(&self.items, &mut self.ended);
     }
 
     /// Makes room for one more.
@@ -87,6 +108,7 @@ impl<T: Read + Write + Served + Drop> Peers<T> {
         self.items.reserve(1)?;
         let after = self.items.len() + 1;
         self.operators.reserve(after - self.operators.len())?;
+        self.ended.reserve(after.saturating_sub(self.ended.len()))?;
         self.keys.reserve(1)?;
         Ok(())
     }
@@ -95,29 +117,16 @@ impl<T: Read + Write + Served + Drop> Peers<T> {
     pub fn leave(&mut self)
         ensures { peers self.new ≡ map leaves (peers self.old) }
     {
-        if !self.has_ended {
-            return;
-        }
-        for peer in self.items.iter_mut() {
-            peer.leave();
-        }
+        leave_each(&mut self.items, &self.ended);
     }
 
-    /// Drops those that are gone. The streams of the others are told their places anew.
+    /// Drops those that are gone. For each the last one takes the place that is free, and its stream is told so.
     pub fn sweep(&mut self)
-        ensures { peers self.new ≡ filter (λ p. is_held (stage_of p)) (peers self.old) }
+        ensures { Swept (peers self.old) (peers self.new) }
     {
-        if !self.has_ended {
-            return;
-        }
-        let count = self.items.len();
-        self.items.retain(|peer| peer.stage().is_held());
-        if self.items.len() < count {
-            set_places(&self.items);
-        }
-        list_operators(&self.items, &mut self.operators);
-        list_keys(&self.items, &mut self.keys);
-        self.has_ended = !all_open(&self.items);
+        let has_moved = drop_each(&mut self.items, &mut self.keys, &self.ended);
+        relist_operators(&self.items, &mut self.operators, has_moved);
+        keep_ended(&mut self.ended, &self.items);
     }
 
     /// Adds a peer, for which there is room. Another connection of the same station is replaced.
@@ -144,10 +153,11 @@ impl<T: Read + Write + Served + Drop> Peers<T> {
     {
         list_place(&mut self.operators, self.items.len(), route.is_operator());
         push_reserved(&mut self.keys, route.key());
+        let place = self.items.len();
         let mut peer = Peer::new(socket, route);
         peer.shut(reason);
         push_reserved(&mut self.items, peer);
-        self.has_ended = true;
+        list_ended(&mut self.ended, &self.items, place, true);
     }
 
     fn make_way(&mut self, route: &Route)
@@ -166,20 +176,6 @@ impl<T: Read + Write + Served + Drop> Peers<T> {
         ensures way { AllZip (GivesWay T.contents op.now station.now) (peers self.old) (peers self.new) }
         ensures room { has_room self.new }
     {
-        self.has_ended |= give_way(&mut self.items, &self.keys, op, station);
-    }
-}
-
-/// Whether all are open.
-fn all_open<T: Read + Write + Drop>(peers: &[Peer<T>]) -> bool
-    ensures { result ≡ list_all is_open_peer peers.now }
-{
-    peers.iter().all(|peer| peer.stage().is_open())
-}
-
-/// Tells each stream its place.
-fn set_places<T: Read + Write + Served + Drop>(peers: &[Peer<T>]) {
-    for (n, peer) in peers.iter().enumerate() {
-        peer.set_place(n);
+        give_way(&mut self.items, &self.keys, &mut self.ended, op, station);
     }
 }

@@ -22,6 +22,8 @@ pub enum Cause {
     Fault,
     /// The peer has sent nothing for too long, not even the answer to a ping.
     Silent,
+    /// The server stops.
+    Stopped,
 }
 
 impl Cause {

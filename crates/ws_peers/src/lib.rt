@@ -1,9 +1,10 @@
-//! The connected peers, in order of admission: where a path leads, reads and sends over each
+//! The connected peers, by place: where a path leads, reads and sends over each
 //! socket, and how far each connection has come.
 #![tactic(auto)]
 
 mod all_peers;
 mod cause;
+mod ended;
 mod heard;
 mod keys;
 mod one_peer;
@@ -15,6 +16,7 @@ mod reserved;
 mod routes;
 mod stage;
 mod stations;
+mod sweep;
 
 pub use cause::Cause;
 pub use heard::MAX_TEXT;

@@ -2,12 +2,13 @@
 ghost use Rattle.std.specs.Prelude.{◌≡◌, ◌<◌, length, slice_index_or};
 
 use crate::cause::Cause;
+use crate::ended::list_ended;
 use crate::peer::Peer;
 use crate::peers::Peers;
 use std::io::{Read, Write};
 use tungstenite::Utf8Bytes;
 
-#[tactic(auto, using(crate::proofs::ListLaws::at_set, crate::proofs::ListLaws::kept_set, crate::proofs::ListLaws::keyed_set, crate::proofs::StageLaws::ended_set, crate::proofs::StageLaws::surely))]
+#[tactic(auto, using(crate::proofs::ListLaws::at_set, crate::proofs::ListLaws::kept_set, crate::proofs::ListLaws::keyed_set, crate::proofs::EndedLaws::listed_set))]
 impl<T: Read + Write + Drop> Peers<T> {
     ghost use Rattle.ws_peers.specs.Lists.{peers, At};
     ghost use Rattle.ws_peers.specs.Peers.{ends, finishes};
@@ -29,8 +30,9 @@ impl<T: Read + Write + Drop> Peers<T> {
         ensures count { length (peers self.new) ≡ length (peers self.old) }
     {
         let peer = &mut self.items[n];
+        let was_open = peer.stage().is_open();
         let text = peer.take();
-        self.has_ended |= !peer.stage().is_open();
+        list_ended(&mut self.ended, &self.items, n, was_open);
         text
     }
 
@@ -41,8 +43,9 @@ impl<T: Read + Write + Drop> Peers<T> {
         ensures count { length (peers self.new) ≡ length (peers self.old) }
     {
         let peer = &mut self.items[n];
+        let was_open = peer.stage().is_open();
         peer.send(self.alloc, text);
-        self.has_ended |= !peer.stage().is_open();
+        list_ended(&mut self.ended, &self.items, n, was_open);
     }
 
     /// Sends a Ping without a payload to a peer, if its connection is open.
@@ -52,8 +55,9 @@ impl<T: Read + Write + Drop> Peers<T> {
         ensures count { length (peers self.new) ≡ length (peers self.old) }
     {
         let peer = &mut self.items[n];
+        let was_open = peer.stage().is_open();
         peer.ping();
-        self.has_ended |= !peer.stage().is_open();
+        list_ended(&mut self.ended, &self.items, n, was_open);
     }
 
     /// The connection of a peer ends for that cause, if it is open.
@@ -63,8 +67,9 @@ impl<T: Read + Write + Drop> Peers<T> {
         ensures count { length (peers self.new) ≡ length (peers self.old) }
     {
         let peer = &mut self.items[n];
+        let was_open = peer.stage().is_open();
         peer.end(cause);
-        self.has_ended |= !peer.stage().is_open();
+        list_ended(&mut self.ended, &self.items, n, was_open);
     }
 
     /// The connection of a peer ends for a fault, if it is open: it is closed with the code 1011.
@@ -74,8 +79,9 @@ impl<T: Read + Write + Drop> Peers<T> {
         ensures count { length (peers self.new) ≡ length (peers self.old) }
     {
         let peer = &mut self.items[n];
+        let was_open = peer.stage().is_open();
         peer.fail();
-        self.has_ended |= !peer.stage().is_open();
+        list_ended(&mut self.ended, &self.items, n, was_open);
     }
 
     /// A peer is gone.
@@ -84,7 +90,9 @@ impl<T: Read + Write + Drop> Peers<T> {
         ensures finished { At (λ old new. new ≡ finishes old) n (peers self.old) (peers self.new) }
         ensures count { length (peers self.new) ≡ length (peers self.old) }
     {
-        self.items[n].finish();
-        self.has_ended = true;
+        let peer = &mut self.items[n];
+        let was_open = peer.stage().is_open();
+        peer.finish();
+        list_ended(&mut self.ended, &self.items, n, was_open);
     }
 }

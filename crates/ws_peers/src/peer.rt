@@ -34,7 +34,7 @@ impl<T: Read + Write + Drop> Peer<T> {
     ghost use Rattle.ws_peers.specs.Peers.{route_of, stage_of, open_peer, ends, leaves, finishes, Kept};
     ghost use Rattle.ws_peers.specs.Lists.{is_open_at, is_open_for, ForText, Hears, GivesWay};
     ghost use Rattle.ws_peers.specs.Reads.{Took};
-    ghost use Rattle.ws_peers.specs.Sends.{Sent, SentMessage, Pinged, Failed, Closed, Replaced};
+    ghost use Rattle.ws_peers.specs.Sends.{Sent, SentMessage, Pinged, EndsWith, Failed, Closed, Replaced};
     ghost use Rattle.ws_peers.specs.Stages.{is_open};
 
     /// A peer whose handshake is done.
@@ -146,8 +146,16 @@ impl<T: Read + Write + Drop> Peer<T> {
         ensures failed { Failed T.contents self.old self.new }
         ensures kept { Kept self.old self.new }
     {
+        self.end_with(CloseCode::Error, Cause::Fault);
+    }
+
+    /// Its connection ends for that cause, if it is open: it gets a close frame with that code and no reason.
+    pub(crate) fn end_with(&mut self, code: CloseCode, cause: Cause)
+        ensures ended { EndsWith T.contents code cause self.old self.new }
+        ensures kept { Kept self.old self.new }
+    {
         if self.stage.is_open() {
-            self.close(CloseCode::Error, "", Stage::Ended(Cause::Fault));
+            self.close(code, "", Stage::Ended(cause));
         }
     }
 

@@ -1,13 +1,15 @@
 //! All connected peers.
-ghost use Rattle.std.specs.Prelude.{◌≡◌, ◌≤◌, ◌||◌, true, map, vec_len, vec_capacity};
-ghost use Rattle.std.specs.List.{list_all};
-ghost use Rattle.ws_peers.specs.Peers.{is_open_peer, key_of_peer, is_operator_peer, places_of};
+ghost use Rattle.std.specs.Prelude.{◌≡◌, ◌≤◌, map, vec_len, vec_capacity};
+ghost use Rattle.ws_peers.specs.Peers.{FailsOnlyAt, is_open_peer, key_of_peer, is_operator_peer, places_of};
 
+use crate::operators::count_open;
 use crate::peer::Peer;
+use ocpp_types::Mem;
 use std::alloc::Global;
 use std::io::{Read, Write};
 
-/// The connected peers, in order of admission. A peer is named by its place, from 0.
+/// The connected peers. A peer is named by its place, from 0. One keeps its place until a sweep drops another: then the
+/// last one takes the place that is free.
 #[derive(Drop)]
 pub struct Peers<T> {
     pub(crate) alloc: Global,
@@ -16,17 +18,19 @@ pub struct Peers<T> {
     pub(crate) operators: Vec<usize>,
     /// The key of what each stands for. A station is sought by its key first.
     pub(crate) keys: Vec<u64>,
-    /// Whether one may be among them that isn't open.
-    pub(crate) has_ended: bool,
+    /// The places of those that aren't open, and maybe of others. There is room for as many as there are peers.
+    pub(crate) ended: Vec<usize>,
     ghost places: { operators.items ≡ places_of is_operator_peer 0 items.items },
     ghost room: { vec_len items ≤ vec_capacity operators },
     ghost keyed: { keys.items ≡ map key_of_peer items.items },
-    ghost ended: { has_ended || list_all is_open_peer items.items ≡ true },
+    ghost ended_room: { vec_len items ≤ vec_capacity ended },
+    ghost listed: { FailsOnlyAt is_open_peer ended.items items.items },
 }
 
 impl<T: Read + Write + Drop> Peers<T> {
-    ghost use Rattle.std.specs.Prelude.{[], false, length};
+    ghost use Rattle.std.specs.Prelude.{[], length, IfOk};
     ghost use Rattle.std.specs.List.{filter};
+    ghost use Rattle.std.specs.List.Sorted.{IsNonDecreasing};
     ghost use Rattle.ws_peers.specs.Lists.{peers, is_open_for};
 
     /// No peer. It takes no memory yet.
@@ -38,7 +42,7 @@ impl<T: Read + Write + Drop> Peers<T> {
             items: Vec::new(alloc),
             operators: Vec::new(alloc),
             keys: Vec::new(alloc),
-            has_ended: false,
+            ended: Vec::new(alloc),
         }
     }
 
@@ -53,16 +57,23 @@ impl<T: Read + Write + Drop> Peers<T> {
     pub fn count_of(&self, op: &str) -> usize
         ensures { result ≡ length (filter (is_open_for op.now) (peers self.now)) }
     {
-        self.items
-            .iter()
-            .filter(|peer| peer.is_open_for(op))
-            .count()
+        count_open(&self.items, &self.operators, op)
     }
 
-    /// Whether a connection may be among them that has ended.
-    pub fn has_ended(&self) -> bool
-        ensures { result ≡ false → list_all is_open_peer (peers self.now) ≡ true }
+    /// The places of those that aren't open, and maybe others.
+    pub fn ended(&self) -> &[usize]
+        ensures { FailsOnlyAt is_open_peer result.now (peers self.now) }
     {
-        self.has_ended
+        self.ended.as_slice()
+    }
+
+    /// The same, in ascending order.
+    pub fn ended_in_order(&self) -> Mem<Vec<usize>>
+        ensures ascending { IfOk result (λ places. IsNonDecreasing places.items) }
+        ensures listed { IfOk result (λ places. FailsOnlyAt is_open_peer places.items (peers self.now)) }
+    {
+        let mut places = self.ended.clone()?;
+        places.sort_unstable();
+        Ok(places)
     }
 }

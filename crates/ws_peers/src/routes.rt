@@ -1,6 +1,6 @@
 //! What a connection stands for.
 ghost use Rattle.std.specs.Prelude.{◌≡◌};
-ghost use Rattle.ws_peers.specs.Routes.{is_station, is_operator, is_operator_of, key_of};
+ghost use Rattle.ws_peers.specs.Routes.{is_station, is_operator, is_operator_of, key_of, named_operator};
 
 use crate::keys::station_key;
 use ocpp_types::Text;
@@ -40,6 +40,15 @@ impl Route {
         ensures { result ≡ is_operator self.now }
     {
         matches!(self, Route::Operator(_))
+    }
+
+    /// The operator that it names.
+    pub fn operator(&self) -> &Text
+        ensures { result.now ≡ named_operator self.now }
+    {
+        match self {
+            Route::Station(op, _) | Route::Operator(op) => op,
+        }
     }
 
     /// Its key: equal stations have equal keys.

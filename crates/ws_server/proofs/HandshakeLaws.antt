@@ -13,6 +13,6 @@ come_next E None n buf shows small = tt
 come_next E (Some all) n buf shows small = subst (λ k. take k all ≡ take n buf) (omega (arith, small, length-take n buf)) (sym shows.1)
 
 -- an upgrade comes of a head
-pub of_head : (bytes : List ℕ) (upgrade : Upgrade) → BytesJudged bytes (Upgraded upgrade) → Asks bytes (Upgraded upgrade)
-of_head bytes upgrade (inl asks) = asks
-of_head bytes upgrade (inr none) = absurd none
+pub of_head : (origins : List (List ℕ)) (bytes : List ℕ) (upgrade : Upgrade) → BytesJudged origins bytes (Upgraded upgrade) → Asks origins bytes (Upgraded upgrade)
+of_head origins bytes upgrade (inl asks) = asks
+of_head origins bytes upgrade (inr none) = absurd none

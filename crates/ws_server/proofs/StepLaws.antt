@@ -2,8 +2,6 @@
 use Rattle.std.proofs.Common.{Bool, Err, List, None, Ok, Option, Result, Some, [], add-one, ap, arith, false, if◌then◌else◌, inl, inr, length, nat_lt, refl, slice_index_or, subst, suc, sym, true, true≢false, zero, ℕ, ◌++◌, ◌+◌, ◌∙◌, ◌∷◌, ◌≡◌, ◌||◌}
 use Rattle.std.proofs.Common.{get_or, ◌<◌, ◌≤◌}
 use Rattle.std.proofs.lemmas.List.{append_assoc, append-nil}
-use Rattle.std.proofs.lemmas.List.Folds.{list_all_at}
-use Rattle.std.specs.List.{list_all}
 use Rattle.std.specs.Io.BufRead.{strip_last}
 use Rattle.std.specs.Option.{IfSome}
 use Rattle.std.specs.Prelude.{is_some}
@@ -36,7 +34,7 @@ use Rattle.ws_peers.specs.declared.routes.Route.TheVariants.{Station, Operator}
 use Rattle.tungstenite.specs.Socket.{Socket}
 use Rattle.ws_server.specs.Admits.{Connects, WelcomesOne, WelcomesSome}
 use Rattle.ws_server.specs.Events.{word_of, order_text, event_of, parting, parting_at, is_route_of_hosted}
-use Rattle.ws_server.specs.Turns.{Change, Then, Becomes, AtPlace, EachOf, ascending, is_above, FirstPlaces, HandsOrRefuses, Between, Answers, HandsText, Means, Parts, PartsAs}
+use Rattle.ws_server.specs.Turns.{Change, Then, Alone, Becomes, AtPlace, EachOf, ascending, is_above, FirstPlaces, HandsOrRefuses, Between, Answers, HandsText, Means, Parts, PartsAs}
 use Rattle.ws_server.specs.Steps.{Step, Runs, Takes}
 
 -- ---- what a fault says of an operator
@@ -178,31 +176,15 @@ module _ {P : Type 0} where
   fails C D old new steps fault (Err e) err same change = inr (fault, change, ap Err same)
 
   -- after a change that the hub has no part in
+  pub alone : (R : List P → List P → Type 0) (D : Change P) (old mid new : List P) (steps : List Step) (r : Result (Unit {0}) Fault) → R old mid → D mid new steps r → Then (Alone R) D old new steps r
+  alone R D old mid new steps r so change = inl (mid, [], steps, (so, refl, refl), change, refl)
+
   pub becomes : (f : List P → List P) (D : Change P) (old mid new : List P) (steps : List Step) (r : Result (Unit {0}) Fault) → mid ≡ f old → D mid new steps r → Then (Becomes f) D old new steps r
-  becomes f D old mid new steps r is change = inl (mid, [], steps, (is, refl, refl), change, refl)
+  becomes f D old mid new steps r is change = alone (λ before after. after ≡ f before) D old mid new steps r is change
 
   -- after another
   pub follows : (C D : Change P) (old mid new : List P) (before after : List Step) (r : Result (Unit {0}) Fault) → C old mid before (Ok tt) → D mid new after r → Then C D old new (before ++ after) r
   follows C D old mid new before after r first second = inl (mid, before, after, first, second, refl)
-
--- what is so of all is so of each
-all-at : {X : Type 0} (f : X → Bool) (xs : List X) (i : ℕ) (d : X) (b : Bool) → i < length xs → b ≡ f (get_or xs i d) → list_all f xs ≡ true → b ≡ true
-all-at f xs i d true small is all = refl
-all-at f xs i d false small is all = absurd (true≢false (sym all ∙ list_all_at f xs i d small (sym is)))
-
--- one that is open doesn't leave now
-open-stays : (m : ℕ) (route : Route) (s : Stage) → is_open s ≡ true → None ≡ parting_at s route m
-open-stays m route Open is = refl
-open-stays m route (Ended cause) is = absurd (true≢false (sym is))
-open-stays m route Leaving is = absurd (true≢false (sym is))
-open-stays m route Gone is = absurd (true≢false (sym is))
-
--- where all are open none leaves
-pub none-parts : {T : Type 0} (contents : T → Option (List ℕ)) (hosts : List ℕ → Bool) (m k : ℕ) (ps : List (Peer T)) → k ≤ length ps → list_all is_open_peer ps ≡ true → FirstPlaces (Parts contents hosts m) k ps ps []
-none-parts contents hosts m zero ps small all = (refl, refl)
-none-parts contents hosts m (suc k) ps small all =
-    let open-at : (d : Peer _) → is_open (stage_of (get_or ps k d)) ≡ true = λ d. all-at is_open_peer ps k d (is_open (stage_of (get_or ps k d))) (omega (arith, small)) refl all in
-    (ps, [], [], none-parts contents hosts m k ps (omega (arith, small)) all, (None, λ d. open-stays m (route_of (get_or ps k d)) (stage_of (get_or ps k d)) (open-at d), (refl, refl, refl)), refl)
 
 -- ---- the places of a list, one after the other
 module _ {P : Type 0} (C : ℕ → Change P) (all : List ℕ) (old : List P) where
@@ -242,11 +224,11 @@ above-over last n xs ys is below = ap (ascending last) is ∙ ap (λ b. if b the
 
 module _ {T : Type 0} (remaining contents : T → Option (List ℕ)) (m : ℕ) where
   -- one more connection is welcomed
-  pub welcomes-more : (old mid new : List (Peer T)) (before after : List Step) → WelcomesSome remaining contents m old mid before (Ok tt) → WelcomesOne remaining contents m mid new after (Ok tt) → WelcomesSome remaining contents m old new (before ++ after) (Ok tt)
-  welcomes-more old mid new before after first more = (first.0 + 1, place_more (λ _. WelcomesOne remaining contents m) first.0 old mid new before after first.1 more)
+  pub welcomes-more : (origins : List (List ℕ)) (old mid new : List (Peer T)) (before after : List Step) → WelcomesSome remaining contents m origins old mid before (Ok tt) → WelcomesOne remaining contents m origins mid new after (Ok tt) → WelcomesSome remaining contents m origins old new (before ++ after) (Ok tt)
+  welcomes-more origins old mid new before after first more = (first.0 + 1, place_more (λ _. WelcomesOne remaining contents m origins) first.0 old mid new before after first.1 more)
 
   -- one that ends in a fault is the last
-  pub welcomes-fails : (old mid new : List (Peer T)) (before after : List Step) (f : Fault) (r : Result (Unit {0}) Fault) → IsErr r → IsErrAnd r (λ e. e ≡ f)
-      → WelcomesSome remaining contents m old mid before (Ok tt) → WelcomesOne remaining contents m mid new after (Err f) → WelcomesSome remaining contents m old new (before ++ after) r
-  welcomes-fails old mid new before after f (Ok u) err same first more = absurd (true≢false (sym err))
-  welcomes-fails old mid new before after f (Err e) err same first more = subst (λ x. WelcomesSome remaining contents m old new (before ++ after) (Err x)) (sym same) (first.0, mid, before, after, first.1, more, refl)
+  pub welcomes-fails : (origins : List (List ℕ)) (old mid new : List (Peer T)) (before after : List Step) (f : Fault) (r : Result (Unit {0}) Fault) → IsErr r → IsErrAnd r (λ e. e ≡ f)
+      → WelcomesSome remaining contents m origins old mid before (Ok tt) → WelcomesOne remaining contents m origins mid new after (Err f) → WelcomesSome remaining contents m origins old new (before ++ after) r
+  welcomes-fails origins old mid new before after f (Ok u) err same first more = absurd (true≢false (sym err))
+  welcomes-fails origins old mid new before after f (Err e) err same first more = subst (λ x. WelcomesSome remaining contents m origins old new (before ++ after) (Err x)) (sym same) (first.0, mid, before, after, first.1, more, refl)

@@ -1,6 +1,6 @@
 -- What admitting a connection does.
-use Rattle.std.specs.Prelude.{ℕ, List, [], ◌∷◌, ◌++◌, Option, Some, None, Bool, true, false, not, ◌||◌, ◌≡◌, Ok, Err, ◌&&◌, ◌⊎◌, is_some, nat_le, length, take, codes, ⊤}
-use Rattle.std.specs.List.{filter}
+use Rattle.std.specs.Prelude.{ℕ, List, [], ◌∷◌, ◌++◌, Option, Some, None, Bool, true, false, not, ◌||◌, ◌≡◌, Ok, Err, ◌&&◌, ◌⊎◌, is_some, nat_le, length, take, codes, bytes_eq, ⊤}
+use Rattle.std.specs.List.{filter, list_any}
 use Rattle.tungstenite.specs.Socket.{Socket}
 use Rattle.hub_events.specs.declared.event.Event.{Event}
 use Rattle.hub_events.specs.declared.event.Event.TheVariants as event
@@ -14,7 +14,7 @@ use Rattle.ws_handshake.specs.declared.head.Upgrade.{Upgrade}
 use Rattle.ws_peers.specs.declared.peer.Peer.{Peer}
 use Rattle.ws_peers.specs.declared.routes.Route.{Route}
 use Rattle.ws_peers.specs.declared.routes.Route.TheVariants.{Station, Operator}
-use Rattle.ws_peers.specs.Lists.{GiveWay, Shut, is_open_for}
+use Rattle.ws_peers.specs.Lists.{GiveWay, Shut, is_connected, is_open_for}
 use Rattle.ws_peers.specs.Peers.{open_peer}
 use Rattle.ws_server.specs.declared.welcome.TheConstants.{MAX_CONNECTIONS}
 use Rattle.ws_server.specs.Events.{turns_away}
@@ -57,19 +57,20 @@ abbrev pub is_known : (List ℕ → Bool) → Rows → Route → Bool
 is_known is_hosted rows (Station op station) = is_hosted op && is_some (registration_at op station rows)
 is_known is_hosted rows (Operator op) = is_hosted op
 
--- an operator has as many open connections as it may have
-abbrev pub is_full : {T : Type 0} → Route → List (Peer T) → Bool
-is_full (Operator op) peers = nat_le MAX_CONNECTIONS (length (filter (is_open_for op) peers))
-is_full (Station op station) peers = false
+-- an operator has as many open connections as it may have; its stations have, where it is one of those named full, but one
+-- that is connected may come again
+abbrev pub is_full : {T : Type 0} → List (List ℕ) → Route → List (Peer T) → Bool
+is_full full (Operator op) peers = nat_le MAX_CONNECTIONS (length (filter (is_open_for op) peers))
+is_full full (Station op station) peers = list_any (λ o. bytes_eq o op) full && not (is_connected (Station op station) peers)
 
 -- the bytes come next from a stream, where it tells what comes
 abbrev pub ComeNext : Option (List ℕ) → List ℕ → Type 0
 ComeNext None bytes = ⊤
 ComeNext (Some all) bytes = take (length bytes) all ≡ bytes
 
--- the next bytes of a stream are a head that asks for that upgrade
-abbrev pub AsksFor : {T : Type 0} → (T → Option (List ℕ)) → T → Upgrade → Type 0
-AsksFor remaining stream upgrade = (bytes : List ℕ) × ComeNext (remaining stream) bytes × Asks bytes (Upgraded upgrade)
+-- the next bytes of a stream are a head that asks for that upgrade, where pages of these origins are served
+abbrev pub AsksFor : {T : Type 0} → List (List ℕ) → (T → Option (List ℕ)) → T → Upgrade → Type 0
+AsksFor origins remaining stream upgrade = (bytes : List ℕ) × ComeNext (remaining stream) bytes × Asks origins bytes (Upgraded upgrade)
 
 module _ {T : Type 0} (remaining contents : T → Option (List ℕ)) (m : ℕ) where
   -- a connection is welcomed: its handshake is done and it is admitted, or nothing changes
@@ -78,12 +79,12 @@ module _ {T : Type 0} (remaining contents : T → Option (List ℕ)) (m : ℕ) w
       ((new ≡ old) × (steps ≡ [])) ⊎ ((socket : Socket T) × Shaken remaining contents upgrade stream socket × Admits contents socket m upgrade.route upgrade.offers_ocpp old new steps r)
 
   -- one is welcomed, by the upgrade that its own head asks for, or nothing changes
-  abbrev pub WelcomesOne : Change (Peer T)
-  WelcomesOne old new steps r =
-      ((new ≡ old) × (steps ≡ [])) ⊎ ((stream : T) × (upgrade : Upgrade) × AsksFor remaining stream upgrade × Welcomes stream upgrade old new steps r)
+  abbrev pub WelcomesOne : List (List ℕ) → Change (Peer T)
+  WelcomesOne origins old new steps r =
+      ((new ≡ old) × (steps ≡ [])) ⊎ ((stream : T) × (upgrade : Upgrade) × AsksFor origins remaining stream upgrade × Welcomes stream upgrade old new steps r)
 
   -- some are welcomed, one after the other, up to the first fault
-  abbrev pub WelcomesSome : Change (Peer T)
-  WelcomesSome old new steps (Ok u) = (n : ℕ) × FirstPlaces (λ _. WelcomesOne) n old new steps
-  WelcomesSome old new steps (Err fault) =
-      (n : ℕ) × (mid : List (Peer T)) × (before after : List Step) × FirstPlaces (λ _. WelcomesOne) n old mid before × WelcomesOne mid new after (Err fault) × (steps ≡ before ++ after)
+  abbrev pub WelcomesSome : List (List ℕ) → Change (Peer T)
+  WelcomesSome origins old new steps (Ok u) = (n : ℕ) × FirstPlaces (λ _. WelcomesOne origins) n old new steps
+  WelcomesSome origins old new steps (Err fault) =
+      (n : ℕ) × (mid : List (Peer T)) × (before after : List Step) × FirstPlaces (λ _. WelcomesOne origins) n old mid before × WelcomesOne origins mid new after (Err fault) × (steps ≡ before ++ after)

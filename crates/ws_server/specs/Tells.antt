@@ -11,9 +11,13 @@ use Rattle.ws_peers.specs.Sends.{Sent}
 use Rattle.ws_server.specs.declared.gateway.Gateway.{Gateway}
 
 module _ {T : Type 0} where
-  -- its peers, in order of admission
+  -- its peers, by place
   abbrev pub peers_of : Gateway T → List (Peer T)
   peers_of g = peers g.peers
+
+  -- the operators that are named full: they have as many connections of stations as they may have
+  abbrev pub full_of : Gateway T → List (List ℕ)
+  full_of g = g.full.items
 
   -- a peer is sent a text, and none once its connection has ended
   pub record SentWhileOpen (contents : T → Option (List ℕ)) (text : List ℕ) (old new : Peer T) : Type 0 where

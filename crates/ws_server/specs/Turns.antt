@@ -1,6 +1,5 @@
 -- What serving peers does: to them, and which steps the hub takes.
 use Rattle.std.specs.Prelude.{ℕ, zero, suc, List, [], ◌∷◌, ◌++◌, Option, Some, None, Bool, true, false, if◌then◌else◌, nat_lt, ◌≡◌, ◌<◌, ◌≤◌, ◌⊎◌, Result, Ok, Err, map, length, slice_index_or, codes}
-use Rattle.std.specs.List.{filter}
 use Rattle.hub_events.specs.declared.event.Event.{Event}
 use Rattle.hub_events.specs.declared.event.Event.TheVariants.{Tick}
 use Rattle.hub_events.specs.declared.out.Out.{Out}
@@ -10,10 +9,9 @@ use Rattle.hub.specs.Hub.{is_of_hosted}
 use Rattle.lines.specs.Marks.{begin_line, end_line}
 use Rattle.ws_peers.specs.declared.peer.Peer.{Peer}
 use Rattle.ws_peers.specs.Lists as lists
-use Rattle.ws_peers.specs.Peers.{route_of, stage_of, leaves, finishes}
+use Rattle.ws_peers.specs.Peers.{route_of, leaves, finishes}
 use Rattle.ws_peers.specs.Reads.{Took}
 use Rattle.ws_peers.specs.Sends.{Failed}
-use Rattle.ws_peers.specs.Stages.{is_held}
 use Rattle.ws_peers.specs.declared.routes.Route.{Route}
 use Rattle.ws_server.specs.Events.{word_of, event_of, parting, is_route_of_hosted}
 use Rattle.ws_server.specs.Steps.{Step}
@@ -67,8 +65,12 @@ module _ {P : Type 0} where
   EachAbove C places = EachOf C (ascending None places)
 
   -- a change that the hub has no part in
+  abbrev pub Alone : (List P → List P → Type 0) → Change P
+  Alone R old new steps r = R old new × (steps ≡ []) × (r ≡ Ok tt)
+
+  -- such a change by a function
   abbrev pub Becomes : (List P → List P) → Change P
-  Becomes f old new steps r = (new ≡ f old) × (steps ≡ []) × (r ≡ Ok tt)
+  Becomes f = Alone (λ old new. new ≡ f old)
 
 -- what a fault says: NoSuchOperator says that the operator isn't hosted, the others say nothing of
 -- that
@@ -122,7 +124,7 @@ module _ {T : Type 0} (contents : T → Option (List ℕ)) (is_hosted : List ℕ
 
   -- those that are gone are dropped, and the hub is handed a tick
   abbrev pub SweepsAndTicks : ℕ → Change (Peer T)
-  SweepsAndTicks m = Then (Becomes (filter (λ p. is_held (stage_of p)))) (Hands (Tick m))
+  SweepsAndTicks m = Then (Alone lists.Swept) (Hands (Tick m))
 
   -- those that have ended leave, and their disconnects are handed to the hub; then the sweep and
   -- the tick
@@ -137,7 +139,7 @@ module _ {T : Type 0} (remaining contents : T → Option (List ℕ)) (is_hosted 
     pub took : lists.At (λ p q. Took remaining contents p q text) n old mid
     pub handled : Handles contents is_hosted m n text mid new steps r
 
-  -- a turn at moment m: the peers at those places are served, each once at most, in order of admission; then those that
-  -- have ended leave
+  -- a turn at moment m: the peers at those places are served, each once at most, by place; then those that have ended
+  -- leave
   abbrev pub Turns : ℕ → List ℕ → Change (Peer T)
   Turns m places = Then (EachAbove (Serves m) places) (PartsAndTicks contents is_hosted m)

@@ -91,6 +91,7 @@ impl<T: Read + Write + Served + Drop> Gateway<T> {
             return Ok(());
         };
         let outs = hub.handle(event)?;
+        self.taken = self.taken.wrapping_add(1);
         self.say(n, bounds.begin.as_str());
         self.tell_all(n, &outs);
         self.say(n, bounds.end.as_str());

@@ -1,13 +1,14 @@
 //! The gateway.
-ghost use Rattle.std.specs.Prelude.{◌≡◌, ◌<◌, ◌≤◌, false, [], length, slice_index_or};
+ghost use Rattle.std.specs.Prelude.{◌≡◌, ◌<◌, ◌≤◌, [], length, slice_index_or, option_map, Some, None};
 
 use crate::notes::{Note, Notes};
+use ocpp_types::Text;
 use ready_streams::Served;
 use std::alloc::Global;
 use std::io::{Read, Write};
-use ws_peers::{Peer, Peers};
+use ws_peers::{Peer, Peers, Route};
 
-/// The connected peers of one hub, in order of admission.
+/// The connected peers of one hub, by place.
 ///
 /// Contracts speak of it by one definition: `peers_of`, the list of its peers.
 #[derive(Drop)]
@@ -15,22 +16,29 @@ pub struct Gateway<T> {
     pub(crate) alloc: Global,
     pub(crate) peers: Peers<T>,
     pub(crate) notes: Notes,
+    /// The operators that have as many connections of stations as they may have.
+    pub(crate) full: Vec<Text>,
+    /// How many events the hub has taken.
+    pub(crate) taken: u64,
 }
 
 impl<T: Read + Write + Served + Drop> Gateway<T> {
     ghost use Rattle.std.specs.List.{AllZip};
-    ghost use Rattle.ws_peers.specs.Peers.{is_operator_peer};
-    ghost use Rattle.ws_peers.specs.Sends.{Failed};
-    ghost use Rattle.ws_server.specs.Tells.{peers_of};
+    ghost use Rattle.ws_peers.specs.Peers.{route_of};
+    ghost use Rattle.ws_peers.specs.Sends.{Failed, Stopped};
+    ghost use Rattle.ws_server.specs.Tells.{peers_of, full_of};
 
     /// No peer. It takes no memory yet.
     pub fn new(alloc: Global) -> Gateway<T>
-        ensures { peers_of result ≡ [] }
+        ensures peers { peers_of result ≡ [] }
+        ensures full { full_of result ≡ [] }
     {
         Gateway {
             alloc,
             peers: Peers::new(alloc),
             notes: Notes::new(alloc),
+            full: Vec::new(alloc),
+            taken: 0,
         }
     }
 
@@ -55,6 +63,20 @@ impl<T: Read + Write + Served + Drop> Gateway<T> {
         self.peers.count()
     }
 
+    /// Names the operators that have as many connections of stations as they may have. From now on none of their stations is
+    /// admitted, but one that is connected may come again.
+    pub fn set_full(&mut self, operators: Vec<Text>)
+        ensures full { full_of self.new ≡ operators.items }
+        ensures peers { peers_of self.new ≡ peers_of self.old }
+    {
+        self.full = operators;
+    }
+
+    /// How many events the hub has taken from it. After 2^64 it begins again.
+    pub fn taken(&self) -> u64 {
+        self.taken
+    }
+
     /// All connections end for a fault, after which no event is handed to the hub. Those that are open are closed with
     /// the code 1011 (RFC 6455, section 7.4.1).
     pub fn fail_all(&mut self)
@@ -63,11 +85,24 @@ impl<T: Read + Write + Served + Drop> Gateway<T> {
         self.peers.fail_all();
     }
 
-    /// Whether there is a peer at that place that is an operator.
-    pub fn is_operator(&self, place: usize) -> bool
-        ensures there { (other : Peer T) → place < length (peers_of self.now) → result ≡ is_operator_peer (slice_index_or (peers_of self.now) place other) }
-        ensures missing { length (peers_of self.now) ≤ place → result ≡ false }
+    /// All connections end as the server stops. Those that are open are closed with the code 1001 (RFC 6455, section
+    /// 7.4.1).
+    pub fn end_all(&mut self)
+        ensures { AllZip (Stopped T.contents) (peers_of self.old) (peers_of self.new) }
     {
-        place < self.count() && self.peers.peer(place).route().is_operator()
+        self.peers.end_all();
+    }
+
+    /// What the peer at that place stands for, if there is a peer.
+    pub fn route(&self, place: usize) -> Option<&Route>
+        ensures there { (other : Peer T) → place < length (peers_of self.now)
+            → option_map (λ r. r.now) result ≡ Some (route_of (slice_index_or (peers_of self.now) place other)) }
+        ensures missing { length (peers_of self.now) ≤ place → result ≡ None }
+    {
+        if place < self.count() {
+            Some(self.peers.peer(place).route())
+        } else {
+            None
+        }
     }
 }

@@ -22,6 +22,8 @@ pub enum Refusal {
     Crowded,
     /// The path leads to no station and no operator that is known here. It was answered 404.
     Unknown,
+    /// A page of another origin asked. It was answered 403.
+    Foreign,
     /// The operator has as many connections as it may have. It was answered 503.
     TooMany,
     /// The request is no handshake of WebSocket 13. It was answered 405 or 426.
@@ -33,11 +35,12 @@ pub enum Refusal {
 }
 
 impl Refusal {
-    /// Why a request is so answered. A health check isn't refused.
+    /// Why a request is so answered. A health check isn't refused, nor is a request for the metrics.
     pub(crate) fn of(answer: Answer) -> Option<Refusal> {
         match answer {
-            Answer::Healthy => None,
+            Answer::Healthy | Answer::Metrics | Answer::MetricsHead => None,
             Answer::BadRequest => Some(Refusal::NoRequest),
+            Answer::Forbidden => Some(Refusal::Foreign),
             Answer::NotFound => Some(Refusal::Unknown),
             Answer::NotAllowed | Answer::UpgradeRequired => Some(Refusal::NoHandshake),
             Answer::TooLarge => Some(Refusal::TooLarge),

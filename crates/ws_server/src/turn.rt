@@ -1,7 +1,9 @@
 //! Serving the peers.
 ghost use Rattle.std.specs.Prelude.{◌≡◌, ◌<◌, Err, length};
+ghost use Rattle.std.specs.List.Sorted.{IsNonDecreasing};
 ghost use Rattle.hub_rows.specs.Reads.{IsCounted};
 ghost use Rattle.hub.specs.Hub.{hub_view, setting};
+ghost use Rattle.ws_peers.specs.Peers.{FailsOnlyAt, is_open_peer};
 ghost use Rattle.ws_server.specs.Steps.{Takes};
 ghost use Rattle.ws_server.specs.Tells.{peers_of};
 ghost use Rattle.ws_server.specs.Turns.{is_above};
@@ -34,6 +36,7 @@ impl<T: Read + Write + Served + Drop> Gateway<T> {
         ensures count { length (peers_of self.new) ≡ length (peers_of self.old) }
     {
         let outs = hub.handle(event)?;
+        self.taken = self.taken.wrapping_add(1);
         self.tell_all(near, &outs);
         Ok(())
     }
@@ -95,7 +98,7 @@ impl<T: Read + Write + Served + Drop> Gateway<T> {
         }
     }
 
-    /// Hands the disconnects of those that are to leave now to the hub, up to the first fault.
+    /// Hands the disconnects of those that are to leave now to the hub, by place, up to the first fault.
     fn part_each<S: Store + Drop, V: VendorHandler>(
         &mut self,
         hub: &mut Hub<S, V>,
@@ -105,20 +108,59 @@ impl<T: Read + Write + Served + Drop> Gateway<T> {
             (λ steps. Each (Parts T.contents (setting V.view hub.old).is_hosted moment) (peers_of self.old) (peers_of self.new) steps result) }
         ensures counted { IsCounted (hub_view S.view) hub.old hub.new (result ≡ Err Fault.Store) }
     {
-        if !self.peers.has_ended() {
-            return Ok(());
+        match self.peers.ended_in_order() {
+            Ok(places) => self.part_at(hub, moment, places.as_slice()),
+            Err(_) => self.part_all(hub, moment),
         }
+    }
+
+    /// The same, where those that aren't open are at those places.
+    fn part_at<S: Store + Drop, V: VendorHandler>(
+        &mut self,
+        hub: &mut Hub<S, V>,
+        moment: Moment,
+        places: &[usize],
+    ) -> Result<(), Fault>
+        requires ascending { IsNonDecreasing places.now }
+        requires listed { FailsOnlyAt is_open_peer places.now (peers_of self.old) }
+        ensures takes { Takes S.view V.view hub.old hub.new
+            (λ steps. Each (Parts T.contents (setting V.view hub.old).is_hosted moment) (peers_of self.old) (peers_of self.new) steps result) }
+        ensures counted { IsCounted (hub_view S.view) hub.old hub.new (result ≡ Err Fault.Store) }
+    {
+        let mut next = 0;
+        for place in places {
+            if *place < next {
+                continue;
+            }
+            if *place >= self.count() {
+                continue;
+            }
+            self.part(hub, *place, moment)?;
+            next = *place + 1;
+        }
+        Ok(())
+    }
+
+    /// The same, where there was no memory for a list of places.
+    fn part_all<S: Store + Drop, V: VendorHandler>(
+        &mut self,
+        hub: &mut Hub<S, V>,
+        moment: Moment,
+    ) -> Result<(), Fault>
+        ensures takes { Takes S.view V.view hub.old hub.new
+            (λ steps. Each (Parts T.contents (setting V.view hub.old).is_hosted moment) (peers_of self.old) (peers_of self.new) steps result) }
+        ensures counted { IsCounted (hub_view S.view) hub.old hub.new (result ≡ Err Fault.Store) }
+    {
         for n in 0..self.count() {
             self.part(hub, n, moment)?;
         }
         Ok(())
     }
 
-    /// One turn: serves the peers at those places, in that order, where a place is that in the order of admission,
-    /// from 0. One at which there is no peer, or that isn't above all before it, is passed over, so that each peer is
-    /// served once at most, in order of admission. Then the turn hands the disconnects of those that have ended to
-    /// the hub, in order of admission; and then a tick. It stops at the first fault. A disconnect that met one is
-    /// handed to the hub again in the next turn.
+    /// One turn: serves the peers at those places, in that order. One at which there is no peer, or that isn't above all
+    /// before it, is passed over, so that each peer is served once at most, by place. Then the turn hands the disconnects
+    /// of those that have ended to the hub, by place; and then a tick. It stops at the first fault. A disconnect that met
+    /// one is handed to the hub again in the next turn.
     pub fn turn<S: Store + Drop, V: VendorHandler>(
         &mut self,
         hub: &mut Hub<S, V>,
@@ -182,11 +224,11 @@ fn is_above(last: Option<usize>, place: usize) -> bool
 
 /// Notes the connections that have ended.
 fn note_ended<T: Read + Write + Drop>(peers: &Peers<T>, notes: &mut Notes) {
-    if !peers.has_ended() {
-        return;
-    }
-    for n in 0..peers.count() {
-        let peer = peers.peer(n);
+    for place in peers.ended() {
+        if *place >= peers.count() {
+            continue;
+        }
+        let peer = peers.peer(*place);
         if let Stage::Ended(cause) = peer.stage() {
             notes.add(Some(peer.route()), None, Happened::Ended(cause));
         }

@@ -1,10 +1,11 @@
 //! A connection, from its head to its admission.
-ghost use Rattle.std.specs.Prelude.{◌≡◌, ◌≢◌, IfOk, IfErr, Err, None, true, false};
+ghost use Rattle.std.specs.Prelude.{◌≡◌, ◌≢◌, IfOk, IfErr, Err, None, true, false, bytes_eq};
+ghost use Rattle.std.specs.List.{list_any};
 ghost use Rattle.hub_rows.specs.Reads.{IsCounted};
 ghost use Rattle.hub.specs.Hub.{hub_view, world, setting, is_clean};
 ghost use Rattle.ws_server.specs.Admits.{is_known, is_full};
 ghost use Rattle.ws_server.specs.Steps.{Takes};
-ghost use Rattle.ws_server.specs.Tells.{peers_of};
+ghost use Rattle.ws_server.specs.Tells.{peers_of, full_of};
 
 use crate::arrival::{Arrival, Client};
 use crate::gateway::Gateway;
@@ -26,7 +27,8 @@ impl<T: Read + Write + Served + Drop> Gateway<T> {
     ghost use Rattle.ws_server.specs.Admits.{Welcomes};
 
     /// Makes the handshake that the head of a stream asks for, and admits it. A station that the hub doesn't know and an
-    /// operator that it doesn't host are answered 404; an operator that has 32 open connections is answered 503.
+    /// operator that it doesn't host are answered 404; an operator that has 32 open connections is answered 503, and so is a
+    /// station of one that is named full.
     pub fn welcome<S: Store + Drop, V: VendorHandler>(
         &mut self,
         hub: &mut Hub<S, V>,
@@ -38,7 +40,7 @@ impl<T: Read + Write + Served + Drop> Gateway<T> {
             (λ steps. Welcomes T.remaining T.contents moment client.stream upgrade (peers_of self.old) (peers_of self.new) steps result) }
         ensures known { is_clean S.view hub.new → is_known (setting V.view hub.old).is_hosted (world S.view hub.old).rows upgrade.route ≡ false
             → peers_of self.new ≡ peers_of self.old }
-        ensures full { is_full upgrade.route (peers_of self.old) ≡ true → peers_of self.new ≡ peers_of self.old }
+        ensures full { is_full (full_of self.old) upgrade.route (peers_of self.old) ≡ true → peers_of self.new ≡ peers_of self.old }
         ensures hosted { is_clean S.view hub.new → IfErr result (λ f. f ≢ Fault.NoSuchOperator) }
         ensures counted { IsCounted (hub_view S.view) hub.old hub.new (result ≡ Err Fault.Store) }
     {
@@ -75,17 +77,35 @@ impl<T: Read + Write + Served + Drop> Gateway<T> {
     /// How a handshake for that route is refused, if it is.
     fn refusal(&self, route: &Route, is_known: bool) -> Option<Answer>
         ensures known { result ≡ None → is_known ≡ true }
-        ensures room { result ≡ None → is_full route.now (peers_of self.now) ≡ false }
+        ensures room { result ≡ None → is_full (full_of self.now) route.now (peers_of self.now) ≡ false }
     {
         if !is_known {
             return Some(Answer::NotFound);
         }
-        match route {
-            Route::Operator(op) if self.peers.count_of(op.as_str()) >= MAX_CONNECTIONS => Some(
-                Answer::Unavailable,
-            ),
-            Route::Operator(_) | Route::Station(_, _) => None,
+        if self.is_full(route) {
+            Some(Answer::Unavailable)
+        } else {
+            None
         }
+    }
+
+    /// Whether a connection more of that route is one too many of its operator.
+    fn is_full(&self, route: &Route) -> bool
+        ensures { result ≡ is_full (full_of self.now) route.now (peers_of self.now) }
+    {
+        match route {
+            Route::Operator(op) => self.peers.count_of(op.as_str()) >= MAX_CONNECTIONS,
+            Route::Station(op, _) => {
+                self.is_named_full(op.as_str()) && !self.peers.is_connected(route)
+            }
+        }
+    }
+
+    /// Whether an operator is named full.
+    fn is_named_full(&self, op: &str) -> bool
+        ensures { result ≡ list_any (λ o. bytes_eq o op.now) (full_of self.now) }
+    {
+        self.full.iter().any(|full| full.as_str() == op)
     }
 
     /// Answers a handshake that is refused, and closes its stream.

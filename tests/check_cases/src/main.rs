@@ -3,6 +3,7 @@
 
 mod connections;
 mod scripts;
+mod silence;
 mod tables;
 mod tally;
 
@@ -13,6 +14,7 @@ fn main(rt: HostRuntime) -> anyhow::Result<ExitCode> {
     let tables = tables::check(&rt)?;
     let connections = connections::check(&rt)?;
     let scripts = scripts::check(&rt)?;
-    let all = tables && connections && scripts;
+    let silence = silence::check(&rt)?;
+    let all = tables && connections && scripts && silence;
     Ok(ExitCode::from(if all { 0 } else { 1 }))
 }

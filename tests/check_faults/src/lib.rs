@@ -1,5 +1,5 @@
 //! Tests of what no file of cases can show: stores, handlers, readers, writers and streams
-//! that fail, numbers at their end, and two systems side by side.
+//! that fail or are slow, numbers at their end, and two systems side by side.
 #![tactic(auto)]
 
 #[cfg(test)]
@@ -18,3 +18,5 @@ mod scripts;
 mod streams;
 #[cfg(test)]
 mod two_systems;
+#[cfg(test)]
+mod unsent;

@@ -30,7 +30,7 @@ impl Server {
         let listener = TcpListener::bind(rt, ("127.0.0.1", 0_u16))?;
         listener.set_nonblocking(true)?;
         let operators = operators(alloc)?;
-        let lobby = Lobby::new(alloc)?;
+        let lobby = Lobby::new(alloc, Vec::new(alloc))?;
         Ok(Server {
             alloc,
             operators,
@@ -100,7 +100,8 @@ impl Server {
             return Ok(());
         };
         if stream.set_nonblocking(true).is_ok() && stream.set_nodelay(true).is_ok() {
-            self.lobby.enter(stream, Some(address), self.moment)?;
+            self.lobby
+                .enter(stream, Some(address), self.moment.seconds())?;
         }
         Ok(())
     }
@@ -108,8 +109,9 @@ impl Server {
     /// One turn: accepts one connection, polls those that wait, and serves each peer.
     pub fn turn(&mut self) -> Result<(), Fault> {
         self.accept()?;
+        let second = self.moment.seconds();
         self.lobby
-            .serve(&mut self.gateway, &mut self.hub, self.moment)?;
+            .serve(&mut self.gateway, &mut self.hub, self.moment, second)?;
         let places = self.places()?;
         self.gateway
             .turn(&mut self.hub, self.moment, places.as_slice())

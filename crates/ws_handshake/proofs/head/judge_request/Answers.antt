@@ -10,5 +10,5 @@ pub returns-in-Ok : goal.returns-in-Ok
 returns-in-Ok c =
     let request = c.args.request.now in
     let fields = fields_of request.bytes.now request.fields.now in
-    by_path c.in-Ok.uri c.args.target.now request.method.now request.minor fields request.len c.judge_path.result (search rules) c.in-Ok.ensures.ok
-    (subst (λ path. IfOk c.judge_path.result (PathJudged path request.method.now request.minor fields request.len)) c.path.ensures.value c.judge_path.ensures)
+    by_path request.origins.now c.in-Ok.uri c.args.target.now request.method.now request.minor fields request.len c.judge_path.result (search rules) c.in-Ok.ensures.ok
+    (subst (λ path. IfOk c.judge_path.result (PathJudged request.origins.now path request.method.now request.minor fields request.len)) c.path.ensures.value c.judge_path.ensures)

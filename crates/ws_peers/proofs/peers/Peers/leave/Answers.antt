@@ -1,28 +1,21 @@
-use Rattle.std.proofs.Common.{◌≡◌, arith, ap, length}
-use Rattle.ws_peers.proofs.ListLaws.{front_end, kept_zip, keyed_zip}
-use Rattle.ws_peers.proofs.PlaceLaws.{front_on}
-use Rattle.std.proofs.lemmas.Slice.Zip.{AllZip-map}
-use Rattle.ws_peers.specs.Peers.{leaves}
-use Rattle.ws_peers.proofs.StageLaws.{so_all, none_leaves, surely_so}
+use Rattle.std.proofs.Common.{arith, ◌∙◌, ap, sym, refl, subst}
+use Rattle.ws_peers.specs.Peers.{fails_at, is_open_peer, is_operator_peer, key_of_peer, leaves, places_of}
+use Rattle.std.proofs.Common.{map}
+use Rattle.ws_peers.proofs.EndedLaws.{fails_map}
+use Rattle.ws_peers.proofs.ListLaws.{keyed_map}
+use Rattle.ws_peers.proofs.PlaceLaws.{places_map}
+use Rattle.ws_peers.proofs.StageLaws.{leaves_keeps}
 use Rattle.ws_peers.proofs.peers.Peers.leave.Goals as goal
 
-pub loop-peer-preserved : goal.loop-peer-preserved
-loop-peer-preserved g c = front_on _ _ _ c.loop-peer.peer-index c.peer-item.result _ c.loop-peer.invariant (grind (arith, c.loop-peer.auto, c.loop-peer-test.true)) c.leave.ensures
-
 pub invariant_of-self : goal.invariant_of-self
-invariant_of-self g c = record {
-  places = kept_zip _ (λ p q. q ≡ leaves p) (λ p q e. ap (λ x. x.route) e) _ _
-      (front_end _ c.loop-peer.peer-index _ _ _ _ c.loop-peer.invariant (grind (arith, c.loop-peer.auto, c.loop-peer-test.false)) (grind (arith, c.loop-peer.auto, c.deref_mut-peer-items.ensures.len, ap length c.deref_mut-peer-items.ensures.value)))
-      c.args.self.now.places;
-  room = grind arith;
-  keyed = keyed_zip _ (λ p q. q ≡ leaves p) (λ p q e. ap (λ x. x.route) e) _ _
-      (front_end _ c.loop-peer.peer-index _ _ _ _ c.loop-peer.invariant (grind (arith, c.loop-peer.auto, c.loop-peer-test.false)) (grind (arith, c.loop-peer.auto, c.deref_mut-peer-items.ensures.len, ap length c.deref_mut-peer-items.ensures.value)))
-      c.args.self.now.keyed;
-  ended = surely_so _ _ c.if-not-self.false;
-}
-
-pub returns : goal.returns
-returns g c = AllZip-map leaves _ _ (front_end _ c.loop-peer.peer-index _ _ _ _ c.loop-peer.invariant (grind (arith, c.loop-peer.auto, c.loop-peer-test.false)) (grind (arith, c.loop-peer.auto, c.deref_mut-peer-items.ensures.len, ap length c.deref_mut-peer-items.ensures.value)))
-
-pub returns-then-not-self : goal.returns-then-not-self
-returns-then-not-self g c = none_leaves _ (so_all _ _ c.if-not-self.true c.args.self.now.ended)
+invariant_of-self g c =
+    let all = c.args.self.now in
+    let ps = all.items.items in
+    let is = c.leave_each.ensures.leaves in
+    record {
+      places = all.places ∙ sym (ap (places_of is_operator_peer 0) is ∙ places_map is_operator_peer leaves (λ p. refl) 0 ps);
+      room = omega (arith, all.room, c.leave_each.ensures.len);
+      keyed = all.keyed ∙ sym (ap (map key_of_peer) is ∙ keyed_map leaves (λ p. refl) ps);
+      ended_room = omega (arith, all.ended_room, c.leave_each.ensures.len);
+      listed = λ n fails. all.listed n (sym (ap (λ qs. fails_at is_open_peer qs n) is ∙ fails_map is_open_peer leaves leaves_keeps ps n) ∙ fails);
+    }

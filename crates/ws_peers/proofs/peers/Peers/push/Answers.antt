@@ -3,7 +3,7 @@ use Rattle.ws_peers.specs.Routes.{is_operator}
 use Rattle.ws_peers.specs.Peers.{is_open_peer, key_of_peer, is_operator_peer}
 use Rattle.ws_peers.proofs.ListLaws.{pushed, keyed_pushed}
 use Rattle.ws_peers.proofs.PlaceLaws.{places_bound}
-use Rattle.ws_peers.proofs.StageLaws.{ended_pushed}
+use Rattle.ws_peers.proofs.EndedLaws.{fails_pushed}
 use Rattle.ws_peers.proofs.peers.Peers.push.Goals as goal
 
 pub list_place-requires : goal.list_place-requires
@@ -20,5 +20,6 @@ invariant_of-self g c =
           (c.list_place.ensures.items ∙ ap (λ n. if c.is_operator.result then all.operators.items ++ n ∷ [] else all.operators.items) (c.len.ensures ∙ all.items.ok.0) ∙ ap (λ b. if b then all.operators.items ++ length all.items.items ∷ [] else all.operators.items) test);
       room = omega (arith, c.make_way.ensures.room.1, c.list_place.ensures.capacity, c.push_reserved-2.ensures.len);
       keyed = keyed_pushed all.keys.items c.push_reserved.new.items.items c.key.result all.items.items c.push_reserved-2.new.items.items c.new-peer.result (c.key.ensures ∙ ap key_of_peer (sym c.new-peer.ensures)) all.keyed c.push_reserved.ensures.items c.push_reserved-2.ensures.items;
-      ended = ended_pushed all.has_ended all.items.items c.push_reserved-2.new.items.items c.new-peer.result c.push_reserved-2.ensures.items (ap is_open_peer c.new-peer.ensures) all.ended;
+      ended_room = omega (arith, c.make_way.ensures.room.1, c.push_reserved-2.ensures.len);
+      listed = fails_pushed is_open_peer all.ended.items all.items.items c.push_reserved-2.new.items.items c.new-peer.result c.push_reserved-2.ensures.items (ap is_open_peer c.new-peer.ensures) all.listed;
     }

@@ -1,5 +1,7 @@
-use Rattle.std.proofs.Common.{Ok, arith, ◌∙◌}
-use Rattle.ws_server.specs.Admits.{WelcomesSome}
+use Rattle.std.proofs.Common.{Err, Ok, arith, subst, ◌∙◌}
+use Rattle.ws_server.specs.Admits.{WelcomesOne, WelcomesSome}
+use Rattle.ws_server.specs.Lobbies.{origins_of}
+use Rattle.ws_server.specs.Steps.{Takes}
 use Rattle.ws_server.specs.Tells.{peers_of}
 use Rattle.ws_server.proofs.StepLaws.{counted_more, taken_on, welcomes-more, welcomes-fails}
 use Rattle.ws_server.proofs.lobby.Lobby.serve.Goals as goal
@@ -7,25 +9,30 @@ use Rattle.ws_server.proofs.lobby.Lobby.serve.Goals as goal
 pub returns-in_err-look-clause-takes : goal.returns-in_err-look-clause-takes
 returns-in_err-look-clause-takes g c =
     let inv = c.loop.invariant in
+    let origins = origins_of c.args.self.now in
     let e = c.in_err-look.ensures in
+    let took = subst (λ o. Takes g.S.Store.view g.V.VendorHandler.view c.loop.hub c.look.new.hub (λ steps. WelcomesOne g.T.Read.remaining g.T.Write.contents c.args.moment o (peers_of c.loop.gateway) (peers_of c.look.new.gateway) steps (Err c.in_err-look.field-0.0))) inv.origins in
     let old = peers_of c.args.gateway.now in
     let mid = peers_of c.loop.gateway in
     let new = peers_of c.look.new.gateway in
     let r = c.from_residual.result in
-    taken_on _ _ _ _ _ _ _ (λ steps. WelcomesSome g.T.Read.remaining g.T.Write.contents c.args.moment old new steps r)
-    (λ before after first more. welcomes-fails g.T.Read.remaining g.T.Write.contents c.args.moment old mid new before after c.in_err-look.field-0.0 r c.from_residual.ensures.0 c.from_residual.ensures.1 first more)
-    e.counted.was_clean inv.takes e.takes
+    taken_on _ _ _ _ _ _ _ (λ steps. WelcomesSome g.T.Read.remaining g.T.Write.contents c.args.moment origins old new steps r)
+    (λ before after first more. welcomes-fails g.T.Read.remaining g.T.Write.contents c.args.moment origins old mid new before after c.in_err-look.field-0.0 r c.from_residual.ensures.0 c.from_residual.ensures.1 first more)
+    e.counted.was_clean inv.takes (took e.takes)
 
 pub loop-preserved : goal.loop-preserved
 loop-preserved g c =
     let inv = c.loop.invariant in
+    let origins = origins_of c.args.self.now in
     let e = c.in_ok-look.ensures in
+    let took = subst (λ o. Takes g.S.Store.view g.V.VendorHandler.view c.loop.hub c.look.new.hub (λ steps. WelcomesOne g.T.Read.remaining g.T.Write.contents c.args.moment o (peers_of c.loop.gateway) (peers_of c.look.new.gateway) steps (Ok c.in_ok-look.field-0))) inv.origins in
     let old = peers_of c.args.gateway.now in
     let mid = peers_of c.loop.gateway in
     let new = peers_of c.look.new.gateway in
     record {
-      takes = taken_on _ _ _ _ _ _ _ (λ steps. WelcomesSome g.T.Read.remaining g.T.Write.contents c.args.moment old new steps (Ok tt))
-          (λ before after first more. welcomes-more g.T.Read.remaining g.T.Write.contents c.args.moment old mid new before after first more) e.counted.was_clean inv.takes e.takes;
+      takes = taken_on _ _ _ _ _ _ _ (λ steps. WelcomesSome g.T.Read.remaining g.T.Write.contents c.args.moment origins old new steps (Ok tt))
+          (λ before after first more. welcomes-more g.T.Read.remaining g.T.Write.contents c.args.moment origins old mid new before after first more) e.counted.was_clean inv.takes (took e.takes);
       counted = counted_more g.S.Store.view g.V.VendorHandler.view _ _ _ _ _ inv.counted e.counted;
       fewer = omega (arith, e.fewer, inv.fewer);
+      origins = e.origins ∙ inv.origins;
     }

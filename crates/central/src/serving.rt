@@ -1,0 +1,127 @@
+//! Opening the records of a server, and serving by them.
+
+use crate::command::ServeOptions;
+use crate::fault::RunFault;
+use crate::journal::{Journal, opening_text, start_text};
+use crate::records::{ANSWERS, open, size_of};
+use crate::server::Server;
+use crate::stderr::takes_line;
+use cached::Cached;
+use clients::now;
+use hub_rows::Store;
+use ocpp_types::Text;
+use ready_streams::Streams;
+use sqlite::Alter;
+use station_calls::VendorHandler;
+use std::fs;
+use std::net::SocketAddr;
+use std::time::{Duration, Instant};
+use store_sql::SqlStore;
+
+/// The bytes of a file whose opening takes long.
+const LARGE: u64 = 10_000_000;
+
+/// Serves, by the records of a file and by those handlers of vendors' messages. A fault of a turn is written to
+/// standard error as `fault NAME`, and the next turn follows. Errors: a file that can't be opened or isn't ours, or that
+/// fails later, operators that can't be hosted, an address that can't be listened on, a wait that fails, a clock without
+/// a moment, no memory at the start.
+pub fn serve<V: VendorHandler>(
+    rt: &HostRuntime,
+    options: ServeOptions,
+    vendors: Vec<V>,
+) -> Result<(), RunFault> {
+    let streams = listen(rt, options.address)?;
+    tell_opening(rt, &options)?;
+    if let Some(path) = &options.stop_file {
+        let _none = fs::remove_file(rt, path.as_str());
+    }
+    let began = Instant::now(rt)?;
+    let store = open(rt, options.db.as_str(), options.file)?;
+    let opening = began.elapsed(rt)?;
+    serve_database(rt, store, streams, options, vendors, opening)
+}
+
+/// Listens at an address. Until the file is open, who connects waits in the system's queue.
+fn listen(rt: &HostRuntime, address: SocketAddr) -> Result<Streams, RunFault> {
+    match Streams::listen(rt.alloc(), rt, address) {
+        Ok(streams) => Ok(streams),
+        Err(error) => Err(RunFault::at(address, error)),
+    }
+}
+
+/// Writes to the log how large the file is and what its opening takes, where that is long.
+fn tell_opening(rt: &HostRuntime, options: &ServeOptions) -> Result<(), RunFault> {
+    let size = size_of(rt, options.db.as_str());
+    if size < LARGE {
+        return Ok(());
+    }
+    let text = opening_text(rt.alloc(), options.db.as_str(), size)?;
+    let moment = now(rt).ok_or(RunFault::Clock)?;
+    Journal::new(rt, options.log).write_line(moment, text.as_str());
+    Ok(())
+}
+
+/// Serves by the records of a database.
+fn serve_database<A: Alter + Drop, V: VendorHandler>(
+    rt: &HostRuntime,
+    store: SqlStore<A>,
+    streams: Streams,
+    options: ServeOptions,
+    vendors: Vec<V>,
+    opening: Duration,
+) -> Result<(), RunFault> {
+    serve_cached(rt, store, streams, options, vendors, opening)
+}
+
+/// Serves by the records of a store, behind a cache.
+fn serve_cached<S: Store + Drop, V: VendorHandler>(
+    rt: &HostRuntime,
+    store: S,
+    streams: Streams,
+    options: ServeOptions,
+    vendors: Vec<V>,
+    opening: Duration,
+) -> Result<(), RunFault> {
+    let store = Cached::new(rt.alloc(), store, ANSWERS)?;
+    serve_over(rt, store, streams, options, vendors, opening)
+}
+
+/// Serves by the records of a store, whose opening took so long.
+fn serve_over<S: Store + Drop, V: VendorHandler>(
+    rt: &HostRuntime,
+    mut store: S,
+    streams: Streams,
+    options: ServeOptions,
+    vendors: Vec<V>,
+    opening: Duration,
+) -> Result<(), RunFault> {
+    let stations = count_stations(&mut store, options.operators.as_slice());
+    let start = start_text(rt.alloc(), &options, opening, stations)?;
+    let turns = options.turns;
+    let address = options.address;
+    let journal = Journal::new(rt, options.log);
+    let mut server = Server::new(rt, store, streams, options, vendors, journal)?;
+    warn_of(rt, address);
+    server.tell_start(start.as_str());
+    server.run(rt, turns)
+}
+
+/// Warns on standard error of an address that is reached from other machines. If the warning can't be written it is lost.
+fn warn_of(rt: &HostRuntime, address: SocketAddr) {
+    if !address.ip().is_loopback() && takes_line(0) {
+        let _ = eprintln!(rt;
+            "warning: {address} may be reached from other machines, and the server authenticates nobody (docs/OPERATIONS.md, A TLS proxy)"
+        );
+    }
+}
+
+/// How many stations the operators have on record. Those that can't be read don't count.
+fn count_stations<S: Store>(store: &mut S, operators: &[Text]) -> usize {
+    let mut count = 0_usize;
+    for operator in operators {
+        if let Ok(found) = store.stations(operator.as_str()) {
+            count = count.saturating_add(found.as_slice().len());
+        }
+    }
+    count
+}

@@ -1,0 +1,22 @@
+use Rattle.std.proofs.Common.{Ok, subst, ◌∙◌, ◌+◌, ℕ}
+use Rattle.hub.specs.Hub.{setting}
+use Rattle.hub.specs.World.{Setting}
+use Rattle.ws_peers.specs.declared.peer.Peer.{Peer}
+use Rattle.ws_server.specs.Tells.{peers_of}
+use Rattle.ws_server.specs.Turns.{Change, FirstPlaces, Parts}
+use Rattle.ws_server.proofs.StepLaws.{counted_more, taken_on, place_more}
+use Rattle.ws_server.proofs.gateway.Gateway.part_all.Goals as goal
+
+pub loop-n-preserved : goal.loop-n-preserved
+loop-n-preserved g c =
+    let inv = c.loop-n.invariant in
+    let e = c.in_ok-part.ensures in
+    let Under : Setting → ℕ → Change (Peer _) = λ st. Parts g.T.Write.contents st.is_hosted c.args.moment in
+    let C = Under (setting g.V.VendorHandler.view c.args.hub.now) in
+    record {
+      takes = taken_on _ _ _ _ _ _ _ (λ steps. FirstPlaces C (c.loop-n.n + 1) (peers_of c.args.self.now) (peers_of c.part.new.self) steps)
+          (λ before after first more. place_more C c.loop-n.n _ (peers_of c.loop-n.self) (peers_of c.part.new.self) before after first (subst (λ st. Under st c.loop-n.n (peers_of c.loop-n.self) (peers_of c.part.new.self) after (Ok tt)) inv.takes.stays more)) e.counted.was_clean inv.takes e.takes;
+      counted = counted_more g.S.Store.view g.V.VendorHandler.view _ _ _ _ _ inv.counted e.counted;
+      count = e.count ∙ inv.count;
+      end = inv.end;
+    }
