@@ -9,10 +9,10 @@ use ws_peers::Route;
 use ws_server::{Happened, Note};
 
 /// How many kinds of faults there are.
-pub const FAULTS: usize = 3;
+pub const FAULTS: usize = 4;
 
 /// The kinds of faults by their names, in order.
-pub const FAULT_NAMES: [&str; FAULTS] = ["NoMemory", "Store", "NoSuchOperator"];
+pub const FAULT_NAMES: [&str; FAULTS] = ["NoMemory", "Store", "TooLong", "NoSuchOperator"];
 
 /// The seconds of a window in which the longest of something is sought.
 const WINDOW: u64 = 60;
@@ -181,6 +181,7 @@ fn place_of_fault(fault: Fault) -> usize {
     match fault {
         Fault::NoMemory => 0,
         Fault::Store => 1,
-        Fault::NoSuchOperator => 2,
+        Fault::TooLong => 2,
+        Fault::NoSuchOperator => 3,
     }
 }

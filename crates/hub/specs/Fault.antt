@@ -4,7 +4,8 @@ use Rattle.hub_rows.specs.declared.store.StoreFault.TheVariants as store_fault
 use Rattle.hub.specs.declared.fault.Fault.{Fault}
 use Rattle.hub.specs.declared.fault.Fault.TheVariants as fault
 
--- Failed of a store is the fault Store, and NoMemory the fault NoMemory
+-- Failed of a store is the fault Store, and the others have the same names
 abbrev pub fault_of : StoreFault → Fault
 fault_of store_fault.NoMemory = fault.NoMemory
 fault_of store_fault.Failed = fault.Store
+fault_of store_fault.TooLong = fault.TooLong

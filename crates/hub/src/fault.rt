@@ -17,6 +17,9 @@ pub enum Fault {
     /// The store failed.
     #[error("Store")]
     Store,
+    /// More rows were asked for than the store may give at once.
+    #[error("TooLong")]
+    TooLong,
     /// The event's operator isn't hosted.
     #[error("NoSuchOperator")]
     NoSuchOperator,
@@ -29,6 +32,7 @@ impl From<StoreFault> for Fault {
         match refused {
             StoreFault::NoMemory => Fault::NoMemory,
             StoreFault::Failed => Fault::Store,
+            StoreFault::TooLong => Fault::TooLong,
         }
     }
 }

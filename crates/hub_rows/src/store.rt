@@ -39,6 +39,9 @@ pub enum StoreFault {
     /// What the store depends on failed, as a database.
     #[error("the store failed")]
     Failed,
+    /// The answer has more rows than the store may give at once.
+    #[error("too many rows")]
+    TooLong,
 }
 
 impl From<NoMemory> for StoreFault {

@@ -65,8 +65,8 @@ impl From<Fault> for LineFault {
     fn from(fault: Fault) -> LineFault {
         match fault {
             Fault::NoMemory => LineFault::NoMemory,
-            // An event that was read from a line is of a hosted operator.
-            Fault::Store | Fault::NoSuchOperator => LineFault::Store,
+            // An event that was read from a line is of a hosted operator, and the store of a replay has no bound.
+            Fault::Store | Fault::TooLong | Fault::NoSuchOperator => LineFault::Store,
         }
     }
 }

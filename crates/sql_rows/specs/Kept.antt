@@ -57,7 +57,6 @@ pub record Serves (s : State) : Type 0 where
   pub numbered : IsNumbered s.now.trees
   pub committed : s.committed ≡ s.now
   pub mode : s.in_transaction ≡ false
-  pub limit : s.step_limit ≡ None
 
 abbrev pub IsServing : State → Type 0
 IsServing s = IsTrue s.is_open → Serves s
@@ -190,7 +189,6 @@ pub record Within (s : State) : Type 0 where
   pub sound : IsDatabase s.now
   pub rows : AreTyped hub_schema hub_good s.now.trees
   pub mode : s.in_transaction ≡ true
-  pub limit : s.step_limit ≡ None
 
 abbrev pub IsInside : State → Type 0
 IsInside s = IsTrue s.is_open → Within s

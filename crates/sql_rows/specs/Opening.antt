@@ -77,7 +77,6 @@ pub record WithinAs (rows : Trees) (schema : Schema) (s : State) : Type 0 where
   pub sound : IsDatabase s.now
   pub kept : KeepsRows schema.tables rows s.now.trees
   pub mode : s.in_transaction ≡ true
-  pub limit : s.step_limit ≡ None
 
 abbrev pub IsInsideAs : Trees → Schema → State → Type 0
 IsInsideAs rows schema s = IsTrue s.is_open → WithinAs rows schema s
@@ -103,7 +102,6 @@ pub record HasTables (rows : Rows) (s : State) : Type 0 where
   pub schema_is : s.now.schema ≡ hub_schema
   pub holds : Holds rows s.now.trees
   pub mode : s.in_transaction ≡ true
-  pub limit : s.step_limit ≡ None
 
 -- a part of the transaction commits nothing; the connection is the one that was lent
 pub record IsPart {S : Type 0} (g : Ghosts S) (old new : Transaction S) : Type 0 where
@@ -150,7 +148,6 @@ pub record Rested (s : State) : Type 0 where
   pub sound : IsTrue s.is_open → IsDatabase s.now
   pub settled : IsTrue s.is_open → s.committed ≡ s.now
   pub mode : s.in_transaction ≡ false
-  pub limit : s.step_limit ≡ None
 
 -- all is as it was, and nothing was committed
 pub record IsSpared (old new : State) : Type 0 where

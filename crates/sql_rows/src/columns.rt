@@ -17,6 +17,7 @@ pub fn told(error: Error) -> StoreFault
 {
     match error {
         Error::SqliteFailure(ErrorCode::OutOfMemory) => StoreFault::NoMemory,
+        Error::SqliteFailure(ErrorCode::OperationInterrupted) => StoreFault::TooLong,
         _ => StoreFault::Failed,
     }
 }

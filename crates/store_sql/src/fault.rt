@@ -81,7 +81,7 @@ impl From<StoreFault> for PrepareFault {
     fn from(fault: StoreFault) -> PrepareFault {
         match fault {
             StoreFault::NoMemory => PrepareFault::NoMemory,
-            StoreFault::Failed => PrepareFault::Failed,
+            StoreFault::Failed | StoreFault::TooLong => PrepareFault::Failed,
         }
     }
 }
