@@ -26,6 +26,15 @@ const MOST_STATIONS: u32 = 10_000;
 /// The most that can be said.
 const MAX_STATIONS: i64 = 1_000_000;
 
+/// The most rows of a listing, if nothing else is said. At 134 bytes a line they have room at an operator's connection.
+const LONGEST: u32 = 125_000;
+
+/// The least that can be said.
+const MIN_LONGEST: i64 = 1_000;
+
+/// The most that can be said.
+const MAX_LONGEST: i64 = 1_000_000_000;
+
 /// What a command line asks for.
 #[derive(Drop)]
 pub enum Plan {
@@ -67,6 +76,8 @@ pub struct ServeOptions {
     pub turns: Option<u32>,
     /// The most connections of stations that an operator has.
     pub most_stations: u32,
+    /// The most rows of a listing.
+    pub longest: u32,
     /// The path of a file that ends it as it appears.
     pub stop_file: Option<Text>,
     /// Which lines its log has.
@@ -139,6 +150,9 @@ fn serve_options(alloc: Global, found: &ArgMatches) -> Result<ServeOptions, Erro
         most_stations: found
             .get_one::<u32>("connections-per-operator")
             .unwrap_or(MOST_STATIONS),
+        longest: found
+            .get_one::<u32>("longest-listing")
+            .unwrap_or(LONGEST),
         stop_file: text_if_any(alloc, found.get_str("stop-file"))?,
         log: level_of(found.get_str("log").unwrap_or("connections")),
     })
@@ -243,6 +257,7 @@ fn serve_command<'a>(alloc: Global) -> Result<Command<'a>, AllocError> {
         .arg(operators_arg(alloc))?
         .arg(origin_arg(alloc))?
         .arg(most_stations_arg(alloc))?
+        .arg(longest_arg(alloc))?
         .arg(turns_arg(alloc))?
         .arg(stop_file_arg(alloc))?
         .arg(log_arg(alloc))
@@ -277,6 +292,15 @@ fn most_stations_arg<'a>(alloc: Global) -> Arg<'a> {
             "The most connections of stations that an operator has at once, 10000 if it isn't given",
         )
         .value_parser(value_parser!(u32).range(1..=MAX_STATIONS))
+}
+
+/// The most rows of a listing.
+fn longest_arg<'a>(alloc: Global) -> Arg<'a> {
+    Arg::new(alloc, "longest-listing")
+        .long("longest-listing")
+        .value_name("N")
+        .help("The most rows of a listing, 125000 if it isn't given")
+        .value_parser(value_parser!(u32).range(MIN_LONGEST..=MAX_LONGEST))
 }
 
 /// The file that ends the server.

@@ -116,10 +116,8 @@ impl<S: Store + Drop, V: VendorHandler> Server<S, V> {
         let service = Service::new(alloc, options.operators.as_slice())?;
         let metrics = Metrics::new(alloc, service.operators())?;
         let hub = hub_of(alloc, store, options.operators, vendors)?;
-        let mut gateway = Gateway::new(alloc);
-        gateway.keep_notes();
-        let mut lobby = Lobby::new(alloc, options.origins)?;
-        lobby.keep_notes();
+        let gateway = gateway_with_notes(alloc);
+        let lobby = lobby_with_notes(alloc, options.origins)?;
         streams.set_second(0);
         Ok(Server {
             alloc,
@@ -327,7 +325,7 @@ impl<S: Store + Drop, V: VendorHandler> Server<S, V> {
         let Err(fault) = answer else {
             return;
         };
-        self.has_faulted = true;
+        self.has_faulted = !matches!(fault, Fault::TooLong);
         if matches!(fault, Fault::Store) {
             self.hurt = Some(self.second);
             self.lobby.set_hurt(true);
@@ -462,6 +460,20 @@ impl<S: Store + Drop, V: VendorHandler> Server<S, V> {
         }
         Ok(())
     }
+}
+
+/// The admitted connections, of which there are none yet. What becomes of them is noted.
+fn gateway_with_notes(alloc: Global) -> Gateway<ReadyStream> {
+    let mut gateway = Gateway::new(alloc);
+    gateway.keep_notes();
+    gateway
+}
+
+/// Those whose handshake isn't done, as well.
+fn lobby_with_notes(alloc: Global, origins: Vec<Text>) -> Mem<Lobby<ReadyStream>> {
+    let mut lobby = Lobby::new(alloc, origins)?;
+    lobby.keep_notes();
+    Ok(lobby)
 }
 
 /// Whether a fault was a short time before that second.

@@ -27,7 +27,7 @@ txs_up db = is_arranged (cmp txs) (by_key_total txs.key) (map (typed txs) (db tx
 pub values_up : (db : Trees) → IsStrictlySortedBy (cmp meter_values) (rows_in meter_values db)
 values_up db = is_arranged (cmp meter_values) (by_key_total meter_values.key) (map (typed meter_values) (db meter_values.table.tree))
 
-both_pass : {R : Type 0} (p q : R → Bool) (rows : List R) → filter (λ r. p r && q r) rows ≡ filter q (filter p rows)
+pub both_pass : {R : Type 0} (p q : R → Bool) (rows : List R) → filter (λ r. p r && q r) rows ≡ filter q (filter p rows)
 both_pass p q [] = refl
 both_pass p q (x ∷ rows) =
     elim (p x) as (λ b. cond (b && q x) (x ∷ filter (λ r. p r && q r) rows) (filter (λ r. p r && q r) rows) ≡ filter q (cond b (x ∷ filter p rows) (filter p rows))) [

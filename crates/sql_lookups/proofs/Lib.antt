@@ -4,3 +4,4 @@ pub mod PageLaws
 pub mod UnfoldLaws
 pub mod ForgetLaws
 pub mod ValueLaws
+pub mod ChosenLaws

@@ -9,7 +9,7 @@ use Rattle.sqlite.specs.State.{State}
 use Rattle.hub_rows.specs.declared.reading_row.ReadingRow.{ReadingRow}
 use Rattle.hub_rows.specs.Keyed.{by_key, first, put_all}
 use Rattle.hub_rows.specs.Rows.{reading_key}
-use Rattle.hub_rows.specs.Transactions.{last_reading_in, reading_rows, readings_in}
+use Rattle.hub_rows.specs.Transactions.{last_reading_in, reading_rows}
 use Rattle.meter_values.specs.declared.meter_value.MeterValue.{MeterValue}
 use Rattle.meter_values.specs.declared.meter_value.Sampled.{Sampled}
 use Rattle.meter_values.specs.Readings.{reading_of}
@@ -18,7 +18,7 @@ use Rattle.sql_rows.specs.Kept.{AreTopCells, IsServing, IsTop, ShowsTop, ShowsTo
 use Rattle.sql_rows.specs.TypedTable.{TypedTable, cmp, rows_in}
 use Rattle.sql_rows.specs.TypedTables.{meter_values, first_and_count, first_and_count_cells, is_meter_value, sampled_row, sampled_rows, unfolded, IsLastOf}
 use Rattle.sql_rows.specs.Values.{numbers_in}
-use Rattle.sql_rows.proofs.MeterValueLaws.{filter-unfolded, last_of_top}
+use Rattle.sql_rows.proofs.MeterValueLaws.{last_of_top}
 use Rattle.sql_rows.proofs.RowEdits.{rows-last}
 use Rattle.sql_rows.proofs.StoreLemmas.{commits_as}
 use Rattle.sql_lookups.specs.Asks.{AreLastNumbers, AsksIn, IsTopRow}
@@ -30,12 +30,6 @@ sampled_more op station first connector transaction at xs x n next =
     let v : MeterValue = record { connector = connector; transaction = transaction; at = at; sampled = [] } in
     let many = length-map xs (reading_of v) in
     ap (reading_rows op station first) (map-append (reading_of v) xs (x ∷ [])) ∙ rows-last op station first (map (reading_of v) xs) (reading_of v x) n (omega (arith, next, many))
-
--- the readings that pass
-pub readings_found : {E : Type 0} (op station : List ℕ) (n : Option ℕ) (all values : List MeterValueRow) (q : Result (List ReadingRow) E) → values ≡ filter (λ m. bytes_eq m.op op && is_meter_value station n m) all
-    → IfOk q (λ l. l ≡ flat_map unfolded values) → IfOk q (λ l. l ≡ readings_in op station n (flat_map unfolded all))
-readings_found op station n all values (Ok l) are is = is ∙ ap (flat_map unfolded) are ∙ sym (filter-unfolded op station n all)
-readings_found op station n all values (Err e) are is = tt
 
 -- the last number
 pub last_found : {E : Type 0} (op station : List ℕ) (all : List MeterValueRow) (row : Option MeterValueRow) (q : Result ℕ E) → IsTopRow (λ m. m.first) (filter (λ m. bytes_eq m.op op && is_meter_value station None m) all) row

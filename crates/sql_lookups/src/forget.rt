@@ -1,23 +1,22 @@
 //! What of a station's history may go. Its rows are looked up page by page, so that few are held at once.
-ghost use Rattle.std.specs.Prelude.{◌≡◌, ◌<◌, ◌≤◌, ◌-◌, ◌++◌, ◌&&◌, nat_lt, [], ◌∷◌, cond, filter, map, take, length, OnOk};
+ghost use Rattle.std.specs.Prelude.{◌≡◌, ◌<◌, ◌≤◌, ◌-◌, ◌++◌, ◌&&◌, nat_lt, [], ◌∷◌, cond, filter, take, length, OnOk};
 ghost use Rattle.std.specs.List.Sorted.{IsStrictlySortedBy};
 ghost use Rattle.sqlite.specs.Held.{state};
 ghost use Rattle.hub_rows.specs.Forgetting.{goes_with, named_tx, tx_goes};
-ghost use Rattle.hub_rows.specs.Keyed.{by_key, number_key};
+ghost use Rattle.hub_rows.specs.Keyed.{by_key};
 ghost use Rattle.hub_rows.specs.Lookups.{forgettable_in};
 ghost use Rattle.hub_rows.specs.Rows.{reading_key};
 ghost use Rattle.hub_rows.specs.Transactions.{txs_in};
 ghost use Rattle.sql_lookups.specs.Asks.{Asks};
 ghost use Rattle.sql_lookups.specs.Forgotten.{IsNamed, is_old, old_readings_below, old_txs_below};
-ghost use Rattle.sql_lookups.specs.Pages.{after_page};
 
+use crate::pages::{after_txs, after_values};
 use crate::readings::{last_number, last_value, readings_from, unfold, values_page};
 use crate::txs::{find_tx, last_tx, txs_page};
 use hub_rows::{
     History, MAX_FORGOTTEN, ReadingRow, StoreFault, TxRow, goes_with, reading_numbers, tx_goes,
 };
 use ocpp_types::{Listed, Mem, Moment};
-use sql_rows::MeterValueRow;
 use sqlite::{Alter, Connection};
 use std::alloc::Global;
 
@@ -87,32 +86,6 @@ fn first_of<R: Drop>(rows: Listed<R>, most: usize) -> Listed<R>
     let mut rows = rows.into_vec();
     rows.truncate(most);
     Listed::from(rows)
-}
-
-// ---- pages
-
-/// Where the page of meter values after this one begins: after its last row, or at the end where it has none.
-fn after_values(first: u32, end: u32, page: &[MeterValueRow]) -> u32
-    requires { first < end }
-    ensures forward { first < result }
-    ensures next { IsStrictlySortedBy (by_key (number_key (λ m. m.first))) page.now → first < after_page end (map (λ m. m.first) page.now) → after_page end (map (λ m. m.first) page.now) ≤ end → result ≡ after_page end (map (λ m. m.first) page.now) }
-{
-    match page.last() {
-        Some(row) => row.first.max(first).saturating_add(1),
-        None => end,
-    }
-}
-
-/// The same of transactions.
-fn after_txs(first: u32, end: u32, page: &[TxRow]) -> u32
-    requires { first < end }
-    ensures forward { first < result }
-    ensures next { IsStrictlySortedBy (by_key (number_key (λ t. t.number))) page.now → first < after_page end (map (λ t. t.number) page.now) → after_page end (map (λ t. t.number) page.now) ≤ end → result ≡ after_page end (map (λ t. t.number) page.now) }
-{
-    match page.last() {
-        Some(tx) => tx.number.max(first).saturating_add(1),
-        None => end,
-    }
 }
 
 // ---- readings

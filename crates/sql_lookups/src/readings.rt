@@ -1,45 +1,24 @@
 //! Look-ups of readings, which are kept as meter values.
-ghost use Rattle.std.specs.Prelude.{◌≡◌, ◌&&◌, ◌+◌, ◌++◌, ◌<◌, ◌≤◌, ◌^◌, None, Some, IfOk, OnOk, filter, flat_map};
+ghost use Rattle.std.specs.Prelude.{◌≡◌, ◌&&◌, ◌+◌, ◌++◌, ◌≤◌, None, IfOk, OnOk, filter, flat_map};
 ghost use Rattle.std.specs.List.Sorted.{IsStrictlySortedBy};
 ghost use Rattle.std.specs.Str.{bytes_eq};
 ghost use Rattle.sqlite.specs.Held.{state};
 ghost use Rattle.hub_rows.specs.Keyed.{by_key};
 ghost use Rattle.hub_rows.specs.Rows.{reading_key};
-ghost use Rattle.hub_rows.specs.Transactions.{is_sent_with, readings_in, last_reading_in};
-ghost use Rattle.sql_rows.specs.Kept.{IsPage, IsServing, Shows, ShowsPage, ShowsTop, ShowsTopCells};
+ghost use Rattle.hub_rows.specs.Transactions.{last_reading_in};
+ghost use Rattle.sql_rows.specs.Kept.{IsPage, IsServing, ShowsPage, ShowsTop, ShowsTopCells};
 ghost use Rattle.sql_rows.specs.TypedTable.{rows_in};
 ghost use Rattle.sql_rows.specs.TypedTables.{meter_values, first_and_count_cells, is_meter_value, sampled_row, sampled_rows, unfolded, IsLastIn, IsLastOf};
 ghost use Rattle.sql_lookups.specs.Asks.{AreLastNumbers, Asks, AsksIn, IsTopRow};
 ghost use Rattle.sql_lookups.specs.Forgotten.{readings_from};
 ghost use Rattle.sql_lookups.specs.Pages.{is_between};
 
-use hub_rows::{Reading, ReadingRow, StoreFault, is_sent_with};
+use hub_rows::{Reading, ReadingRow, StoreFault};
 use meter_values::Sampled;
 use ocpp_types::{Listed, Text};
 use sql_rows::{MeterValueRow, first_row, listed, only_pair};
 use sqlite::{Alter, Connection, Error, Row, params};
 use std::alloc::Global;
-
-fn list<S: Alter>(conn: &mut Connection<S>, op: &str, station: &str) -> Result<Vec<Row>, Error>
-    ensures shows { IsServing (state S.Store conn.old) → Shows (λ v. v.items) meter_values (λ m. bytes_eq m.op op.now && is_meter_value station.now None m) (state S.Store conn.old) (state S.Store conn.new) result }
-{
-    conn.query_all(sql_tables::meter_values::LIST, params![op, station])
-}
-
-fn list_of_tx<S: Alter>(
-    conn: &mut Connection<S>,
-    op: &str,
-    station: &str,
-    transaction: u64,
-) -> Result<Vec<Row>, Error>
-    requires { transaction < 2 ^ 63 }
-    ensures shows { IsServing (state S.Store conn.old) → Shows (λ v. v.items) meter_values (λ m. bytes_eq m.op op.now && is_meter_value station.now (Some transaction) m) (state S.Store conn.old) (state S.Store conn.new) result }
-{
-    conn.query_all(
-        sql_tables::meter_values::LIST_OF_TX,
-        params![op, station, transaction as i64],
-    )
-}
 
 fn find_last<S: Alter>(conn: &mut Connection<S>, op: &str, station: &str) -> Result<Vec<Row>, Error>
     ensures shows { IsServing (state S.Store conn.old) → ShowsTop (λ v. v.items) meter_values (λ m. m.first) (λ m. bytes_eq m.op op.now && is_meter_value station.now None m) (state S.Store conn.old) (state S.Store conn.new) result }
@@ -55,30 +34,6 @@ fn find_last_numbers<S: Alter>(
     ensures shows { IsServing (state S.Store conn.old) → ShowsTopCells (λ v. v.items) meter_values first_and_count_cells (λ m. m.first) (λ m. bytes_eq m.op op.now && is_meter_value station.now None m) (state S.Store conn.old) (state S.Store conn.new) result }
 {
     conn.query_all(sql_tables::meter_values::LAST_NUMBERS, params![op, station])
-}
-
-/// All meter values of a station.
-fn all_values<S: Alter>(
-    conn: &mut Connection<S>,
-    op: &str,
-    station: &str,
-) -> Result<Listed<MeterValueRow>, StoreFault>
-    ensures asks { AsksIn (state S.Store conn.old) (state S.Store conn.new) result (λ db list. list ≡ filter (λ m. bytes_eq m.op op.now && is_meter_value station.now None m) (rows_in meter_values db)) }
-{
-    listed(list(conn, op, station))
-}
-
-/// The meter values of a station that were sent with the number of a transaction.
-fn tx_values<S: Alter>(
-    conn: &mut Connection<S>,
-    op: &str,
-    station: &str,
-    transaction: u64,
-) -> Result<Listed<MeterValueRow>, StoreFault>
-    requires { transaction < 2 ^ 63 }
-    ensures asks { AsksIn (state S.Store conn.old) (state S.Store conn.new) result (λ db list. list ≡ filter (λ m. bytes_eq m.op op.now && is_meter_value station.now (Some transaction) m) (rows_in meter_values db)) }
-{
-    listed(list_of_tx(conn, op, station, transaction))
 }
 
 /// The reading of a sampled value.
@@ -138,7 +93,7 @@ fn add_sampled(
 }
 
 /// Adds the readings of a meter value.
-fn add_each(
+pub(crate) fn add_each(
     alloc: Global,
     readings: &mut Vec<ReadingRow>,
     row: MeterValueRow,
@@ -201,72 +156,6 @@ pub(crate) fn values_page<S: Alter>(
     listed(page(conn, op, station, first, last))
 }
 
-/// All readings of a station.
-fn all_readings<S: Alter>(
-    conn: &mut Connection<S>,
-    alloc: Global,
-    op: &str,
-    station: &str,
-) -> Result<Listed<ReadingRow>, StoreFault>
-    ensures asks { Asks (state S.Store conn.old) (state S.Store conn.new) result (λ rows list. list ≡ readings_in op.now station.now None rows.readings) }
-{
-    let values = all_values(conn, op, station)?;
-    unfold(alloc, values)
-}
-
-/// The readings of a station that were sent with the number of a transaction.
-fn tx_readings<S: Alter>(
-    conn: &mut Connection<S>,
-    alloc: Global,
-    op: &str,
-    station: &str,
-    transaction: u64,
-) -> Result<Listed<ReadingRow>, StoreFault>
-    requires { transaction < 2 ^ 63 }
-    ensures asks { Asks (state S.Store conn.old) (state S.Store conn.new) result (λ rows list. list ≡ readings_in op.now station.now (Some transaction) rows.readings) }
-{
-    let values = tx_values(conn, op, station, transaction)?;
-    unfold(alloc, values)
-}
-
-/// Those of some readings that were sent with that number.
-fn sent_with(
-    alloc: Global,
-    rows: Listed<ReadingRow>,
-    wanted: u64,
-) -> Result<Listed<ReadingRow>, StoreFault>
-    ensures { IfOk result (λ list. list ≡ filter (λ r. is_sent_with (Some wanted) r.reading.transaction) rows) }
-{
-    let sent: Vec<ReadingRow> = rows
-        .into_vec()
-        .into_iter()
-        .filter(|row| is_sent_with(Some(wanted), row.reading.transaction))
-        .collect(alloc)?;
-    Ok(Listed::from(sent))
-}
-
-/// The readings of a station: all, or those that were sent with the number of a transaction. No
-/// number past 64 bits with a sign is in the table.
-pub fn readings<S: Alter>(
-    conn: &mut Connection<S>,
-    alloc: Global,
-    op: &str,
-    station: &str,
-    transaction: Option<u64>,
-) -> Result<Listed<ReadingRow>, StoreFault>
-    ensures asks { Asks (state S.Store conn.old) (state S.Store conn.new) result (λ rows list. list ≡ readings_in op.now station.now transaction rows.readings) }
-{
-    let wanted = match transaction {
-        None => return all_readings(conn, alloc, op, station),
-        Some(wanted) => wanted,
-    };
-    if wanted <= i64::MAX as u64 {
-        return tx_readings(conn, alloc, op, station, wanted);
-    }
-    let all = all_readings(conn, alloc, op, station)?;
-    sent_with(alloc, all, wanted)
-}
-
 /// The last meter value of a station.
 pub(crate) fn last_value<S: Alter>(
     conn: &mut Connection<S>,
@@ -318,7 +207,7 @@ pub(crate) fn readings_from(
 }
 
 /// The first number of a station's last meter value, and how many readings it is.
-fn last_numbers<S: Alter>(
+pub(crate) fn last_numbers<S: Alter>(
     conn: &mut Connection<S>,
     op: &str,
     station: &str,

@@ -36,8 +36,8 @@ still_kept [] rows old new same kept = tt
 still_kept (t ∷ ts) rows old new same kept = (same.0 ∙ kept.0, still_kept ts rows old new same.1 kept.1)
 
 module _ (rows : Trees) (sql : List ℕ) (from : Schema) (table : Table) (is : IsCreate sql from table) (none : rows (next_tree from) ≡ []) where
-  pub creates : (old new : State) (count : ℕ) → ExecutesInside 0 sql [] old new (Ok count) → new.step_limit ≡ old.step_limit → IsInsideAs rows from old → WithinAs rows (created from table) new
-  creates old new count ran limit inside =
+  pub creates : (old new : State) (count : ℕ) → ExecutesInside 0 sql [] old new (Ok count) → IsInsideAs rows from old → WithinAs rows (created from table) new
+  creates old new count ran inside =
       let was = inside ran.1.was_open in
       let w = subst (λ t. Writes old new None CreateTable t [] count) is.text (runs_as sql [] old new from was.schema_is CreateTable is.command is.plain count ran.0) in
       let all = went w.changed in
@@ -57,12 +57,11 @@ module _ (rows : Trees) (sql : List ℕ) (from : Schema) (table : Table) (is : I
         sound = w.sound;
         kept = subst (λ (d : Database). KeepsRows (created from table).tables rows d.trees) (sym now) kept;
         mode = ran.1.mode;
-        limit = limit ∙ was.limit;
       }
 
 module _ (rows : Trees) (sql : List ℕ) (from : Schema) (at : ℕ) (table : Table) (index : Index) (is : IsIndexCreate sql from at table index) where
-  pub creates_index : (old new : State) (count : ℕ) → ExecutesInside 0 sql [] old new (Ok count) → new.step_limit ≡ old.step_limit → IsInsideAs rows from old → WithinAs rows (indexed from table index) new
-  creates_index old new count ran limit inside =
+  pub creates_index : (old new : State) (count : ℕ) → ExecutesInside 0 sql [] old new (Ok count) → IsInsideAs rows from old → WithinAs rows (indexed from table index) new
+  creates_index old new count ran inside =
       let was = inside ran.1.was_open in
       let w = subst (λ t. Writes old new None (CreateIndex at) t [] count) is.text (runs_as sql [] old new from was.schema_is (CreateIndex at) is.command is.plain count ran.0) in
       let here : slice_get old.now.schema.tables at ≡ Some table = ap (λ (s : Schema). slice_get s.tables at) was.schema_is ∙ is.here in
@@ -79,12 +78,11 @@ module _ (rows : Trees) (sql : List ℕ) (from : Schema) (at : ℕ) (table : Tab
         sound = w.sound;
         kept = subst (λ (d : Database). KeepsRows from.tables rows d.trees) (sym now) kept;
         mode = ran.1.mode;
-        limit = limit ∙ was.limit;
       }
 
 module _ (rows : Trees) (sql : List ℕ) (from : Schema) (index : Index) (is : IsIndexDrop sql from index) where
-  pub drops_index : (old new : State) (count : ℕ) → ExecutesInside 0 sql [] old new (Ok count) → new.step_limit ≡ old.step_limit → IsInsideAs rows from old → WithinAs rows (without_index from index.tree) new
-  drops_index old new count ran limit inside =
+  pub drops_index : (old new : State) (count : ℕ) → ExecutesInside 0 sql [] old new (Ok count) → IsInsideAs rows from old → WithinAs rows (without_index from index.tree) new
+  drops_index old new count ran inside =
       let was = inside ran.1.was_open in
       let w = runs_as sql [] old new from was.schema_is (DropIndex is.at) is.command is.plain count ran.0 in
       let here : slice_get old.now.schema.indexes is.at ≡ Some index = ap (λ (s : Schema). slice_get s.indexes is.at) was.schema_is ∙ is.here in
@@ -99,7 +97,6 @@ module _ (rows : Trees) (sql : List ℕ) (from : Schema) (index : Index) (is : I
         sound = w.sound;
         kept = subst (λ (d : Database). KeepsRows from.tables rows d.trees) (sym now) kept;
         mode = ran.1.mode;
-        limit = limit ∙ was.limit;
       }
 
 -- what a statement of a transaction leaves
@@ -152,7 +149,7 @@ module _ {H : Type 0} (state : H → State) (a b : H) (sql : List ℕ) (r : Resu
   table_made rows from table is none inside = go r here
     where
       go : (r : Result ℕ Error) → RanHere r → OnOk r (IsInsideAs rows (created from table) (state b))
-      go (Ok n) (inl ran) = λ up. creates rows sql from table is none (state a) (state b) n (ran (clean up)) survives.limit inside
+      go (Ok n) (inl ran) = λ up. creates rows sql from table is none (state a) (state b) n (ran (clean up)) inside
       go (Ok n) (inr e) = absurd (let f = e.0 in cc)
       go (Err x) h = tt
 
@@ -160,7 +157,7 @@ module _ {H : Type 0} (state : H → State) (a b : H) (sql : List ℕ) (r : Resu
   index_made rows from at table index is inside = go r here
     where
       go : (r : Result ℕ Error) → RanHere r → OnOk r (IsInsideAs rows (indexed from table index) (state b))
-      go (Ok n) (inl ran) = λ up. creates_index rows sql from at table index is (state a) (state b) n (ran (clean up)) survives.limit inside
+      go (Ok n) (inl ran) = λ up. creates_index rows sql from at table index is (state a) (state b) n (ran (clean up)) inside
       go (Ok n) (inr e) = absurd (let f = e.0 in cc)
       go (Err x) h = tt
 
@@ -168,7 +165,7 @@ module _ {H : Type 0} (state : H → State) (a b : H) (sql : List ℕ) (r : Resu
   index_dropped rows from index is inside = go r here
     where
       go : (r : Result ℕ Error) → RanHere r → OnOk r (IsInsideAs rows (without_index from index.tree) (state b))
-      go (Ok n) (inl ran) = λ up. drops_index rows sql from index is (state a) (state b) n (ran (clean up)) survives.limit inside
+      go (Ok n) (inl ran) = λ up. drops_index rows sql from index is (state a) (state b) n (ran (clean up)) inside
       go (Ok n) (inr e) = absurd (let f = e.0 in cc)
       go (Err x) h = tt
 

@@ -37,7 +37,7 @@ all_kept [] rows db same all = tt
 all_kept (t ∷ ts) rows db same all = (subst (λ (l : List Row). IsTable l × AllByRecursion (hub_good t.tree) l) (sym same.0) all.0, all_kept ts rows db same.1 all.1)
 
 pub inside_as : (rows : Trees) (s : State) → AreTyped hub_schema hub_good rows → IsInsideAs rows hub_schema s → IsInside s
-inside_as rows s are_typed h up = let w = h up in record { schema = w.schema_is; sound = w.sound; rows = all_kept hub_schema.tables rows s.now.trees w.kept are_typed; mode = w.mode; limit = w.limit }
+inside_as rows s are_typed h up = let w = h up in record { schema = w.schema_is; sound = w.sound; rows = all_kept hub_schema.tables rows s.now.trees w.kept are_typed; mode = w.mode }
 
 -- the number is put
 filled : (all : Rows) (a b : State) → IsInsideWith all a → Inside (IsPutIn metas our_meta) a b → IsTrue b.is_open → HasTables all b
@@ -54,7 +54,6 @@ filled all a b with_rows done up =
         numbered = number_put a.now.trees b.now.trees edit;
       };
       mode = now.mode;
-      limit = now.limit;
     }
 
 pub filled_if : (all : Rows) (a b : State) (r : Result ℕ Error) → IsInsideWith all a → OnOk r (Inside (IsPutIn metas our_meta) a b) → OnOk r (IsTrue b.is_open → HasTables all b)
@@ -139,7 +138,7 @@ cut_later (suc (suc (suc (suc (suc n))))) earlier rows cut t over = absurd (omeg
 pub begun_as : {S : Type 0} (g : Ghosts S) (old tx : Held S) (n : ℕ) → n < our_form → tx ≡ record old { in_transaction = true } → Rested (state g old) → (IsTrue (state g old).is_open → (state g old).now.schema ≡ schema_at n)
     → IsInsideAs (trees_at n (state g old).now.trees) (schema_at n) (state g tx)
 begun_as g old tx n earlier begun rested was =
-    subst (λ k. IsInsideAs (trees_at n (state g old).now.trees) (schema_at n) (state g k)) (sym begun) (λ up. record { schema_is = was up; sound = rested.sound up; kept = kept_at n earlier (state g old).now.trees; mode = refl; limit = rested.limit })
+    subst (λ k. IsInsideAs (trees_at n (state g old).now.trees) (schema_at n) (state g k)) (sym begun) (λ up. record { schema_is = was up; sound = rested.sound up; kept = kept_at n earlier (state g old).now.trees; mode = refl })
 
 module _ {S : Type 0} (g : Ghosts S) (old tx mid end : Held S) (n : ℕ) (lower : n < our_form) (begun : tx ≡ record old { in_transaction = true }) (rested : Rested (state g old)) (was : IsTrue (state g old).is_open → (state g old).now.schema ≡ schema_at n)
     (clean : IsTrue (state g end).is_open → HasCleanDisk (state g end)) (before : IsTrue (state g old).is_open → (db : Trees) → (state g old).may_leave db → db ≡ (state g old).committed.trees)
@@ -220,7 +219,6 @@ module _ {S : Type 0} (g : Ghosts S) (old tx mid end : Held S) (n : ℕ) (lower 
                 numbered = subst (λ (d : Database). IsNumbered d.trees) (sym shows.now_is) h.holds.numbered;
                 committed = shows.committed_is ∙ sym shows.now_is;
                 mode = shows.mode;
-                limit = survives.limit ∙ h.limit;
               },
               subst WellFormedRows (sym (ap (λ (d : Database). rows_of d.trees) shows.now_is ∙ h.holds.rows)) it.good,
             );

@@ -39,14 +39,14 @@ module _ (sql : List ℕ) (body : Query) (names : List (List ℕ)) (text : IsRea
       holds old.now.trees was.rows (obeys_in old was) (items v) (read.answer Null)
   answers Holds holds items old new values (Err e) given h shown = tt
 
-  stays : {V : Type 0} (items : V → List Row) (old new : State) (values : Row) (r : Result V Error) → new.step_limit ≡ old.step_limit → IsServing old → IsTrue new.is_open
+  stays : {V : Type 0} (items : V → List Row) (old new : State) (values : Row) (r : Result V Error) → IsServing old → IsTrue new.is_open
       → IfOk r (λ v. Shown sql values old new (items v)) → IfErr r (FailsToQuery sql values old new) → IsAsBefore old new
-  stays items old new values (Ok v) limit h up shown failed =
+  stays items old new values (Ok v) h up shown failed =
       let was = shown_was sql values old new (items v) shown in
-      serves_still old new h limit (shown_unchanged sql values old new (items v) (subst (λ k. IsPlain (understood k sql)) (sym (h was).schema) text.1) shown)
-  stays items old new values (Err e) limit h up shown failed =
+      serves_still old new h (shown_unchanged sql values old new (items v) (subst (λ k. IsPlain (understood k sql)) (sym (h was).schema) text.1) shown)
+  stays items old new values (Err e) h up shown failed =
       let was = failed_was sql values old new e up failed in
-      fails_before sql values old new h limit up e (subst (λ k. IsPlain (understood k sql)) (sym (h was).schema) text.1) failed
+      fails_before sql values old new h up e (subst (λ k. IsPlain (understood k sql)) (sym (h was).schema) text.1) failed
 
   stops : {V : Type 0} (items : V → List Row) (old new : State) (values : Row) (r : Result V Error) → Survives old new (CommitsShowing sql values old)
       → (HasCleanDisk new → IfOk r (λ v. Shown sql values old new (items v))) → CommitsNothing old new r
@@ -123,7 +123,7 @@ shows {T} {sql} {params} {s} {p} f items old new values r ok err survives given 
       (λ db kept obeys rows answer. lists_those hub_schema hub_good f.at s f.is f.wanted params p f.test db kept f.project f.whole f.order obeys rows answer) items old new values r given h (ok (clean up));
   once = λ up. answers sql (plain_query (inner s.table.tree end) f.wanted f.project f.order) f.names f.text params (λ db rows. (a b : T) → Has (map s.read rows) a → Has (map s.read rows) b → cmp s a b ≡ Equal → a ≡ b)
       (λ db kept obeys rows answer. once hub_schema hub_good f.at s f.is f.wanted params p f.test db kept f.project f.whole f.order obeys rows answer) items old new values r given h (ok (clean up));
-  same = λ up. stays sql (plain_query (inner s.table.tree end) f.wanted f.project f.order) f.names f.text params items old new values r survives.limit h up (ok (clean up)) (err (clean up));
+  same = λ up. stays sql (plain_query (inner s.table.tree end) f.wanted f.project f.order) f.names f.text params items old new values r h up (ok (clean up)) (err (clean up));
   stops = stops sql (plain_query (inner s.table.tree end) f.wanted f.project f.order) f.names f.text params items old new values r survives ok;
 }
 
@@ -133,7 +133,7 @@ pub shows_last : {T : Type 0} {sql : List ℕ} {params : Row} {s : TypedTable T}
 shows_last {T} {sql} {params} {s} {cells} {number} {p} f at counted items old new values r ok err survives given h clean = record {
   ok = λ up. answers sql (last_query s.table.tree f.wanted f.project f.place) f.names f.text params (λ db rows. greatest (map (λ x. count_in (column x at)) rows) ≡ greatest (map number (filter p (rows_in s db))))
       (λ db kept obeys rows answer. last_is f.at s f.is f.wanted f.project cells f.shown params p f.test f.place number f.numbered db kept obeys rows answer at counted) items old new values r given h (ok (clean up));
-  same = λ up. stays sql (last_query s.table.tree f.wanted f.project f.place) f.names f.text params items old new values r survives.limit h up (ok (clean up)) (err (clean up));
+  same = λ up. stays sql (last_query s.table.tree f.wanted f.project f.place) f.names f.text params items old new values r h up (ok (clean up)) (err (clean up));
   stops = stops sql (last_query s.table.tree f.wanted f.project f.place) f.names f.text params items old new values r survives ok;
 }
 
@@ -143,7 +143,7 @@ pub shows_page : {T : Type 0} {sql : List ℕ} {params : Row} {s : TypedTable T}
 shows_page {T} {sql} {params} {s} {number} {p} f items old new values r ok err survives given h clean = record {
   ok = λ up. answers sql (page_query s.table.tree f.wanted f.project f.place f.most) f.names f.text params (λ db rows. IsPage number p (rows_in s db) (put_all (cmp s) (map s.read rows) []))
       (λ db kept obeys rows answer. page_is f.at s f.is f.wanted f.project f.whole params p f.test f.place f.most f.some number f.numbered f.apart db kept obeys rows answer) items old new values r given h (ok (clean up));
-  same = λ up. stays sql (page_query s.table.tree f.wanted f.project f.place f.most) f.names f.text params items old new values r survives.limit h up (ok (clean up)) (err (clean up));
+  same = λ up. stays sql (page_query s.table.tree f.wanted f.project f.place f.most) f.names f.text params items old new values r h up (ok (clean up)) (err (clean up));
   stops = stops sql (page_query s.table.tree f.wanted f.project f.place f.most) f.names f.text params items old new values r survives ok;
 }
 
@@ -153,7 +153,7 @@ pub shows_top : {T : Type 0} {sql : List ℕ} {params : Row} {s : TypedTable T} 
 shows_top {T} {sql} {params} {s} {number} {p} f items old new values r ok err survives given h clean = record {
   ok = λ up. answers sql (last_query s.table.tree f.wanted f.project f.place) f.names f.text params (λ db rows. IsTop number (filter p (rows_in s db)) (map s.read rows))
       (λ db kept obeys rows answer. top_read s f.is.round number (filter p (rows_in s db)) rows (top_is f.at s f.is f.wanted f.project s.row f.shown params p f.test f.place number f.numbered db kept obeys rows answer)) items old new values r given h (ok (clean up));
-  same = λ up. stays sql (last_query s.table.tree f.wanted f.project f.place) f.names f.text params items old new values r survives.limit h up (ok (clean up)) (err (clean up));
+  same = λ up. stays sql (last_query s.table.tree f.wanted f.project f.place) f.names f.text params items old new values r h up (ok (clean up)) (err (clean up));
   stops = stops sql (last_query s.table.tree f.wanted f.project f.place) f.names f.text params items old new values r survives ok;
 }
 
@@ -163,6 +163,6 @@ pub shows_top_cells : {T : Type 0} {sql : List ℕ} {params : Row} {s : TypedTab
 shows_top_cells {T} {sql} {params} {s} {cells} {number} {p} f items old new values r ok err survives given h clean = record {
   ok = λ up. answers sql (last_query s.table.tree f.wanted f.project f.place) f.names f.text params (λ db rows. AreTopCells cells number (filter p (rows_in s db)) rows)
       (λ db kept obeys rows answer. top_is f.at s f.is f.wanted f.project cells f.shown params p f.test f.place number f.numbered db kept obeys rows answer) items old new values r given h (ok (clean up));
-  same = λ up. stays sql (last_query s.table.tree f.wanted f.project f.place) f.names f.text params items old new values r survives.limit h up (ok (clean up)) (err (clean up));
+  same = λ up. stays sql (last_query s.table.tree f.wanted f.project f.place) f.names f.text params items old new values r h up (ok (clean up)) (err (clean up));
   stops = stops sql (last_query s.table.tree f.wanted f.project f.place) f.names f.text params items old new values r survives ok;
 }

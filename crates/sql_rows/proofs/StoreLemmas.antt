@@ -28,28 +28,27 @@ open_is_clean false is_open law up = absurd (true≢false (sym up ∙ law refl))
 pub obeys_in : (s : State) → Serves s → Obeys hub_schema s.now.trees
 obeys_in s h = rw h.schema at h.sound.obeys
 
-pub serves_as : (old new : State) → Serves old → new.now ≡ old.now → new.committed ≡ old.now → new.in_transaction ≡ false → new.step_limit ≡ old.step_limit → Serves new
-serves_as old new was same last mode limit = record {
+pub serves_as : (old new : State) → Serves old → new.now ≡ old.now → new.committed ≡ old.now → new.in_transaction ≡ false → Serves new
+serves_as old new was same last mode = record {
   schema = ap (λ (d : Database). d.schema) same ∙ was.schema;
   sound = subst IsDatabase (sym same) was.sound;
   rows = subst (λ (d : Database). AreTyped hub_schema hub_good d.trees) (sym same) was.rows;
   numbered = subst (λ (d : Database). IsNumbered d.trees) (sym same) was.numbered;
   committed = last ∙ sym same;
   mode = mode;
-  limit = limit ∙ was.limit;
 }
 
-module _ (old new : State) (h : IsServing old) (limit : new.step_limit ≡ old.step_limit) where
+module _ (old new : State) (h : IsServing old) where
   pub serves_still : IsUnchanged old new → IsAsBefore old new
   serves_still same =
       let was = h same.0.was_open in
-      record { was_open = same.0.was_open; now = same.0.now_is; serves = serves_as old new was same.0.now_is (same.0.committed_is ∙ was.committed) (same.0.mode ∙ was.mode) limit }
+      record { was_open = same.0.was_open; now = same.0.now_is; serves = serves_as old new was same.0.now_is (same.0.committed_is ∙ was.committed) (same.0.mode ∙ was.mode) }
 
   pub serves_rolled : IsTrue new.is_open → IsRolledBack old new → IsAsBefore old new
   serves_rolled up back =
       let was = h (back.was_open up) in
       let undone = back.undone up in
-      record { was_open = back.was_open up; now = undone.0 ∙ was.committed; serves = serves_as old new was (undone.0 ∙ was.committed) (undone.1 ∙ was.committed) back.autocommit limit }
+      record { was_open = back.was_open up; now = undone.0 ∙ was.committed; serves = serves_as old new was (undone.0 ∙ was.committed) (undone.1 ∙ was.committed) back.autocommit }
 
   pub serves_unrun : IsTrue new.is_open → (sql : List ℕ) (params : Row) (e : Error) → IsNotRun old new sql params e → IsAsBefore old new
   unfolding IsNotRun
@@ -98,12 +97,12 @@ module _ (sql : List ℕ) (params : Row) (old new : State) where
       go (Some what) (inl refused) = refused.1.0.was_open
       go (Some what) (inr failed) = failed.3.was_open up
 
-  pub fails_before : IsServing old → new.step_limit ≡ old.step_limit → IsTrue new.is_open → (e : Error) → IsPlain (understood old.now.schema sql) → FailsToQuery sql params old new e → IsAsBefore old new
+  pub fails_before : IsServing old → IsTrue new.is_open → (e : Error) → IsPlain (understood old.now.schema sql) → FailsToQuery sql params old new e → IsAsBefore old new
   unfolding FailsToQuery
-  fails_before h limit up e plain (inl unrun) = serves_unrun old new h limit up sql params e unrun
-  fails_before h limit up e plain (inr h′) =
+  fails_before h up e plain (inl unrun) = serves_unrun old new h up sql params e unrun
+  fails_before h up e plain (inr h′) =
       let none = (subst IsPlain h′.1.is plain).0 in
-      let it = subst (FailsToShow old new sql h′.0 (timed params h′.0.formats h′.1.now) e) none h′.2 in serves_still old new h limit it.3
+      let it = subst (FailsToShow old new sql h′.0 (timed params h′.0.formats h′.1.now) e) none h′.2 in serves_still old new h it.3
 
 -- ---- writes
 

@@ -217,8 +217,8 @@ module _ (op station : List ℕ) where
   pub of_meter_values : IsTest meter_values (where_is 0 (1 ∷ 2 ∷ [])) (Text op ∷ Text station ∷ []) (λ m. bytes_eq m.op op && is_meter_value station None m)
   of_meter_values = λ id m. ap₂ ◌&&◌ (text_test m.op op) (ap (λ b. b && true) (text_test m.station station))
 
-  pub tx_meter_values : (n : ℕ) → IsTest meter_values (where_is 0 (1 ∷ 2 ∷ 5 ∷ [])) (Text op ∷ Text station ∷ Int (pos n) ∷ []) (λ m. bytes_eq m.op op && is_meter_value station (Some n) m)
-  tx_meter_values n = λ id m. ap₂ ◌&&◌ (text_test m.op op) (ap₂ ◌&&◌ (text_test m.station station) (ap (λ b. b && true) (option_test m.value.transaction n) ∙ and_true (is_sent_with (Some n) m.value.transaction)))
+  pub tx_meter_values_between : (n low high : ℕ) → IsTest meter_values (where_is 0 (1 ∷ 2 ∷ 5 ∷ []) ++ range_is 3 3) (Text op ∷ Text station ∷ Int (pos n) ∷ Int (pos low) ∷ Int (pos high) ∷ []) (λ m. bytes_eq m.op op && (bytes_eq m.station station && (is_sent_with (Some n) m.value.transaction && (nat_le low m.first && nat_le m.first high))))
+  tx_meter_values_between n low high = λ id m. ap₂ ◌&&◌ (text_test m.op op) (ap₂ ◌&&◌ (text_test m.station station) (ap₂ ◌&&◌ (option_test m.value.transaction n) (counts_between m.first low high)))
 
 -- ---- of an operator
 

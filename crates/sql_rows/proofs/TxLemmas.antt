@@ -81,7 +81,7 @@ module _ {sql : List ℕ} {params : Row} {Edit : Trees → Trees → Type 0} (me
           let before : Obeys hub_schema (state a).now.trees = rw was.schema at was.sound.obeys in
           let d = means.does (state a).step_limit (state a) (state a).now _ w.tally (state b).now was.schema was.rows before w.changed in
           let both = d.2 (rw d.0 at w.sound.obeys) in
-          (record { schema = d.0; sound = w.sound; rows = d.1; mode = it.1.mode; limit = survives.limit ∙ was.limit }, both.0, both.1) in
+          (record { schema = d.0; sound = w.sound; rows = d.1; mode = it.1.mode }, both.0, both.1) in
           record {
             ok = record {
               leaves = record { was_open = λ up. (ran (clean up)).1.was_open; committed = λ up. (ran (clean up)).1.committed_is; survives = survives };
@@ -134,10 +134,10 @@ module _ {S : Type 0} (g : Ghosts S) (old tx mid end : Held S) (begun : tx ≡ r
   begins = record old { in_transaction = true }
 
   pub begun_inside : IsInside (state g tx)
-  begun_inside = subst (λ k. IsInside (state g k)) (sym begun) (λ up. let was = h up in record { schema = was.schema; sound = was.sound; rows = was.rows; mode = refl; limit = was.limit })
+  begun_inside = subst (λ k. IsInside (state g k)) (sym begun) (λ up. let was = h up in record { schema = was.schema; sound = was.sound; rows = was.rows; mode = refl })
 
-  rolled_before : Leaves (state g begins) (state g mid) → IsTrue (state g end).is_open → (state g end).step_limit ≡ (state g mid).step_limit → IsRolledBack (state g mid) (state g end) → IsAsBefore (state g old) (state g end)
-  rolled_before leaves up limit back =
+  rolled_before : Leaves (state g begins) (state g mid) → IsTrue (state g end).is_open → IsRolledBack (state g mid) (state g end) → IsAsBefore (state g old) (state g end)
+  rolled_before leaves up back =
       let mid_open = back.was_open up in
       let was = h (leaves.was_open mid_open) in
       let undone = back.undone up in
@@ -145,7 +145,7 @@ module _ {S : Type 0} (g : Ghosts S) (old tx mid end : Held S) (begun : tx ≡ r
       record {
         was_open = leaves.was_open mid_open;
         now = undone.0 ∙ last;
-        serves = serves_as (state g old) (state g end) was (undone.0 ∙ last) (undone.1 ∙ last) back.autocommit (limit ∙ leaves.survives.limit);
+        serves = serves_as (state g old) (state g end) was (undone.0 ∙ last) (undone.1 ∙ last) back.autocommit;
       }
 
   crash_before : Leaves (state g begins) (state g mid) → IsTrue (state g old).is_open → HasCleanDisk (state g mid) → (db : Trees) → (state g mid).may_leave db → db ≡ (state g old).now.trees
@@ -170,7 +170,7 @@ module _ {S : Type 0} (g : Ghosts S) (old tx mid end : Held S) (begun : tx ≡ r
       let leaves = subst (λ k. Leaves (state g k) (state g mid)) begun left in
       record {
         ok = λ up. tt;
-        err = λ up. rolled_before leaves up survives.limit (undone (clean up));
+        err = λ up. rolled_before leaves up (undone (clean up));
         crash = λ up sure db may.
             let mid_clean = survives.clean in
             elim (survives.crash sure db may) [ inl was ↦ inl (crash_before leaves up (omega (arith, mid_clean, sure)) db was) | inr none ↦ absurd none ];
@@ -211,7 +211,7 @@ module _ {S : Type 0} (g : Ghosts S) (old tx mid end : Held S) (begun : tx ≡ r
       by_result inside (Err e) ok err = (
         λ up. tt,
         λ up. elim (err (clean up)) [
-          | inl fails ↦ rolled_before inside.leaves up survives.limit fails.3
+          | inl fails ↦ rolled_before inside.leaves up fails.3
           | inr ended ↦ absurd (true≢false (sym (inside.within ended.2.0.was_open).mode ∙ ended.1))
         ],
         λ up. tt,
@@ -231,7 +231,6 @@ module _ {S : Type 0} (g : Ghosts S) (old tx mid end : Held S) (begun : tx ≡ r
                 numbered = subst (λ (d : Database). IsNumbered d.trees) (sym shows.now_is) (inside.numbered shows.was_open (h was_open).numbered);
                 committed = shows.committed_is ∙ sym shows.now_is;
                 mode = shows.mode;
-                limit = survives.limit ∙ within.limit;
               };
             },
         λ up. tt,

@@ -69,15 +69,14 @@ module _ (sql : List ℕ) (params : Row) (old new : State) where
 -- ---- of a plain text
 
 -- a text that changes nothing leaves the transaction as it was
-within_still : (old new : State) → IsUnchanged old new → new.step_limit ≡ old.step_limit → IsInside old → Within new
-within_still old new same limit h =
+within_still : (old new : State) → IsUnchanged old new → IsInside old → Within new
+within_still old new same h =
     let was = h same.0.was_open in
     record {
       schema = ap (λ (d : Database). d.schema) same.0.now_is ∙ was.schema;
       sound = subst IsDatabase (sym same.0.now_is) was.sound;
       rows = subst (λ (d : Database). AreTyped hub_schema hub_good d.trees) (sym same.0.now_is) was.rows;
       mode = same.0.mode ∙ was.mode;
-      limit = limit ∙ was.limit;
     }
 
 module _ (sql : List ℕ) (body : Query) (names : List (List ℕ)) (text : IsRead sql body names) (params : Row) {V : Type 0} (items : V → List Row) (old new : State) (values : Row) (survives : Survives old new (λ _. ⊥)) (given : values ≡ params)
@@ -102,7 +101,7 @@ module _ (sql : List ℕ) (body : Query) (names : List (List ℕ)) (text : IsRea
       record {
         ok = record {
           leaves = record { was_open = λ up. (same (clean up)).0.was_open; committed = λ up. (same (clean up)).0.committed_is; survives = survives };
-          within = λ up. within_still old new (same (clean up)) survives.limit h;
+          within = λ up. within_still old new (same (clean up)) h;
           edit = λ up. ap (λ (d : Database). d.trees) (same (clean up)).0.now_is;
           numbered = λ up was. subst (λ (d : Database). IsNumbered d.trees) (sym (same (clean up)).0.now_is) was;
           still = λ up sure. (same sure).0.is_open;

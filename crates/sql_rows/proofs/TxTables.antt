@@ -19,7 +19,7 @@ use Rattle.sql_rows.proofs.ReadLaws.{IsWhole}
 use Rattle.hub_rows.specs.declared.tx_row.TxRow.{TxRow}
 use Rattle.hub_rows.specs.declared.tx_row.TxOwnerRow.{TxOwnerRow}
 use Rattle.hub_rows.specs.declared.tx_row.Stop.{Stop}
-use Rattle.hub_rows.specs.Transactions.{is_open, counts, is_tx, is_started}
+use Rattle.hub_rows.specs.Transactions.{is_open, counts, is_sent_with, is_tx, is_started}
 use Rattle.sqlite_rules.specs.Cast.{cast_all}
 use Rattle.ocpp_types.specs.Phase.{phase_name}
 use Rattle.ocpp_types.specs.Reason.{reason_name}
@@ -314,12 +314,6 @@ whole_meter_values s v params = refl
 pub adds_meter_value : (m : MeterValueRow) → Means sql_meter_values.ADD.now (meter_values.row m) (IsPutIn meter_values m)
 adds_meter_value m = adds 13 meter_values on_meter_values sql_meter_values.ADD.now (λ e. cc) 5 put_meter_values texts.add_meter_value_is m
 
-pub reads_meter_values : (op station : List ℕ) → ReadsRows sql_meter_values.LIST.now (Text op ∷ Text station ∷ []) meter_values (λ m. bytes_eq m.op op && is_meter_value station None m)
-reads_meter_values op station = record { at = 13; is = on_meter_values; wanted = where_is 0 (1 ∷ 2 ∷ []); project = cols 1 1 8; whole = whole_meter_values; order = by_column 3 ∷ []; names = names_of hub_meter_value; text = texts.list_meter_values_is; test = tests.of_meter_values op station }
-
-pub reads_tx_meter_values : (op station : List ℕ) (n : ℕ) → ReadsRows sql_meter_values.LIST_OF_TX.now (Text op ∷ Text station ∷ Int (pos n) ∷ []) meter_values (λ m. bytes_eq m.op op && is_meter_value station (Some n) m)
-reads_tx_meter_values op station n = record { at = 13; is = on_meter_values; wanted = where_is 0 (1 ∷ 2 ∷ 5 ∷ []); project = cols 1 1 8; whole = whole_meter_values; order = by_column 3 ∷ []; names = names_of hub_meter_value; text = texts.list_tx_meter_values_is; test = tests.tx_meter_values op station n }
-
 pub reads_last_meter_value : (op station : List ℕ) → ReadsLast sql_meter_values.FIND_LAST.now (Text op ∷ Text station ∷ []) meter_values meter_values.row (λ m. m.first) (λ m. bytes_eq m.op op && is_meter_value station None m)
 reads_last_meter_value op station = record { at = 13; is = on_meter_values; wanted = where_is 0 (1 ∷ 2 ∷ []); project = cols 1 1 8; shown = whole_meter_values; place = 3; numbered = λ id m. refl; names = names_of hub_meter_value; text = texts.find_last_meter_value_is; test = tests.of_meter_values op station }
 
@@ -355,6 +349,23 @@ pages_of_meter_values op station low high = record {
   names = names_of hub_meter_value;
   text = texts.page_of_meter_values_is;
   test = tests.meter_values_between op station low high;
+}
+
+pub pages_of_tx_meter_values : (op station : List ℕ) (n low high : ℕ) → ReadsPage sql_meter_values.PAGE_OF_TX.now (Text op ∷ Text station ∷ Int (pos n) ∷ Int (pos low) ∷ Int (pos high) ∷ []) meter_values (λ m. m.first) (λ m. bytes_eq m.op op && (bytes_eq m.station station && (is_sent_with (Some n) m.value.transaction && (nat_le low m.first && nat_le m.first high))))
+pages_of_tx_meter_values op station n low high = record {
+  at = 13;
+  is = on_meter_values;
+  wanted = where_is 0 (1 ∷ 2 ∷ 5 ∷ []) ++ range_is 3 3;
+  project = cols 1 1 8;
+  whole = whole_meter_values;
+  place = 3;
+  most = 256;
+  some = omega arith;
+  numbered = λ id m. refl;
+  apart = λ a b. same_numbered (λ m. m.op) (λ m. m.station) (λ m. m.first) op station (λ m. is_sent_with (Some n) m.value.transaction && (nat_le low m.first && nat_le m.first high)) a b;
+  names = names_of hub_meter_value;
+  text = texts.page_of_tx_meter_values_is;
+  test = tests.tx_meter_values_between op station n low high;
 }
 
 -- a delete in this table sets off nothing

@@ -173,14 +173,6 @@ pub page_of_readings_is : IsRead readings.PAGE.now (page_query 12 (where_is 0 (1
 unfolding understood everything
 page_of_readings_is = (refl, (refl, refl), refl)
 
-pub list_meter_values_is : IsRead meter_values.LIST.now (plain_query (inner 26 end) (where_is 0 (1 ∷ 2 ∷ [])) (cols 1 1 8) (by_column 3 ∷ [])) (names_of hub_meter_value)
-unfolding understood everything
-list_meter_values_is = (refl, (refl, refl), refl)
-
-pub list_tx_meter_values_is : IsRead meter_values.LIST_OF_TX.now (plain_query (inner 26 end) (where_is 0 (1 ∷ 2 ∷ 5 ∷ [])) (cols 1 1 8) (by_column 3 ∷ [])) (names_of hub_meter_value)
-unfolding understood everything
-list_tx_meter_values_is = (refl, (refl, refl), refl)
-
 pub find_last_meter_value_is : IsRead meter_values.FIND_LAST.now (last_query 26 (where_is 0 (1 ∷ 2 ∷ [])) (cols 1 1 8) 3) (names_of hub_meter_value)
 unfolding understood everything
 find_last_meter_value_is = (refl, (refl, refl), refl)
@@ -196,6 +188,10 @@ last_meter_value_between_is = (refl, (refl, refl), refl)
 pub page_of_meter_values_is : IsRead meter_values.PAGE.now (page_query 26 (where_is 0 (1 ∷ 2 ∷ []) ++ range_is 2 3) (cols 1 1 8) 3 256) (names_of hub_meter_value)
 unfolding understood everything
 page_of_meter_values_is = (refl, (refl, refl), refl)
+
+pub page_of_tx_meter_values_is : IsRead meter_values.PAGE_OF_TX.now (page_query 26 (where_is 0 (1 ∷ 2 ∷ 5 ∷ []) ++ range_is 3 3) (cols 1 1 8) 3 256) (names_of hub_meter_value)
+unfolding understood everything
+page_of_tx_meter_values_is = (refl, (refl, refl), refl)
 
 pub find_reservations_is : IsRead reservations.FIND.now (plain_query (inner 14 end) (where_is 0 (1 ∷ 2 ∷ []) ++ range_is 2 3) (cols 1 1 7) (by_column 3 ∷ [])) (names_of hub_reservation)
 unfolding understood everything

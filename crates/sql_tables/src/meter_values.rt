@@ -20,18 +20,6 @@ pub const CREATE_TRANSACTION: &str =
 
 pub const DROP_TRANSACTION: &str = "DROP INDEX hub_meter_value_transaction";
 
-/// The meter values of a station.
-pub const LIST: &str = with_columns!(
-    "SELECT ",
-    " FROM hub_meter_value WHERE op = ?1 AND station = ?2 ORDER BY first"
-);
-
-/// The meter values of a station that were sent with the number of a transaction.
-pub const LIST_OF_TX: &str = with_columns!(
-    "SELECT ",
-    " FROM hub_meter_value WHERE op = ?1 AND station = ?2 AND transaction_id = ?3 ORDER BY first"
-);
-
 /// The last meter value of a station.
 pub const FIND_LAST: &str = with_columns!(
     "SELECT ",
@@ -52,6 +40,12 @@ pub const LAST_BETWEEN: &str = with_columns!(
 pub const PAGE: &str = with_columns!(
     "SELECT ",
     " FROM hub_meter_value WHERE op = ?1 AND station = ?2 AND first BETWEEN ?3 AND ?4 ORDER BY first LIMIT 256"
+);
+
+/// The same of those that were sent with the number of a transaction.
+pub const PAGE_OF_TX: &str = with_columns!(
+    "SELECT ",
+    " FROM hub_meter_value WHERE op = ?1 AND station = ?2 AND transaction_id = ?3 AND first BETWEEN ?4 AND ?5 ORDER BY first LIMIT 256"
 );
 
 /// Adds a meter value.

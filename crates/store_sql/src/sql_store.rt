@@ -13,8 +13,8 @@ use hub_rows::{
 };
 use ocpp_types::{Listed, Moment, TagKey};
 use sql_lookups::{
-    connectors, forget, granted, grants, local_lists, readings, reports, reservations, stations,
-    tags, txs, uses,
+    connectors, forget, granted, grants, local_lists, readings, reports, reservations,
+    station_readings, stations, tags, txs, uses,
 };
 use sqlite::{Alter, Connection, FileFrom, FileStore, MemStore, Start};
 use std::alloc::Global;
@@ -37,6 +37,8 @@ pub struct SqlStore<A: Alter> {
     changes: u64,
     /// Where that is noted too, beside the file of the database.
     mark: Option<Mark>,
+    /// The most readings that are listed at once.
+    longest: usize,
 }
 
 /// How many changes are on record after one that was tried after so many. One that was made is noted in the mark too.
@@ -69,7 +71,8 @@ impl<A: Alter> Model for SqlStore<A> {
 }
 
 impl<A: Alter> SqlStore<A> {
-    ghost use Rattle.store_sql.specs.Store.{CountsIfOurs, IsCleanSql, ServesIfOurs};
+    ghost use Rattle.hub_rows.specs.Stops.{IsKept};
+    ghost use Rattle.store_sql.specs.Store.{CountsIfOurs, IsCleanSql, ServesIfOurs, sql_rows, sql_view};
     ghost use Rattle.sql_rows.specs.Kept.{changes_in};
     ghost use Rattle.sql_rows.specs.Opening.{IsOurs};
     ghost use Rattle.sqlite.specs.Held.{state};
@@ -95,6 +98,7 @@ impl<A: Alter> SqlStore<A> {
             taken,
             changes,
             mark: None,
+            longest: usize::MAX,
         }
     }
 
@@ -110,6 +114,18 @@ impl<A: Alter> SqlStore<A> {
         ensures { self.new ≡ self.old }
     {
         self.mark = Some(mark);
+    }
+
+    /// From now on no statement visits more than so many rows, and no more readings are listed at once. What would take more
+    /// answers TooLong, and changes nothing.
+    pub fn set_longest(&mut self, rows: u32)
+        ensures rows { sql_rows A.Store self.new ≡ sql_rows A.Store self.old }
+        ensures clean { IsCleanSql A.Store self.old → IsCleanSql A.Store self.new }
+        ensures kept { IsKept (sql_view A.Store self.old) → IsKept (sql_view A.Store self.new) }
+        ensures counts { (self.new.failures ≡ self.old.failures) × (self.new.changes ≡ self.old.changes) }
+    {
+        self.longest = rows as usize;
+        self.conn.set_step_limit(Some(u64::from(rows)));
     }
 
     /// What was done, counted if the store failed.
@@ -342,7 +358,14 @@ impl<A: Alter> Store for SqlStore<A> {
         station: &str,
         transaction: Option<u64>,
     ) -> Result<Listed<ReadingRow>, StoreFault> {
-        let found = readings::readings(&mut self.conn, self.alloc, op, station, transaction);
+        let found = station_readings::readings(
+            &mut self.conn,
+            self.alloc,
+            op,
+            station,
+            transaction,
+            self.longest,
+        );
         self.counted(found)
     }
 

@@ -2,7 +2,7 @@ use Rattle.std.proofs.Common.{◌≡◌, ◌+◌, ◌∙◌, ap, arith, map, sym
 use Rattle.std.specs.Option.{option_copied}
 use Rattle.sql_lookups.specs.Pages.{after_page}
 use Rattle.sql_lookups.proofs.PageLaws.{after_last, after_none}
-use Rattle.sql_lookups.proofs.forget.after_values.Goals as goal
+use Rattle.sql_lookups.proofs.pages.after_values.Goals as goal
 
 pub returns-in-Some : goal.returns-in-Some
 returns-in-Some c = record {

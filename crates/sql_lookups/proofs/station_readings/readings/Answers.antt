@@ -1,7 +1,7 @@
 use Rattle.sql_rows.specs.TypedTables.{rows_of}
 use Rattle.sql_rows.proofs.Calls.{chosen_finds}
 use Rattle.sql_lookups.proofs.Asking.{asks_of}
-use Rattle.sql_lookups.proofs.readings.readings.Goals as goal
+use Rattle.sql_lookups.proofs.station_readings.readings.Goals as goal
 
 pub returns : goal.returns
 returns g c = record {

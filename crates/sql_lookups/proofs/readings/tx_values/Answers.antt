@@ -1,5 +1,0 @@
-use Rattle.sql_lookups.proofs.Asking.{asks_rows}
-use Rattle.sql_lookups.proofs.readings.tx_values.Goals as goal
-
-pub returns : goal.returns
-returns g c = record { asks = asks_rows c.list_of_tx.ensures.shows c.listed.ensures.ok c.listed.ensures.rows (λ db rows is. is) }
