@@ -64,13 +64,13 @@ fn tell_opening(rt: &HostRuntime, options: &ServeOptions) -> Result<(), RunFault
 /// Serves by the records of a database.
 fn serve_database<A: Alter + Drop, V: VendorHandler>(
     rt: &HostRuntime,
-    mut store: SqlStore<A>,
+    store: SqlStore<A>,
     streams: Streams,
     options: ServeOptions,
     vendors: Vec<V>,
     opening: Duration,
 ) -> Result<(), RunFault> {
-    store.set_longest(options.longest);
+    let store = store.with_longest(options.longest);
     serve_cached(rt, store, streams, options, vendors, opening)
 }
 

@@ -5,7 +5,7 @@ use Rattle.std.specs.Str.{bytes_eq}
 use Rattle.ocpp_types.specs.Digits.{number_of_digits}
 use Rattle.clients.specs.declared.reply.Forgotten.{Forgotten}
 use Rattle.clients.specs.declared.reply.Reply.{Reply}
-use Rattle.clients.specs.declared.reply.Reply.TheVariants.{Taken, Call, Refused, Other}
+use Rattle.clients.specs.declared.reply.Reply.TheVariants.{Taken, Call, Refused, Bad, Other}
 
 infixl 10 ◌>>=◌
 abbrev pub ◌>>=◌ : {A B : Type 0} → Option A → (A → Option B) → Option B
@@ -77,7 +77,7 @@ reply_if_told None = Other
 
 -- a text answers the line of an operator
 abbrev pub reply_of : List ℕ → List ℕ → Reply
-reply_of op text = if bytes_eq text (codes "bad line") then Refused else reply_if_told (after_word op text)
+reply_of op text = if bytes_eq text (codes "bad line") then Bad else reply_if_told (after_word op text)
 
 -- the number of the call to a station that has ended, by `OP ST done N ..`
 abbrev pub ended_call : List ℕ → List ℕ → List ℕ → Option ℕ

@@ -1,7 +1,9 @@
 //! Lines that are sent as an operator, and what is said to them.
 
 use crate::fault::ClientFault;
+use crate::order_forms::hint_of;
 use crate::orders::Orders;
+use crate::outcome::is_taken;
 use crate::reply::{Reply, ended_call, reply_of};
 use ocpp_types::Text;
 use std::io;
@@ -29,8 +31,9 @@ struct Asking<'a> {
     orders: Orders<'a>,
 }
 
-/// Sends the line, or each line of standard input, and prints what each is answered. Whether all were taken. Errors: no
-/// connection, one that ends, an answer that doesn't come, standard input that can't be read.
+/// Sends the line, or each line of standard input, and prints what each is answered. Whether all were taken, and with
+/// `--wait` carried out by their stations. Errors: no connection, one that ends, an answer that doesn't come, standard input
+/// that can't be read.
 pub fn ask(rt: &HostRuntime, options: &AskOptions) -> Result<bool, ClientFault> {
     let mut asking = Asking {
         rt,
@@ -70,8 +73,11 @@ impl Asking<'_> {
         match self.answer()? {
             Reply::Call(call) if self.options.wait => {
                 let station = line.split(' ').nth(1).unwrap_or("");
-                self.end_of(station, call)?;
-                Ok(true)
+                self.end_of(station, call)
+            }
+            Reply::Bad => {
+                self.tell_why(line)?;
+                Ok(false)
             }
             reply => Ok(reply != Reply::Refused),
         }
@@ -90,15 +96,23 @@ impl Asking<'_> {
         Err(self.orders.silent())
     }
 
-    /// Reads up to the line that says how a call has ended, and prints it.
-    fn end_of(&mut self, station: &str, call: u64) -> Result<(), ClientFault> {
+    /// Reads up to the line that says how a call has ended, and prints it. Whether the station took it.
+    fn end_of(&mut self, station: &str, call: u64) -> Result<bool, ClientFault> {
         for _ in 0..u64::MAX {
             let text = self.orders.told(MAX_CALL)?;
             if ended_call(self.options.operator.as_str(), station, text.as_str()) == Some(call) {
-                return self.print(text.as_str());
+                self.print(text.as_str())?;
+                return Ok(is_taken(self.rt.alloc(), text.as_str())?);
             }
         }
         Err(self.orders.silent())
+    }
+
+    /// Writes to standard error why a line has no form.
+    fn tell_why(&self, line: &str) -> Result<(), ClientFault> {
+        let hint = hint_of(self.rt.alloc(), line)?;
+        eprintln!(self.rt; "{hint}")?;
+        Ok(())
     }
 
     fn print(&self, text: &str) -> Result<(), ClientFault> {

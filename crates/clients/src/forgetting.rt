@@ -166,7 +166,10 @@ impl Forgetting<'_> {
             let Some(text) = self.orders.answer()? else {
                 return Ok(gone);
             };
-            if reply_of(operator, text.as_str()) == Reply::Refused {
+            if matches!(
+                reply_of(operator, text.as_str()),
+                Reply::Refused | Reply::Bad
+            ) {
                 println!(self.rt; "{text}")?;
             }
             if let Some(rows) = forgotten_of(operator, station, text.as_str()) {

@@ -7,7 +7,9 @@ mod connection;
 mod export;
 mod fault;
 mod forgetting;
+mod order_forms;
 mod orders;
+mod outcome;
 mod reply;
 mod simulation;
 
@@ -15,4 +17,5 @@ pub use asking::{AskOptions, ask};
 pub use clock::now;
 pub use fault::{ClientFault, Lost};
 pub use forgetting::{ForgetOptions, days_of, forget};
+pub use order_forms::FORMS;
 pub use simulation::{SimOptions, simulate};

@@ -14,8 +14,10 @@ pub enum Reply {
     Taken,
     /// It is a command, which is taken; its call has the number.
     Call(u64),
-    /// It is refused, or has no form.
+    /// It is refused.
     Refused,
+    /// It has no form.
+    Bad,
     /// It isn't answered with this: a row, or something else that the operator is told.
     Other,
 }
@@ -69,7 +71,7 @@ pub fn reply_of(operator: &str, text: &str) -> Reply
     ensures { result ≡ reply_of operator.now text.now }
 {
     if text == "bad line" {
-        return Reply::Refused;
+        return Reply::Bad;
     }
     match after_word(operator, text) {
         Some(told) => told_reply(told),

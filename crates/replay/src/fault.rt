@@ -18,6 +18,9 @@ pub enum ReplayFault {
     /// The store failed.
     #[error("Store")]
     Store,
+    /// A line asks for more rows than the store may give at once.
+    #[error("LongListing")]
+    LongListing,
     /// These operators can't be hosted.
     #[error("BadOperators")]
     BadOperators,
@@ -39,6 +42,9 @@ pub enum LineFault {
     NoMemory,
     #[error("Store")]
     Store,
+    /// It asks for more rows than the store may give at once.
+    #[error("LongListing")]
+    LongListing,
     #[error("Write")]
     Write,
 }
@@ -65,8 +71,9 @@ impl From<Fault> for LineFault {
     fn from(fault: Fault) -> LineFault {
         match fault {
             Fault::NoMemory => LineFault::NoMemory,
-            // An event that was read from a line is of a hosted operator, and the store of a replay has no bound.
-            Fault::Store | Fault::TooLong | Fault::NoSuchOperator => LineFault::Store,
+            Fault::TooLong => LineFault::LongListing,
+            // An event that was read from a line is of a hosted operator.
+            Fault::Store | Fault::NoSuchOperator => LineFault::Store,
         }
     }
 }
@@ -78,6 +85,7 @@ impl From<LineFault> for ReplayFault {
         match fault {
             LineFault::NoMemory => ReplayFault::NoMemory,
             LineFault::Store => ReplayFault::Store,
+            LineFault::LongListing => ReplayFault::LongListing,
             LineFault::Write => ReplayFault::Write,
         }
     }

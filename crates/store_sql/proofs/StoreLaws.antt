@@ -1,5 +1,5 @@
 -- What the store says of a call, by what the connection says of it.
-use Rattle.std.proofs.Common.{◌≡◌, ◌≤◌, ◌+◌, ℕ, List, false, IsTrue, Result, Ok, Err, OnOk, OnErr, IfOk, sym, ap, ◌∙◌, subst, subst₂}
+use Rattle.std.proofs.Common.{◌≡◌, ◌≤◌, ◌+◌, ℕ, List, Option, false, IsTrue, Result, Ok, Err, OnOk, OnErr, IfOk, refl, sym, ap, ◌∙◌, subst, subst₂}
 use Rattle.sqlite_trees.specs.Tree.{Trees}
 use Rattle.sqlite_trees.specs.View.{IsClean}
 use Rattle.sqlite_trees.specs.declared.store.Store.{Ghosts}
@@ -21,6 +21,7 @@ use Rattle.hub_rows.proofs.WellFormedLaws.{well_formed-edit}
 use Rattle.sql_rows.specs.Kept.{Serves, IsServing, IsAsBefore, Rests, CommitsNothing, FindsIn, Changes, IsMade, IsMadeAfter, Made, changes_in}
 use Rattle.sql_rows.specs.Opening.{IsOurs}
 use Rattle.sql_rows.specs.TypedTables.{rows_of}
+use Rattle.sql_rows.proofs.StoreLemmas.{serves_as}
 use Rattle.sql_rows.proofs.TxLemmas.{changes_also}
 use Rattle.sql_lookups.specs.Asks.{Asks, AsksIn}
 use Rattle.store_sql.specs.Store.{CountsIfOurs, KeepsIfOurs, SqlView, ServesIfOurs, sql_rows, sql_view, IsCleanSql}
@@ -39,6 +40,38 @@ kept_still taken old new kept rests = (
       let r = rests (serving_if taken old kept.0 ours) up in
       kept.1 ours r.was_open ∙ sym (ap (λ (d : Database). changes_in d.trees) r.now),
 )
+
+-- ---- a limit of steps
+
+-- a connection whose limit alone is another
+abbrev limited : {S : Type 0} → Held S → Option ℕ → Held S
+limited conn limit = record conn { step_limit = limit }
+
+pub kept_limited : {S : Type 0} (g : Ghosts S) (taken old new : Held S) (n : ℕ) (limit : Option ℕ) → KeepsIfOurs (state g taken) (state g old) n → new ≡ limited old limit → KeepsIfOurs (state g taken) (state g new) n
+kept_limited g taken old new n limit kept is =
+    subst (λ h. KeepsIfOurs (state g taken) (state g h) n) (sym is)
+    (λ ours up. let was = kept.0 ours up in (serves_as (state g old) (state g (limited old limit)) was.0 refl was.0.committed was.0.mode, was.1), kept.1)
+
+module _ {S : Type 0} (g : Ghosts S) (s : SqlView S) (limit : Option ℕ) where
+  abbrev over_limited : SqlView S
+  over_limited = record s { conn = limited s.conn limit }
+
+  limited_clean : IsCleanSql g s → IsCleanSql g over_limited
+  limited_clean clean = record { ours = clean.ours; up = clean.up; good = clean.good }
+
+  unlimited_clean : IsCleanSql g over_limited → IsCleanSql g s
+  unlimited_clean clean = record { ours = clean.ours; up = clean.up; good = clean.good }
+
+  limited_kept : IsKept (sql_view g s) → IsKept (sql_view g over_limited)
+  limited_kept kept = record { alone = λ r found. let at = kept.alone r found in (limited_clean at.0, at.1); takes = λ clean. kept.takes (unlimited_clean clean) }
+
+  -- what is said of the store that has the connection with that limit
+  module _ (new : Held S) (is : new ≡ limited s.conn limit) where
+    pub clean_with : IsCleanSql g s → IsCleanSql g (record s { conn = new })
+    clean_with clean = subst (λ h. IsCleanSql g (record s { conn = h })) (sym is) (limited_clean clean)
+
+    pub kept_with : IsKept (sql_view g s) → IsKept (sql_view g (record s { conn = new }))
+    kept_with kept = subst (λ h. IsKept (sql_view g (record s { conn = h }))) (sym is) (limited_kept kept)
 
 -- ---- a read
 

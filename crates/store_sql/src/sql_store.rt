@@ -71,8 +71,7 @@ impl<A: Alter> Model for SqlStore<A> {
 }
 
 impl<A: Alter> SqlStore<A> {
-    ghost use Rattle.hub_rows.specs.Stops.{IsKept};
-    ghost use Rattle.store_sql.specs.Store.{CountsIfOurs, IsCleanSql, ServesIfOurs, sql_rows, sql_view};
+    ghost use Rattle.store_sql.specs.Store.{CountsIfOurs, IsCleanSql, ServesIfOurs};
     ghost use Rattle.sql_rows.specs.Kept.{changes_in};
     ghost use Rattle.sql_rows.specs.Opening.{IsOurs};
     ghost use Rattle.sqlite.specs.Held.{state};
@@ -116,18 +115,6 @@ impl<A: Alter> SqlStore<A> {
         self.mark = Some(mark);
     }
 
-    /// From now on no statement visits more than so many rows, and no more readings are listed at once. What would take more
-    /// answers TooLong, and changes nothing.
-    pub fn set_longest(&mut self, rows: u32)
-        ensures rows { sql_rows A.Store self.new ≡ sql_rows A.Store self.old }
-        ensures clean { IsCleanSql A.Store self.old → IsCleanSql A.Store self.new }
-        ensures kept { IsKept (sql_view A.Store self.old) → IsKept (sql_view A.Store self.new) }
-        ensures counts { (self.new.failures ≡ self.old.failures) × (self.new.changes ≡ self.old.changes) }
-    {
-        self.longest = rows as usize;
-        self.conn.set_step_limit(Some(u64::from(rows)));
-    }
-
     /// What was done, counted if the store failed.
     fn counted<T>(&mut self, done: Result<T, StoreFault>) -> Result<T, StoreFault>
         ensures same { result ≡ done }
@@ -148,7 +135,7 @@ impl<A: Alter + Drop> SqlStore<A> {
     ghost use Rattle.std.specs.Prelude.{Ok, IfOk, IsTrue, ⊤};
     ghost use Rattle.store_sql.specs.declared.fault.PrepareFault.{PrepareFault as Unfit};
     ghost use Rattle.hub_rows.specs.Stops.{IsKept};
-    ghost use Rattle.store_sql.specs.Store.{IsCleanSql, sql_view};
+    ghost use Rattle.store_sql.specs.Store.{IsCleanSql, sql_rows, sql_view};
     ghost use Rattle.sql_rows.specs.Opening.{IsOurs, Prepares};
     ghost use Rattle.sqlite.specs.Held.{state};
 
@@ -164,6 +151,26 @@ impl<A: Alter + Drop> SqlStore<A> {
         prepare(&mut conn, alloc)?;
         let changes = changes(&mut conn)?;
         Ok(SqlStore::over(alloc, taken, conn, changes))
+    }
+
+    /// The same store, of which no statement visits more than so many rows, and no more readings are listed at once. What
+    /// would take more answers TooLong, and changes nothing.
+    pub fn with_longest(self, rows: u32) -> SqlStore<A>
+        ensures rows { sql_rows A.Store result ≡ sql_rows A.Store self }
+        ensures clean { IsCleanSql A.Store self → IsCleanSql A.Store result }
+        ensures kept { IsKept (sql_view A.Store self) → IsKept (sql_view A.Store result) }
+    {
+        let mut conn = self.conn;
+        conn.set_step_limit(Some(u64::from(rows)));
+        SqlStore {
+            alloc: self.alloc,
+            conn,
+            failures: self.failures,
+            taken: self.taken,
+            changes: self.changes,
+            mark: self.mark,
+            longest: rows as usize,
+        }
     }
 
     /// Its connection. Where this project wrote what was taken over, it wrote what is there now, so that can be taken over

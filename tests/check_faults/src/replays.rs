@@ -88,6 +88,7 @@ fn faults_have_names(rt: HostRuntime) -> Result<(), Fail> {
     for (fault, name) in [
         (ReplayFault::NoMemory, "NoMemory"),
         (ReplayFault::Store, "Store"),
+        (ReplayFault::LongListing, "LongListing"),
         (ReplayFault::BadOperators, "BadOperators"),
         (ReplayFault::Read, "Read"),
         (ReplayFault::Write, "Write"),

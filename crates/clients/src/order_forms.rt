@@ -1,0 +1,206 @@
+//! The forms of an operator's lines, and why a line has none of them (docs/TABLES.md, Lines). A word of a form in small
+//! letters stands for itself, any other for a value.
+
+use ocpp_types::Mem;
+use std::alloc::Global;
+
+/// The forms, a line each.
+pub const FORMS: &str = "\
+station add ST POLICY INTERVAL
+station policy ST POLICY INTERVAL
+tag put TAG PARENT 0|1 EXPIRY
+tag drop TAG
+grant TAG OPERATOR UNTIL
+revoke TAG OPERATOR
+call ST ACTION JSON
+transaction close ST N METERSTOP
+forget ST BEFORE
+list stations
+list connections
+list tags
+list grants
+list granted
+list uses
+list open
+list connectors ST
+list transactions ST
+list transactions ST N
+list readings ST
+list readings ST N
+list reservations ST
+list locallist ST
+list reports ST
+list forgettable ST BEFORE";
+
+/// The actions of a call.
+const ACTIONS: [&str; 14] = [
+    "CancelReservation",
+    "ChangeAvailability",
+    "ChangeConfiguration",
+    "ClearCache",
+    "DataTransfer",
+    "GetConfiguration",
+    "GetLocalListVersion",
+    "RemoteStartTransaction",
+    "RemoteStopTransaction",
+    "ReserveNow",
+    "Reset",
+    "SendLocalList",
+    "TriggerMessage",
+    "UnlockConnector",
+];
+
+/// A line against a form.
+#[derive(Clone, Copy, Drop)]
+struct Fit<'a> {
+    /// How many words of the form stand for themselves and begin the line.
+    depth: usize,
+    /// The first word of the form that the line hasn't, and what stands there; none where the line goes on after the form.
+    missed: Option<(&'a str, &'a str)>,
+    /// All words fit.
+    fits: bool,
+}
+
+/// Why a line has no form: the word that isn't understood, and the form that was expected.
+pub fn hint_of(alloc: Global, line: &str) -> Mem<String> {
+    let mut best: Option<(Fit<'_>, &str)> = None;
+    for form in FORMS.split('\n') {
+        let fit = fit_of(form, line);
+        let is_better = best.is_none_or(|(other, _)| is_nearer(&fit, &other));
+        if is_better {
+            best = Some((fit, form));
+        }
+    }
+    match best {
+        Some((fit, form)) if fit.depth > 0 => hint(alloc, &fit, form, line),
+        _ => {
+            let word = first_of(line);
+            Ok(format!(in alloc; "'{word}' begins no line; `central ask help` lists the forms")?)
+        }
+    }
+}
+
+/// Whether a form is nearer to a line than another.
+fn is_nearer(fit: &Fit<'_>, other: &Fit<'_>) -> bool {
+    fit.depth > other.depth || (fit.depth == other.depth && fit.fits && !other.fits)
+}
+
+/// What is told of the form that is nearest.
+fn hint(alloc: Global, fit: &Fit<'_>, form: &str, line: &str) -> Mem<String> {
+    let told = match fit.missed {
+        _ if fit.fits => of_values(alloc, form)?,
+        Some((wanted, "")) => format!(in alloc; "{wanted} is missing")?,
+        Some((wanted, word)) if is_plain(wanted) => {
+            format!(in alloc; "'{word}' doesn't follow '{}'", before(line, word))?
+        }
+        Some((wanted, word)) => {
+            format!(in alloc; "'{word}' is no {wanted}, which is {}", meaning(wanted))?
+        }
+        None => format!(in alloc; "the line goes on after its end")?,
+    };
+    Ok(format!(in alloc; "{told}; expected: {form}")?)
+}
+
+/// What is told of a line whose words have the form.
+fn of_values(alloc: Global, form: &str) -> Mem<String> {
+    let told = if form.ends_with("JSON") {
+        "the JSON is none, or lacks a member of that command or has one of another type (docs/TABLES.md, Commands)"
+    } else {
+        "a value is out of its bounds (docs/TABLES.md, Lines)"
+    };
+    Ok(told.to_string(alloc)?)
+}
+
+/// A line against a form, word by word.
+fn fit_of<'a>(form: &'a str, line: &'a str) -> Fit<'a> {
+    let mut fit = Fit {
+        depth: 0,
+        missed: None,
+        fits: false,
+    };
+    let mut rest = Some(line);
+    for wanted in form.split(' ') {
+        let (word, after) = next_of(wanted, rest);
+        if !is_value(wanted, word) {
+            fit.missed = Some((wanted, word));
+            return fit;
+        }
+        if is_plain(wanted) {
+            fit.depth = fit.depth.saturating_add(1);
+        }
+        rest = after;
+    }
+    fit.fits = rest.is_none();
+    fit
+}
+
+/// The next word of what is left of a line, and what follows it. JSON is all that is left.
+fn next_of<'a>(wanted: &str, rest: Option<&'a str>) -> (&'a str, Option<&'a str>) {
+    let Some(rest) = rest else {
+        return ("", None);
+    };
+    if wanted == "JSON" {
+        return (rest, None);
+    }
+    match rest.split_once(' ') {
+        Some((word, after)) => (word, Some(after)),
+        None => (rest, None),
+    }
+}
+
+/// Whether a word of a form stands for itself.
+fn is_plain(wanted: &str) -> bool {
+    wanted.bytes().all(|byte| byte.is_ascii_lowercase())
+}
+
+/// Whether a word may stand where a form has that one.
+fn is_value(wanted: &str, word: &str) -> bool {
+    match wanted {
+        "POLICY" => matches!(word, "Accepted" | "Pending" | "Rejected"),
+        "ACTION" => ACTIONS.contains(&word),
+        "0|1" => matches!(word, "0" | "1"),
+        "INTERVAL" | "BEFORE" | "N" => is_number(word),
+        "EXPIRY" | "UNTIL" => word == "-" || is_number(word),
+        "METERSTOP" => is_number(word.strip_prefix('-').unwrap_or(word)) || word == "-",
+        "JSON" => word.starts_with('{'),
+        _ if is_plain(wanted) => word == wanted,
+        _ => !word.is_empty(),
+    }
+}
+
+fn is_number(word: &str) -> bool {
+    !word.is_empty() && word.bytes().all(|byte| byte.is_ascii_digit())
+}
+
+/// What a word of a form stands for.
+fn meaning(wanted: &str) -> &'static str {
+    match wanted {
+        "POLICY" => "Accepted, Pending or Rejected",
+        "ACTION" => "a command of the central system, as ClearCache or Reset",
+        "0|1" => "0, or 1 for a tag that is blocked",
+        "INTERVAL" => "a number of seconds",
+        "BEFORE" => "a number of seconds since 1970",
+        "EXPIRY" | "UNTIL" => "a number of seconds since 1970, or - for none",
+        "METERSTOP" => "a number of Wh, or - for that of the readings",
+        "N" => "the number of a transaction",
+        "JSON" => "an object as {}",
+        _ => "a word",
+    }
+}
+
+/// The first word of a line.
+fn first_of(line: &str) -> &str {
+    match line.split_once(' ') {
+        Some((word, _rest)) => word,
+        None => line,
+    }
+}
+
+/// What stands before a word of a line, without the space between.
+fn before<'a>(line: &'a str, word: &str) -> &'a str {
+    let front = match line.split_once(word) {
+        Some((front, _rest)) => front,
+        None => line,
+    };
+    front.strip_suffix(' ').unwrap_or(front)
+}
