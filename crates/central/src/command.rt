@@ -94,6 +94,14 @@ pub fn read(alloc: Global, words: &[String]) -> Result<Plan, Error> {
     }
 }
 
+/// Whether the words are `central ask help`.
+pub fn asks_for_forms(words: &[String]) -> bool {
+    match words {
+        [_program, command, word] => command.as_str() == "ask" && word.as_str() == "help",
+        _ => false,
+    }
+}
+
 fn plan_of(alloc: Global, matches: &ArgMatches) -> Result<Option<Plan>, Error> {
     if let Some(found) = matches.subcommand_matches("replay") {
         return Ok(Some(Plan::Replay(replay_options(alloc, found)?)));

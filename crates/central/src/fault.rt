@@ -3,7 +3,7 @@
 use crate::hosted::BadOperators;
 use cached::CacheFault;
 use clients::ClientFault;
-use ocpp_types::NoMemory;
+use ocpp_types::{NoMemory, Text};
 use replay::ReplayFault;
 use std::alloc::{AllocError, AllocFailed};
 use std::io;
@@ -14,12 +14,12 @@ use thiserror::Error;
 /// Why a run stops.
 #[derive(Debug, Drop, Error)]
 pub enum RunFault {
-    /// The database can't be opened, or isn't one of this program.
+    /// The database can't be opened, or isn't one of this program; and the path of its file.
     #[error("Store: {0}")]
-    Database(PrepareFault),
-    /// The database lacks changes that were synced, or its mark can't be used.
+    Database(PrepareFault, Text),
+    /// The database lacks changes that were synced, or its mark can't be used; and the path of the mark.
     #[error("Store: {0}")]
-    Mark(MarkFault),
+    Mark(MarkFault, Text),
     /// The database failed while it was served, and is shut.
     #[error("Store: the database failed")]
     Store,
@@ -62,30 +62,11 @@ impl RunFault {
             RunFault::Client(fault) => fault.write_detail(rt),
             RunFault::Listener(address, error) => eprintln!(rt; "{address}: {error}"),
             RunFault::Console(error) => eprintln!(rt; "standard input or output: {error}"),
-            RunFault::Database(_)
-            | RunFault::Mark(_)
-            | RunFault::Store
+            RunFault::Database(_, file) | RunFault::Mark(_, file) => eprintln!(rt; "{file}"),
+            RunFault::Store
             | RunFault::Replay(_)
             | RunFault::NoMemory
             | RunFault::Clock => Ok(()),
-        }
-    }
-}
-
-impl From<PrepareFault> for RunFault {
-    fn from(fault: PrepareFault) -> RunFault {
-        match fault {
-            PrepareFault::NoMemory => RunFault::NoMemory,
-            other => RunFault::Database(other),
-        }
-    }
-}
-
-impl From<MarkFault> for RunFault {
-    fn from(fault: MarkFault) -> RunFault {
-        match fault {
-            MarkFault::NoMemory => RunFault::NoMemory,
-            other => RunFault::Mark(other),
         }
     }
 }

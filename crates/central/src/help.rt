@@ -38,9 +38,10 @@ Example:
   central sim --port 9180 --path /ocpp/ACME/CP01
 
 Exit statuses:
-  0  the session has ended
+  0  the session was carried out
   1  the command line can't be read
   2  a fault, which standard error names
+  3  the station or its id tag wasn't Accepted
 
 More: README.md, docs/RULES.md (The simulated station), docs/OPERATIONS.md (The server)\n";
 
@@ -50,11 +51,13 @@ Examples:
   central ask --port 9180 --operator ACME \"list tags\"
   central ask --port 9180 --operator ACME --wait \"call CP01 ClearCache {}\"
 
+`central ask help` lists the lines.
+
 Exit statuses:
-  0  each line was taken
+  0  each line was taken, and with --wait carried out by its station
   1  the command line can't be read
   2  a fault, which standard error names
-  3  a line was refused or bad
+  3  a line was refused or bad, or with --wait not carried out
 
 More: docs/OPERATIONS.md (An operator's commands), docs/TABLES.md\n";
 

@@ -4,6 +4,7 @@
 mod causes;
 mod command;
 mod fault;
+mod file_fault;
 mod help;
 mod hosted;
 mod journal;
@@ -20,7 +21,7 @@ mod status;
 mod stderr;
 
 use clap::error::ErrorKind;
-use clients::{ask, forget, simulate};
+use clients::{FORMS, ask, forget, simulate};
 use command::Plan;
 use fault::RunFault;
 use replaying::replay_lines;
@@ -33,7 +34,8 @@ use stderr::takes_line;
 /// The milliseconds that the program waits for standard error as it ends.
 const LAST_WAIT: u16 = 1000;
 
-/// Statuses: 0 done, 1 usage, 2 a fault, which is named on standard error, 3 a line of an operator that was refused.
+/// Statuses: 0 done, 1 usage, 2 a fault, which is named on standard error, 3 a line of an operator or a station's session that
+/// was refused.
 fn main(rt: HostRuntime) -> anyhow::Result<ExitCode> {
     let answer = run(&rt);
     if let Err(fault) = &answer {
@@ -48,6 +50,10 @@ fn main(rt: HostRuntime) -> anyhow::Result<ExitCode> {
 /// Does what the command line asks for, and gives the program's status.
 fn run(rt: &HostRuntime) -> Result<u8, RunFault> {
     let words: Vec<String> = env::args(rt)?.collect(rt.alloc())?;
+    if command::asks_for_forms(words.as_slice()) {
+        println!(rt; "{FORMS}")?;
+        return Ok(0);
+    }
     match command::read(rt.alloc(), words.as_slice()) {
         Ok(plan) => carry_out(rt, plan),
         Err(error) if error.kind() == ErrorKind::OutOfMemory => Err(RunFault::NoMemory),
@@ -67,7 +73,7 @@ fn carry_out(rt: &HostRuntime, plan: Plan) -> Result<u8, RunFault> {
     match plan {
         Plan::Replay(options) => replay_lines(rt, options, vendors)?,
         Plan::Serve(options) => serve(rt, options, vendors)?,
-        Plan::Sim(options) => simulate(rt, &options)?,
+        Plan::Sim(options) => all_taken = simulate(rt, &options)?,
         Plan::Ask(options) => all_taken = ask(rt, &options)?,
         Plan::Forget(options) => all_taken = forget(rt, &options)?,
     }

@@ -1,10 +1,12 @@
 //! Records in the file of a database.
 
 use crate::fault::RunFault;
+use crate::file_fault::detail_of;
 use crate::new_file::make_if_new;
+use ocpp_types::Text;
 use sqlite::{FileFrom, FileStore, Unknown};
 use std::fs;
-use store_sql::{Mark, SqlStore};
+use store_sql::{Mark, MarkFault, PrepareFault, SqlStore};
 
 /// How many answers of a kind are kept in front of a database.
 pub const ANSWERS: usize = 1024;
@@ -35,9 +37,26 @@ pub fn open(
 ) -> Result<SqlStore<FileStore<FileFrom<Unknown>>>, RunFault> {
     // what was not made here is made below, with larger pages and without sums
     let _made = make_if_new(rt, path, options.page_sums);
-    let mut store = SqlStore::open(rt, path, Unknown)?;
-    let place = format!(in rt.alloc(); "{path}-count")?;
-    let mark = Mark::open(rt, place.as_str(), store.changes(), options.accepts_loss)?;
-    store.keep_mark(mark);
+    let mut store = match SqlStore::open(rt, path, Unknown) {
+        Ok(store) => store,
+        Err(PrepareFault::NoMemory) => return Err(RunFault::NoMemory),
+        Err(fault) => return Err(RunFault::Database(fault, detail_of(rt, path, fault)?)),
+    };
+    store.keep_mark(open_mark(rt, path, store.changes(), options)?);
     Ok(store)
+}
+
+/// Opens the mark beside a file, on which so many changes are on record.
+fn open_mark(
+    rt: &HostRuntime,
+    path: &str,
+    changes: u64,
+    options: FileOptions,
+) -> Result<Mark, RunFault> {
+    let place = format!(in rt.alloc(); "{path}-count")?;
+    match Mark::open(rt, place.as_str(), changes, options.accepts_loss) {
+        Ok(mark) => Ok(mark),
+        Err(MarkFault::NoMemory) => Err(RunFault::NoMemory),
+        Err(fault) => Err(RunFault::Mark(fault, Text::from(place))),
+    }
 }

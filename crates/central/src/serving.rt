@@ -9,10 +9,11 @@ use crate::stderr::takes_line;
 use cached::Cached;
 use clients::now;
 use hub_rows::Store;
-use ocpp_types::Text;
+use ocpp_types::{Mem, Text};
 use ready_streams::Streams;
 use sqlite::Alter;
 use station_calls::VendorHandler;
+use std::alloc::Global;
 use std::fs;
 use std::net::SocketAddr;
 use std::time::{Duration, Instant};
@@ -96,11 +97,15 @@ fn serve_over<S: Store + Drop, V: VendorHandler>(
     vendors: Vec<V>,
     opening: Duration,
 ) -> Result<(), RunFault> {
-    let stations = count_stations(&mut store, options.operators.as_slice());
+    let counts = count_stations(rt.alloc(), &mut store, options.operators.as_slice())?;
+    let stations = counts.iter().fold(0, |all: usize, count| all.saturating_add(*count));
     let start = start_text(rt.alloc(), &options, opening, stations)?;
     let turns = options.turns;
     let address = options.address;
     let journal = Journal::new(rt, options.log);
+    if stations > 0 {
+        warn_of_names(rt, options.operators.as_slice(), counts.as_slice());
+    }
     let mut server = Server::new(rt, store, streams, options, vendors, journal)?;
     warn_of(rt, address);
     server.tell_start(start.as_str());
@@ -116,13 +121,31 @@ fn warn_of(rt: &HostRuntime, address: SocketAddr) {
     }
 }
 
-/// How many stations the operators have on record. Those that can't be read don't count.
-fn count_stations<S: Store>(store: &mut S, operators: &[Text]) -> usize {
-    let mut count = 0_usize;
-    for operator in operators {
-        if let Ok(found) = store.stations(operator.as_str()) {
-            count = count.saturating_add(found.as_slice().len());
+/// Warns of operators that have no station on record, where others have some: a name may be spelled otherwise than in the
+/// records. What can't be written is lost.
+fn warn_of_names(rt: &HostRuntime, operators: &[Text], counts: &[usize]) {
+    for (operator, count) in operators.iter().zip(counts) {
+        if *count == 0 && takes_line(0) {
+            let _ = eprintln!(rt;
+                "warning: {operator} has no station on record, and another operator has: a name of --operators may be misspelled"
+            );
         }
     }
-    count
+}
+
+/// How many stations each operator has on record. Where they can't be read it counts none.
+fn count_stations<S: Store>(
+    alloc: Global,
+    store: &mut S,
+    operators: &[Text],
+) -> Mem<Vec<usize>> {
+    let mut counts = Vec::new(alloc);
+    for operator in operators {
+        let count = match store.stations(operator.as_str()) {
+            Ok(found) => found.as_slice().len(),
+            Err(_) => 0,
+        };
+        counts.push(count)?;
+    }
+    Ok(counts)
 }

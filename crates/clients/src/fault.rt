@@ -3,7 +3,7 @@
 use ocpp_types::NoMemory;
 use std::alloc::{AllocError, AllocFailed};
 use std::fmt::{Display, Formatter, Write};
-use std::net::SocketAddr;
+use std::net::{Ipv4Addr, SocketAddr};
 use std::{fmt, io};
 use thiserror::Error;
 
@@ -14,6 +14,8 @@ pub enum Lost {
     Failed(io::Error),
     /// The path can't be asked for.
     NoPath,
+    /// The path is no station's.
+    NoStation,
     /// The handshake was answered with that status.
     Answered(u16),
     /// The handshake ended before it was done.
@@ -29,6 +31,13 @@ impl Display for Lost {
         match self {
             Lost::Failed(error) => write!(f, "{error}"),
             Lost::NoPath => write!(f, "the path can't be asked for"),
+            Lost::NoStation => {
+                write!(f, "the path is no station's, as /ocpp/OPERATOR/STATION is")
+            }
+            Lost::Answered(404) => write!(
+                f,
+                "the handshake was answered 404: no such operator or station is known there"
+            ),
             Lost::Answered(status) => write!(f, "the handshake was answered {status}"),
             Lost::NoHandshake => write!(f, "the handshake was not done"),
             Lost::Ended => write!(f, "the connection has ended"),
@@ -64,6 +73,12 @@ pub enum ClientFault {
 }
 
 impl ClientFault {
+    /// A path that is asked for at that port is no station's.
+    pub(crate) fn no_station(port: u16) -> ClientFault {
+        let address = SocketAddr::from((Ipv4Addr::LOCALHOST, port));
+        ClientFault::Stream(address, Lost::NoStation)
+    }
+
     /// A call on a socket of that address failed so.
     pub(crate) fn at(address: SocketAddr, error: io::Error) -> ClientFault {
         match error.kind() {

@@ -17,16 +17,21 @@ pub struct SimOptions {
     pub path: Text,
 }
 
-/// Runs one charging session over a new connection, and prints each message: a call as `> CALL`, a text
-/// of the server as `< TEXT`, and what it is answered as `> REPLY`.
-pub fn simulate(rt: &HostRuntime, options: &SimOptions) -> Result<(), ClientFault> {
-    let mut connection = Connection::to(rt, options.port, options.path.as_str())?;
-    run(rt, &mut connection)?;
+/// Runs one charging session over a new connection, and prints each message: a call as `> CALL`, a text of the server as
+/// `< TEXT`, and what it is answered as `> REPLY`. Whether it came to its end, which it doesn't where the boot or the id tag
+/// isn't Accepted. Errors: a path that is no station's, no connection, one that ends.
+pub fn simulate(rt: &HostRuntime, options: &SimOptions) -> Result<bool, ClientFault> {
+    let path = options.path.as_str();
+    if path.starts_with('/') && !path.starts_with("/ocpp/") {
+        return Err(ClientFault::no_station(options.port));
+    }
+    let mut connection = Connection::to(rt, options.port, path)?;
+    let ended = run(rt, &mut connection)?;
     let _closed = connection.socket.close(None);
-    Ok(())
+    Ok(ended)
 }
 
-fn run(rt: &HostRuntime, connection: &mut Connection<'_>) -> Result<(), ClientFault> {
+fn run(rt: &HostRuntime, connection: &mut Connection<'_>) -> Result<bool, ClientFault> {
     let alloc = rt.alloc();
     match Sim::new(alloc, script(alloc)?) {
         Ok(mut station) => drive_all(rt, &mut station, connection),
@@ -34,26 +39,38 @@ fn run(rt: &HostRuntime, connection: &mut Connection<'_>) -> Result<(), ClientFa
     }
 }
 
-/// Drives a station until its session has ended.
+/// Drives a station until its session has ended. Whether the last call was that of a session.
 fn drive_all(
     rt: &HostRuntime,
     station: &mut Sim,
     connection: &mut Connection<'_>,
-) -> Result<(), ClientFault> {
+) -> Result<bool, ClientFault> {
+    let mut has_stopped = false;
     for _ in 0..MAX_DRIVES {
         if station.done() {
             break;
         }
         let moment = now(rt).ok_or(ClientFault::Clock)?;
         match drive(station, &mut connection.socket, moment) {
-            Ok(drove) => print(rt, &drove)?,
+            Ok(drove) => {
+                print(rt, &drove)?;
+                has_stopped = has_stopped || is_stop(&drove);
+            }
             Err(SimFault::NoMemory) => return Err(ClientFault::NoMemory),
             Err(SimFault::Stream) => {
                 return Err(ClientFault::Stream(connection.address, Lost::Ended));
             }
         }
     }
-    Ok(())
+    Ok(has_stopped && station.done())
+}
+
+/// Whether the call that ends a session was made.
+fn is_stop(drove: &Drove) -> bool {
+    match &drove.call {
+        Some(call) => call.as_str().split_once("\"StopTransaction\"").is_some(),
+        None => false,
+    }
 }
 
 /// The session of the program.
