@@ -204,6 +204,12 @@ BREACHES = [
     (1002, "a continuation of nothing", b"\x80\x80\0\0\0\0"),
     (1002, "a text within a text", b"\x01\x80\0\0\0\0\x81\x80\0\0\0\0"),
     (1002, "a ping in parts", b"\x09\x80\0\0\0\0"),
+    (1002, "a length of 2 in 16 bits", b"\x81\xfe\0\x02\0\0\0\0{}"),
+    (1002, "a length of 2 in 64 bits", b"\x81\xff" + bytes(7) + b"\x02\0\0\0\0{}"),
+    (1002, "a length with the first of 64 bits", b"\x81\xff\x80" + bytes(6) + b"\x01\0\0\0\0a"),
+    (1002, "a close of one byte", b"\x88\x81\0\0\0\0\x03"),
+    (1002, "a close with the code 1005", b"\x88\x82\0\0\0\0\x03\xed"),
+    (1007, "a close whose reason isn't UTF-8", b"\x88\x83\0\0\0\0\x03\xe8\xff"),
     (1002, "a ping of 126 bytes", b"\x89\xfe\0\x7e\0\0\0\0" + bytes(126)),
 ]
 

@@ -158,7 +158,7 @@ def check_loss(checks, what, db, hurt, least=1):
     lost = TAGS - len(found)
     checks.check(f"{what}: some are gone", lost >= least, True)
     checks.check(f"{what}: the first ones are left", found, sorted(f"T{number:02}" for number in range(TAGS))[: len(found)])
-    fault = f"fault Store: the log lacks {lost} changes\n"
+    fault = f"fault Store: the log lacks {lost} changes\n{copy}-count\n"
     checks.check(f"{what}: it is refused", tags_of(checks.program, copy), (2, fault))
     checks.check(f"{what}: once more", tags_of(checks.program, copy), (2, fault))
     checks.check(f"{what}: it is taken", tags_of(checks.program, copy, ("--accept-loss",)), found)
@@ -186,7 +186,7 @@ def check_losses(checks):
     checks.check("without a mark", tags_of(checks.program, copy), every)
     copy = copied(db, checks.folder, "no_count.db")
     Path(f"{copy}-count").write_bytes(b"forty\n")
-    checks.check("a mark without a count", tags_of(checks.program, copy), (2, "fault Store: the mark has no count\n"))
+    checks.check("a mark without a count", tags_of(checks.program, copy), (2, f"fault Store: the mark has no count\n{copy}-count\n"))
     checks.check("which is accepted", tags_of(checks.program, copy, ("--accept-loss",)), every)
     copy = copied(db, checks.folder, "behind.db")
     Path(f"{copy}-count").write_bytes(b"%020d\n" % 3)
@@ -219,7 +219,7 @@ def check_sums(checks):
         content = bytearray(Path(copy).read_bytes())
         content[number * page + 7 * number % page] ^= 1 << number % 8
         Path(copy).write_bytes(content)
-        checks.check(f"a bit of page {number + 1}", tags_of(checks.program, copy), (2, "fault Store: a page of the file is damaged\n"))
+        checks.check(f"a bit of page {number + 1}", tags_of(checks.program, copy), (2, f"fault Store: a page of the file is damaged\n{copy}\n"))
 
 
 def main():

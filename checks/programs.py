@@ -44,7 +44,7 @@ PORT = 9281
 # What the second lines of faults say, and the warning of an address.
 NO_NAME = "can't be a name: 1 to 32 letters, digits, - and _"
 IN_USE = "Address already in use (os error 98)"
-NOT_FOUND = f"fault Stream\n127.0.0.1:{PORT}: the handshake was answered 404\n"
+NOT_FOUND = f"fault Stream\n127.0.0.1:{PORT}: the handshake was answered 404: no such operator or station is known there\n"
 WARNED = "may be reached from other machines, and the server authenticates nobody (docs/OPERATIONS.md, A TLS proxy)"
 MOST = 1 << 20
 TIME = re.compile(r"\d{4}-\d\d-\d\dT\d\d:\d\d:\d\dZ")
@@ -150,6 +150,8 @@ def check_statuses(checks):
     checks.ends("no such command", "charge", 1, "charge")
     nobody = "127.0.0.1:9: Connection refused (os error 111)"
     checks.fault("nobody listens", "sim --port 9 --path /ocpp/ACME/CP01", "Stream", nobody)
+    no_station = "127.0.0.1:9: the path is no station's, as /ocpp/OPERATOR/STATION is"
+    checks.fault("no station's path", "sim --port 9 --path /operator/ACME", "Stream", no_station)
     checks.fault("no path", "sim --port 9 --path ocpp", "Stream", "127.0.0.1:9: the path can't be asked for")
     with socket.create_server(("127.0.0.1", PORT)):
         checks.fault("a port in use", f"{serve} ACME", "Stream", f"127.0.0.1:{PORT}: {IN_USE}")
@@ -163,7 +165,7 @@ def check_help(checks):
     code, text, errors = checks.run("--help")
     commands = ("replay", "serve", "sim", "ask", "forget")
     checks.check("--help", (code, errors, all(f"  {word} " in text for word in commands)), (0, "", True))
-    for word, statuses in zip(commands, (3, 3, 3, 4, 4)):
+    for word, statuses in zip(commands, (3, 3, 4, 4, 4)):
         code, text, errors = checks.run(word, "--help")
         checks.check(f"{word} --help", (code, errors, text[-2:].count("\n")), (0, "", 1))
         for part in (f"  central {word} --", "docs/OPERATIONS.md", *(f"\n  {status}  " for status in range(statuses))):
@@ -214,18 +216,20 @@ def check_databases(checks):
     other = made(checks, "CREATE TABLE hub_tag (op TEXT)")
     text = checks.new_file()
     Path(text).write_text("no database\n" * 100)
+    closed = "the file can't be opened"
     faults = {
-        later: "a later version of the program made the database",
-        other: "the database is not one of this program",
-        text: "the file is no database, or its rows don't obey its schema",
-        checks.folder: "the file can't be opened",
-        os.path.join(checks.folder, "none", "new.db"): "the file can't be opened",
+        later: ("a later version of the program made the database", ""),
+        other: ("the database is not one of this program", ""),
+        text: ("the file is no database, or its rows don't obey its schema", ""),
+        checks.folder: (closed, ": it is a folder"),
+        os.path.join(checks.folder, "none", "new.db"): (closed, ": its folder doesn't exist"),
+        os.path.join(text, "new.db"): (closed, ": what should be its folder is a file"),
     }
-    for path, fault in faults.items():
+    for path, (fault, why) in faults.items():
         before = os.path.isfile(path) and Path(path).read_bytes()
         for command in (["replay"], ["serve", "--port", str(PORT), "--turns", "0"]):
             got = checks.run(*command, "--operators", "A,A", "--db", path)
-            checks.check(f"{command[0]} over {path}", got, (2, "", f"fault Store: {fault}\n"))
+            checks.check(f"{command[0]} over {path}", got, (2, "", f"fault Store: {fault}\n{path}{why}\n"))
         after = os.path.isfile(path) and Path(path).read_bytes()
         checks.check(f"{path} stays", before == after, True)
 
@@ -315,7 +319,7 @@ def check_restart(checks):
             acme, station = connected("CP01")
             checks.check("a tag is put", acme.ask(f"tag put {sign.name} - 0 -"), "ACME ok")
             second = checks.run("serve", "--port", "9282", "--db", db, "--operators", "ACME", "--turns", "0")
-            fault = "fault Store: another process has the database open\n"
+            fault = f"fault Store: another process has the database open\n{db}\n"
             checks.check("a second server", second, (2, "", fault))
             server.send_signal(sign)
             server.wait(10)
@@ -407,6 +411,30 @@ def check_pages(checks):
         checks.check("the tag is there", checks.run(*words, db, lines=b"2 ACME list tags\n"), row)
 
 
+# Why a line has no form.
+BAD_LINES = {
+    "list": "a word is missing after 'list'; `central ask help` lists the lines",
+    "#1 list tags": "'#1' begins no line; `central ask help` lists the lines",
+    "list tag": "'tag' doesn't follow 'list'; `central ask help` lists the lines",
+    "list tags now": "the line goes on after its end; expected: list tags",
+    "station add CP01": "POLICY is missing; expected: station add ST POLICY INTERVAL",
+    "station add CP01 Acepted 300": "'Acepted' is no POLICY, which is Accepted, Pending or Rejected; expected: station add ST POLICY INTERVAL",
+    "tag put K1 - 2 -": "'2' is no 0|1, which is 0, or 1 for a tag that is blocked; expected: tag put TAG PARENT 0|1 EXPIRY",
+    "list transactions CP01 x": "'x' is no N, which is the number of a transaction; expected: list transactions ST N",
+    "list transactions CP01 0": "a value is out of its bounds (docs/TABLES.md, Lines); expected: list transactions ST N",
+    "call CP01 Restart {}": "'Restart' is no ACTION, which is a command of the central system, as ClearCache or Reset; expected: call ST ACTION JSON",
+    "call CP01 Reset {}": "the JSON is none, or lacks a member of that command or has one of another type (docs/TABLES.md, Commands); expected: call ST ACTION JSON",
+}
+
+# How a station answers a call, and whether it then did what it was called for.
+OUTCOMES = [
+    ('[3,"%s",{"status":"Rejected"}]', False),
+    ('[3,"%s",{"status":"Perhaps"}]', False),
+    ('[4,"%s","GenericError","",{}]', False),
+    ('[3,"%s",{"status":"Accepted"}]', True),
+]
+
+
 def check_ask(checks):
     """The operator's tool: a line, lines of standard input, a command that is followed to its end."""
     ask = ["ask", "--port", str(PORT), "--operator", "ACME"]
@@ -416,8 +444,8 @@ def check_ask(checks):
         checks.check("a line", checks.run(*ask, "tag put K1 - 0 -"), (0, "ACME ok\n", ""))
         checks.check("a listing", checks.run(*ask, "list tags"), (0, 'ACME row tag "K1" - 0 -\nACME ok\n', ""))
         refused = "ACME refused 7 NotConnected\n"
-        checks.check("a bad line", checks.run(*ask, "list"), (3, "bad line\n", ""))
-        checks.check("a line with a word", checks.run(*ask, "#1 list tags"), (3, "bad line\n", ""))
+        for line, why in BAD_LINES.items():
+            checks.check(line, checks.run(*ask, line), (3, "bad line\n", why + "\n"))
         lines = "".join(f"tag put K{n} - 0 -\n" for n in range(1000)).encode()
         checks.check("lines", checks.run(*ask, lines=lines), (0, "ACME ok\n" * 1000, ""))
         mixed = checks.run(*ask, lines=b"station add CP01 Accepted 300\n\ncall CP01 ClearCache {}\nlist grants\n")
@@ -432,6 +460,12 @@ def check_ask(checks):
         told = waiting.communicate(timeout=10)[0].splitlines()
         checks.check("a command to its end", told, ["ACME ok 1", 'ACME CP01 done 1 Answer {"status":"Accepted"}'])
         checks.check("its status", waiting.returncode, 0)
+        for sent, taken in OUTCOMES:
+            waiting = subprocess.Popen([checks.program, *ask, "--wait", "call CP01 ClearCache {}"], stdout=subprocess.PIPE)
+            number = re.match(r'\[2,"(\d+)"', station.next())[1]
+            station.send(sent % number)
+            waiting.communicate(timeout=10)
+            checks.check(f"the status after {sent}", waiting.returncode, 0 if taken else 3)
         checks.check("another path", checks.run(*ask[:-1], "BETA", "list tags"), (2, "", NOT_FOUND))
 
 
@@ -657,7 +691,12 @@ def check_session(checks):
         checks.check("an unknown station", unknown, (2, "", NOT_FOUND))
         unknown = checks.run("sim", "--port", str(PORT), "--path", "/ocpp/BETA/CP01")
         checks.check("another operator's station", unknown, (2, "", NOT_FOUND))
-        code, text, errors = checks.run("sim", "--port", str(PORT), "--path", "/ocpp/ACME/CP01")
+        sim = ["sim", "--port", str(PORT), "--path", "/ocpp/ACME/CP01"]
+        for order, status in (("tag put SIM1 - 1 -", 3), ("station policy CP01 Rejected 300", 3), ("tag put SIM1 - 0 -", 3), ("station policy CP01 Accepted 300", 0)):
+            checks.check(order, acme.ask(order), "ACME ok")
+            if status:
+                checks.check(f"a session after {order}", checks.run(*sim)[0], status)
+        code, text, errors = checks.run(*sim)
         checks.check("a session: status", (code, errors), (0, ""))
         checks.check("a session", TIME.sub("T", text), SESSION)
         row = acme.ask("list transactions CP01")

@@ -209,6 +209,50 @@ def check_bound(checks):
         checks.check("a fourth after one has left", answers[-1], "101")
 
 
+def close_code(peer):
+    """The code with which the server closes a connection, where this is the next thing that it sends."""
+    with contextlib.suppress(OSError):
+        head = peer.stream.recv(4, socket.MSG_WAITALL)
+        return int.from_bytes(head[2:4], "big") if head[:1] == b"\x88" else None
+
+
+def rows(peer, line):
+    """How many rows a listing has."""
+    answer, count = peer.ask(line), 0
+    while " row " in answer:
+        answer, count = peer.next(), count + 1
+    return count if answer.endswith(" ok") else answer
+
+
+def check_long_listings(checks):
+    """A listing has 1,000 rows at most, of which a reading counts as two, and more for a long text. A longer one ends its
+    connection, and no other."""
+    values = '[2,"1","MeterValues",{"connectorId":1,"transactionId":%d,"meterValue":[{"timestamp":"2026-01-01T00:00:00Z","sampledValue":[%s]}]}]'
+    with checks.serve("--operators", "ACME,BETA", "--longest-listing", "1000"):
+        acme, beta = Peer(PORT, "/operator/ACME"), Peer(PORT, "/operator/BETA")
+        for n in range(1000):
+            acme.ask(f"tag put K{n} - 0 -")
+        checks.check("1,000 tags", rows(acme, "list tags"), 1000)
+        acme.ask("tag put K - 0 -")
+        acme.send("list tags")
+        checks.check("one more", close_code(acme), 1011)
+        acme = Peer(PORT, "/operator/ACME")
+        acme.ask("station add CP01 Accepted 300")
+        station = Peer(PORT, "/ocpp/ACME/CP01")
+        station.ask(BOOT)
+        station.ask(values % (7, ",".join(['{"value":"1"}'] * 499)))
+        station.ask(values % (8, '{"value":"1"}'))
+        checks.check("500 readings", rows(acme, "list readings CP01"), 500)
+        station.ask(values % (9, '{"value":"' + "1" * 64 + '"}'))
+        checks.check("those of a transaction", rows(acme, "list readings CP01 7"), 499)
+        checks.check("those of another", rows(acme, "list readings CP01 9"), 1)
+        acme.send("list readings CP01")
+        checks.check("one more reading", close_code(acme), 1011)
+        checks.check("the station", station.ask(HEARTBEAT)[:6], '[3,"1"')
+        checks.check("another operator", beta.ask("list tags"), "BETA ok")
+        checks.check("health", answer("GET", "/health")[0].split(" ")[1], "200")
+
+
 def check_waiting_calls(checks):
     """Stations are sent calls of 1 MB each and answer none. One of each is in flight, and others wait until those of all
     stations have 16 MiB."""
@@ -235,6 +279,7 @@ def main():
         check_rate(checks)
         check_bound(checks)
         check_waiting_calls(checks)
+        check_long_listings(checks)
         check_stop(checks)
     print(f"{checks.passed} passed, {checks.failed} failed")
     sys.exit(checks.failed > 0)

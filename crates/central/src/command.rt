@@ -26,8 +26,8 @@ const MOST_STATIONS: u32 = 10_000;
 /// The most that can be said.
 const MAX_STATIONS: i64 = 1_000_000;
 
-/// The most rows of a listing, if nothing else is said. At 134 bytes a line they have room at an operator's connection.
-const LONGEST: u32 = 125_000;
+/// The most rows of a listing, if nothing else is said. At 67 bytes a line they have room at an operator's connection.
+const LONGEST: u32 = 250_000;
 
 /// The least that can be said.
 const MIN_LONGEST: i64 = 1_000;
@@ -158,9 +158,7 @@ fn serve_options(alloc: Global, found: &ArgMatches) -> Result<ServeOptions, Erro
         most_stations: found
             .get_one::<u32>("connections-per-operator")
             .unwrap_or(MOST_STATIONS),
-        longest: found
-            .get_one::<u32>("longest-listing")
-            .unwrap_or(LONGEST),
+        longest: found.get_one::<u32>("longest-listing").unwrap_or(LONGEST),
         stop_file: text_if_any(alloc, found.get_str("stop-file"))?,
         log: level_of(found.get_str("log").unwrap_or("connections")),
     })
@@ -307,7 +305,7 @@ fn longest_arg<'a>(alloc: Global) -> Arg<'a> {
     Arg::new(alloc, "longest-listing")
         .long("longest-listing")
         .value_name("N")
-        .help("The most rows of a listing, 125000 if it isn't given")
+        .help("The most rows of a listing, of which a reading counts as two; 250000 if it isn't given")
         .value_parser(value_parser!(u32).range(MIN_LONGEST..=MAX_LONGEST))
 }
 

@@ -63,10 +63,7 @@ impl RunFault {
             RunFault::Listener(address, error) => eprintln!(rt; "{address}: {error}"),
             RunFault::Console(error) => eprintln!(rt; "standard input or output: {error}"),
             RunFault::Database(_, file) | RunFault::Mark(_, file) => eprintln!(rt; "{file}"),
-            RunFault::Store
-            | RunFault::Replay(_)
-            | RunFault::NoMemory
-            | RunFault::Clock => Ok(()),
+            RunFault::Store | RunFault::Replay(_) | RunFault::NoMemory | RunFault::Clock => Ok(()),
         }
     }
 }

@@ -98,7 +98,9 @@ fn serve_over<S: Store + Drop, V: VendorHandler>(
     opening: Duration,
 ) -> Result<(), RunFault> {
     let counts = count_stations(rt.alloc(), &mut store, options.operators.as_slice())?;
-    let stations = counts.iter().fold(0, |all: usize, count| all.saturating_add(*count));
+    let stations = counts
+        .iter()
+        .fold(0, |all: usize, count| all.saturating_add(*count));
     let start = start_text(rt.alloc(), &options, opening, stations)?;
     let turns = options.turns;
     let address = options.address;
@@ -134,11 +136,7 @@ fn warn_of_names(rt: &HostRuntime, operators: &[Text], counts: &[usize]) {
 }
 
 /// How many stations each operator has on record. Where they can't be read it counts none.
-fn count_stations<S: Store>(
-    alloc: Global,
-    store: &mut S,
-    operators: &[Text],
-) -> Mem<Vec<usize>> {
+fn count_stations<S: Store>(alloc: Global, store: &mut S, operators: &[Text]) -> Mem<Vec<usize>> {
     let mut counts = Vec::new(alloc);
     for operator in operators {
         let count = match store.stations(operator.as_str()) {

@@ -32,6 +32,9 @@ list locallist ST
 list reports ST
 list forgettable ST BEFORE";
 
+/// What lists all forms.
+const ALL: &str = "`central ask help` lists the lines";
+
 /// The actions of a call.
 const ACTIONS: [&str; 14] = [
     "CancelReservation",
@@ -53,84 +56,98 @@ const ACTIONS: [&str; 14] = [
 /// A line against a form.
 #[derive(Clone, Copy, Drop)]
 struct Fit<'a> {
-    /// How many words of the form stand for themselves and begin the line.
-    depth: usize,
-    /// The first word of the form that the line hasn't, and what stands there; none where the line goes on after the form.
+    form: &'a str,
+    /// How many words of the form stand for themselves and are in the line.
+    plain: usize,
+    /// How many words of the form are in the line.
+    words: usize,
+    /// The next word of the form, and what stands there in the line; none where the line has the whole form.
     missed: Option<(&'a str, &'a str)>,
-    /// All words fit.
-    fits: bool,
+    /// Nothing follows in the line.
+    ends: bool,
 }
 
 /// Why a line has no form: the word that isn't understood, and the form that was expected.
 pub fn hint_of(alloc: Global, line: &str) -> Mem<String> {
-    let mut best: Option<(Fit<'_>, &str)> = None;
+    let mut best: Option<Fit<'_>> = None;
     for form in FORMS.split('\n') {
         let fit = fit_of(form, line);
-        let is_better = best.is_none_or(|(other, _)| is_nearer(&fit, &other));
-        if is_better {
-            best = Some((fit, form));
+        if best.is_none_or(|other| is_nearer(&fit, &other)) {
+            best = Some(fit);
         }
     }
     match best {
-        Some((fit, form)) if fit.depth > 0 => hint(alloc, &fit, form, line),
+        Some(fit) if fit.plain > 0 => hint(alloc, &fit, line),
         _ => {
             let word = first_of(line);
-            Ok(format!(in alloc; "'{word}' begins no line; `central ask help` lists the forms")?)
+            Ok(format!(in alloc; "'{word}' begins no line; {ALL}")?)
         }
     }
 }
 
 /// Whether a form is nearer to a line than another.
 fn is_nearer(fit: &Fit<'_>, other: &Fit<'_>) -> bool {
-    fit.depth > other.depth || (fit.depth == other.depth && fit.fits && !other.fits)
+    if fit.plain != other.plain {
+        return fit.plain > other.plain;
+    }
+    if fit.words != other.words {
+        return fit.words > other.words;
+    }
+    fit.ends && !other.ends
 }
 
 /// What is told of the form that is nearest.
-fn hint(alloc: Global, fit: &Fit<'_>, form: &str, line: &str) -> Mem<String> {
-    let told = match fit.missed {
-        _ if fit.fits => of_values(alloc, form)?,
-        Some((wanted, "")) => format!(in alloc; "{wanted} is missing")?,
+fn hint(alloc: Global, fit: &Fit<'_>, line: &str) -> Mem<String> {
+    let form = fit.form;
+    Ok(match fit.missed {
+        Some((wanted, "")) if is_plain(wanted) => {
+            format!(in alloc; "a word is missing after '{line}'; {ALL}")?
+        }
         Some((wanted, word)) if is_plain(wanted) => {
-            format!(in alloc; "'{word}' doesn't follow '{}'", before(line, word))?
+            let front = before(line, word);
+            format!(in alloc; "'{word}' doesn't follow '{front}'; {ALL}")?
         }
+        Some((wanted, "")) => format!(in alloc; "{wanted} is missing; expected: {form}")?,
         Some((wanted, word)) => {
-            format!(in alloc; "'{word}' is no {wanted}, which is {}", meaning(wanted))?
+            let what = meaning(wanted);
+            format!(in alloc; "'{word}' is no {wanted}, which is {what}; expected: {form}")?
         }
-        None => format!(in alloc; "the line goes on after its end")?,
-    };
-    Ok(format!(in alloc; "{told}; expected: {form}")?)
+        None if fit.ends => format!(in alloc; "{}; expected: {form}", of_values(form))?,
+        None => format!(in alloc; "the line goes on after its end; expected: {form}")?,
+    })
 }
 
 /// What is told of a line whose words have the form.
-fn of_values(alloc: Global, form: &str) -> Mem<String> {
-    let told = if form.ends_with("JSON") {
+fn of_values(form: &str) -> &'static str {
+    if form.ends_with("JSON") {
         "the JSON is none, or lacks a member of that command or has one of another type (docs/TABLES.md, Commands)"
     } else {
         "a value is out of its bounds (docs/TABLES.md, Lines)"
-    };
-    Ok(told.to_string(alloc)?)
+    }
 }
 
 /// A line against a form, word by word.
 fn fit_of<'a>(form: &'a str, line: &'a str) -> Fit<'a> {
     let mut fit = Fit {
-        depth: 0,
+        form,
+        plain: 0,
+        words: 0,
         missed: None,
-        fits: false,
+        ends: false,
     };
     let mut rest = Some(line);
     for wanted in form.split(' ') {
         let (word, after) = next_of(wanted, rest);
         if !is_value(wanted, word) {
             fit.missed = Some((wanted, word));
+            fit.ends = word.is_empty();
             return fit;
         }
-        if is_plain(wanted) {
-            fit.depth = fit.depth.saturating_add(1);
-        }
+        fit.plain = fit.plain.saturating_add(usize::from(is_plain(wanted)));
+        fit.words = fit.words.saturating_add(1);
         rest = after;
     }
-    fit.fits = rest.is_none();
+    fit.ends = rest.is_none();
     fit
 }
 

@@ -17,8 +17,11 @@ use sql_rows::{MeterValueRow, listed};
 use sqlite::{Alter, Connection, Error, Row, params};
 use std::alloc::Global;
 
-/// So many bytes of a reading's text count as a reading more.
-const LONG_TEXT: usize = 128;
+/// As how many rows a reading counts, for its line is longer than that of other rows.
+const WEIGHT: usize = 2;
+
+/// So many bytes of a reading's text count as a row more.
+const LONG_TEXT: usize = 64;
 
 fn tx_page<S: Alter>(
     conn: &mut Connection<S>,
@@ -81,17 +84,17 @@ fn after_last(numbers: Option<(u32, u32)>) -> Result<u32, StoreFault>
     }
 }
 
-/// As how many readings those of a meter value count.
+/// As how many rows the readings of a meter value count.
 fn weight_of(row: &MeterValueRow) -> usize {
     let mut weight = 0_usize;
     for sampled in row.value.sampled.as_slice() {
         let long = sampled.text.as_str().len() / LONG_TEXT;
-        weight = weight.saturating_add(1).saturating_add(long);
+        weight = weight.saturating_add(WEIGHT).saturating_add(long);
     }
     weight
 }
 
-/// Adds the readings of some meter values, where so many are left that may be added.
+/// Adds the readings of some meter values, where they count as no more rows than are left.
 fn add_page(
     alloc: Global,
     readings: &mut Vec<ReadingRow>,
@@ -109,7 +112,8 @@ fn add_page(
     Ok(())
 }
 
-/// The readings of a station, all or those that were sent with the number of a transaction, at most so many.
+/// The readings of a station, all or those that were sent with the number of a transaction, where they count as so many
+/// rows at most.
 fn all_readings<S: Alter>(
     conn: &mut Connection<S>,
     alloc: Global,
@@ -151,7 +155,8 @@ fn sent_with(
 }
 
 /// The readings of a station: all, or those that were sent with the number of a transaction. No number past 64 bits with
-/// a sign is in the table. Where it has more than `most`, this answers TooLong; a long text counts as more than one.
+/// a sign is in the table. Where they count as more rows than `most`, this answers TooLong: each as two, and as one more for
+/// each 64 bytes of its text.
 pub fn readings<S: Alter>(
     conn: &mut Connection<S>,
     alloc: Global,

@@ -37,7 +37,7 @@ pub struct SqlStore<A: Alter> {
     changes: u64,
     /// Where that is noted too, beside the file of the database.
     mark: Option<Mark>,
-    /// The most readings that are listed at once.
+    /// As how many rows the readings of a listing may count.
     longest: usize,
 }
 
@@ -153,8 +153,8 @@ impl<A: Alter + Drop> SqlStore<A> {
         Ok(SqlStore::over(alloc, taken, conn, changes))
     }
 
-    /// The same store, of which no statement visits more than so many rows, and no more readings are listed at once. What
-    /// would take more answers TooLong, and changes nothing.
+    /// The same store, of which no statement visits more than so many rows, and no readings are listed that count as more,
+    /// each as two rows. What would take more answers TooLong, and changes nothing.
     pub fn with_longest(self, rows: u32) -> SqlStore<A>
         ensures rows { sql_rows A.Store result ≡ sql_rows A.Store self }
         ensures clean { IsCleanSql A.Store self → IsCleanSql A.Store result }
