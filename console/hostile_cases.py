@@ -50,7 +50,7 @@ def check_nasty(cases):
     cases.check("nasty texts: an end at the form", said.startswith(f"Call 1: Done: {NASTY}."), said)
     check_dump(cases, "nasty form")
     browser.run("document.getElementById('form').close()")
-    for view in ("records", "tags", "uses", "calls"):
+    for view in ("sessions", "records", "tags", "uses", "calls"):
         cases.go(view)
         check_dump(cases, f"nasty {view}")
         cases.fits(f"nasty {view}", 420)
@@ -114,6 +114,7 @@ def check_directions(cases):
     browser.shot("turned-form", whole=False)
     cases.send()
     cases.check("and sends the tag as it is", f"tag drop {TURNED}" in mock.heard, mock.heard[-3:])
+    cases.close()
     cases.go("stations")
     browser.shot("turned")
     mock.stop()
