@@ -17,6 +17,7 @@ import time
 from pathlib import Path
 
 import desk_cases
+import duty_cases
 import form_cases
 import hostile_cases
 import link_cases
@@ -192,8 +193,8 @@ def main():
         elif options.program:
             cases.attempt(program_cases.check_program, options.program)
         else:
-            for case in (check_policy, check_address, *desk_cases.CASES, *form_cases.CASES, *tag_cases.CASES, *span_cases.CASES, *link_cases.CASES,
-                         check_loss, check_old, check_many, *hostile_cases.CASES):
+            for case in (check_policy, check_address, *desk_cases.CASES, *duty_cases.CASES, *form_cases.CASES, *tag_cases.CASES, *span_cases.CASES,
+                         *link_cases.CASES, check_loss, check_old, check_many, *hostile_cases.CASES):
                 cases.attempt(case)
         cases.check("the page has no errors", browser.faults == [], browser.faults)
     finally:
