@@ -38,7 +38,7 @@ def check_policy(cases):
     uses = [word for word in ("innerHTML", "outerHTML", "insertAdjacentHTML", "document.write", "eval(", "DOMParser") if word in script]
     cases.check("the script makes no HTML of texts", not uses, uses)
     cases.check("the page loads nothing", not re.search(r"""(src|href)=["'](?!#)|@import|url\(""", page))
-    cases.check("a proxy's buffer has room for the page", len(page.encode()) < 160000, len(page.encode()))
+    cases.check("a proxy's buffer has room for the page", len(page.encode()) < 180000, len(page.encode()))
 
 
 def check_address(cases):

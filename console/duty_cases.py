@@ -57,8 +57,8 @@ def check_offline(cases):
     row = cases.rows("stations")[0]
     last = time.strftime("%Y-%m-%d %H:%M:%S", time.gmtime((NOW - 65 * 60000 + 59 * 60000) / 1000))
     cases.check("offline: when it was last seen", row[1].startswith("Offline last seen "), row)
-    cases.check("offline: its connectors", row[2].endswith("Available: #3 last known, latest report 2024-01-01 00:00:00 (00:00:00 UTC)"), row)
-    cases.check("offline: its sessions", row[3].endswith(f", last known, reading of {last} ({last[11:]} UTC)"), row)
+    cases.check("offline: its connectors", row[2].endswith("Available: #3 last known at 2024-01-01 00:00:00 (00:00:00 UTC)"), row)
+    cases.check("offline: its sessions", row[3].endswith(f"70 % last known at {last} ({last[11:]} UTC)"), row)
     old = "[...document.querySelectorAll('#{0} tbody tr:first-child > *')].filter(cell => getComputedStyle(cell.querySelector('bdi') ?? cell).color === muted).length"
     browser.run("window.muted = getComputedStyle(document.querySelector('.utc, .hint')).color")
     cases.check("offline: they are dimmed", browser.run(old.format("stations")) >= 2, browser.run(old.format("stations")))
@@ -68,7 +68,7 @@ def check_offline(cases):
     browser.shot("offline")
     cases.go("station/NORTH-01")
     hint = browser.run("document.querySelector('#connectors .hint').textContent")
-    cases.check("offline: its own page", hint == "Offline: last known, latest report 2024-01-01 00:00:00 (00:00:00 UTC).", hint)
+    cases.check("offline: its own page", hint == "Offline: last known at 2024-01-01 00:00:00 (00:00:00 UTC).", hint)
     browser.shot("offline-station")
     mock.records.connected["NORTH-01"] = 0
     cases.poll()

@@ -111,7 +111,7 @@ def check_reset(cases):
     cases.check("reset: it leaves", browser.wait(f"/^Left at .*\\. It is not back yet\\.$/.test({boot})", 4), browser.run(boot))
     mock.records.rows["stations"][0] = mock.records.rows["stations"][0].replace(BOOT["firmwareVersion"], "1.5.0")
     mock.records.connected["NORTH-01"] = 0
-    cases.check("reset: it is back", browser.wait(f"/^Left at .*\\. Connected again at .*\\. Boot on record: /.test({boot})", 4), browser.run(boot))
+    cases.check("reset: it is back", browser.wait(f"/^Left at .*\\. Connected again at .*\\. Boot on record: Vendor, Model 7, 1\\.5\\.0\\.$/.test({boot})", 8), browser.run(boot))
     browser.shot("reset", whole=False)
     cases.close()
     cases.go("calls")

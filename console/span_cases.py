@@ -59,7 +59,7 @@ def check_span_loss(cases, mock):
     mock.too_long = {"list transactions NORTH-02 1"}
     ask(cases, "2023-12-31", "2024-01-04")
     browser.wait("document.getElementById('span-missing').textContent !== ''", 8)
-    cases.check("span: a long listing is passed over", browser.wait(f"{SAID} === 'Listed: 4 of 4 stations. 1 session, 11.5 kWh.'", 8), browser.run(SAID))
+    cases.check("span: a long listing is passed over", browser.wait(f"{SAID} === 'Listed: 3 of 4 stations. 1 session, 11.5 kWh.'", 8), browser.run(SAID))
     missing = cases.text("span-missing")
     cases.check("span: and its station is named", missing.startswith("NORTH-02: the server ended the connection (code 1011)"), missing)
     cases.check("span: it is asked for once", mock.heard.count("list transactions NORTH-02 1") == 3, mock.heard.count("list transactions NORTH-02 1"))
