@@ -341,7 +341,7 @@ def take_pictures(cases, front, views=VIEWS):
     for name, width, height in (("1280", 1280, 900), ("420", 420, 900), ("820", 820, 1100)):
         for dark in (False, True):
             browser.size(width, height, dark)
-            for view in views if not dark else views[:3]:
+            for view in views if not dark else views[:4]:
                 cases.go(view)
                 time.sleep(0.3)
                 cases.fits(f"{view} at {width} px", width)

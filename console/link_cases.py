@@ -54,6 +54,13 @@ def check_long_listing(cases):
     browser.run("document.getElementById('refresh').click()")
     cases.is_at_rest()
     cases.check("1011: Refresh all asks for it", len(cases.rows("uses")) == 10 and browser.run("document.getElementById('notice').hidden"), cases.rows("uses"))
+    mock.too_long, mock.breaks = {"list uses"}, True
+    mock.heard.clear()
+    browser.run("document.getElementById('refresh').click()")
+    cases.check("lost: the listing is named after three losses", browser.wait(f"{told}.startsWith('list uses: the connection was lost 3 times')", 15), browser.run(told))
+    cases.check("lost: connects again", cases.is_connected())
+    cases.is_at_rest()
+    cases.check("lost: it was asked for three times", mock.heard.count("list uses") == 3, mock.heard.count("list uses"))
     mock.stop()
 
 

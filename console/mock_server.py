@@ -221,7 +221,8 @@ class Records:
 class Mock(socketserver.ThreadingTCPServer):
     """The server. `before` are lines of another console that come before each answer. `outcome` ends each call; where
     it is None no call ends. An `is_old` server knows no words of orders. One that `is_hung` answers nothing, not even a
-    Close, until it is stopped. A listing that is among `too_long` ends its connection with code 1011."""
+    Close, until it is stopped. A listing that is among `too_long` ends its connection with code 1011, or, where it
+    `breaks`, without a Close."""
 
     allow_reuse_address = True
     daemon_threads = True
@@ -234,7 +235,7 @@ class Mock(socketserver.ThreadingTCPServer):
         self.calls = 0
         self.outcome = 'Answer {"status":"Accepted"}'
         self.before = []
-        self.is_old = self.is_hung = False
+        self.is_old = self.is_hung = self.breaks = False
         self.too_long = set()
         self.freed = threading.Event()
         threading.Thread(target=self.serve_forever, args=(0.05,), daemon=True).start()
@@ -257,7 +258,7 @@ class Mock(socketserver.ThreadingTCPServer):
             word, line = match.groups() if match else (None, text)
             self.heard.append(line)
             if line in self.too_long:
-                return peer.close(1011)
+                return peer.request.shutdown(socket.SHUT_RDWR) if self.breaks else peer.close(1011)
             if word:
                 peer.send(f"#{word} begin")
             action = self.answer(peer, line)

@@ -21,7 +21,8 @@ def span_records():
 
 def ask(cases, first, last, by="at"):
     browser = cases.browser
-    browser.run(f"{{ const {{ from, to, by }} = document.getElementById('span').elements; from.value = '{first}'; to.value = '{last}'; by.value = '{by}'; }}")
+    browser.run(f"{{ const {{ from, to, by }} = document.getElementById('span').elements; from.value = '{first}'; to.value = '{last}'; by.value = '{by}';"
+                " to.dispatchEvent(new Event('input', { bubbles: true })); }")
     browser.run("document.getElementById('span-list').click()")
 
 
@@ -48,6 +49,9 @@ def check_span(cases):
     cases.check("span: its name", browser.run("TABLES.ranged.file()") == "sessions-ACME-2023-12-31-2024-01-04")
     ask(cases, "2024-01-01", "2024-01-01", "stopAt")
     cases.check("span: by the stop", browser.wait(f"{SAID} === 'Listed: 4 of 4 stations. 1 session, 11.5 kWh.'", 5), browser.run(SAID))
+    ask(cases, "2024-01-05", "2024-01-04")
+    fault = browser.run("document.getElementById('span').elements.to.validationMessage")
+    cases.check("span: days in the wrong order are told", fault == "Enter a day that is not before the first one.", fault)
     cases.check("span: readings and history aren't kept", browser.run("state.history.size") == 0)
     check_span_loss(cases, mock)
     mock.stop()

@@ -24,7 +24,7 @@ def family_records():
     def entry(tag, status="Accepted", **more):
         return {"idTag": tag, "idTagInfo": {"status": status, **more}}
 
-    records.local_list("NORTH-01", 6, [entry("K1"), entry("k3"), entry("KID", parentIdTag="P1")])
+    records.local_list("NORTH-01", 6, [entry("K1"), entry("k3"), entry("KID", parentIdTag="P1"), entry("Gone", expiryDate="2024-01-01T00:00:00Z")])
     records.local_list("NORTH-02", 3, [entry("K1", "Blocked"), entry("K2")])
     records.local_list("NORTH-10", 2, [entry("K1")])
     return records
@@ -44,6 +44,8 @@ def check_judged(cases):
     cases.check("and of grants", [row[3] for row in cases.rows("grants")] == ["Granted", "Ended"], cases.rows("grants"))
     browser.shot("tags-judged")
     cases.go("station/NORTH-01")
+    seen = {row[0]: row[1] for row in cases.rows("ownList")}
+    cases.check("an entry whose expiry has passed", seen == {"Gone": "Accepted, expired", "K1": "Accepted", "k3": "Accepted", "KID": "Accepted"}, seen)
     mock.records.tag("Late", "Fleet")
     cases.click("ownList", "Send a list")
     cases.click("fields", "Remove all")
@@ -85,7 +87,7 @@ def check_holders(cases):
     line = 'call NORTH-01 SendLocalList {"listVersion":7,"localAuthorizationList":[{"idTag":"K1","idTagInfo":{"status":"Blocked"}}],"updateType":"Differential"}'
     cases.check("blocked: the line", line in mock.heard, mock.heard[-4:])
     cases.check("blocked: it is sent once", browser.run("document.querySelectorAll('#holders button').length") == 0)
-    cases.check("blocked: the rest of the list stays", len(mock.records.rows["locallist NORTH-01"]) == 4, mock.records.rows["locallist NORTH-01"])
+    cases.check("blocked: the rest of the list stays", len(mock.records.rows["locallist NORTH-01"]) == 5, mock.records.rows["locallist NORTH-01"])
     cases.close()
     check_dropped(cases, mock)
     mock.stop()
