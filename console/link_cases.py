@@ -35,6 +35,15 @@ def check_silence_ends(cases):
     with held:
         browser.run("poll(); setTimeout(() => { link.moved -= 5000; }, 300)")
         cases.check("slow: the silence is told", browser.wait(f"{STATUS}.textContent.startsWith('No answer since')", 3), cases.text("status"))
+    browser.wait(f"{STATUS}.className === 'good'", 3)
+    mock.heard.clear()
+    for pace, asked in (("60", ["list connections"]), ("0", [])):
+        browser.run(f"{{ const pace = document.getElementById('pace'); pace.value = '{pace}'; pace.dispatchEvent(new Event('change')); }}")
+        cases.is_at_rest()
+        mock.heard.clear()
+        browser.run("link.moved -= 11000")
+        browser.wait("false", 2)
+        cases.check(f"a refresh of {pace} s: what a quiet link is asked", mock.heard == asked, mock.heard)
     cases.check("slow: an answer ends it", browser.wait(f"{STATUS}.className === 'good'", 3) and cases.is_connected(1), cases.text("status"))
     mock.stop()
 

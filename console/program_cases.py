@@ -157,4 +157,4 @@ def check_commands(cases, station):
     time.sleep(1)
     cases.poll()
     cases.go("stations")
-    cases.check("a station that leaves", cases.rows("stations")[0][1] == "Offline", cases.rows("stations"))
+    cases.check("a station that leaves", cases.rows("stations")[0][1].startswith("Offline last seen "), cases.rows("stations"))
