@@ -31,12 +31,10 @@ def check_silence_ends(cases):
     cases.check("hung: Disconnect is at once", browser.wait(f"{STATUS}.textContent === 'Disconnected'", 2), cases.text("status"))
     mock.stop()
     browser, mock = opened(cases)
-    held = mock.lock
-    with held:
+    with mock.lock:
         browser.run("poll(); setTimeout(() => { link.moved -= 5000; }, 300)")
         cases.check("slow: the silence is told", browser.wait(f"{STATUS}.textContent.startsWith('No answer since')", 3), cases.text("status"))
-    browser.wait(f"{STATUS}.className === 'good'", 3)
-    mock.heard.clear()
+    cases.check("slow: an answer ends it", browser.wait(f"{STATUS}.className === 'good'", 3) and cases.is_connected(1), cases.text("status"))
     for pace, asked in (("60", ["list connections"]), ("0", [])):
         browser.run(f"{{ const pace = document.getElementById('pace'); pace.value = '{pace}'; pace.dispatchEvent(new Event('change')); }}")
         cases.is_at_rest()
@@ -44,7 +42,6 @@ def check_silence_ends(cases):
         browser.run("link.moved -= 11000")
         browser.wait("false", 2)
         cases.check(f"a refresh of {pace} s: what a quiet link is asked", mock.heard == asked, mock.heard)
-    cases.check("slow: an answer ends it", browser.wait(f"{STATUS}.className === 'good'", 3) and cases.is_connected(1), cases.text("status"))
     mock.stop()
 
 
