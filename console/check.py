@@ -17,9 +17,13 @@ import time
 from pathlib import Path
 
 import desk_cases
+import duty_cases
 import form_cases
 import hostile_cases
+import link_cases
 import program_cases
+import span_cases
+import tag_cases
 from browser import PAGE, Browser
 from mock_server import Mock
 from records import many_records, small_records
@@ -34,7 +38,7 @@ def check_policy(cases):
     uses = [word for word in ("innerHTML", "outerHTML", "insertAdjacentHTML", "document.write", "eval(", "DOMParser") if word in script]
     cases.check("the script makes no HTML of texts", not uses, uses)
     cases.check("the page loads nothing", not re.search(r"""(src|href)=["'](?!#)|@import|url\(""", page))
-    cases.check("a proxy's buffer has room for the page", len(page.encode()) < 120000, len(page.encode()))
+    cases.check("a proxy's buffer has room for the page", len(page.encode()) < 180000, len(page.encode()))
 
 
 def check_address(cases):
@@ -189,7 +193,8 @@ def main():
         elif options.program:
             cases.attempt(program_cases.check_program, options.program)
         else:
-            for case in (check_policy, check_address, *desk_cases.CASES, *form_cases.CASES, check_loss, check_old, check_many, *hostile_cases.CASES):
+            for case in (check_policy, check_address, *desk_cases.CASES, *duty_cases.CASES, *form_cases.CASES, *tag_cases.CASES, *span_cases.CASES,
+                         *link_cases.CASES, check_loss, check_old, check_many, *hostile_cases.CASES):
                 cases.attempt(case)
         cases.check("the page has no errors", browser.faults == [], browser.faults)
     finally:

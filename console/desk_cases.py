@@ -3,6 +3,7 @@
 import csv
 import io
 import os
+import re
 import tempfile
 import time
 from pathlib import Path
@@ -12,7 +13,9 @@ from records import BEGUN, TOTALS, USES, USES_CSV, small_records
 from tools import quoted
 
 ZONE = "Europe/Berlin"
-VIEWS = ("stations", "station/NORTH-01", "station/NORTH-01/2", "records", "tags", "uses", "calls")
+# The head of a column in a CSV file: words that begin in lower case, and a unit in brackets.
+HEAD = re.compile(r"[a-z][\w ]*( \([\w%]+\))?")
+VIEWS = ("stations", "station/NORTH-01", "station/NORTH-01/2", "sessions", "records", "tags", "uses", "calls")
 FIRST = ["list connections", "list open", "list stations",
          *(f"list connectors {name}" for name in ("NORTH-01", "NORTH-02", "NORTH-10", "ok")),
          "list readings NORTH-01 2"]
@@ -47,10 +50,10 @@ def check_stations(cases):
     cases.check("stations", [row[:6] for row in rows] == [
         ["NORTH-01", "Connected", "Faulted (GroundFailure): #2 Charging: #1 Available: #3", "#1, 1 h 05 min, 10.856 kWh, 11.279 kW, 70 %", "2", "Accepted"],
         ["NORTH-02", "Connected", "Available: #1", "–", "0", "Pending"],
-        ["NORTH-10", "Offline", "Unavailable: station", "–", "–", "Accepted"],
+        ["NORTH-10", "Offline", "Unavailable: station last known at 2024-01-01 01:00:00 (00:00:00 UTC)", "–", "–", "Accepted"],
         ["ok", "Offline", "–", "–", "–", "Fresh"]], rows)
-    cases.check("a sum of the stations", browser.run("document.querySelector('#stations .hint').textContent")
-                == "2 connected, 2 offline, 1 with a fault. Running sessions: 1. Calls waiting: 2.")
+    cases.check("a sum of the stations", browser.run("[...document.querySelector('#stations .hint').children].map(one => one.textContent)")
+                == ["2 connected", "2 offline", "1 with a fault", "Running sessions: 1. Calls waiting: 2."])
     last = both((BEGUN + 59 * 60000) // 1000, hours)
     cases.check("running sessions", cases.rows("sessions") == [
         ["NORTH-01 / 2", "1 h 05 min", "10.856", "11.279", "70", "1", "K2", "Accepted", both(BEGUN // 1000, hours), last, "StopClose"]], cases.rows("sessions"))
@@ -183,7 +186,7 @@ def check_more_polls(cases, mock, after, polls):
     cases.check("a station that connects is looked up", asked == [*polls, "list stations"] and cases.rows("stations")[2][1] == "Connected", asked)
     after()
     asked = after(lambda: mock.records.connected.pop("NORTH-02"))
-    cases.check("one that leaves is asked for its connectors once more", "list connectors NORTH-02" in mock.heard and cases.rows("stations")[1][1] == "Offline", mock.heard)
+    cases.check("one that leaves is asked for its connectors once more", "list connectors NORTH-02" in mock.heard and cases.rows("stations")[1][1].startswith("Offline last seen "), mock.heard)
     after()
     counts = [after() == polls and f"list connectors {name}" in mock.heard for _ in range(12) for name in ["ok"]]
     cases.check("one without a connection now and then", counts.count(True) == 1, counts)
@@ -279,7 +282,8 @@ def check_csv(cases):
     names = browser.run("Object.keys(TABLES)")
     for name in names:
         rows = list(csv.reader(io.StringIO(browser.run(f"csvOf(TABLES.{name})"), newline="")))
-        heads = browser.run(f"TABLES.{name}.columns.length")
+        heads = browser.run(f"(TABLES.{name}.fields ?? TABLES.{name}.columns).length")
+        cases.check(f"the CSV of {name} has heads of one style", all(HEAD.fullmatch(field) for field in rows[0]), rows[0])
         count = browser.run(f"TABLES.{name}.rows().length")
         cases.check(f"the CSV of {name}", len(rows) == count + 1 and {len(row) for row in rows} == {heads}, rows[:2])
         wild = [field for row in rows[1:] for field in row if field[:1] in "=+-@" and field and not field.lstrip("-").replace(".", "").isdigit()]
@@ -337,7 +341,7 @@ def take_pictures(cases, front, views=VIEWS):
     for name, width, height in (("1280", 1280, 900), ("420", 420, 900), ("820", 820, 1100)):
         for dark in (False, True):
             browser.size(width, height, dark)
-            for view in views if not dark else views[:3]:
+            for view in views if not dark else views[:4]:
                 cases.go(view)
                 time.sleep(0.3)
                 cases.fits(f"{view} at {width} px", width)

@@ -8,6 +8,8 @@ from desk_cases import opened
 from mock_server import NOW, START
 
 TAKEN = "Taken."
+HELD = "Taken. It, or a tag whose parent it is, is in 1 local list."
+UNHELD = "Taken. It is in no local list of a station."
 ENDS = [
     ('Answer {"status":"Rejected"}', "Done: Rejected"), ("Timeout", "Timeout: no answer within 30 s"),
     ("Disconnected", "Disconnected: the station has left"), ('Error ["NotSupported","no such thing"]', "Error: NotSupported, no such thing"),
@@ -21,14 +23,14 @@ def check_orders(cases):
     wanted = [
         ("tags", "tags", "Put an id tag", None, dict(tag="K7", parent="P1", until="2024-01-01T01:00:00", blocked=True), TAKEN, "tag put K7 P1 1 1704067200"),
         ("tags", "tags", "Put an id tag", None, dict(tag="K9"), TAKEN, "tag put K9 - 0 -"),
-        ("tags", "tags", "Change", "K2", dict(parent=""), TAKEN, f"tag put K2 - 0 {START // 1000 + 3650 * 86400}"),
-        ("tags", "tags", "Block", "K1", {}, "closed", "tag put K1 - 1 -"),
-        ("tags", "tags", "Unblock", "K3", {}, "closed", "tag put K3 - 0 -"),
+        ("tags", "tags", "Change", "K2", dict(parent=""), HELD, f"tag put K2 - 0 {START // 1000 + 3650 * 86400}"),
+        ("tags", "tags", "Block", "K1", {}, HELD, "tag put K1 - 1 -"),
+        ("tags", "tags", "Unblock", "K3", {}, UNHELD, "tag put K3 - 0 -"),
         ("tags", "tags", "Grant", "K1", dict(receiver="BETA", until=""), TAKEN, "grant K1 BETA -"),
         ("tags", "tags", "Grant", "K1", dict(receiver="ACME"), "Refused, SelfGrant: a tag cannot be granted to its own operator.", "grant K1 ACME -"),
         ("tags", "grants", "Grant an id tag", None, dict(tag="K2", receiver="GAMMA", until="2024-07-01T02:00:00"), TAKEN, "grant K2 GAMMA 1719792000"),
         ("tags", "grants", "Revoke", "K1", {}, "closed", "revoke K1 BETA"),
-        ("tags", "tags", "Drop", "K9", {}, "closed", "tag drop K9"),
+        ("tags", "tags", "Drop", "K9", {}, UNHELD, "tag drop K9"),
         ("stations", "stations", "Add a station", None, dict(station="S9", policy="Pending", interval="60"), TAKEN, "station add S9 Pending 60"),
         ("stations", "stations", "Add a station", None, dict(station="S9"), "Refused, StationExists: this operator already has a station of that name.",
          "station add S9 Accepted 300"),
@@ -45,7 +47,7 @@ def check_orders(cases):
     cases.go("tags")
     tags = [row[:3] for row in cases.rows("tags")]
     cases.check("the tables have the changes", tags == [
-        ["K1", "–", "yes"], ["K2", "–", "no"], ["K3", "–", "no"], ["K7", "P1", "yes"], ["P1", "–", "no"]], tags)
+        ["K1", "–", "Blocked"], ["K2", "–", "Accepted"], ["K3", "–", "Accepted"], ["K7", "P1", "Blocked"], ["P1", "–", "Accepted"]], tags)
     cases.check("and the grants", [row[:2] for row in cases.rows("grants")] == [["K2", "BETA"], ["K2", "GAMMA"]], cases.rows("grants"))
     cases.go("stations")
     cases.check("and the stations", cases.rows("stations")[-1][0] == "S9", cases.rows("stations"))
@@ -77,7 +79,8 @@ def check_commands(cases):
     ]
     for section, button, values, payload, action in wanted:
         said = cases.order(section, button, values)
-        cases.check(f"{action}: its end is said", said == f"Call {mock.calls}: Done: Accepted.", said)
+        more = "The station has not left yet." if action == "Reset" else ""
+        cases.check(f"{action}: its end is said", said == f"Call {mock.calls}: Done: Accepted.{more}", said)
         line = f"call NORTH-01 {action} {json.dumps(payload, separators=(',', ':'))}"
         cases.check(f"{action}: the line", mock.heard.count(line) == 1, [one for one in mock.heard if one.startswith("call")][-1])
     check_holdings(cases, mock)
@@ -125,6 +128,7 @@ def check_list(cases, mock):
     cases.click("ownList", "Send a list")
     cases.click("fields", "Remove all")
     cases.click("fields", "Add all id tags of this operator")
+    browser.wait("document.querySelectorAll('#fields .entry').length > 0")
     tags = browser.run("[...document.querySelectorAll('#fields .entry [name=idTag]')].map(one => one.value)")
     statuses = browser.run("[...document.querySelectorAll('#fields .entry [name=status]')].map(one => one.value)")
     cases.check("all own tags at once", (tags, statuses) == (["K1", "K2", "K3", "P1"], ["Accepted", "Accepted", "Blocked", "Accepted"]), [tags, statuses])

@@ -50,7 +50,7 @@ def check_nasty(cases):
     cases.check("nasty texts: an end at the form", said.startswith(f"Call 1: Done: {NASTY}."), said)
     check_dump(cases, "nasty form")
     browser.run("document.getElementById('form').close()")
-    for view in ("records", "tags", "uses", "calls"):
+    for view in ("sessions", "records", "tags", "uses", "calls"):
         cases.go(view)
         check_dump(cases, f"nasty {view}")
         cases.fits(f"nasty {view}", 420)
@@ -72,7 +72,19 @@ def check_nasty_lists(cases, mock):
     cases.check("nasty texts: totals", cases.rows("totals") == totals, cases.rows("totals"))
     read = list(csv.reader(io.StringIO(browser.run("csvOf(TABLES.uses)"), newline="")))[1:]
     cases.check("nasty texts: the CSV has them", [row[1:3] for row in read] == [["constructor", "'=" + NASTY], [NASTY_WORD, NASTY]], read)
+    cases.go("sessions")
+    browser.run("{ const { from, to } = document.getElementById('span').elements; from.value = '2024-01-01'; to.value = '2024-01-01'; }")
+    browser.run("document.getElementById('span-list').click()")
+    cases.check("nasty texts: the sessions of all stations", browser.wait("span.all === 1 && !span.isRunning", 5)
+                and [row[:3] for row in cases.rows("ranged")] == [[NASTY_WORD, "1", NASTY]] * 2, cases.rows("ranged"))
+    check_dump(cases, "nasty sessions")
     cases.go("tags")
+    mock.records.local_list(NASTY_WORD, 1, [{"idTag": NASTY, "idTagInfo": {"status": NASTY, "expiryDate": NASTY}}, {"idTag": [1]}, {NASTY: NASTY}])
+    cases.click("tags", "Lists", NASTY)
+    said = "document.getElementById('holders').textContent"
+    cases.check("nasty texts: the lists that hold a tag", browser.wait(f"{said}.includes({quoted(NASTY)})", 5), browser.run(said))
+    check_dump(cases, "nasty lists")
+    cases.close()
     mock.records.unput = lambda *_: [f"refused 99 {NASTY_WORD} {NASTY}"]
     cases.click("tags", "Drop", NASTY)
     seen = cases.send()
@@ -114,6 +126,7 @@ def check_directions(cases):
     browser.shot("turned-form", whole=False)
     cases.send()
     cases.check("and sends the tag as it is", f"tag drop {TURNED}" in mock.heard, mock.heard[-3:])
+    cases.close()
     cases.go("stations")
     browser.shot("turned")
     mock.stop()

@@ -208,12 +208,21 @@ class Records:
         elif action == "CancelReservation":
             self.drop(f"reservations {name}", f"reservation {name} {payload['reservationId']} ")
         elif action == "SendLocalList":
-            self.local_list(name, payload["listVersion"], payload.get("localAuthorizationList", []))
+            entries = payload.get("localAuthorizationList", [])
+            self.local_list(name, payload["listVersion"], entries if payload["updateType"] == "Full" else self.changed(name, entries))
+
+    def changed(self, name, changes):
+        """The entries of a station's local list after changes to it."""
+        kept = [json.loads(row.split(" ", 2)[2]) for row in self.rows[f"locallist {name}"][1:]]
+        entries = {entry["idTag"].lower(): entry for entry in [*kept, *changes]}
+        return [entry for _, entry in sorted(entries.items()) if "idTagInfo" in entry]
 
 
 class Mock(socketserver.ThreadingTCPServer):
     """The server. `before` are lines of another console that come before each answer. `outcome` ends each call; where
-    it is None no call ends. An `is_old` server knows no words of orders."""
+    it is None no call ends. An `is_old` server knows no words of orders. One that `is_hung` answers nothing, not even a
+    Close, until it is stopped. A listing that is among `too_long` ends its connection with code 1011, or, where it
+    `breaks`, without a Close."""
 
     allow_reuse_address = True
     daemon_threads = True
@@ -226,7 +235,9 @@ class Mock(socketserver.ThreadingTCPServer):
         self.calls = 0
         self.outcome = 'Answer {"status":"Accepted"}'
         self.before = []
-        self.is_old = False
+        self.is_old = self.is_hung = self.breaks = False
+        self.too_long = set()
+        self.freed = threading.Event()
         threading.Thread(target=self.serve_forever, args=(0.05,), daemon=True).start()
 
     def tell(self, *lines):
@@ -238,12 +249,16 @@ class Mock(socketserver.ThreadingTCPServer):
     def take(self, peer, text):
         """Answers a text of a peer, in one step. What an order with a word is answered stands between two marks."""
         match = ORDER.fullmatch(text)
+        if self.is_hung:
+            return None
         with self.lock:
             self.tell(*self.before)
             if self.is_old or (text.startswith("#") and not match):
                 return peer.send("bad line")
             word, line = match.groups() if match else (None, text)
             self.heard.append(line)
+            if line in self.too_long:
+                return peer.request.shutdown(socket.SHUT_RDWR) if self.breaks else peer.close(1011)
             if word:
                 peer.send(f"#{word} begin")
             action = self.answer(peer, line)
@@ -270,6 +285,7 @@ class Mock(socketserver.ThreadingTCPServer):
         self.tell(f"{name} done {self.calls} {self.outcome}")
 
     def stop(self):
+        self.freed.set()
         self.shutdown()
         self.server_close()
         for peer in list(self.peers):
@@ -298,6 +314,8 @@ class Peer(socketserver.StreamRequestHandler):
                 self.server.take(self, text)
         except OSError:
             pass
+        if self.server.is_hung:
+            self.server.freed.wait(60)
         self.server.peers.remove(self)
 
     def receive(self):
@@ -313,6 +331,13 @@ class Peer(socketserver.StreamRequestHandler):
         mask = self.rfile.read(4)
         data = self.rfile.read(size)
         return bytes(byte ^ mask[index % 4] for index, byte in enumerate(data)).decode()
+
+    def close(self, code):
+        """Sends a Close. What comes until the other end's Close is read and has no answer."""
+        self.wfile.write(b"\x88\x02" + struct.pack(">H", code))
+        while self.receive() is not None:
+            pass
+        self.request.shutdown(socket.SHUT_RDWR)
 
     def send(self, text):
         data = text.encode()

@@ -148,6 +148,7 @@ def check_commands(cases, station):
     cases.check("a reservation", [row[:3] for row in cases.rows("ownReservations")] == [["1", "any", "K1"]], cases.rows("ownReservations"))
     cases.click("ownList", "Send a list")
     cases.click("fields", "Add all id tags of this operator")
+    cases.browser.wait("document.querySelectorAll('#fields .entry').length > 0")
     said = ended(cases)
     cases.check("a local list", said == "Call 3: Done: Accepted.", said)
     cases.check("is on record", [row[:2] for row in cases.rows("ownList")] == [["K1", "Accepted"]], cases.rows("ownList"))
@@ -156,4 +157,4 @@ def check_commands(cases, station):
     time.sleep(1)
     cases.poll()
     cases.go("stations")
-    cases.check("a station that leaves", cases.rows("stations")[0][1] == "Offline", cases.rows("stations"))
+    cases.check("a station that leaves", cases.rows("stations")[0][1].startswith("Offline last seen "), cases.rows("stations"))

@@ -34,7 +34,7 @@ TOTALS = [
 ]
 FEBRUARY = "2024-02-01 00:00:00"
 USES_CSV = [
-    "number,host,tag,stopped at (UTC),Wh",
+    "use,host,tag,recorded at (UTC),energy (Wh)",
     """10,_,"a'=1\nb",9999-12-31 23:59:59,0""",
     f"9,_,'\ta,{FEBRUARY},100",
     f"8,'-7,'@a,{FEBRUARY},0",

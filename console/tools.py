@@ -79,7 +79,7 @@ class Cases:
     def send(self, seconds=5):
         """Sends the open form, and waits for what it says, or until it is closed."""
         self.browser.run("document.getElementById('send').click()")
-        self.browser.wait("!document.getElementById('form').open || !/^(Sent\\.)?$/.test(document.getElementById('answer').textContent)", seconds)
+        self.browser.wait("!document.getElementById('form').open || !/^(Sent\\.|.*Looking .*)?$/.test(document.getElementById('answer').textContent)", seconds)
         return self.text("answer") if self.browser.run("document.getElementById('form').open") else "closed"
 
     def order(self, section, button, values, row=None, stays=False):
@@ -91,6 +91,9 @@ class Cases:
             self.browser.run("document.getElementById('form').close()")
         self.is_at_rest()
         return said
+
+    def close(self):
+        self.browser.run("document.getElementById('form').close()")
 
     def free(self, line):
         """Sends a line as it is."""
