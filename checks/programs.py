@@ -568,7 +568,7 @@ def check_unwritten(checks):
 def check_ask_beside(checks):
     """What the operator's other consoles ask for, and how their calls end, is no answer to a line of `ask`."""
     ask = [checks.program, "ask", "--port", str(PORT), "--operator", "ACME"]
-    pipes = {"stdin": subprocess.PIPE, "stdout": subprocess.PIPE, "text": True}
+    pipes = {"stdin": subprocess.PIPE, "stdout": subprocess.PIPE, "stderr": subprocess.DEVNULL, "text": True}
     with checks.serve("--operators", "ACME"):
         console, station = connected("CP01")
         refused = "ACME refused 3 NoSuchTag\n"
@@ -589,7 +589,7 @@ def check_ask_beside(checks):
         station.send('[3,"1",{"status":"Rejected"}]')
         told = waiting.communicate(timeout=10)[0].splitlines()
         checks.check("its end alone", told, ["ACME ok 1", 'ACME CP01 done 1 Answer {"status":"Rejected"}'])
-        checks.check("its status", waiting.returncode, 0)
+        checks.check("its status", waiting.returncode, 3)
 
 
 def check_words(checks):
