@@ -165,7 +165,7 @@ def check_help(checks):
     code, text, errors = checks.run("--help")
     commands = ("replay", "serve", "sim", "ask", "forget")
     checks.check("--help", (code, errors, all(f"  {word} " in text for word in commands)), (0, "", True))
-    for word, statuses in zip(commands, (3, 3, 4, 4, 4)):
+    for word, statuses in zip(commands, (4, 3, 4, 4, 4)):
         code, text, errors = checks.run(word, "--help")
         checks.check(f"{word} --help", (code, errors, text[-2:].count("\n")), (0, "", 1))
         for part in (f"  central {word} --", "docs/OPERATIONS.md", *(f"\n  {status}  " for status in range(statuses))):
@@ -378,6 +378,18 @@ def check_vacuum(checks):
             checks.check(f"its tables and indexes, {part}", schema_in(db), schema_in(new))
         vacuum(db)
         checks.check("the order after VACUUM", schema_in(db), schema_in(new))
+
+
+def check_strict(checks):
+    """The status tells of bad lines where that is asked for. An operator and a station may be named as such a line begins."""
+    replay, lines = ["replay", "--operators", "bad", "--strict"], b"1 bad list tags\n"
+    named = b"1 bad station add line Accepted 300\n1 bad connect line\n1 bad frame line [2,\"1\",\"Heartbeat\",{}]\n"
+    checks.check("no bad line", checks.run(*replay, lines=lines), (0, "bad ok\n", ""))
+    checks.check("a bad line", checks.run(*replay, lines=b"nothing\n" + lines), (3, "bad line 1\nbad ok\n", ""))
+    checks.check("a bad line that doesn't count", checks.run(*replay[:3], lines=b"nothing\n"), (0, "bad line 1\n", ""))
+    checks.check("no bad line of that station", checks.run(*replay, lines=named)[0], 0)
+    db = checks.new_file()
+    checks.check("over a file", checks.run(*replay, "--db", db, lines=lines + b"x\n"), (3, "bad ok\nbad line 2\n", ""))
 
 
 def check_forms(checks):
@@ -922,6 +934,7 @@ def check_all(checks):
     check_two_runs(checks)
     check_uses(checks)
     check_restart(checks)
+    check_strict(checks)
     check_forms(checks)
     check_pages(checks)
     check_vacuum(checks)

@@ -58,6 +58,8 @@ pub struct ReplayOptions {
     pub db: Option<Text>,
     /// How that file is opened, or made.
     pub file: FileOptions,
+    /// A bad line is told by the status.
+    pub is_strict: bool,
 }
 
 /// What a server is to do.
@@ -126,6 +128,7 @@ fn replay_options(alloc: Global, found: &ArgMatches) -> Result<ReplayOptions, Al
         operators: parts(alloc, found.get_str("operators"))?,
         db: text_if_any(alloc, found.get_str("db"))?,
         file: file_options(found),
+        is_strict: found.get_flag("strict"),
     })
 }
 
@@ -248,7 +251,16 @@ fn replay_command<'a>(alloc: Global) -> Result<Command<'a>, AllocError> {
             "The file with the records, made if there is none; else they are in memory",
         ))?
         .arg(accept_loss_arg(alloc))?
-        .arg(page_sums_arg(alloc))
+        .arg(page_sums_arg(alloc))?
+        .arg(strict_arg(alloc))
+}
+
+/// A bad line is told by the status.
+fn strict_arg<'a>(alloc: Global) -> Arg<'a> {
+    Arg::new(alloc, "strict")
+        .long("strict")
+        .help("Ends with status 3 where a line was bad")
+        .action(ArgAction::SetTrue)
 }
 
 fn serve_command<'a>(alloc: Global) -> Result<Command<'a>, AllocError> {
@@ -305,7 +317,9 @@ fn longest_arg<'a>(alloc: Global) -> Arg<'a> {
     Arg::new(alloc, "longest-listing")
         .long("longest-listing")
         .value_name("N")
-        .help("The most rows of a listing, of which a reading counts as two; 250000 if it isn't given")
+        .help(
+            "The most rows of a listing, of which a reading counts as two; 250000 if it isn't given",
+        )
         .value_parser(value_parser!(u32).range(MIN_LONGEST..=MAX_LONGEST))
 }
 

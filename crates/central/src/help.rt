@@ -15,6 +15,7 @@ Exit statuses:
   0  the input was read to its end
   1  the command line can't be read
   2  a fault, which standard error names
+  3  with --strict, a line was bad
 
 More: README.md, docs/RULES.md (Lines), docs/OPERATIONS.md (The server)\n";
 

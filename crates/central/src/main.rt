@@ -1,6 +1,7 @@
 //! The program: replays lines, serves connections, and simulates a station.
 #![tactic(auto)]
 
+mod bad_lines;
 mod causes;
 mod command;
 mod fault;
@@ -71,7 +72,7 @@ fn carry_out(rt: &HostRuntime, plan: Plan) -> Result<u8, RunFault> {
     vendors.push(Box::new(alloc, Echo { alloc })?)?;
     let mut all_taken = true;
     match plan {
-        Plan::Replay(options) => replay_lines(rt, options, vendors)?,
+        Plan::Replay(options) => all_taken = replay_lines(rt, options, vendors)?,
         Plan::Serve(options) => serve(rt, options, vendors)?,
         Plan::Sim(options) => all_taken = simulate(rt, &options)?,
         Plan::Ask(options) => all_taken = ask(rt, &options)?,
