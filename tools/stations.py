@@ -93,7 +93,7 @@ def read_rows(lines, makes_passwords):
 def hashes(passwords):
     """A salted hash of each password. They are handed to openssl by its standard input, which no other user sees."""
     lines = "".join(f"{password}\n" for password in passwords)
-    ran = subprocess.run(["openssl", "passwd", "-5", "-stdin"], input=lines, capture_output=True, text=True, check=False)
+    ran = subprocess.run(["openssl", "passwd", "-5", "-stdin"], input=lines, capture_output=True, text=True)
     found = ran.stdout.splitlines()
     if ran.returncode or len(found) != len(passwords) or not all(line.startswith("$5$") for line in found):
         raise Refused(f"openssl passwd -5 ended with status {ran.returncode}: {ran.stderr.strip()}")
