@@ -67,7 +67,7 @@ static void keep(int file)
 {
     char path[PATH_MAX], draft[PATH_MAX];
     struct stat about;
-    if (!synced || fstat(file, &about))
+    if (!synced || fstat(file, &about) || !S_ISREG(about.st_mode))
         return;
     snprintf(path, sizeof path, "%s/%llu", synced, (unsigned long long)about.st_ino);
     snprintf(draft, sizeof draft, "%s/draft", synced);

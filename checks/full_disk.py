@@ -117,6 +117,11 @@ def records():
     return [lines(operator(), line) for line in LISTS] + [lines(operator("BETA"), "list uses")]
 
 
+def new_second():
+    """Waits until faults are told again, of which at most 20 are in a second."""
+    time.sleep(1.1)
+
+
 def refused(checks, server, what, peer, text):
     """A change ends its connection with 1011, a fault is named, and the health check fails."""
     server.errors()
@@ -128,6 +133,7 @@ def refused(checks, server, what, peer, text):
 
 def check_full(checks, server, size):
     """While no write goes past that size, which is too small for any change."""
+    new_second()
     before = records()
     server.limit(size)
     for text, wanted in ANSWERS.items():
@@ -152,6 +158,7 @@ def check_full(checks, server, size):
 def check_filling(checks, server, more):
     """While files may grow by so many bytes, tags are put until one isn't acknowledged. Those on record are those that
     were acknowledged."""
+    new_second()
     before = len(lines(operator(), "list tags"))
     server.limit(server.size() + more)
     server.errors()

@@ -185,7 +185,7 @@ def check_losses(checks):
     os.remove(f"{copy}-count")
     checks.check("without a mark", tags_of(checks.program, copy), every)
     copy = copied(db, checks.folder, "no_count.db")
-    Path(f"{copy}-count").write_bytes(b"forty\n")
+    Path(f"{copy}-count").write_bytes(b"%20s\n" % b"forty")
     checks.check("a mark without a count", tags_of(checks.program, copy), (2, f"fault Store: the mark has no count\n{copy}-count\n"))
     checks.check("which is accepted", tags_of(checks.program, copy, ("--accept-loss",)), every)
     copy = copied(db, checks.folder, "behind.db")

@@ -93,7 +93,7 @@ fn is_nearer(fit: &Fit<'_>, other: &Fit<'_>) -> bool {
     if fit.words != other.words {
         return fit.words > other.words;
     }
-    fit.ends && !other.ends
+    fit.ends || (fit.missed.is_some() && !other.ends)
 }
 
 /// What is told of the form that is nearest.

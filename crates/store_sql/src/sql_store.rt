@@ -57,6 +57,11 @@ fn on_record(mark: &Option<Mark>, done: &Result<(), StoreFault>, changes: u64) -
     all
 }
 
+/// The steps of a statement that visits so many rows, each by its place in an index, and then finds no more.
+fn steps_of(rows: u32) -> u64 {
+    u64::from(rows).saturating_mul(2).saturating_add(1)
+}
+
 impl<A: Alter> Model for SqlStore<A> {
     ghost use Rattle.sqlite.specs.Held.{state};
     ghost use Rattle.store_sql.specs.Store.{KeepsIfOurs, SqlView, sql_code};
@@ -161,7 +166,7 @@ impl<A: Alter + Drop> SqlStore<A> {
         ensures kept { IsKept (sql_view A.Store self) → IsKept (sql_view A.Store result) }
     {
         let mut conn = self.conn;
-        conn.set_step_limit(Some(u64::from(rows)));
+        conn.set_step_limit(Some(steps_of(rows)));
         SqlStore {
             alloc: self.alloc,
             conn,
