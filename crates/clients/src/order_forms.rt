@@ -63,7 +63,7 @@ struct Fit<'a> {
     words: usize,
     /// The next word of the form, and what stands there in the line; none where the line has the whole form.
     missed: Option<(&'a str, &'a str)>,
-    /// Nothing follows in the line.
+    /// It has that, and nothing follows.
     ends: bool,
 }
 
@@ -85,6 +85,18 @@ pub fn hint_of(alloc: Global, line: &str) -> Mem<String> {
     }
 }
 
+impl Fit<'_> {
+    /// Which of two forms is nearer that have as many words in the line: the one that it has whole, then the one that has a
+    /// word more.
+    fn rank(&self) -> u8 {
+        match self.missed {
+            None if self.ends => 2,
+            Some(_) => 1,
+            None => 0,
+        }
+    }
+}
+
 /// Whether a form is nearer to a line than another.
 fn is_nearer(fit: &Fit<'_>, other: &Fit<'_>) -> bool {
     if fit.plain != other.plain {
@@ -93,7 +105,7 @@ fn is_nearer(fit: &Fit<'_>, other: &Fit<'_>) -> bool {
     if fit.words != other.words {
         return fit.words > other.words;
     }
-    fit.ends || (fit.missed.is_some() && !other.ends)
+    fit.rank() > other.rank()
 }
 
 /// What is told of the form that is nearest.
@@ -140,7 +152,6 @@ fn fit_of<'a>(form: &'a str, line: &'a str) -> Fit<'a> {
         let (word, after) = next_of(wanted, rest);
         if !is_value(wanted, word) {
             fit.missed = Some((wanted, word));
-            fit.ends = word.is_empty();
             return fit;
         }
         fit.plain = fit.plain.saturating_add(usize::from(is_plain(wanted)));
