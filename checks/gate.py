@@ -27,6 +27,8 @@ FILES = [
     ["python3", "checks/wrong_bodies.py", "--check"],
 ]
 TESTS = [["rt", "ci"], ["python3", "tests/run.py"]]
+# a new operator's first steps: the scripts first-look and tools/stations.py
+FIRST_STEPS = ["python3", "checks/first_steps.py", PROGRAM]
 OF_PROGRAM = [
     # the scripts over files, files of earlier versions, and which databases are taken
     ["python3", "checks/files.py", PROGRAM],
@@ -52,10 +54,18 @@ OF_PROGRAM = [
 def steps(with_program):
     if not with_program:
         return TESTS
-    if not shutil.which("chromium"):
-        print("no Chromium: the console is not checked", flush=True)
-        return [*FILES, *TESTS, *OF_PROGRAM]
-    return [*FILES, CONSOLE, *TESTS, *OF_PROGRAM, [*CONSOLE, "--program", PROGRAM]]
+    of_program = [*OF_PROGRAM, *([FIRST_STEPS] if has("openssl", "the first steps are") else [])]
+    if not has("chromium", "the console is"):
+        return [*FILES, *TESTS, *of_program]
+    return [*FILES, CONSOLE, *TESTS, *of_program, [*CONSOLE, "--program", PROGRAM]]
+
+
+def has(program, what):
+    """Whether a program is there that a check needs."""
+    if shutil.which(program):
+        return True
+    print(f"no {program}: {what} not checked", flush=True)
+    return False
 
 
 def run(words):
