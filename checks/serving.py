@@ -248,7 +248,7 @@ def check_long_listings(checks):
         checks.check("those of another", rows(acme, "list readings CP01 9"), 1)
         acme.send("list readings CP01")
         checks.check("one more reading", close_code(acme), 1011)
-        checks.check("the station", station.ask(HEARTBEAT)[:6], '[3,"1"')
+        checks.check("the station", station.ask(HEARTBEAT)[:6], '[3,"2"')
         checks.check("another operator", beta.ask("list tags"), "BETA ok")
         checks.check("health", answer("GET", "/health")[0].split(" ")[1], "200")
 
