@@ -25,6 +25,8 @@ PORT = 9381
 # How many stations have one address of loopback, and how many connect at once.
 BY_ADDRESS = 20_000
 AT_ONCE = 500
+# The network of the addresses, another one in each run: for a minute a port is not free that was used.
+NETWORK = random.randrange(1, 255)
 # How many stations come and go.
 GUESTS = 50
 
@@ -48,7 +50,7 @@ def added(count):
 
 def opened(n):
     stream = socket.socket()
-    stream.bind((f"127.0.0.{2 + n // BY_ADDRESS}", 0))
+    stream.bind((f"127.0.{NETWORK}.{2 + n // BY_ADDRESS}", 0))
     stream.connect(("127.0.0.1", PORT))
     stream.sendall(HEAD.format(path(n)).encode())
     return stream

@@ -28,8 +28,9 @@ const MAX_WAIT: u64 = 1;
 /// The nanoseconds after a turn that ended in a fault, if nothing is reported meanwhile.
 const PAUSE: u64 = 10_000_000;
 
-/// The nanoseconds in which a turn begins to serve connections. Those that are left are served in the next one, after what
-/// is reported meanwhile.
+/// The nanoseconds in which a turn begins to serve connections; where more have passed since it began, as many as those,
+/// since what a turn does first takes as long as there are connections to read. Those that are left are served in the next
+/// one, after what is reported meanwhile.
 const SERVES: u64 = 1_000_000;
 
 /// The nanoseconds between two looks for the file that ends the server.
@@ -369,15 +370,17 @@ impl<S: Store + Drop, V: VendorHandler> Server<S, V> {
     /// Serves connections that have something to read, until none has, the time for it is over, or an event ends in a
     /// fault. Each operator is charged for the time of its events, and the one that was charged least is next.
     fn serve_some(&mut self, rt: &HostRuntime) {
-        let begun = self.now;
+        let turn = self.now;
         let places = self.streams.readable_peers();
         self.service.begin(&self.gateway, places);
+        let begun = self.read_clock(rt);
+        let time = SERVES.max(begun.saturating_sub(turn));
         for _ in 0..u64::MAX {
             let Some((owner, place)) = self.service.next(self.now) else {
                 return;
             };
             let served = self.serve_one(rt, owner, place);
-            let is_over = served.is_err() || self.now.saturating_sub(begun) >= SERVES;
+            let is_over = served.is_err() || self.now.saturating_sub(begun) >= time;
             self.report(served);
             if is_over {
                 return;
