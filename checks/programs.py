@@ -100,7 +100,7 @@ class Checks:
         server = subprocess.Popen(
             [self.program, "serve", "--port", str(PORT), "--db", db or self.new_file(), *words],
             stderr=errors or subprocess.DEVNULL,
-            preexec_fn=lambda: resource.setrlimit(resource.RLIMIT_NOFILE, (files, files)),
+            preexec_fn=lambda: prepare(files),
         )
         try:
             wait_for(PORT)
@@ -117,6 +117,12 @@ class Checks:
         code, _, errors = self.run(*words.split(" "))
         self.check(f"{what}: status", code, status)
         self.check(f"{what}: {text}", text in errors, True)
+
+
+def prepare(files):
+    """Lets a process that begins have so many files open, and end by SIGINT, which a shell's background jobs ignore."""
+    resource.setrlimit(resource.RLIMIT_NOFILE, (files, files))
+    signal.signal(signal.SIGINT, signal.SIG_DFL)
 
 
 def wait_for(port):
