@@ -20,6 +20,8 @@ from programs import Checks
 DATA = Path(__file__).resolve().parent.parent / "tests" / "check_cases" / "data" / "scripts"
 OPENED = DATA / "databases" / "opened.txt"
 EARLIER_FORM = DATA / "databases" / "records_of_schema_3_earlier.db"
+# What is told of a bad line.
+REASON = re.compile(r"line \d+: ")
 # The most bytes of a log without a change.
 EMPTY_LOG = 41
 LISTS = "".join(
@@ -32,7 +34,7 @@ class Files(Checks):
     def replay(self, lines, db=None, operators="ACME,BETA"):
         """What a replay writes, and after it the line of its fault, if there is one."""
         _, output, errors = self.run("replay", "--operators", operators, *(["--db", db] if db else []), lines=lines)
-        return output + "".join(errors.splitlines(keepends=True)[:1])
+        return output + "".join([line for line in errors.splitlines(keepends=True) if not REASON.match(line)][:1])
 
 
 def operators_of(script):

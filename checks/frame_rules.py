@@ -140,6 +140,7 @@ def choice(names):
         else:
             yield None if value in taken else (BOUND, None)
 
+    kind.names = names.split()
     return kind
 
 
@@ -189,7 +190,13 @@ def object_of(*table):
         else:
             yield TYPE, None
 
+    kind.table = table
     return kind
+
+
+def choices(table):
+    """The names that each choice of a table has."""
+    return {name: kind.names for name, kind, _ in table if hasattr(kind, "names")}
 
 
 def outcomes(table, members):
@@ -370,8 +377,10 @@ def readings_in(values):
 class Station:
     """What counts of a station for the answers to its frames."""
 
-    def __init__(self, policy, state="Fresh", is_connected=True):
+    def __init__(self, policy, state="Fresh", is_connected=True, repairs=None):
         self.policy, self.state, self.is_connected = policy, state, is_connected
+        # what a tolerant reader repairs, the module repair_rules
+        self.repairs = repairs
         self.last = self.readings = 0
         self.starts = {}
         self.open = set()
@@ -406,10 +415,10 @@ class Operator:
         if type(items) is not list or len(items) < 2 or type(items[0]) is not int or type(items[1]) is not str:
             return SILENT
         if items[0] == 2:
-            return self.after_call(name, items, moment)
+            return self.after_call(name, items, data, moment)
         return after_answer(station, items)
 
-    def after_call(self, name, items, moment):
+    def after_call(self, name, items, data, moment):
         station, number = self.stations[name], items[1]
         if len(items) != 4 or type(items[2]) is not str or type(items[3]) not in (dict, type(None)) or len(number) > 36:
             return [error(number, "FormationViolation")]
@@ -422,11 +431,28 @@ class Operator:
             return [error(number, "SecurityError")]
         found = []
         for fault in outcomes(REQUESTS[action], payload):
-            if fault:
-                found.append(error(number, *fault))
+            if not fault:
+                found += self.answered(name, items, payload, moment)
+            elif station.repairs:
+                found += self.after_repair(name, items, data, moment, fault)
             else:
-                taken = self.taken(name, action, payload, moment)
-                found += [(send(3, number, answer), change) for answer, change in taken]
+                found.append(error(number, *fault))
+        return found
+
+    def answered(self, name, items, payload, moment):
+        taken = self.taken(name, items[2], payload, moment)
+        return [(send(3, items[1], answer), change) for answer, change in taken]
+
+    def after_repair(self, name, items, data, moment, fault):
+        """What may follow a call that the strict reader refuses for that fault. A repair is told in a line of its own."""
+        repairs, action = self.stations[name].repairs, items[2]
+        payload, told = repairs.repaired(action, data, moment), f"repaired {action} {fault[0]} {fault[1]}\n"
+        found = []
+        for other in repairs.faults_of(action, payload):
+            if other:
+                found.append(error(items[1], *other))
+            else:
+                found += [(told + line, change) for line, change in self.answered(name, items, payload, moment)]
         return found
 
     def taken(self, name, action, payload, moment):

@@ -73,12 +73,15 @@ class Script:
         other = "BETA" if operator == "ACME" else "ACME"
         self.group(f"{operator} tag put T{turn} K0 {turn % 2} -")
         self.group(f"{operator} grant T{turn} {other} {self.moment + 1000}")
+        self.group(f"{operator} station add D{turn % 2} Pending 300")
+        self.group(f"{operator} station drop D{turn % 2}")
         if turn % 3 == 2:
             self.group(f"{operator} revoke T{turn - 1} {other}")
             self.group(f"{operator} tag drop T{turn - 2}")
         if turn % 6 == 5:
             self.group(f"{operator} disconnect S2", f"{operator} connect S2")
         self.group(f"{operator} station policy S3 Accepted {turn}")
+        self.group(f"{operator} station reader S3 strict")
         self.frame(operator, "S3", "BootNotification", f'{{"chargePointModel":"M{turn}","chargePointVendor":"V"}}')
         self.frame(operator, "S4", "Heartbeat", "{}")
 
@@ -123,7 +126,7 @@ class Script:
             self.command(operator, station, "CancelReservation", f'{{"reservationId":{turn}}}', '{"status":"Accepted"}')
 
     def listings(self, operator):
-        for what in ("stations", "connections", "tags", "grants", "granted", "uses", "open"):
+        for what in ("stations", "readers", "connections", "tags", "grants", "granted", "uses", "open"):
             yield f"{self.end} {operator} list {what}"
         for what in LISTINGS:
             for name, *_ in self.stations:

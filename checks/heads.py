@@ -191,6 +191,17 @@ OTHERS = [
     "Sec-WebSocket-Protocol: OCPP1.6",
 ]
 
+# What a station offers that is read tolerantly, and what it is answered.
+TOLERATED = {
+    "ocpp1.6": "ocpp1.6",
+    "OCPP1.6": "OCPP1.6",
+    "ocpp1.6j": "ocpp1.6j",
+    "ocpp1.6j, OCPP1.6": "OCPP1.6",
+    "OCPP1.6, ocpp1.6": "ocpp1.6",
+    "ocpp1.6J": None,
+    "ocpp2.0.1": None,
+}
+
 # What a client sends that is no message, and the code with which its connection is closed (RFC 6455, section 7.4.1).
 BREACHES = [
     (1007, "a text that isn't UTF-8", b"\x81\x81\0\0\0\0\xff"),
@@ -307,6 +318,18 @@ def check_admitted(checks):
         checks.check(f"an operator offers {other!r}", got, (101, sorted(SWITCHED.items()), b""))
 
 
+def check_tolerant(checks):
+    """A station that is read tolerantly may offer the subprotocol by another name, and is answered that."""
+    operator = Peer(checks.port, "/operator/ACME")
+    checks.check("a tolerant reader", operator.ask("station reader CP01 tolerant"), "ACME ok")
+    for other, answered in TOLERATED.items():
+        fields = SWITCHED | ({"sec-websocket-protocol": answered} if answered else {})
+        until = b"\r\n\r\n" if answered else None
+        got = exchange(checks.port, changed({OCPP: f"Sec-WebSocket-Protocol: {other}"}), until=until)
+        checks.check(f"a tolerant station offers {other}", got[:2], (101, sorted(fields.items())))
+    checks.check("a strict reader", operator.ask("station reader CP01 strict"), "ACME ok")
+
+
 def check_segments(checks):
     """However a head and what follows it arrive, both are served."""
     head, boot = changed({}), frame(BOOT)
@@ -363,6 +386,7 @@ def check_heads(checks):
         check_plain(checks)
         check_refused(checks)
         check_admitted(checks)
+        check_tolerant(checks)
         check_segments(checks)
         check_breaches(checks)
         checks.check("the others are there", [peer.ask("list tags") for peer in beta[:1]], ["BETA ok"])

@@ -20,6 +20,8 @@ from frame_rules import SILENT, Operator, Station, written
 from good_events import BOOT, Script
 from hostile_frames import COMMANDS, MOST, chosen, wrong_answers
 
+import repair_rules
+
 OPERATORS = "ACME,BETA,GAMMA"
 BLOCK = 50
 TAGS = [("K1", None, False, None), ("K2", "k1", False, None), ("K3", None, False, 2000000000), ("K4", "B", False, None)]
@@ -27,9 +29,9 @@ TAGS += [("B", None, True, None), ("OLD", None, False, 5)]
 POLICIES = {"S1": "Accepted", "S2": "Accepted", "S3": "Accepted", "S4": "Pending", "S5": "Rejected"}
 FRESH = [f"F{n}" for n in range(40)]
 
-# How often a frame is that of each station: S7 isn't connected, and nobody has added the last one. The others have
-# stations of the same names.
-WEIGHTS = {"S1": 30, "S2": 20, "S3": 20, "S4": 6, "S5": 4, "F": 4, "S7": 1, "nobody-é": 1}
+# How often a frame is that of each station: S6 is read tolerantly, S7 isn't connected, and nobody has added the last one.
+# The others have stations of the same names.
+WEIGHTS = {"S1": 30, "S2": 20, "S3": 20, "S4": 6, "S5": 4, "S6": 30, "F": 4, "S7": 1, "nobody-é": 1}
 
 TEXT = r'"(?:[^"\\\x00-\x1f]|\\.)*"'
 MAYBE = f"(?:-|{TEXT})"
@@ -48,6 +50,7 @@ ROWS = [
     r"localtag \S+ \{.*\}",
     r"report \S+ (Diagnostics|Firmware) [A-Za-z]+ \d+",
     r"connection \S+ \d+",
+    r"reader \S+ (strict|tolerant)",
     r"forgotten \S+ \d+ \d+",
 ]
 OUTCOME = rf"(Answer \{{.*\}}|BadAnswer [A-Za-z]+ [A-Za-z]+|Error \[{TEXT},{TEXT}\]|Timeout|Disconnected)"
@@ -55,11 +58,14 @@ FORMS = [
     r"\S+ \S+ send \[[234],.*\]",
     rf"\S+ \S+ done \d+ {OUTCOME}",
     r"\S+ \S+ turned",
+    r"\S+ \S+ repaired [A-Za-z]+ [A-Za-z]+ [A-Za-z]+",
     r"\S+ refused \d+ [A-Za-z]+( [A-Za-z]+)?",
     rf"\S+ row ({'|'.join(ROWS)})",
     r"\S+ ok( \d+)?",
     r"bad line \d+",
 ]
+# What is told of bad lines, of twenty at most.
+REASONS = re.compile(rb"(line \d+: [^\x00-\x1f\x7f]{1,9000}\n){0,20}")
 FORM = re.compile("|".join(f"(?:{form})" for form in FORMS), re.DOTALL)
 
 
@@ -91,7 +97,7 @@ class Checks:
         seconds = time.monotonic() - began
         print(f"{what}: {len(lines)} lines in {seconds:.1f} s, {len(found) - 1} lines of output")
         self.check(f"{what}: status", ran.returncode == 0, ran.returncode)
-        self.check(f"{what}: errors", ran.stderr == b"", ran.stderr)
+        self.check(f"{what}: errors", REASONS.fullmatch(ran.stderr), ran.stderr)
         self.check(f"{what}: the last line ends", found.pop() == "")
         for line in found:
             if not FORM.fullmatch(line):
@@ -110,7 +116,7 @@ def answered_how(line):
         return "ignored"
     if line.startswith("send [4,"):
         return json.loads(line[5:])[2]
-    words = {"send": "answered", "done": "ends a call", "turned": "turned", "bad": "bad line"}
+    words = {"send": "answered", "repaired": "repaired", "done": "ends a call", "turned": "turned", "bad": "bad line"}
     return words[line.split(" ", 1)[0]]
 
 
@@ -160,6 +166,7 @@ def hostile_world():
         world.stations[station] = Station(policy, policy)
     for station in FRESH:
         world.stations[station] = Station("Accepted")
+    world.stations["S6"] = Station("Accepted", "Accepted", repairs=repair_rules)
     world.stations["S7"] = Station("Accepted", is_connected=False)
     return world
 
@@ -170,6 +177,8 @@ def set_up(world, moment):
         yield f"{moment} GAMMA tag put {tag} {parent or '-'} {int(is_blocked)} {'-' if expiry is None else expiry}"
     for name, station in world.stations.items():
         yield f"{moment} GAMMA station add {name} {station.policy} 300"
+        if station.repairs:
+            yield f"{moment} GAMMA station reader {name} tolerant"
         if station.is_connected:
             yield f"{moment} GAMMA connect {name}"
         if station.state != "Fresh":
@@ -266,13 +275,13 @@ def check_block(checks, world, block, lines):
             at += 2
             continue
         kind, station, data, moment, bad = event
-        got = lines[at] if at < len(lines) else None
+        got = lines[at : at + 2]
         found = matching(world, station, data, moment, bad, got)
         wanted = [line for line, _ in possible(world, station, data, moment, bad)] if found is None else None
         if not checks.check(f"{kind}, from {station}", found is not None, data, f"wanted {wanted}", f"got {got}"):
             return
         line, change = found
-        at += line is not None
+        at += len(lines_of(station, line, bad))
         checks.count(kind, line)
         if change:
             change()
@@ -284,11 +293,19 @@ def possible(world, station, data, moment, bad):
 
 
 def matching(world, station, data, moment, bad, got):
-    """What follows a frame, of what is possible: the line that was found, or none where that alone is possible."""
+    """What follows a frame, of what is possible: the lines that were found, or none where that alone is possible."""
     for line, change in possible(world, station, data, moment, bad):
-        if line is None or got == (line if bad else f"GAMMA {station} {line}"):
+        wanted = lines_of(station, line, bad)
+        if got[: len(wanted)] == wanted:
             return line, change
     return None
+
+
+def lines_of(station, line, bad):
+    """The lines of output that a frame of a station of GAMMA is followed by."""
+    if line is None or bad:
+        return [line] if line else []
+    return [f"GAMMA {station} {part}" for part in line.split("\n")]
 
 
 def check_rows(checks, world, lines):

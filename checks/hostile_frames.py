@@ -329,6 +329,29 @@ def numbers(rng):
                 yield replaced(action, payload, path, token)
 
 
+def changed_slightly(rng, value):
+    """Tokens in the place of a value, as stations of several vendors send them."""
+    yield from ('""', '" "', '"0"', "0.0", '"2024-01-01 00:00:00"', '"01/01/2024"', "1704067200", '"Occupied"', '"Unknown"')
+    if type(value) is int:
+        yield from (f'"{value}"', f'"00{value}"', f"{value}.0", f"{value}.000", f"{value}.5", f'"{value}.0"', f'" {value}"', f"{value}e0")
+    elif type(value) is str and value:
+        yield from (json.dumps(text) for text in (value.upper(), value.lower(), f" {value}\t", value * 60, f"{value}\u00a0", value.title()))
+        yield from rng.sample(["12", "-0.5", "230.10", "1E2", "0.1", "00"], 3)
+
+
+def nearly_good(rng):
+    """A value or two as stations of several vendors send them."""
+    for action, payload in GOOD:
+        for path in paths(payload):
+            place = payload
+            for at in path:
+                place = place[at]
+            for token in changed_slightly(rng, place):
+                yield replaced(action, payload, path, token)
+                if "connectorId" in payload:
+                    yield replaced(action, {**payload, "connectorId": "1"}, path, token)
+
+
 def strings(rng):
     for action, payload in GOOD:
         for path in paths(payload):
@@ -428,6 +451,7 @@ KINDS = {
     "members unknown": unknown,
     "members doubled": doubled,
     "numbers": numbers,
+    "nearly good": nearly_good,
     "strings": strings,
     "ids": ids,
     "actions": actions,

@@ -3,10 +3,10 @@
 shapes.
 
 Run it at the top of the repository, after a change of the tables. It reads their texts from
-crates/sql_tables/src. The files are written by SQLite itself, all but records_in_each_list.db, records_of_schema_2.db
-and records_of_schema_3.db. Those have schema 1, 2 and 3: each is what `central replay --db` of that version made of the
-script of its name, with rows in each table. They are never made anew. records_of_schema_3_earlier.db has the records of
-the last in the earlier form of its schema.
+crates/sql_tables/src. The files are written by SQLite itself, all but records_in_each_list.db and
+records_of_schema_2.db, records_of_schema_3.db and records_of_schema_4.db. Those have schemas 1 to 4: each is what
+`central replay --db` of that version made of the script of its name, with rows in each table. They are never made anew.
+records_of_schema_3_earlier.db has the records of that of schema 3 in the earlier form of it.
 """
 import os
 import re
@@ -16,7 +16,7 @@ import sqlite3
 FOLDER = "tests/check_cases/data/scripts/databases"
 SUBJECTS = (
     "meta", "stations", "connectors", "tags", "grants", "txs", "readings", "reservations", "lists", "list_entries",
-    "reports", "tx_owners", "uses", "meter_values",
+    "reports", "tx_owners", "uses", "meter_values", "readers",
 )
 CONSTANT = re.compile(r'^pub const (CREATE\w*): &str =\s+"(.*)";$', re.M)
 MADE = {
@@ -32,7 +32,8 @@ NUMBER = "INSERT INTO hub_meta VALUES ('schema', %d)"
 EARLIER_INDEX = "txs.CREATE_EARLIER_IS_OPEN"
 EARLIER_HAS = ("txs.CREATE_EARLIER_START_AT", "readings.CREATE_TRANSACTION")
 THIRD_HAS = ("tx_owners.CREATE", "uses.CREATE", "txs.CREATE_IS_OPEN")
-OURS_HAS = ("meter_values.CREATE", "txs.CREATE_START_AT", "meter_values.CREATE_TRANSACTION")
+FOURTH_HAS = ("meter_values.CREATE", "txs.CREATE_START_AT", "meter_values.CREATE_TRANSACTION")
+OURS_HAS = ("readers.CREATE",)
 
 
 def tables_without(*names):
@@ -40,20 +41,22 @@ def tables_without(*names):
     return [text for name, text in TEXTS.items() if name not in names]
 
 
-FIRST_TABLES = tables_without("reports.CREATE", *THIRD_HAS, *OURS_HAS)
-SECOND_TABLES = tables_without(*THIRD_HAS, *OURS_HAS)
-THIRD_TABLES = tables_without(EARLIER_INDEX, *OURS_HAS)
+FIRST_TABLES = tables_without("reports.CREATE", *THIRD_HAS, *FOURTH_HAS, *OURS_HAS)
+SECOND_TABLES = tables_without(*THIRD_HAS, *FOURTH_HAS, *OURS_HAS)
+THIRD_TABLES = tables_without(EARLIER_INDEX, *FOURTH_HAS, *OURS_HAS)
+FOURTH_TABLES = tables_without(EARLIER_INDEX, *EARLIER_HAS, *OURS_HAS)
 TABLES = tables_without(EARLIER_INDEX, *EARLIER_HAS)
 FIRST = FIRST_TABLES + [NUMBER % 1]
 SECOND = SECOND_TABLES + [NUMBER % 2]
 THIRD = THIRD_TABLES + [NUMBER % 3]
+FOURTH = FOURTH_TABLES + [NUMBER % 4]
 # the further indexes from the one on that the earlier form of schema 3 has otherwise, by their names
 EARLIER_INDEXES = {
     "hub_tx_is_open": TEXTS[EARLIER_INDEX],
     "hub_tx_start_at": TEXTS["txs.CREATE_EARLIER_START_AT"],
     "hub_reading_transaction": TEXTS["readings.CREATE_TRANSACTION"],
 }
-OURS = TABLES + [NUMBER % 4]
+OURS = TABLES + [NUMBER % 5]
 STATION = (
     "INSERT INTO hub_station VALUES"
     " ('ACME', 'CP01', 'Accepted', 300, 'Fresh', NULL, NULL, NULL, NULL, NULL, NULL, NULL, NULL, NULL, NULL)"
@@ -73,7 +76,9 @@ READING = (
 METER_VALUE = "INSERT INTO hub_meter_value VALUES ('ACME', 'CP01', 1, 1, NULL, 1704067200000, 1, '[{\"value\":\"1\"}]')"
 SECOND_ROWS = [STATION, TAG, REPORT]
 THIRD_ROWS = SECOND_ROWS + [TX, OWNER, USE, *(READING % number for number in (1, 2, 4, 2147483647))]
-ROWS = SECOND_ROWS + [TX, OWNER, USE, METER_VALUE]
+READER = "INSERT INTO hub_reader VALUES ('ACME', 'CP01', 'tolerant')"
+FOURTH_ROWS = SECOND_ROWS + [TX, OWNER, USE, METER_VALUE]
+ROWS = FOURTH_ROWS + [READER]
 
 
 def with_text(texts, old, new):
@@ -132,8 +137,8 @@ database("report_without_meta", [TEXTS["reports.CREATE"]])
 database("use_without_meta", [TEXTS["uses.CREATE"]])
 database("other_program", ["CREATE TABLE person (name TEXT)", "INSERT INTO person VALUES ('A')"])
 database("later_version", [META, NUMBER % 9])
-database("later_version_with_other_tables", [META, NUMBER % 5, "CREATE TABLE person (name TEXT)"])
-database("later_version_with_our_tables", TABLES + [NUMBER % 5])
+database("later_version_with_other_tables", [META, NUMBER % 6, "CREATE TABLE person (name TEXT)"])
+database("later_version_with_our_tables", TABLES + [NUMBER % 6])
 database("meta_without_row", [META])
 database("meta_with_two_rows", meta("'schema', 2", "'other', 2"))
 database("meta_with_0", meta("'schema', 0"))
@@ -146,7 +151,7 @@ database("meta_as_a_view", ["CREATE TABLE t (number INTEGER)", "INSERT INTO t VA
 database("ours", OURS)
 database("ours_with_rows", OURS + ROWS)
 database("ours_after_vacuum", OURS + ROWS, vacuum=True)
-database("ours_with_a_table_last", [text for text in OURS if text != TEXTS["meter_values.CREATE"]][:-2] + [TEXTS["meter_values.CREATE"], TEXTS["meter_values.CREATE_TRANSACTION"], NUMBER % 4])
+database("ours_with_a_table_last", FOURTH_TABLES + [TEXTS["readers.CREATE"], NUMBER % 5])
 database("ours_without_a_table", [text for text in OURS if text != TEXTS["reservations.CREATE"]])
 database("ours_without_an_index", [text for text in OURS if text != TEXTS["txs.CREATE_IN_USE"]])
 database("ours_with_another_table", OURS + ["CREATE TABLE person (name TEXT)"])
@@ -158,6 +163,15 @@ database("ours_with_an_earlier_index_of_starts", with_text(OURS, "txs.CREATE_STA
 database("ours_with_the_number_1", TABLES + [NUMBER % 1])
 database("ours_with_the_number_2", TABLES + [NUMBER % 2])
 database("ours_with_the_number_3", TABLES + [NUMBER % 3])
+database("ours_with_the_number_4", TABLES + [NUMBER % 4])
+database("fourth", FOURTH)
+database("fourth_with_rows", FOURTH + FOURTH_ROWS)
+database("fourth_after_vacuum", FOURTH + FOURTH_ROWS, vacuum=True)
+database("fourth_with_readings_left", FOURTH + FOURTH_ROWS + [READING % 1, READING % 2147483648])
+database("fourth_without_a_table", [text for text in FOURTH if text != TEXTS["meter_values.CREATE"] and text != TEXTS["meter_values.CREATE_TRANSACTION"]])
+database("fourth_with_an_index_of_schema_3", with_text(FOURTH, "txs.CREATE_START_AT", "txs.CREATE_EARLIER_START_AT"))
+database("fourth_with_the_number_3", FOURTH_TABLES + [NUMBER % 3])
+database("fourth_with_the_number_5", FOURTH_TABLES + [NUMBER % 5])
 database("third", THIRD)
 database("third_with_rows", THIRD + THIRD_ROWS)
 database("third_after_vacuum", THIRD + THIRD_ROWS, vacuum=True)

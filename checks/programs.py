@@ -22,14 +22,16 @@ from pathlib import Path
 
 from heads import check_heads
 from peer import BOOT, HEAD, HEARTBEAT, Peer, frame
+from simulated import check_simulated
 
 SCRIPTS = Path(__file__).resolve().parent.parent / "tests" / "check_cases" / "data" / "scripts"
 # The number of the schema, and a file of each earlier one, in SCRIPTS.
-SCHEMA = 4
+SCHEMA = 5
 EARLIER = {
     1: "databases/records_in_each_list",
     2: "databases/records_of_schema_2",
     3: "databases/records_of_schema_3",
+    4: "databases/records_of_schema_4",
 }
 NUMBER = "SELECT number FROM hub_meta WHERE name = 'schema'"
 # The tables that each schema has beside those of schema 1, by name.
@@ -38,14 +40,17 @@ MORE = {
     2: ["hub_report"],
     3: ["hub_report", "hub_tx_owner", "hub_use"],
     4: ["hub_meter_value", "hub_report", "hub_tx_owner", "hub_use"],
+    5: ["hub_meter_value", "hub_reader", "hub_report", "hub_tx_owner", "hub_use"],
 }
 
 PORT = 9281
-# What the second lines of faults say, and the warning of an address.
+# What the second lines of faults say, and the warnings of an address and of names.
 NO_NAME = "can't be a name: 1 to 32 letters, digits, - and _"
 IN_USE = "Address already in use (os error 98)"
 NOT_FOUND = f"fault Stream\n127.0.0.1:{PORT}: the handshake was answered 404: no such operator or station is known there\n"
 WARNED = "may be reached from other machines, and the server authenticates nobody (docs/OPERATIONS.md, A TLS proxy)"
+NO_STATION = "has no station on record, and another operator has: a name of --operators may be misspelled"
+NOT_HOSTED = "has stations on record and is not hosted: a name of --operators may be misspelled"
 MOST = 1 << 20
 TIME = re.compile(r"\d{4}-\d\d-\d\dT\d\d:\d\d:\d\dZ")
 
@@ -202,6 +207,25 @@ def check_bind(checks):
         told = errors.read().splitlines()
         checks.check("it warns first", told[0], warning.rstrip("\n"))
         checks.check("its log has the address", f" serves ACME on 0.0.0.0:{PORT}, records in " in told[1], True)
+
+
+def check_names(checks):
+    """A start warns of hosted operators without stations where others have some, and of operators with some that aren't
+    hosted."""
+    db = checks.new_file()
+    serve = f"serve --port {PORT} --db {db} --turns 0 --log none --operators"
+    checks.check("no stations", checks.run(*serve.split(" "), "ACME,BETA"), (0, "", ""))
+    with checks.serve("--operators", "ACNE,BETA", db=db):
+        for name, station in (("ACNE", "CP01"), ("ACNE", "CP02"), ("BETA", "CP01")):
+            added = Peer(PORT, f"/operator/{name}").ask(f"station add {station} Accepted 300")
+            checks.check(f"{name} has {station}", added, f"{name} ok")
+    checks.check("all names", checks.run(*serve.split(" "), "BETA,ACNE"), (0, "", ""))
+    told = f"warning: ACNE {NOT_HOSTED}\nwarning: ACME {NO_STATION}\n"
+    checks.check("a name in place of another", checks.run(*serve.split(" "), "ACME,BETA"), (0, "", told))
+    told = f"warning: ACNE {NOT_HOSTED}\nwarning: BETA {NOT_HOSTED}\n"
+    checks.check("none of the names", checks.run(*serve.split(" "), "ACME"), (0, "", told))
+    told = f"warning: BETA {NOT_HOSTED}\n"
+    checks.check("one of the names", checks.run(*serve.split(" "), "ACNE"), (0, "", told))
 
 
 def made(checks, *statements):
@@ -391,18 +415,48 @@ def check_strict(checks):
     replay, lines = ["replay", "--operators", "bad", "--strict"], b"1 bad list tags\n"
     named = b"1 bad station add line Accepted 300\n1 bad connect line\n1 bad frame line [2,\"1\",\"Heartbeat\",{}]\n"
     checks.check("no bad line", checks.run(*replay, lines=lines), (0, "bad ok\n", ""))
-    checks.check("a bad line", checks.run(*replay, lines=b"nothing\n" + lines), (3, "bad line 1\nbad ok\n", ""))
-    checks.check("a bad line that doesn't count", checks.run(*replay[:3], lines=b"nothing\n"), (0, "bad line 1\n", ""))
-    checks.check("no bad line of that station", checks.run(*replay, lines=named)[0], 0)
+    moment = "'nothing' is no MOMENT, which is a number of seconds since 1970; expected: MOMENT OP ..\n"
+    checks.check("a bad line", checks.run(*replay, lines=b"nothing\n" + lines), (3, "bad line 1\nbad ok\n", f"line 1: {moment}"))
+    checks.check("a bad line that doesn't count", checks.run(*replay[:3], lines=b"nothing\n"), (0, "bad line 1\n", f"line 1: {moment}"))
+    checks.check("no bad line of that station", checks.run(*replay, lines=named), (0, checks.run(*replay, lines=named)[1], ""))
     db = checks.new_file()
-    checks.check("over a file", checks.run(*replay, "--db", db, lines=lines + b"x\n"), (3, "bad ok\nbad line 2\n", ""))
+    over_a_file = checks.run(*replay, "--db", db, lines=lines + b"nothing\n")
+    checks.check("over a file", over_a_file, (3, "bad ok\nbad line 2\n", f"line 2: {moment}"))
+    check_reasons(checks, replay)
+
+
+# Lines, and what is told of each.
+BAD_SCRIPT_LINES = {
+    "1 bad station add CP01 Acepted 300": "'Acepted' is no POLICY, which is Accepted, Pending or Rejected; expected: station add ST POLICY INTERVAL",
+    "1 worse list tags": "'worse' is no operator of --operators",
+    "1 bad connect": "ST is missing; expected: connect ST",
+    "1 bad frame CP01": "TEXT is missing; expected: frame ST TEXT",
+    "1 bad disconnect CP01 now": "the line goes on after its end; expected: disconnect ST",
+    "1 bad call CP01 Frob {}": "'Frob' is no ACTION, which is a command of the central system, as ClearCache or Reset; expected: call ST ACTION JSON",
+    "1 * tock": "after * the line has tick alone",
+    "1": "'' is no operator of --operators",
+    "-1 bad list tags": "'-1' is no MOMENT, which is a number of seconds since 1970; expected: MOMENT OP ..",
+}
+
+
+def check_reasons(checks, replay):
+    """Why a line is bad is told of the first twenty, of those behind long ones too, and not of one that wasn't kept."""
+    script = "".join(f"{line}\n" for line in BAD_SCRIPT_LINES)
+    told = "".join(f"line {number}: {why}\n" for number, why in enumerate(BAD_SCRIPT_LINES.values(), 1))
+    checks.check("why lines are bad", checks.run(*replay, lines=script.encode())[2], told)
+    checks.check("of twenty", checks.run(*replay, lines=b"x\n" * 30)[2].count("\n"), 20)
+    checks.check("not UTF-8", checks.run(*replay, lines=b"1 bad \xff\n")[2], "line 1: it isn't UTF-8\n")
+    comments = b"\n".join([b"1 bad frame CP01 " + b"x" * 1000] * 5000)
+    late = checks.run(*replay, lines=comments + b"\n1 bad lst tags\n")[2]
+    checks.check("after much", late.splitlines(), ["line 5001: 'lst' begins no line; `central ask help` lists the lines"])
 
 
 def check_forms(checks):
-    """A file of either form of schema 3 is taken, and has the tables, the indexes and the number of a new one then."""
+    """A file of either form of schema 3, or of schema 4, is taken, and has the tables, the indexes and the number of a new
+    one then."""
     words, new = ["replay", "--operators", "ACME", "--db"], checks.new_file()
     checks.check("a new file", checks.run(*words, new), (0, "", ""))
-    for name in ("third", "third_with_an_earlier_index"):
+    for name in ("third", "third_with_an_earlier_index", "fourth"):
         db = checks.new_file()
         shutil.copy(SCRIPTS / "databases" / f"{name}.db", db)
         checks.check(name, checks.run(*words, db, lines=b"1 ACME list open\n"), (0, "ACME ok\n", ""))
@@ -934,6 +988,7 @@ def check_all(checks):
     check_statuses(checks)
     check_help(checks)
     check_bind(checks)
+    check_names(checks)
     check_databases(checks)
     check_earlier_schemas(checks)
     check_first_schema(checks)
@@ -952,6 +1007,7 @@ def check_all(checks):
     check_log(checks)
     check_turns(checks)
     check_session(checks)
+    check_simulated(checks)
     check_heads(checks)
     check_operators(checks)
     check_listings(checks)

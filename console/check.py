@@ -22,6 +22,7 @@ import form_cases
 import hostile_cases
 import link_cases
 import program_cases
+import reader_cases
 import span_cases
 import tag_cases
 from browser import PAGE, Browser
@@ -123,7 +124,7 @@ def check_many(cases):
     heard = [line.split(" ")[1] for line in mock.heard]
     counts = {what: heard.count(what) for what in sorted(set(heard))}
     cases.check("1,000 stations: what is asked", counts == {
-        "connections": 1, "connectors": 1000, "open": 1, "readings": 40, "stations": 1}, counts)
+        "connections": 1, "connectors": 1000, "open": 1, "readers": 1, "readings": 40, "stations": 1}, counts)
     count = browser.run("TABLES.stations.count.textContent")
     cases.check("1,000 stations: all are counted", count.startswith("1–15 of 1,000."), count)
     elements = browser.run("document.querySelectorAll('main *').length")
@@ -193,8 +194,8 @@ def main():
         elif options.program:
             cases.attempt(program_cases.check_program, options.program)
         else:
-            for case in (check_policy, check_address, *desk_cases.CASES, *duty_cases.CASES, *form_cases.CASES, *tag_cases.CASES, *span_cases.CASES,
-                         *link_cases.CASES, check_loss, check_old, check_many, *hostile_cases.CASES):
+            for case in (check_policy, check_address, *desk_cases.CASES, *duty_cases.CASES, *form_cases.CASES, *reader_cases.CASES, *tag_cases.CASES,
+                         *span_cases.CASES, *link_cases.CASES, check_loss, check_old, check_many, *hostile_cases.CASES):
                 cases.attempt(case)
         cases.check("the page has no errors", browser.faults == [], browser.faults)
     finally:

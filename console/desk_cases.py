@@ -18,7 +18,7 @@ HEAD = re.compile(r"[a-z][\w ]*( \([\w%]+\))?")
 VIEWS = ("stations", "station/NORTH-01", "station/NORTH-01/2", "sessions", "records", "tags", "uses", "calls")
 FIRST = ["list connections", "list open", "list stations",
          *(f"list connectors {name}" for name in ("NORTH-01", "NORTH-02", "NORTH-10", "ok")),
-         "list readings NORTH-01 2"]
+         "list readings NORTH-01 2", "list readers"]
 
 
 def utc(moment):
@@ -66,7 +66,7 @@ def check_stations(cases):
     browser.run("document.querySelector('#stations tbody a').click()")
     cases.check("a station is opened", browser.wait("state.view === 'station' && state.history.has('NORTH-01')"))
     cases.is_at_rest()
-    wanted = {"list tags", "list reservations NORTH-01", "list locallist NORTH-01", "list reports NORTH-01", "list connectors NORTH-01", "list transactions NORTH-01 1"}
+    wanted = {"list tags", "list readers", "list reservations NORTH-01", "list locallist NORTH-01", "list reports NORTH-01", "list connectors NORTH-01", "list transactions NORTH-01 1"}
     cases.check("what is asked when a station is opened", wanted <= set(mock.heard), mock.heard)
     check_station(cases, hours)
     mock.stop()
@@ -356,7 +356,7 @@ def check_windows(cases):
     cases.go("stations")
     inside = browser.run("[...document.querySelectorAll('#view-stations .scroll')].map(one => one.scrollWidth > one.clientWidth)")
     cases.check("tables scroll inside their box", inside == [True, True], inside)
-    for name in ("SendLocalList", "ReserveNow", "Reset", "GetConfiguration", "forget"):
+    for name in ("SendLocalList", "ReserveNow", "Reset", "GetConfiguration", "station reader", "forget"):
         for width in (1280, 420):
             browser.size(width, 900)
             browser.run(f"openForm({quoted(name)}, {{ fixed: {{ station: 'NORTH-01' }} }})")
@@ -365,7 +365,7 @@ def check_windows(cases):
             cases.check(f"{name} at {width} px stands in the window", all(box), box)
             wide = browser.run("(({ scrollWidth, clientWidth }) => scrollWidth <= clientWidth)(document.getElementById('form'))")
             cases.check(f"{name} at {width} px has nothing wider than itself", wide)
-            browser.shot(f"form-{name}-{width}", whole=False)
+            browser.shot(f"form-{name.replace(' ', '-')}-{width}", whole=False)
             browser.run("document.getElementById('form').close()")
     mock.stop()
 

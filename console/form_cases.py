@@ -10,6 +10,9 @@ from mock_server import NOW, START
 TAKEN = "Taken."
 HELD = "Taken. It, or a tag whose parent it is, is in 1 local list."
 UNHELD = "Taken. It is in no local list of a station."
+DROP = ("Forget its history first. This can't be undone: its connectors, reservations, local list and reports go with it. Its last session and its "
+        "last reading stay on record and aren't listed, so that the numbers of a station that is added again go on.")
+NOT_DROPPED = "Refused, NotAllowedNow: the station is connected, or history of it is left to forget."
 ENDS = [
     ('Answer {"status":"Rejected"}', "Done: Rejected"), ("Timeout", "Timeout: no answer within 30 s"),
     ("Disconnected", "Disconnected: the station has left"), ('Error ["NotSupported","no such thing"]', "Error: NotSupported, no such thing"),
@@ -37,6 +40,8 @@ def check_orders(cases):
         ("station/S9", "others", "Set its policy", None, dict(policy="Rejected", interval="0"), TAKEN, "station policy S9 Rejected 0"),
         ("station/NORTH-01", "others", "Set its policy", None, dict(policy="Rejected"),
          "Refused, HasOpenTransactions: the station has an open transaction.", "station policy NORTH-01 Rejected 300"),
+        ("station/S9", "others", "Set its reader", None, dict(reader="tolerant"), TAKEN, "station reader S9 tolerant"),
+        ("station/S9", "others", "Set its reader", None, dict(reader="strict"), TAKEN, "station reader S9 strict"),
         ("stations", "sessions", "Close", "NORTH-01 / 2", {}, "closed", "transaction close NORTH-01 2 130856"),
     ]
     for view, section, button, row, values, said, line in wanted:
@@ -317,4 +322,129 @@ def check_broken_off(cases, mock, taken, answers):
     cases.check("forget: and not taken up again", not any(line.startswith("forget") for line in mock.heard), mock.heard)
 
 
-CASES = (check_orders, check_commands, check_forget)
+def dropped(cases, station):
+    """Sends the form that drops a station. Gives what it said before and after."""
+    cases.go(f"station/{station}")
+    cases.click("others", "Drop the station")
+    note, said = cases.text("note"), cases.send()
+    cases.close()
+    cases.is_at_rest()
+    return note, said
+
+
+def check_drop(cases):
+    """A station is dropped once nothing stands in the way, and the page goes back to the others."""
+    browser, mock = opened(cases)
+    browser.run("{ const pace = document.getElementById('pace'); pace.value = '0'; pace.dispatchEvent(new Event('change')); }")
+    mock.records.transaction("NORTH-10", 1, "K1", START, (131500, START + 1000, "Local", None))
+    mock.records.transaction("NORTH-10", 2, "K1", START + 2000)
+    for number in (1, 2):
+        mock.records.reading("NORTH-10", number, START + 500, "SoC", "-", "Percent", 5000000, "5")
+    cases.poll()
+    check_kept(cases, mock)
+    mock.records.close("NORTH-10", "2", "-")
+    cases.poll()
+    check_drop_question(cases, mock)
+    seen = dropped(cases, "NORTH-10")
+    cases.check("drop: history that is left", seen == (DROP, NOT_DROPPED), seen)
+    cases.check("drop: the page stays where it is refused", browser.run("state.view") == "station")
+    said = forgotten(cases, dict(until="2024-01-02T00:00:00"))
+    cases.check("drop: its history goes first", said == "1 session and 1 reading are forgotten.", said)
+    before = len(mock.heard)
+    seen = dropped(cases, "NORTH-10")
+    cases.check("drop: taken", seen == (DROP, "closed"), seen)
+    cases.check("drop: the page goes to the stations", browser.run("[state.view, location.hash]") == ["stations", "#/stations"], browser.run("location.hash"))
+    cases.check("drop: and lists them anew", mock.heard[before:] == ["station drop NORTH-10", "list stations", "list readers"], mock.heard[before:])
+    cases.check("drop: it is gone", [row[0] for row in cases.rows("stations")] == ["NORTH-01", "NORTH-02", "ok"], cases.rows("stations"))
+    cases.check("drop: and so is the way to it", browser.run("document.getElementById('opened').hidden"))
+    browser.shot("dropped")
+    check_added_again(cases, mock)
+    check_drop_ends(cases, mock)
+    mock.stop()
+
+
+def check_kept(cases, mock):
+    """What stands in the way is said beforehand, and the refusal after."""
+    refusal = "Refused, HasOpenTransactions: the station has an open transaction."
+    for station, bars, said in (("NORTH-01", "is connected and has 1 running session", refusal), ("NORTH-02", "is connected", NOT_DROPPED),
+                                ("NORTH-10", "has 1 running session", refusal)):
+        seen = dropped(cases, station)
+        cases.check(f"drop: {station} {bars}", seen == (f"The station {bars}, so the server will refuse this. {DROP}", said), seen)
+        cases.check(f"drop: the line for {station}", mock.heard.count(f"station drop {station}") == 1, mock.heard[-3:])
+    cases.check("drop: nothing went", len(mock.records.rows["stations"]) == 4, mock.records.rows["stations"])
+
+
+def check_drop_question(cases, mock):
+    """It isn't sent by the press that opens its form, and a second Enter closes the form."""
+    browser = cases.browser
+    mock.heard.clear()
+    cases.go("station/NORTH-10")
+    cases.click("others", "Drop the station")
+    cases.check("drop: the line is shown", cases.text("preview") == "station drop NORTH-10", cases.text("preview"))
+    cases.check("drop: what does harm isn't at hand", browser.run("document.activeElement.id") == "cancel", browser.run("document.activeElement.id"))
+    browser.shot("form-drop", whole=False)
+    browser.size(420, 900)
+    cases.fits("drop", 420)
+    browser.shot("form-drop-420", whole=False)
+    browser.size(1280, 900)
+    browser.press("Enter", text="\r")
+    cases.check("drop: Enter closes the form", browser.wait("!document.getElementById('form').open"))
+    cases.check("drop: nothing was sent", not any(line.startswith("station drop") for line in mock.heard), mock.heard[-3:])
+
+
+def check_added_again(cases, mock):
+    """A station that is added under the name is a new one, whose numbers go on."""
+    browser = cases.browser
+    said = cases.order("stations", "Add a station", dict(station="NORTH-10"))
+    row = next(row for row in cases.rows("stations") if row[0] == "NORTH-10")
+    cases.check("drop: it can be added again", (said, row[:6]) == (TAKEN, ["NORTH-10", "Offline", "–", "–", "–", "Fresh"]), row)
+    mock.heard.clear()
+    cases.go("station/NORTH-10")
+    cases.check("drop: all of it is listed", "list transactions NORTH-10 1" in mock.heard and "list connectors NORTH-10" in mock.heard, mock.heard)
+    cases.check("drop: its last session is there again", [row[0] for row in cases.rows("history")] == ["2"], cases.rows("history"))
+    cases.check("drop: and no connector", cases.rows("connectors") == [] and "No reports on connectors." in cases.text("connectors"), cases.text("connectors"))
+    mock.records.unadd("NORTH-10")
+    seen = dropped(cases, "NORTH-10")
+    cases.check("drop: no such station", seen[1] == "Refused, NoSuchStation: this operator has no station of that name.", seen)
+    browser.run("refreshAll()")
+    cases.is_at_rest()
+    cases.check("drop: by another console", cases.text("facts") == "This operator has no station of that name.", cases.text("facts"))
+    cases.check("drop: whose records aren't shown", cases.rows("history") == [] and "Not loaded." in cases.text("history"), cases.text("history"))
+    cases.go("tags")
+    cases.check("drop: nor the way to it", browser.run("document.getElementById('opened').hidden"))
+
+
+def check_drop_ends(cases, mock):
+    """A form that is closed before the answer; lines by hand."""
+    browser = cases.browser
+    close = "document.getElementById('send').click(); document.getElementById('form').close()"
+    drop = mock.records.unadd
+
+    def drop_late(name):
+        time.sleep(0.3)
+        return drop(name)
+
+    mock.records.unadd = drop_late
+    for name, away, view in (("SOLD-1", "", "stations"), ("SOLD-2", "; location.hash = '#/tags'", "tags")):
+        mock.records.station(name)
+        browser.run("poll(true)")
+        cases.is_at_rest()
+        cases.go(f"station/{name}")
+        cases.click("others", "Drop the station")
+        browser.run(close + away)
+        browser.wait(f"state.view === '{view}' && !stationNames().includes('{name}')", 3)
+        cases.is_at_rest()
+        seen = browser.run("[state.view, document.getElementById('opened').hidden]")
+        cases.check(f"drop: a form that is closed, {view}", seen == [view, True], seen)
+    cases.go("calls")
+    said = cases.free("station drop NORTH-02")
+    cases.check("drop: a refusal of a line by hand", said == NOT_DROPPED, said)
+    cases.check("drop: a line by hand", cases.free("station drop ok") == TAKEN, cases.text("said"))
+    cases.is_at_rest()
+    cases.check("drop: after which the stations are listed too", browser.run("stationNames()") == ["NORTH-01", "NORTH-02"], browser.run("stationNames()"))
+    mock.records.call = lambda _: ["refused 9 NotAllowedNow"]
+    said = cases.free("call NORTH-01 ClearCache {}")
+    cases.check("drop: that refusal of a call", said == "Refused, NotAllowedNow: the state of the station does not allow this command.", said)
+
+
+CASES = (check_orders, check_commands, check_forget, check_drop)

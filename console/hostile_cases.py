@@ -29,9 +29,11 @@ def check_nasty(cases):
     browser, mock = opened(cases, "UTC", nasty_records)
     mock.tell(f"{NASTY_WORD} done 1 Answer {quoted({'status': NASTY})}", f"{NASTY_WORD} done 2 Error {quoted([NASTY, NASTY])}",
               f"{NASTY_WORD} done 3 BadAnswer {NASTY_WORD} {NASTY_WORD}", f"{NASTY_WORD} turned", f"refused 12 BadField {NASTY_WORD}",
-              f"{NASTY_WORD} done 4 Answer {quoted({'configurationKey': [5, None, {'key': NASTY}], NASTY: NASTY})}", f"row {NASTY}", NASTY)
+              f"{NASTY_WORD} done 4 Answer {quoted({'configurationKey': [5, None, {'key': NASTY}], NASTY: NASTY})}", f"row {NASTY}", NASTY,
+              f"{NASTY_WORD} repaired {NASTY_WORD} {NASTY_WORD} {NASTY_WORD}", f"{NASTY_WORD} repaired __proto__ constructor -", "__proto__ repaired x y z",
+              f"{NASTY_WORD} repaired x {NASTY}", f"{NASTY_WORD} repaired x y")
     rows = cases.rows("stations")
-    cases.check("nasty texts: a station", rows[0][0] == NASTY_WORD and rows[0][6:9] == [NASTY] * 3, rows)
+    cases.check("nasty texts: a station and its reader", rows[0][0] == NASTY_WORD + NASTY_WORD and rows[0][6:9] == [NASTY] * 3, rows)
     browser.run("location.hash = placeOf('station', " + quoted(NASTY_WORD) + ", '1')")
     cases.check("nasty texts: its page", browser.wait("state.view === 'station' && document.querySelectorAll('#readings figure').length > 0"))
     cases.is_at_rest()
@@ -40,11 +42,19 @@ def check_nasty(cases):
     cases.check("nasty texts: a local list", [row[0] for row in cases.rows("ownList")].count(NASTY) == 1, cases.rows("ownList"))
     reports = [row[:3] for row in cases.rows("ownReports")]
     cases.check("nasty texts: reports", [NASTY_WORD, NASTY_WORD, "2024-01-01 00:00:00 00:00:00 UTC"] in reports and ["constructor", "__proto__", "x"] in reports, reports)
+    cases.check("nasty texts: its reader", f"Reader{NASTY_WORD}" in cases.text("facts"), cases.text("facts"))
+    repairs = [row[:4] for row in cases.rows("ownRepairs")]
+    cases.check("nasty texts: repairs", repairs == [["__proto__", "constructor", "-", "1"], [*[NASTY_WORD] * 3, "1"]], repairs)
     check_dump(cases, "nasty station")
     browser.shot("nasty-station-1280")
     browser.size(420, 900)
     cases.fits("nasty station", 420)
     browser.shot("nasty-station-420")
+    cases.click("others", "Set its reader")
+    browser.run("document.getElementById('send').click()")
+    cases.check("nasty texts: a reader that isn't known has to be chosen anew", browser.run("document.querySelector('#fields [name=reader]').validity.valueMissing")
+                and not any(line.startswith("station") for line in mock.heard), mock.heard[-3:])
+    cases.close()
     mock.outcome = f"Answer {quoted({'status': NASTY, 'data': NASTY})}"
     said = cases.order("commands", "Reset the station", {}, stays=True)
     cases.check("nasty texts: an end at the form", said.startswith(f"Call 1: Done: {NASTY}."), said)
@@ -108,6 +118,8 @@ def check_directions(cases):
     browser, mock = opened(cases, "UTC", turned_records)
     cases.check("signs of direction are escapes", cases.rows("stations")[0][6] == SHOWN, cases.rows("stations"))
     cases.check("letters stay letters", cases.rows("stations")[0][7] == HEBREW, cases.rows("stations"))
+    cases.check("nor does a reader", cases.rows("stations")[0][0] == f"EAST-01{SHOWN}", cases.rows("stations"))
+    mock.repaired("EAST-01", HEBREW, TURNED, TURNED)
     mock.tell(f'EAST-01 done 7 Error ["NotSupported",{quoted(TURNED)}]', "EAST-01 done 8 Error [\"" + HEBREW + "\",\"1 2\"]")
     for view in ("stations", "station/EAST-01/1", "records", "tags", "calls"):
         cases.go(view)

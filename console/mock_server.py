@@ -25,12 +25,15 @@ def compact(value):
 
 
 class Records:
-    """The rows of an operator, as they stand after `row `, by the words of their listing."""
+    """The rows of an operator, as they stand after `row `, by the words of their listing. A server that hasn't `has_readers`
+    is older."""
 
     def __init__(self):
-        self.rows = {"stations": [], "tags": [], "grants": [], "granted": [], "uses": []}
+        self.rows = {"stations": [], "readers": [], "tags": [], "grants": [], "granted": [], "uses": []}
         self.connected = {}
         self.opened = {}
+        self.left = {}
+        self.has_readers = True
 
     # What is put on record.
 
@@ -38,7 +41,7 @@ class Records:
         text = "-" if boot is None else compact(boot)
         self.rows["stations"].append(f"station {name} {state} {policy} 300 {text}")
         for what in OF_STATIONS:
-            self.rows[f"{what} {name}"] = []
+            self.rows[f"{what} {name}"] = self.left.pop(f"{what} {name}", [])
         self.rows[f"locallist {name}"] = [f"locallist {name} 0"]
         if calls is not None:
             self.connected[name] = calls
@@ -97,12 +100,15 @@ class Records:
 
     def answer(self, line):
         words = line.split(" ")
+        if not self.has_readers and words[:2] in (["list", "readers"], ["station", "reader"]):
+            return ["bad line"]
         if words[0] == "list":
             return self.listing(words[1:])
         if words[0] == "call":
             return self.call(words[1])
-        known = {"station add": self.add, "station policy": self.policy, "tag put": self.put, "tag drop": self.unput,
-                 "grant": self.give, "revoke": self.take, "transaction close": self.close, "forget": self.forget}
+        known = {"station add": self.add, "station policy": self.policy, "station reader": self.reader,
+                 "station drop": self.unadd, "tag put": self.put, "tag drop": self.unput, "grant": self.give,
+                 "revoke": self.take, "transaction close": self.close, "forget": self.forget}
         name = words[0] if words[0] in known else " ".join(words[:2])
         return known[name](*words[len(name.split(" ")):]) if name in known else ["bad line"]
 
@@ -122,6 +128,26 @@ class Records:
     def policy(self, name, policy, _):
         if policy == "Rejected" and any(key[0] == name for key in self.opened):
             return ["refused 13 HasOpenTransactions"]
+        return ["ok"]
+
+    def reader(self, name, reader):
+        if f"connectors {name}" not in self.rows:
+            return ["refused 1 NoSuchStation"]
+        self.replace("readers", f"reader {name} ", reader)
+        return ["ok"]
+
+    def unadd(self, name):
+        """What is left of its history stays, unlisted, for a station that is added again."""
+        if f"connectors {name}" not in self.rows:
+            return ["refused 1 NoSuchStation"]
+        if any(key[0] == name for key in self.opened):
+            return ["refused 13 HasOpenTransactions"]
+        if name in self.connected or any(self.forgettable(name, int(time.time()))):
+            return ["refused 9 NotAllowedNow"]
+        self.drop("stations", f"station {name} ")
+        self.drop("readers", f"reader {name} ")
+        gone = {what: self.rows.pop(f"{what} {name}") for what in OF_STATIONS}
+        self.left.update({f"{what} {name}": gone[what] for what in ("transactions", "readings")})
         return ["ok"]
 
     def put(self, text, parent, blocked, expiry):
@@ -155,31 +181,34 @@ class Records:
         return ["ok"]
 
     def forget(self, name, until):
-        """Takes at most 1,000 rows. When a stop came isn't kept here, so its own time stands for that."""
         if f"connectors {name}" not in self.rows:
             return ["refused 1 NoSuchStation"]
         if int(until) > time.time():
             return ["refused 12 BadField until"]
+        over, gone = self.forgettable(name, int(until))
+        self.rows[f"readings {name}"] = self.without(f"readings {name}", gone)
+        self.rows[f"transactions {name}"] = self.without(f"transactions {name}", over)
+        return [f"row forgotten {name} {len(over)} {len(gone)}", "ok"]
+
+    def forgettable(self, name, until):
+        """The numbers of the transactions and of the readings that may go, at most 1,000. When a stop came isn't kept here,
+        so its own time stands for that."""
         readings = [row.split(" ") for row in self.rows[f"readings {name}"]]
         transactions = [row.split(" ") for row in self.rows[f"transactions {name}"]]
         stops = {words[2]: words[10] for words in transactions}
 
         def is_before(at):
-            return at != "-" and int(at) < int(until) * 1000
+            return at != "-" and int(at) < until * 1000
 
         gone = [words[2] for words in readings[:-1] if is_before(stops.get(words[4], words[5]))][:1000]
-        left = self.without(f"readings {name}", gone)
-        named = {row.split(" ")[4] for row in left}
+        named = {row.split(" ")[4] for row in self.without(f"readings {name}", gone)}
         over = [words[2] for words in transactions[:-1] if is_before(words[10]) and words[2] not in named]
-        del over[1000 - len(gone):]
-        self.without(f"transactions {name}", over)
-        return [f"row forgotten {name} {len(over)} {len(gone)}", "ok"]
+        return over[:1000 - len(gone)], gone
 
     def without(self, listing, numbers):
-        """Drops the rows with these numbers, and gives the others."""
+        """The rows that have none of these numbers."""
         dropped = set(numbers)
-        self.rows[listing] = [row for row in self.rows[listing] if row.split(" ")[2] not in dropped]
-        return self.rows[listing]
+        return [row for row in self.rows[listing] if row.split(" ")[2] not in dropped]
 
     def listing(self, words):
         if words == ["connections"]:
@@ -245,6 +274,10 @@ class Mock(socketserver.ThreadingTCPServer):
             for peer in list(self.peers):
                 for line in lines:
                     peer.send(f"ACME {line}")
+
+    def repaired(self, name, action, code, field):
+        """Tells that a request of a station was read with repairs."""
+        self.tell(f"{name} repaired {action} {code} {field}")
 
     def take(self, peer, text):
         """Answers a text of a peer, in one step. What an order with a word is answered stands between two marks."""

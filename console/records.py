@@ -121,6 +121,7 @@ def nasty_records():
     records.station(NASTY_WORD, boot={name: NASTY for name in members}, calls="x")
     records.connector(NASTY_WORD, 1, "Available", "OtherError", NASTY, NASTY, NASTY)
     records.rows[f"connectors {NASTY_WORD}"].append(f"connector {NASTY_WORD} x X Y 99999999999999999999 - - -")
+    records.rows["readers"] += [f"reader {NASTY_WORD} {NASTY_WORD}", "reader __proto__ constructor", "reader x"]
     records.report(NASTY_WORD, NASTY_WORD, NASTY_WORD)
     records.report(NASTY_WORD, "constructor", "__proto__", "x")
     records.reservation(NASTY_WORD, "x", "y", NASTY, NASTY, "z")
@@ -145,6 +146,7 @@ def turned_records():
     """Texts that would turn the direction of what stands beside them."""
     records = Records()
     records.station("EAST-01", boot={**BOOT, "chargePointVendor": TURNED, "chargePointModel": HEBREW}, calls=0)
+    records.reader("EAST-01", TURNED)
     records.connector("EAST-01", 1, "Available", "NoError", TURNED, HEBREW, None)
     records.transaction("EAST-01", 1, TURNED, BEGUN)
     records.tag(TURNED, HEBREW)

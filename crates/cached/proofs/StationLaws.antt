@@ -6,17 +6,18 @@ use Rattle.std.specs.Str.{bytes_eq}
 use Rattle.std.specs.Cmp.Lexicographic.{bytes_decides}
 use Rattle.hub_rows.specs.declared.change.Edit.{Edit}
 use Rattle.hub_rows.specs.declared.change.Edit.TheVariants.{Stations, Tags, Transactions, Holdings}
-use Rattle.hub_rows.specs.declared.change.StationEdit.TheVariants.{StationAdded, BootSeen, PolicySet}
+use Rattle.hub_rows.specs.declared.change.StationEdit.TheVariants.{StationAdded, BootSeen, PolicySet, StationDropped}
 use Rattle.hub_rows.specs.declared.change.TagEdit.TheVariants.{TagDropped}
 use Rattle.hub_rows.specs.declared.change.TransactionEdit.TheVariants.{ReadingsAdded}
 use Rattle.hub_rows.specs.declared.change.HoldingEdit.TheVariants.{ReservationDropped}
 use Rattle.hub_rows.specs.declared.station_row.StationRow.{StationRow}
 use Rattle.hub_rows.specs.Changes.{edit, new_station, with_boot, with_policy}
-use Rattle.hub_rows.specs.Keyed.{by_key, changed, first, put}
+use Rattle.hub_rows.specs.Keyed.{by_key, changed, first, put, without}
 use Rattle.hub_rows.specs.Rows.{Rows, registration_at, registration_of, station_in, station_key}
 use Rattle.hub_rows.proofs.GrantLaws.{second}
 use Rattle.hub_rows.proofs.ListLaws.{filter-put_not, head, ties_key, same_text}
 use Rattle.hub_rows.proofs.OrderLaws.{find-first}
+use Rattle.hub_rows.proofs.OwnerLaws.{find-kept}
 use Rattle.cached.specs.declared.station_answer.StationAnswer.{StationAnswer}
 use Rattle.cached.specs.StationAnswers.{changed_station, IsOf, IsRegistered}
 use Rattle.cached.proofs.MemoLaws.{if_none}
@@ -45,6 +46,11 @@ station-changed a s b t f same other (r ∷ rs) =
     let stays : named a s (f r) ≡ named a s r = λ i. bytes_eq ((same r).0 i) a && bytes_eq ((same r).1 i) s in
     grind (arith, rest, is_other, stays)
 
+station-dropped : (a s b t : List ℕ) → bytes_eq a b && bytes_eq s t ≡ false → (stations : List StationRow) → station_in a s (without (λ r. r.op) b (λ r. bytes_eq r.station t) stations) ≡ station_in a s stations
+station-dropped a s b t other stations =
+    find-kept (named a s) (named b t)
+    (λ r is. (λ i. bytes_eq (same_text r.op a (and_first (bytes_eq r.op a) (bytes_eq r.station s) is) i) b && bytes_eq (same_text r.station s (and_second (bytes_eq r.op a) (bytes_eq r.station s) is) i) t) ∙ other) stations
+
 both : (p q : Bool) → p ≡ true → q ≡ true → p && q ≡ true
 both p q is also = grind (arith, is, also)
 
@@ -66,6 +72,8 @@ kept_station b (Stations (BootSeen station boot state)) rows answer other right 
     right ∙ sym (ap (option_map registration_of) (station-changed answer.op answer.station b station (with_boot boot state) (λ r. (refl, refl)) other rows.stations))
 kept_station b (Stations (PolicySet station policy interval)) rows answer other right =
     right ∙ sym (ap (option_map registration_of) (station-changed answer.op answer.station b station (with_policy policy interval) (λ r. (refl, refl)) other rows.stations))
+kept_station b (Stations (StationDropped station)) rows answer other right =
+    right ∙ sym (ap (option_map registration_of) (station-dropped answer.op answer.station b station other rows.stations))
 kept_station b (Tags (TagDropped key)) rows answer other right = right
 kept_station b (Transactions (ReadingsAdded station first readings)) rows answer other right = right
 kept_station b (Holdings (ReservationDropped station id)) rows answer other right = right

@@ -2,7 +2,7 @@
 use Rattle.std.specs.Prelude.{◌≡◌, ℕ, List, Option, Some, None}
 use Rattle.hub_rows.specs.declared.change.Edit.{Edit}
 use Rattle.hub_rows.specs.declared.change.Edit.TheVariants.{Stations}
-use Rattle.hub_rows.specs.declared.change.StationEdit.TheVariants.{StationAdded, BootSeen, PolicySet}
+use Rattle.hub_rows.specs.declared.change.StationEdit.TheVariants.{StationAdded, BootSeen, PolicySet, StationDropped}
 use Rattle.hub_rows.specs.Rows.{Rows, registration_at}
 use Rattle.cached.specs.declared.station_answer.StationAnswer.{StationAnswer}
 
@@ -20,4 +20,5 @@ abbrev pub changed_station : Edit → Option (List ℕ)
 changed_station (Stations (StationAdded station policy interval)) = Some station
 changed_station (Stations (BootSeen station boot state)) = Some station
 changed_station (Stations (PolicySet station policy interval)) = Some station
+changed_station (Stations (StationDropped station)) = Some station
 changed_station e = None

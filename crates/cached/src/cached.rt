@@ -13,9 +13,9 @@ use crate::station_answer::StationAnswer;
 use crate::tag_answer::{LookUp, TagAnswer};
 use crate::{station_answer, tag_answer};
 use hub_rows::{
-    Change, ConnectorRow, GrantRow, GrantedTag, History, Info, LocalList, ReadingRow, Registration,
-    ReportRow, ReservationId, ReservationRow, StartKey, StationRow, Store, StoreFault, TagRow,
-    TxKey, TxRow, TxState, UseRow,
+    Change, ConnectorRow, GrantRow, GrantedTag, History, Info, LocalList, Reader, ReaderRow,
+    ReadingRow, Registration, ReportRow, ReservationId, ReservationRow, StartKey, StationRow,
+    Store, StoreFault, TagRow, TxKey, TxRow, TxState, UseRow,
 };
 use ocpp_types::{Listed, Moment, TagKey};
 use std::alloc::Global;
@@ -266,6 +266,14 @@ impl<S: Store> Store for Cached<S> {
 
     fn uses(&mut self, op: &str) -> Result<Listed<UseRow>, StoreFault> {
         self.store.uses(op)
+    }
+
+    fn reader(&mut self, op: &str, station: &str) -> Result<Reader, StoreFault> {
+        self.store.reader(op, station)
+    }
+
+    fn readers(&mut self, op: &str) -> Result<Listed<ReaderRow>, StoreFault> {
+        self.store.readers(op)
     }
 
     fn apply(&mut self, change: &Change<'_>) -> Result<(), StoreFault> {

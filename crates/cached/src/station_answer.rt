@@ -81,7 +81,8 @@ fn changed_station(edit: &Edit) -> Option<&Text>
         Edit::Stations(
             StationEdit::StationAdded { station, .. }
             | StationEdit::BootSeen { station, .. }
-            | StationEdit::PolicySet { station, .. },
+            | StationEdit::PolicySet { station, .. }
+            | StationEdit::StationDropped { station },
         ) => Some(station),
         _ => None,
     }

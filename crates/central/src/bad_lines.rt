@@ -1,49 +1,118 @@
-//! The bad lines of a replay, counted as its output is written.
+//! The bad lines of a replay, counted and told as its output is written.
 
+use crate::reason::reason_of;
+use crate::recent::Recent;
+use ocpp_types::{Mem, Text};
+use std::cell::RefCell;
 use std::io;
 use std::io::Write;
+use std::rc::Rc;
 
 /// What stands before the number in the line of a bad one.
 const BEGIN: &[u8] = b"bad line ";
 
-/// A writer that counts the lines `bad line K` among what it writes, if it is to.
+/// Of how many bad lines the reason is told.
+const MOST_TOLD: u64 = 20;
+
+/// A writer that finds the lines `bad line K` in what it writes, and tells on standard error why line K is bad.
 #[derive(Drop)]
-pub struct BadLines<W> {
+pub struct BadLines<'a, W> {
+    rt: &'a HostRuntime,
     writer: W,
-    counts: bool,
+    recent: Rc<RefCell<Recent>>,
+    /// The operators that are hosted.
+    operators: Vec<Text>,
     /// How many bytes of the line that is written are those of such a line. None where it is another line.
     seen: Option<usize>,
+    /// The number in it, up to there.
+    number: u64,
     count: u64,
 }
 
-impl<W: Write + Drop> BadLines<W> {
+impl<'a, W: Write + Drop> BadLines<'a, W> {
     /// Over a writer at the start of a line.
-    pub fn new(writer: W, counts: bool) -> BadLines<W> {
+    pub fn new(
+        rt: &'a HostRuntime,
+        writer: W,
+        recent: Rc<RefCell<Recent>>,
+        operators: Vec<Text>,
+    ) -> BadLines<'a, W> {
         BadLines {
+            rt,
             writer,
-            counts,
+            recent,
+            operators,
             seen: Some(0),
+            number: 0,
             count: 0,
         }
     }
 
-    /// Whether there was none. It is so of a writer that doesn't count.
+    /// Whether there was none.
     pub fn is_clean(&self) -> bool {
         self.count == 0
     }
 
-    /// Takes a byte that was written.
+    /// Takes the bytes that were written. Of a line that is no bad one its end alone is looked for.
+    fn see_all(&mut self, bytes: &[u8]) {
+        let mut rest = bytes;
+        for _ in 0..bytes.len() {
+            let Some((byte, after)) = rest.split_first() else {
+                return;
+            };
+            if self.seen.is_some() {
+                self.see(*byte);
+                rest = after;
+                continue;
+            }
+            let Some(feed) = rest.iter().position(|byte| *byte == b'\n') else {
+                return;
+            };
+            self.begin();
+            rest = rest.get(feed.saturating_add(1)..).unwrap_or(&[]);
+        }
+    }
+
+    /// A line begins.
+    fn begin(&mut self) {
+        self.seen = Some(0);
+        self.number = 0;
+    }
+
+    /// Takes a byte of a line that may be that of a bad one.
     fn see(&mut self, byte: u8) {
         if byte == b'\n' {
-            let is_bad = self.seen.is_some_and(|seen| seen > BEGIN.len());
-            self.count = self.count.saturating_add(u64::from(is_bad));
-            self.seen = Some(0);
+            if self.seen.is_some_and(|seen| seen > BEGIN.len()) {
+                self.count = self.count.saturating_add(1);
+                let _told = self.tell();
+            }
+            self.begin();
             return;
         }
         self.seen = match self.seen {
             Some(seen) if follows(seen, byte) => Some(seen.saturating_add(1)),
             _ => None,
         };
+        if byte.is_ascii_digit() {
+            let digit = u64::from(byte.saturating_sub(b'0'));
+            self.number = self.number.saturating_mul(10).saturating_add(digit);
+        }
+    }
+
+    /// Tells why the line with the number is bad, if it is one of the first and the line is kept.
+    fn tell(&self) -> Mem<()> {
+        if self.count > MOST_TOLD {
+            return Ok(());
+        }
+        let Ok(recent) = self.recent.try_borrow() else {
+            return Ok(());
+        };
+        if let Some(line) = recent.line(self.number) {
+            let why = reason_of(self.rt.alloc(), line, self.operators.as_slice())?;
+            let number = self.number;
+            let _written = eprintln!(self.rt; "line {number}: {why}");
+        }
+        Ok(())
     }
 }
 
@@ -55,14 +124,10 @@ fn follows(seen: usize, byte: u8) -> bool {
     }
 }
 
-impl<W: Write + Drop> Write for BadLines<W> {
+impl<W: Write + Drop> Write for BadLines<'_, W> {
     fn write(&mut self, buf: &[u8]) -> io::Result<usize> {
         let written = self.writer.write(buf)?;
-        if self.counts {
-            for byte in buf.iter().take(written) {
-                self.see(*byte);
-            }
-        }
+        self.see_all(buf.get(..written).unwrap_or(&[]));
         Ok(written)
     }
 

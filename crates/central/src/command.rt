@@ -3,6 +3,7 @@
 use crate::help;
 use crate::journal::level_of;
 use crate::records::FileOptions;
+use crate::sim_command::{sim_command, sim_options};
 use clap::error::ErrorKind;
 use clap::{Arg, ArgAction, ArgMatches, Command, Error, value_parser};
 use clients::{AskOptions, ForgetOptions, SimOptions, days_of};
@@ -167,13 +168,6 @@ fn serve_options(alloc: Global, found: &ArgMatches) -> Result<ServeOptions, Erro
     })
 }
 
-fn sim_options(alloc: Global, found: &ArgMatches) -> Result<SimOptions, Error> {
-    Ok(SimOptions {
-        port: port_of(found),
-        path: Text::from(found.get_str("path").unwrap_or("").to_string(alloc)?),
-    })
-}
-
 fn ask_options(alloc: Global, found: &ArgMatches) -> Result<AskOptions, Error> {
     Ok(AskOptions {
         port: port_of(found),
@@ -217,11 +211,11 @@ fn bind_of(alloc: Global, found: &ArgMatches) -> Result<IpAddr, Error> {
 }
 
 /// The port, which the command line can't do without.
-fn port_of(found: &ArgMatches) -> u16 {
+pub fn port_of(found: &ArgMatches) -> u16 {
     found.get_one::<u16>("port").unwrap_or(0)
 }
 
-fn central<'a>(alloc: Global) -> Result<Command<'a>, AllocError> {
+pub fn central<'a>(alloc: Global) -> Result<Command<'a>, AllocError> {
     let central = Command::new(alloc, "central")
         .version(VERSION)
         .about("A central system for charging stations of several operators (OCPP 1.6 JSON)")
@@ -356,20 +350,6 @@ fn origin_arg<'a>(alloc: Global) -> Arg<'a> {
         .allow_hyphen_values(true)
 }
 
-fn sim_command<'a>(alloc: Global) -> Result<Command<'a>, AllocError> {
-    let path = Arg::new(alloc, "path")
-        .long("path")
-        .value_name("/ocpp/A/S")
-        .help("The path of the station: its operator and its name")
-        .allow_hyphen_values(true)
-        .required(true);
-    Command::new(alloc, "sim")
-        .about("Runs one charging session as a station, and prints each message")
-        .after_help(help::SIM)
-        .arg(port_arg(alloc, "The port of the server on 127.0.0.1"))?
-        .arg(path)
-}
-
 fn ask_command<'a>(alloc: Global) -> Result<Command<'a>, AllocError> {
     let wait = Arg::new(alloc, "wait")
         .long("wait")
@@ -419,7 +399,7 @@ fn operator_arg<'a>(alloc: Global, help: &'a str) -> Arg<'a> {
         .required(true)
 }
 
-fn port_arg<'a>(alloc: Global, help: &'a str) -> Arg<'a> {
+pub fn port_arg<'a>(alloc: Global, help: &'a str) -> Arg<'a> {
     Arg::new(alloc, "port")
         .long("port")
         .value_name("P")

@@ -35,16 +35,20 @@ More: docs/OPERATIONS.md\n";
 
 /// What follows the help of `sim`.
 pub const SIM: &str = "\
-Example:
+Examples:
   central sim --port 9180 --path /ocpp/ACME/CP01
+  central sim --port 9180 --path /ocpp/ACME/CP01 --stay
+  central sim --port 9180 --path /ocpp/ACME/CP --stations 200 --sessions 5
+
+One that stays does so until its connection ends, which is a fault, or until it is ended by a signal.
 
 Exit statuses:
-  0  the session was carried out
+  0  the sessions were carried out
   1  the command line can't be read
   2  a fault, which standard error names
-  3  the station or its id tag wasn't Accepted
+  3  a station or its id tag wasn't Accepted
 
-More: README.md, docs/RULES.md (The simulated station), docs/OPERATIONS.md (The server)\n";
+More: README.md, docs/RULES.md (The simulated station), docs/OPERATIONS.md (A simulated station)\n";
 
 /// What follows the help of `ask`.
 pub const ASK: &str = "\

@@ -2,6 +2,7 @@
 
 use crate::causes::place_of;
 use crate::command::{ServeOptions, VERSION};
+use crate::repair_log::Repairs;
 use crate::stderr::takes_line;
 use log::sink::Console;
 use log::{LevelFilter, Log, Logged, error, info, warn};
@@ -12,7 +13,7 @@ use std::fmt::{Display, Formatter, Write};
 use std::time::Duration;
 use tungstenite::CloseCode;
 use ws_peers::{Cause, Route};
-use ws_server::{Happened, Note, Refusal};
+use ws_server::{Happened, Note, Refusal, Repair};
 
 /// Which lines a log has, by the word of `--log`.
 pub fn level_of(word: &str) -> LevelFilter {
@@ -82,6 +83,8 @@ pub struct Journal {
     left_out: u64,
     /// How many of them were told.
     told: u64,
+    /// What was told of repairs in this hour.
+    repairs: Repairs,
 }
 
 impl Journal {
@@ -93,6 +96,7 @@ impl Journal {
             counts: [0; CAUSES],
             left_out: 0,
             told: 0,
+            repairs: Repairs::new(rt.alloc()),
         }
     }
 
@@ -141,7 +145,9 @@ impl Journal {
             return;
         };
         for note in notes {
-            self.write_note(time.as_str(), note);
+            if self.repairs.is_news(moment, note) {
+                self.write_note(time.as_str(), note);
+            }
         }
     }
 
@@ -182,7 +188,8 @@ fn cause_of(happened: Happened) -> usize {
         Happened::Failed(_) => 3,
         Happened::Ended(cause) if is_usual_end(cause) => 4,
         Happened::Ended(_) => 5,
-        Happened::Refused(refusal) => place_of(refusal).saturating_add(6),
+        Happened::Repaired(_) => 6,
+        Happened::Refused(refusal) => place_of(refusal).saturating_add(7),
     }
 }
 
@@ -191,7 +198,7 @@ fn is_usual(happened: Happened) -> bool {
     match happened {
         Happened::Connected | Happened::Replaced => true,
         Happened::Ended(cause) => is_usual_end(cause),
-        Happened::Failed(_) | Happened::Refused(_) => false,
+        Happened::Failed(_) | Happened::Refused(_) | Happened::Repaired(_) => false,
     }
 }
 
@@ -200,6 +207,14 @@ fn write_note<L: Log>(log: &L, time: &str, note: &Note) {
     match note.happened {
         Happened::Failed(fault) => error!(log; "{time} {who} fault {fault}"),
         Happened::Refused(refusal) => warn!(log; "{time} {who} refused: {}", reason(refusal)),
+        Happened::Repaired(repair) => {
+            let Repair {
+                action,
+                code,
+                field,
+            } = repair;
+            warn!(log; "{time} {who} repaired: {action} {code} {field}")
+        }
         Happened::Connected => info!(log; "{time} {who} connected"),
         Happened::Replaced => info!(log; "{time} {who} replaced by another connection"),
         Happened::Ended(cause) if is_usual_end(cause) => {

@@ -1,4 +1,4 @@
-//! The program: replays lines, serves connections, and simulates a station.
+//! The program: replays lines, serves connections, and simulates stations.
 #![tactic(auto)]
 
 mod bad_lines;
@@ -13,11 +13,15 @@ mod measured;
 mod metrics;
 mod metrics_page;
 mod new_file;
+mod reason;
+mod recent;
 mod records;
+mod repair_log;
 mod replaying;
 mod server;
 mod service;
 mod serving;
+mod sim_command;
 mod status;
 mod stderr;
 

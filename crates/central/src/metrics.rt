@@ -171,7 +171,7 @@ impl Counts {
                     *count = count.saturating_add(1);
                 }
             }
-            Happened::Refused(_) => {}
+            Happened::Refused(_) | Happened::Repaired(_) => {}
         }
     }
 }

@@ -388,9 +388,12 @@ impl<S: Store + Drop, V: VendorHandler> Server<S, V> {
         }
     }
 
-    /// Serves the connection of an operator at a place, if there is one, and charges the operator for it.
+    /// Serves the connection at a place, if it is one of that operator, and charges the operator for it.
     fn serve_one(&mut self, rt: &HostRuntime, owner: usize, place: usize) -> Result<(), Fault> {
         if place >= self.gateway.count() {
+            return Ok(());
+        }
+        if self.service.owner_of(&self.gateway, place) != Some(owner) {
             return Ok(());
         }
         let before = self.now;

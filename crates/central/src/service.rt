@@ -3,6 +3,7 @@
 use ocpp_types::{Mem, Text};
 use ready_streams::{ReadyStream, Shares};
 use std::alloc::Global;
+use std::collections::VecDeque;
 use ws_peers::Route;
 use ws_server::Gateway;
 
@@ -13,27 +14,18 @@ const LONG: u64 = 50_000_000;
 /// How many times as long as a long event its operator rests.
 const REST: u64 = 9;
 
-/// A connection with something to read: the number of its operator, and its place.
-#[derive(Clone, Copy, Drop)]
-struct Waiting {
-    owner: usize,
-    place: usize,
-}
-
 /// The operators, and their connections that have something to read.
 #[derive(Drop)]
 pub struct Service {
     /// The operators that are hosted, in order.
     operators: Vec<Text>,
     shares: Shares,
-    /// The connections that have something to read, by operator, and of each in the order in which they are served.
-    waiting: Vec<Waiting>,
-    /// By operator: where its next connection is among those.
-    next: Vec<usize>,
-    /// By operator: whether it has one that isn't served yet.
+    /// By operator: the places of its connections that have something to read, the one first that has waited longest.
+    queues: Vec<VecDeque<usize>>,
+    /// By operator: whether one waits.
     waits: Vec<bool>,
-    /// By operator: the place that was served last.
-    last: Vec<usize>,
+    /// By place: whether it is in a queue.
+    queued: Vec<bool>,
 }
 
 impl Service {
@@ -44,10 +36,9 @@ impl Service {
         Ok(Service {
             shares: Shares::new(alloc, count)?,
             operators: names,
-            waiting: Vec::new(alloc),
-            next: filled(alloc, count, 0)?,
-            waits: filled(alloc, count, false)?,
-            last: filled(alloc, count, 0)?,
+            queues: empty_queues(alloc, count)?,
+            waits: filled(alloc, count)?,
+            queued: Vec::new(alloc),
         })
     }
 
@@ -56,25 +47,35 @@ impl Service {
         self.operators.as_slice()
     }
 
-    /// A turn begins, in which these places have something to read. One for which there is no memory is served later.
+    /// A turn begins, in which these places have something to read. Those that don't wait already come behind the others of
+    /// their operators. One for which there is no memory comes in a later turn.
     pub fn begin(&mut self, gateway: &Gateway<ReadyStream>, places: &[usize]) {
-        self.waiting.clear();
         for place in places {
-            if let Some(owner) = self.owner_of(gateway, *place) {
-                let place = *place;
-                let _later = self.waiting.push(Waiting { owner, place });
+            if !self.is_queued(*place) {
+                let _later = self.queue(gateway, *place);
             }
         }
-        let last = &self.last;
-        self.waiting.sort_unstable_by_key(|waiting| {
-            let served = last.get(waiting.owner).copied().unwrap_or(0);
-            (waiting.owner, waiting.place <= served, waiting.place)
-        });
-        self.waits.fill(false);
-        for (index, waiting) in self.waiting.iter().enumerate().rev() {
-            set(&mut self.waits, waiting.owner, true);
-            set(&mut self.next, waiting.owner, index);
+    }
+
+    fn is_queued(&self, place: usize) -> bool {
+        self.queued.get(place).copied().unwrap_or(false)
+    }
+
+    /// Puts a place behind the others of its operator, if that is hosted.
+    fn queue(&mut self, gateway: &Gateway<ReadyStream>, place: usize) -> Mem<()> {
+        let Some(owner) = self.owner_of(gateway, place) else {
+            return Ok(());
+        };
+        let count = place.saturating_add(1);
+        if self.queued.len() < count {
+            self.queued.resize(count, false)?;
         }
+        if let Some(queue) = self.queues.get_mut(owner) {
+            queue.push_back(place)?;
+            set(&mut self.queued, place, true);
+            set(&mut self.waits, owner, true);
+        }
+        Ok(())
     }
 
     /// The number of the operator of the connection at that place. One of an operator that isn't hosted has none.
@@ -83,20 +84,17 @@ impl Service {
         self.operators.binary_search(operator).ok()
     }
 
-    /// The operator and the place that are served next at that time, in nanoseconds.
+    /// The operator and the place that are served next at that time, in nanoseconds. The connection there may be gone, or
+    /// another one.
     pub fn next(&mut self, now: u64) -> Option<(usize, usize)> {
         let owner = self.shares.next(self.waits.as_slice(), now)?;
-        let index = self.next.get(owner).copied()?;
-        let waiting = self.waiting.get(index).copied()?;
-        let following = index.saturating_add(1);
-        let waits = self
-            .waiting
-            .get(following)
-            .is_some_and(|waiting| waiting.owner == owner);
-        set(&mut self.next, owner, following);
+        let queue = self.queues.get_mut(owner)?;
+        let place = queue.pop_front();
+        let waits = !queue.is_empty();
         set(&mut self.waits, owner, waits);
-        set(&mut self.last, owner, waiting.place);
-        Some((owner, waiting.place))
+        let place = place?;
+        set(&mut self.queued, place, false);
+        Some((owner, place))
     }
 
     /// An operator was served up to that time, which took so many nanoseconds. After a long event it rests, if others are
@@ -142,13 +140,21 @@ fn sorted(alloc: Global, names: &[Text]) -> Mem<Vec<Text>> {
     Ok(sorted)
 }
 
-fn filled<X: Copy + Drop>(alloc: Global, count: usize, with: X) -> Mem<Vec<X>> {
+fn empty_queues(alloc: Global, count: usize) -> Mem<Vec<VecDeque<usize>>> {
+    let mut queues = Vec::new(alloc);
+    for _ in 0..count {
+        queues.push(VecDeque::new(alloc))?;
+    }
+    Ok(queues)
+}
+
+fn filled(alloc: Global, count: usize) -> Mem<Vec<bool>> {
     let mut items = Vec::new(alloc);
-    items.resize(count, with)?;
+    items.resize(count, false)?;
     Ok(items)
 }
 
-fn set<X: Copy + Drop>(items: &mut Vec<X>, at: usize, to: X) {
+fn set(items: &mut Vec<bool>, at: usize, to: bool) {
     if let Some(item) = items.get_mut(at) {
         *item = to;
     }

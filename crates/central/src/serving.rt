@@ -8,7 +8,7 @@ use crate::server::Server;
 use crate::stderr::takes_line;
 use cached::Cached;
 use clients::now;
-use hub_rows::Store;
+use hub_rows::{Store, is_hosted, is_operator_name};
 use ocpp_types::{Mem, Text};
 use ready_streams::Streams;
 use sqlite::Alter;
@@ -21,6 +21,9 @@ use store_sql::SqlStore;
 
 /// The bytes of a file whose opening takes long.
 const LARGE: u64 = 10_000_000;
+
+/// How many operators on record are compared with the hosted ones.
+const MOST_COMPARED: usize = 1_000;
 
 /// Serves, by the records of a file and by those handlers of vendors' messages. A fault of a turn is written to
 /// standard error as `fault NAME`, and the next turn follows. Errors: a file that can't be opened or isn't ours, or that
@@ -65,12 +68,14 @@ fn tell_opening(rt: &HostRuntime, options: &ServeOptions) -> Result<(), RunFault
 /// Serves by the records of a database.
 fn serve_database<A: Alter + Drop, V: VendorHandler>(
     rt: &HostRuntime,
-    store: SqlStore<A>,
+    mut store: SqlStore<A>,
     streams: Streams,
     options: ServeOptions,
     vendors: Vec<V>,
     opening: Duration,
 ) -> Result<(), RunFault> {
+    let strangers = strangers_in(rt.alloc(), &mut store, options.operators.as_slice())?;
+    warn_of_strangers(rt, strangers.as_slice());
     let store = store.with_longest(options.longest);
     serve_cached(rt, store, streams, options, vendors, opening)
 }
@@ -133,6 +138,40 @@ fn warn_of_names(rt: &HostRuntime, operators: &[Text], counts: &[usize]) {
             );
         }
     }
+}
+
+/// Warns on standard error of operators that have stations on record and aren't hosted, as those of a name that is misspelled
+/// are shut out. What can't be written is lost.
+fn warn_of_strangers(rt: &HostRuntime, strangers: &[Text]) {
+    for operator in strangers {
+        if takes_line(0) {
+            let _ = eprintln!(rt;
+                "warning: {operator} has stations on record and is not hosted: a name of --operators may be misspelled"
+            );
+        }
+    }
+}
+
+/// The operators with stations on record that aren't among these and could be, in the order of their names. Where the
+/// records can't be read any further, those up to there. It visits each station once, by the index of the primary key.
+fn strangers_in<A: Alter>(
+    alloc: Global,
+    store: &mut SqlStore<A>,
+    hosted: &[Text],
+) -> Mem<Vec<Text>> {
+    let mut strangers = Vec::new(alloc);
+    let mut last = Text::copy_of(alloc, "")?;
+    for _ in 0..MOST_COMPARED {
+        let operator = match store.next_operator(last.as_str()) {
+            Ok(Some(operator)) => operator,
+            Ok(None) | Err(_) => break,
+        };
+        if is_operator_name(operator.as_str()) && !is_hosted(hosted, operator.as_str()) {
+            strangers.push(operator.clone()?)?;
+        }
+        last = operator;
+    }
+    Ok(strangers)
 }
 
 /// How many stations each operator has on record. Where they can't be read it counts none.

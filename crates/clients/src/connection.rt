@@ -107,7 +107,7 @@ fn lost(address: SocketAddr, error: Error) -> ClientFault {
 }
 
 /// Why a handshake was not done.
-fn no_handshake(address: SocketAddr, error: Error) -> ClientFault {
+pub fn no_handshake(address: SocketAddr, error: Error) -> ClientFault {
     match error {
         Error::Http(response) => {
             ClientFault::Stream(address, Lost::Answered(response.status().as_u16()))
@@ -126,7 +126,11 @@ fn stream_to(rt: &HostRuntime, address: SocketAddr) -> io::Result<TcpStream> {
 }
 
 /// The request of the handshake, which offers the subprotocol. The path begins with `/` (RFC 6455, section 3).
-fn request_to(alloc: Global, address: SocketAddr, path: &str) -> Result<Request<()>, ClientFault> {
+pub fn request_to(
+    alloc: Global,
+    address: SocketAddr,
+    path: &str,
+) -> Result<Request<()>, ClientFault> {
     if !path.starts_with('/') {
         return Err(ClientFault::Stream(address, Lost::NoPath));
     }

@@ -8,6 +8,8 @@ use std::alloc::Global;
 pub const FORMS: &str = "\
 station add ST POLICY INTERVAL
 station policy ST POLICY INTERVAL
+station reader ST strict|tolerant
+station drop ST
 tag put TAG PARENT 0|1 EXPIRY
 tag drop TAG
 grant TAG OPERATOR UNTIL
@@ -22,6 +24,7 @@ list grants
 list granted
 list uses
 list open
+list readers
 list connectors ST
 list transactions ST
 list transactions ST N
@@ -31,6 +34,12 @@ list reservations ST
 list locallist ST
 list reports ST
 list forgettable ST BEFORE";
+
+/// The forms that a script of a replay has beside them, for what stations do.
+const STATION_FORMS: &str = "\
+connect ST
+disconnect ST
+frame ST TEXT";
 
 /// What lists all forms.
 const ALL: &str = "`central ask help` lists the lines";
@@ -69,13 +78,29 @@ struct Fit<'a> {
 
 /// Why a line has no form: the word that isn't understood, and the form that was expected.
 pub fn hint_of(alloc: Global, line: &str) -> Mem<String> {
-    let mut best: Option<Fit<'_>> = None;
-    for form in FORMS.split('\n') {
+    told(alloc, nearest(FORMS, line, None), line)
+}
+
+/// The same of a line of a replay, by what follows `MOMENT OP`.
+pub fn replay_hint_of(alloc: Global, line: &str) -> Mem<String> {
+    let best = nearest(FORMS, line, None);
+    told(alloc, nearest(STATION_FORMS, line, best), line)
+}
+
+/// The form that is nearest to a line, of these and the one that was nearest before.
+fn nearest<'a>(forms: &'a str, line: &'a str, before: Option<Fit<'a>>) -> Option<Fit<'a>> {
+    let mut best = before;
+    for form in forms.split('\n') {
         let fit = fit_of(form, line);
         if best.is_none_or(|other| is_nearer(&fit, &other)) {
             best = Some(fit);
         }
     }
+    best
+}
+
+/// What is told of the form that is nearest to a line.
+fn told(alloc: Global, best: Option<Fit<'_>>, line: &str) -> Mem<String> {
     match best {
         Some(fit) if fit.plain > 0 => hint(alloc, &fit, line),
         _ => {
@@ -162,12 +187,12 @@ fn fit_of<'a>(form: &'a str, line: &'a str) -> Fit<'a> {
     fit
 }
 
-/// The next word of what is left of a line, and what follows it. JSON is all that is left.
+/// The next word of what is left of a line, and what follows it. JSON and TEXT are all that is left.
 fn next_of<'a>(wanted: &str, rest: Option<&'a str>) -> (&'a str, Option<&'a str>) {
     let Some(rest) = rest else {
         return ("", None);
     };
-    if wanted == "JSON" {
+    if matches!(wanted, "JSON" | "TEXT") {
         return (rest, None);
     }
     match rest.split_once(' ') {
@@ -187,6 +212,7 @@ fn is_value(wanted: &str, word: &str) -> bool {
         "POLICY" => matches!(word, "Accepted" | "Pending" | "Rejected"),
         "ACTION" => ACTIONS.contains(&word),
         "0|1" => matches!(word, "0" | "1"),
+        "strict|tolerant" => matches!(word, "strict" | "tolerant"),
         "INTERVAL" | "BEFORE" | "N" => is_number(word),
         "EXPIRY" | "UNTIL" => word == "-" || is_number(word),
         "METERSTOP" => is_number(word.strip_prefix('-').unwrap_or(word)) || word == "-",
@@ -206,12 +232,14 @@ fn meaning(wanted: &str) -> &'static str {
         "POLICY" => "Accepted, Pending or Rejected",
         "ACTION" => "a command of the central system, as ClearCache or Reset",
         "0|1" => "0, or 1 for a tag that is blocked",
+        "strict|tolerant" => "strict, or tolerant for a station whose faulty requests are repaired",
         "INTERVAL" => "a number of seconds",
         "BEFORE" => "a number of seconds since 1970",
         "EXPIRY" | "UNTIL" => "a number of seconds since 1970, or - for none",
         "METERSTOP" => "a number of Wh, or - for that of the readings",
         "N" => "the number of a transaction",
         "JSON" => "an object as {}",
+        "TEXT" => "what the station sends",
         _ => "a word",
     }
 }

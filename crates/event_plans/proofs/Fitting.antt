@@ -3,12 +3,12 @@ use Rattle.std.specs.Prelude.{◌≡◌, ◌≢◌, ◌⊎◌, ℕ, ◌+◌, len
 use Rattle.std.specs.Option.{ForSome}
 use Rattle.std.proofs.lemmas.Bool.{leb-true, leb-false, true≢false}
 use Rattle.std.specs.Str.{bytes_eq}
-use Rattle.std.proofs.Common.{refl, sym, ◌∙◌, ap, subst, arith, inl, inr}
+use Rattle.std.proofs.Common.{refl, sym, ◌∙◌, ap, subst, arith, inl, inr, not}
 use Rattle.serde_json.specs.Data.{Data}
 use Rattle.ocpp_types.specs.declared.error_code.ErrorCode.TheVariants as code
 use Rattle.ocpp_types.specs.declared.policy.Policy.{Policy}
 use Rattle.ocpp_types.specs.declared.refusal.Refusal.{Refusal}
-use Rattle.ocpp_types.specs.declared.refusal.Refusal.TheVariants.{BadField, HasOpenTransactions, NoSuchOperator, NoSuchStation, NoSuchTransaction, SelfGrant, NoSuchGrant}
+use Rattle.ocpp_types.specs.declared.refusal.Refusal.TheVariants.{BadField, HasOpenTransactions, NoSuchOperator, NoSuchStation, NoSuchTransaction, NotAllowedNow, SelfGrant, NoSuchGrant}
 use Rattle.ocpp_frame.specs.declared.frame.Frame.{Frame}
 use Rattle.ocpp_frame.specs.declared.frame.Frame.TheVariants.{Call, CallResult, CallError, Broken, Ignored}
 use Rattle.ocpp_frame.specs.Frame.{frame}
@@ -19,10 +19,9 @@ use Rattle.ocpp_payload.specs.declared.fault.FieldFault.{FieldFault}
 use Rattle.ocpp_payload.specs.declared.request.Request.{Request}
 use Rattle.ocpp_payload.specs.declared.request.Request.TheVariants.{Authorize, BootNotification, DataTransfer, DiagnosticsStatusNotification, FirmwareStatusNotification, Heartbeat, MeterValues, StartTransaction, StatusNotification, StopTransaction}
 use Rattle.ocpp_payload.specs.ActionClass.{action_class}
-use Rattle.ocpp_payload.specs.Request.{request}
 use Rattle.hub_rows.specs.declared.change.Edit.{Edit}
 use Rattle.hub_rows.specs.declared.change.Edit.TheVariants.{Stations, Tags, Transactions, Holdings}
-use Rattle.hub_rows.specs.declared.change.StationEdit.TheVariants.{StationAdded, BootSeen, PolicySet, ConnectorSeen, ReportSeen}
+use Rattle.hub_rows.specs.declared.change.StationEdit.TheVariants.{StationAdded, BootSeen, PolicySet, ReaderSet, StationDropped, ConnectorSeen, ReportSeen}
 use Rattle.hub_rows.specs.declared.change.TagEdit.TheVariants.{TagPut, TagDropped, GrantPut, GrantDropped}
 use Rattle.hub_rows.specs.declared.change.TransactionEdit.TheVariants.{TxStarted, TxStopped, ReadingsAdded, Forgotten}
 use Rattle.hub_rows.specs.declared.change.HoldingEdit.TheVariants.{ReservationPut, ReservationDropped, ListSet}
@@ -37,7 +36,7 @@ use Rattle.ocpp_types.specs.declared.authorization_status.AuthorizationStatus.Th
 use Rattle.std.specs.List.{AllByRecursion}
 use Rattle.hub_rows.proofs.ForgetLaws.{forgettable-stopped}
 use Rattle.hub_rows.specs.declared.forgettable.Forgettable.{Forgettable}
-use Rattle.hub_rows.specs.Forgetting.{numbers_of}
+use Rattle.hub_rows.specs.Forgetting.{has_no_rows, numbers_of}
 use Rattle.hub_rows.specs.Changes.{EditFits, IsAnother, IsOpen, IsStopped}
 use Rattle.hub_rows.specs.Grants.{granted_tag_in}
 use Rattle.hub_rows.specs.Tags.{own_tag_in}
@@ -71,12 +70,18 @@ use Rattle.hub_rows.specs.declared.tag_row.Tag.{Tag}
 use Rattle.id_tags.specs.Plan.{put_rule, drop_rule, grant_rule, grant_edit, revoke_rule, is_tag, is_parent, drop_edit}
 use Rattle.id_tags.specs.declared.plan.Grant.{Grant}
 use Rattle.registry.specs.PolicySet.{policy_rule, policy_edit, is_kept_from}
+use Rattle.registry.specs.ReaderSet.{reader_rule, reader_edit}
+use Rattle.registry.specs.StationDropped.{station_drop_rule, dropped_edit, is_needed}
 use Rattle.registry.specs.StationAdded.{add_rule, new_station_edit, is_station_name}
 use Rattle.hub_events.specs.declared.event.What.{What}
 use Rattle.hub_events.specs.declared.event.What.TheVariants as what
 use Rattle.hub_events.specs.declared.event.Admin.{Admin}
 use Rattle.hub_events.specs.declared.event.Admin.TheVariants as admin
+use Rattle.station_calls.specs.Decided.{decision}
 use Rattle.station_calls.specs.Vendors.{Answers}
+use Rattle.hub_rows.specs.declared.reader_row.Reader.{Reader}
+use Rattle.repairs.specs.declared.reading.Reading.{Reading as Taken}
+use Rattle.repairs.specs.declared.reading.Reading.TheVariants.{AsSent, Repaired, Refused}
 use Rattle.operator_cmds.specs.Answer.{is_accepted, known_members}
 use Rattle.operator_cmds.specs.LocalList.{ListUpdate}
 use Rattle.operator_cmds.specs.declared.command.Command.{Command}
@@ -98,46 +103,52 @@ use Rattle.event_plans.specs.declared.plan.Plan.{Plan}
 use Rattle.pending_calls.specs.Slot.{answered_command}
 use Rattle.event_plans.specs.Commands.{command_plan, command_rule, edit_by, end_plan, result_edit, result_outcome}
 use Rattle.event_plans.specs.Effects.{edit_effect}
-use Rattle.event_plans.specs.Plans.{connect_plan, error_plan, edit_plan, forget_plan, has_no_rows, list_plan, turned_plan}
-use Rattle.event_plans.specs.Table.{Facts, plan, frame_plan, call_plan, state_plan, payload_plan, admin_rule}
+use Rattle.event_plans.specs.Plans.{connect_plan, error_plan, edit_plan, forget_plan, list_plan, turned_plan}
+use Rattle.event_plans.specs.Table.{Facts, plan, frame_plan, call_plan, as_read, state_plan, payload_plan, admin_rule}
 use Rattle.event_plans.specs.Listing.{rows_rule}
 
 -- the tag of a key, as it is looked up, has that owner
 abbrev pub IsOwner : Lookups → List ℕ → List ℕ → Type 0
 IsOwner l key a = (owner_of (l.own_tag key) ≡ Some a) ⊎ (owner_of (l.granted_tag key) ≡ Some a)
 
--- an edit that an operator's look-ups allow at moment m
-abbrev pub FitsLookups : ℕ → Lookups → Edit → Type 0
-FitsLookups m l (Stations (StationAdded station policy interval)) = l.registration station ≡ None
-FitsLookups m l (Stations (BootSeen station boot state)) = IsSome (l.registration station)
-FitsLookups m l (Stations (PolicySet station policy interval)) = IsSome (l.registration station)
-FitsLookups m l (Stations (ConnectorSeen station connector report)) = IsSome (l.registration station)
-FitsLookups m l (Tags (TagPut key tag)) = key ≡ key_of tag.text
-FitsLookups m l (Tags (TagDropped key)) = Unit {0}
-FitsLookups m l (Tags (GrantPut key to until)) = IsSome (l.own_tag key) × (to ≢ l.op)
-FitsLookups m l (Tags (GrantDropped key to)) = Unit {0}
-FitsLookups m l (Transactions (TxStarted station number start owner)) = IsSome (l.registration station) × AreNext (l.last_tx station) number 1 × (start.id.key ≡ key_of start.tag) × IfSome owner (IsOwner l start.id.key) × IfSome owner (λ a. start.status ≡ Accepted)
-FitsLookups m l (Transactions (TxStopped station number stop first readings)) = IsOpen (l.tx station number) × AreNext (l.last_reading station) first (length readings) × (stop.moment ≡ m)
-FitsLookups m l (Transactions (ReadingsAdded station first readings)) = IsSome (l.registration station) × AreNext (l.last_reading station) first (length readings)
-FitsLookups m l (Transactions (Forgotten station gone)) = (until : ℕ) × (gone ≡ numbers_of (l.forgettable station until))
-FitsLookups m l (Holdings (ReservationPut station id reservation)) = IsSome (l.registration station)
-FitsLookups m l (Holdings (ReservationDropped station id)) = Unit {0}
-FitsLookups m l (Holdings (ListSet station list)) = IsSome (l.registration station) × AreEntries list.entries
-FitsLookups m l (Stations (ReportSeen station status moment)) = IsSome (l.registration station)
+-- whether a station is connected
+abbrev pub connected_in : Facts → List ℕ → Bool
+connected_in f station = (f.slot station).is_connected
+
+-- an edit that an operator's look-ups allow at moment m, by which of its stations are connected
+abbrev pub FitsLookups : (List ℕ → Bool) → ℕ → Lookups → Edit → Type 0
+FitsLookups k m l (Stations (StationAdded station policy interval)) = l.registration station ≡ None
+FitsLookups k m l (Stations (BootSeen station boot state)) = IsSome (l.registration station)
+FitsLookups k m l (Stations (PolicySet station policy interval)) = IsSome (l.registration station)
+FitsLookups k m l (Stations (ReaderSet station reader)) = IsSome (l.registration station)
+FitsLookups k m l (Stations (StationDropped station)) = (l.has_open station ≡ false) × (k station ≡ false)
+FitsLookups k m l (Stations (ConnectorSeen station connector report)) = IsSome (l.registration station)
+FitsLookups k m l (Tags (TagPut key tag)) = key ≡ key_of tag.text
+FitsLookups k m l (Tags (TagDropped key)) = Unit {0}
+FitsLookups k m l (Tags (GrantPut key to until)) = IsSome (l.own_tag key) × (to ≢ l.op)
+FitsLookups k m l (Tags (GrantDropped key to)) = Unit {0}
+FitsLookups k m l (Transactions (TxStarted station number start owner)) = IsSome (l.registration station) × AreNext (l.last_tx station) number 1 × (start.id.key ≡ key_of start.tag) × IfSome owner (IsOwner l start.id.key) × IfSome owner (λ a. start.status ≡ Accepted)
+FitsLookups k m l (Transactions (TxStopped station number stop first readings)) = IsOpen (l.tx station number) × AreNext (l.last_reading station) first (length readings) × (stop.moment ≡ m)
+FitsLookups k m l (Transactions (ReadingsAdded station first readings)) = IsSome (l.registration station) × AreNext (l.last_reading station) first (length readings)
+FitsLookups k m l (Transactions (Forgotten station gone)) = (until : ℕ) × (gone ≡ numbers_of (l.forgettable station until))
+FitsLookups k m l (Holdings (ReservationPut station id reservation)) = IsSome (l.registration station)
+FitsLookups k m l (Holdings (ReservationDropped station id)) = Unit {0}
+FitsLookups k m l (Holdings (ListSet station list)) = IsSome (l.registration station) × AreEntries list.entries
+FitsLookups k m l (Stations (ReportSeen station status moment)) = IsSome (l.registration station)
 
 -- an effect that an operator's facts allow at moment m
 abbrev pub EffectFits : ℕ → Facts → Effect → Type 0
 EffectFits m f effect.Nothing = Unit {0}
-EffectFits m f (effect.Edit e) = FitsLookups m f.lookups e
+EffectFits m f (effect.Edit e) = FitsLookups (connected_in f) m f.lookups e
 EffectFits m f (effect.Connect station) = IsSome (f.lookups.registration station)
 EffectFits m f (effect.Disconnect station) = Unit {0}
 EffectFits m f (effect.Submit station command text) = Unit {0}
-EffectFits m f (effect.Answer station id outcome edit) = IfSome edit (FitsLookups m f.lookups)
+EffectFits m f (effect.Answer station id outcome edit) = IfSome edit (FitsLookups (connected_in f) m f.lookups)
 
 abbrev pub PlanFits : ℕ → Facts → Plan → Type 0
 PlanFits m f p = EffectFits m f p.effect
 
-edit_fits_as : (m : ℕ) (f : Facts) (o : Option Edit) → IfSome o (FitsLookups m f.lookups) → EffectFits m f (edit_effect o)
+edit_fits_as : (m : ℕ) (f : Facts) (o : Option Edit) → IfSome o (FitsLookups (connected_in f) m f.lookups) → EffectFits m f (edit_effect o)
 edit_fits_as m f None fits = tt
 edit_fits_as m f (Some e) fits = fits
 
@@ -170,40 +181,40 @@ kept_accepted Expired o = tt
 kept_accepted Invalid o = tt
 kept_accepted ConcurrentTx o = tt
 
-start_fits : (station : List ℕ) (r : StartRequest) (m : ℕ) (l : Lookups) → IsSome (l.registration station) → IfSome (start_rule station r m l).edit (FitsLookups m l)
-start_fits station r m l here =
+start_fits : (k : List ℕ → Bool) → (station : List ℕ) (r : StartRequest) (m : ℕ) (l : Lookups) → IsSome (l.registration station) → IfSome (start_rule station r m l).edit (FitsLookups k m l)
+start_fits k station r m l here =
     let id : StartKey = start_key r in
-    elim (l.same_start station id) as (λ o. IfSome (start_by_number station r id m l o).edit (FitsLookups m l)) [
+    elim (l.same_start station id) as (λ o. IfSome (start_by_number station r id m l o).edit (FitsLookups k m l)) [
       | None ↦ let last = (l.last_tx station) in
-          elim (nat_le last_of_all last) as (λ b. nat_le last_of_all last ≡ b → IfSome (cond b internal_error (begin_judged station r id m (last + 1) (judge_with_owner m id.key (purpose.Start None) l))).edit (FitsLookups m l)) [
+          elim (nat_le last_of_all last) as (λ b. nat_le last_of_all last ≡ b → IfSome (cond b internal_error (begin_judged station r id m (last + 1) (judge_with_owner m id.key (purpose.Start None) l))).edit (FitsLookups k m l)) [
             | true ↦ λ full. tt
             | false ↦ λ room. (here, inr (record { next = inr refl; from_one = omega arith; to_the_end = omega (arith, leb-false last_of_all last room) }), refl, owner_fits l id.key (judge_rule m id.key (purpose.Start None) l).status, kept_accepted (judge_rule m id.key (purpose.Start None) l).status (owner_of (found_tag id.key l)))
           ] refl
       | Some n ↦ tt
     ]
 
-meter_values_fit : (m : ℕ) (station : List ℕ) (r : ReadingsRequest) (l : Lookups) → IsSome (l.registration station) → IfSome (meter_values_rule station r l).edit (FitsLookups m l)
-meter_values_fit m station r l here =
+meter_values_fit : (k : List ℕ → Bool) → (m : ℕ) (station : List ℕ) (r : ReadingsRequest) (l : Lookups) → IsSome (l.registration station) → IfSome (meter_values_rule station r l).edit (FitsLookups k m l)
+meter_values_fit k m station r l here =
     let readings : List Reading = readings_of r.connector_id r.transaction_id r.meter_value in
     let last = (l.last_reading station) in
-    elim (has_room last (length readings)) as (λ b. has_room last (length readings) ≡ b → IfSome (cond b (record { reply = Conf conf.Empty; edit = Some (Transactions (ReadingsAdded station (last + 1) readings)) }) internal_error).edit (FitsLookups m l)) [
+    elim (has_room last (length readings)) as (λ b. has_room last (length readings) ≡ b → IfSome (cond b (record { reply = Conf conf.Empty; edit = Some (Transactions (ReadingsAdded station (last + 1) readings)) }) internal_error).edit (FitsLookups k m l)) [
       | true ↦ λ room. (here, room_fits last (length readings) room)
       | false ↦ λ full. tt
     ] refl
 
-stop_fits : (station : List ℕ) (r : StopRequest) (m : ℕ) (l : Lookups) → IfSome (stop_rule station r m l).edit (FitsLookups m l)
-stop_fits station r m l =
+stop_fits : (k : List ℕ → Bool) → (station : List ℕ) (r : StopRequest) (m : ℕ) (l : Lookups) → IfSome (stop_rule station r m l).edit (FitsLookups k m l)
+stop_fits k station r m l =
     let last = (l.last_reading station) in
-    elim (number_of_id r.transaction_id) as (λ o. IfSome (edit_by_number station r m l o) (FitsLookups m l)) [
+    elim (number_of_id r.transaction_id) as (λ o. IfSome (edit_by_number station r m l o) (FitsLookups k m l)) [
       | None ↦ tt
-      | Some n ↦ elim (l.tx station n) as (λ o. l.tx station n ≡ o → IfSome (edit_by_state station r m l n o) (FitsLookups m l)) [
+      | Some n ↦ elim (l.tx station n) as (λ o. l.tx station n ≡ o → IfSome (edit_by_state station r m l n o) (FitsLookups k m l)) [
         | None ↦ λ e. tt
         | Some t ↦ λ e.
             let readings : List Reading = readings_of t.connector (Some r.transaction_id) r.transaction_data in
-            elim t.is_open as (λ b. t.is_open ≡ b → IfSome (cond b (Some (end_edit station r m n t.connector last)) None) (FitsLookups m l)) [
+            elim t.is_open as (λ b. t.is_open ≡ b → IfSome (cond b (Some (end_edit station r m n t.connector last)) None) (FitsLookups k m l)) [
               | true ↦ λ open_now.
                   let fits : IsOpen (l.tx station n) = subst IsOpen (sym e) open_now in
-                  elim (has_room last (length readings)) as (λ b. has_room last (length readings) ≡ b → FitsLookups m l (cond b (Transactions (TxStopped station n (stop_of r m) (last + 1) readings)) (Transactions (TxStopped station n (stop_of r m) 0 [])))) [
+                  elim (has_room last (length readings)) as (λ b. has_room last (length readings) ≡ b → FitsLookups k m l (cond b (Transactions (TxStopped station n (stop_of r m) (last + 1) readings)) (Transactions (TxStopped station n (stop_of r m) 0 [])))) [
                     | true ↦ λ room. (fits, room_fits last (length readings) room, refl)
                     | false ↦ λ full. (fits, inl refl, refl)
                   ] refl
@@ -213,83 +224,88 @@ stop_fits station r m l =
     ]
 
 -- the station is registered so
-payload_fits : (answers : Answers) (station : List ℕ) (g : Registration) (id : List ℕ) (r : Result Request FieldFault) (m : ℕ) (f : Facts) → IsSome (f.lookups.registration station) → PlanFits m f (payload_plan answers station g id r m f.lookups)
-payload_fits answers station g id (Ok (Authorize r)) m f here = tt
-payload_fits answers station g id (Ok (BootNotification texts)) m f here = here
-payload_fits answers station g id (Ok (DataTransfer r)) m f here = tt
-payload_fits answers station g id (Ok (DiagnosticsStatusNotification r)) m f here = here
-payload_fits answers station g id (Ok (FirmwareStatusNotification r)) m f here = here
-payload_fits answers station g id (Ok Heartbeat) m f here = tt
-payload_fits answers station g id (Ok (MeterValues r)) m f here = edit_fits_as m f (meter_values_rule station r f.lookups).edit (meter_values_fit m station r f.lookups here)
-payload_fits answers station g id (Ok (StartTransaction r)) m f here = edit_fits_as m f (start_rule station r m f.lookups).edit (start_fits station r m f.lookups here)
-payload_fits answers station g id (Ok (StatusNotification r)) m f here = here
-payload_fits answers station g id (Ok (StopTransaction r)) m f here = edit_fits_as m f (stop_rule station r m f.lookups).edit (stop_fits station r m f.lookups)
-payload_fits answers station g id (Err fault) m f here = tt
+decided_fits : (answers : Answers) (station : List ℕ) (g : Registration) (r : Request) (m : ℕ) (f : Facts) → IsSome (f.lookups.registration station) → EffectFits m f (edit_effect (decision answers station g r m f.lookups).edit)
+decided_fits answers station g (Authorize r) m f here = tt
+decided_fits answers station g (BootNotification texts) m f here = here
+decided_fits answers station g (DataTransfer r) m f here = tt
+decided_fits answers station g (DiagnosticsStatusNotification r) m f here = here
+decided_fits answers station g (FirmwareStatusNotification r) m f here = here
+decided_fits answers station g Heartbeat m f here = tt
+decided_fits answers station g (MeterValues r) m f here = edit_fits_as m f (meter_values_rule station r f.lookups).edit (meter_values_fit (connected_in f) m station r f.lookups here)
+decided_fits answers station g (StartTransaction r) m f here = edit_fits_as m f (start_rule station r m f.lookups).edit (start_fits (connected_in f) station r m f.lookups here)
+decided_fits answers station g (StatusNotification r) m f here = here
+decided_fits answers station g (StopTransaction r) m f here = edit_fits_as m f (stop_rule station r m f.lookups).edit (stop_fits (connected_in f) station r m f.lookups)
 
-state_fits : (answers : Answers) (station : List ℕ) (o : Option Registration) (id : List ℕ) (action : Action) (payload : Data) (m : ℕ) (f : Facts) → f.lookups.registration station ≡ o → PlanFits m f (state_plan answers station o id action payload m f.lookups)
-state_fits answers station None id action payload m f is = tt
-state_fits answers station (Some g) id action payload m f is =
-    elim (is_allowed g.state action) as (λ b. PlanFits m f (cond b (payload_plan answers station g id (request action payload) m f.lookups) (error_plan station id code.SecurityError []))) [
-      | true ↦ payload_fits answers station g id (request action payload) m f (ap is_some is)
+payload_fits : (answers : Answers) (station : List ℕ) (g : Registration) (id : List ℕ) (action : Action) (r : Taken) (m : ℕ) (f : Facts) → IsSome (f.lookups.registration station) → PlanFits m f (payload_plan answers station g id action r m f.lookups)
+payload_fits answers station g id action (AsSent r) m f here = decided_fits answers station g r m f here
+payload_fits answers station g id action (Repaired r fault) m f here = decided_fits answers station g r m f here
+payload_fits answers station g id action (Refused fault) m f here = tt
+
+state_fits : (answers : Answers) (station : List ℕ) (o : Option Registration) (id text : List ℕ) (action : Action) (payload : Data) (m : ℕ) (f : Facts) → f.lookups.registration station ≡ o → PlanFits m f (state_plan answers station o id text action payload m f.lookups)
+state_fits answers station None id text action payload m f is = tt
+state_fits answers station (Some g) id text action payload m f is =
+    let read : Taken = as_read (f.lookups.reader station) action m text payload in
+    elim (is_allowed g.state action) as (λ b. PlanFits m f (cond b (payload_plan answers station g id action read m f.lookups) (error_plan station id code.SecurityError []))) [
+      | true ↦ payload_fits answers station g id action read m f (ap is_some is)
       | false ↦ tt
     ]
 
-call_fits : (answers : Answers) (station id : List ℕ) (class : ActionClass) (payload : Data) (m : ℕ) (f : Facts) → PlanFits m f (call_plan answers station id class payload m f.lookups)
-call_fits answers station id (Known action) payload m f = state_fits answers station (f.lookups.registration station) id action payload m f refl
-call_fits answers station id NotSupported payload m f = tt
-call_fits answers station id NotImplemented payload m f = tt
+call_fits : (answers : Answers) (station id text : List ℕ) (class : ActionClass) (payload : Data) (m : ℕ) (f : Facts) → PlanFits m f (call_plan answers station id text class payload m f.lookups)
+call_fits answers station id text (Known action) payload m f = state_fits answers station (f.lookups.registration station) id text action payload m f refl
+call_fits answers station id text NotSupported payload m f = tt
+call_fits answers station id text NotImplemented payload m f = tt
 
 -- what an answer to an accepted command edits
-list_fits : (m : ℕ) (station : List ℕ) (c : ListUpdate) (l : Lookups) → IsSome (l.registration station) → IfSome (list_set station (l.local_list station) c) (FitsLookups m l)
-list_fits m station c l here =
+list_fits : (k : List ℕ → Bool) → (m : ℕ) (station : List ℕ) (c : ListUpdate) (l : Lookups) → IsSome (l.registration station) → IfSome (list_set station (l.local_list station) c) (FitsLookups k m l)
+list_fits k m station c l here =
     let kept : List LocalTag = kept_for c.update_type (l.local_list station) in
     let sent : List AuthorizationData = unwrap_or c.entries [] in
-    elim (version_of c.list_version) as (λ o. IfSome (option_map (λ version. Holdings (ListSet station (record { version = version; entries = entries_after kept sent }))) o) (FitsLookups m l)) [
+    elim (version_of c.list_version) as (λ o. IfSome (option_map (λ version. Holdings (ListSet station (record { version = version; entries = entries_after kept sent }))) o) (FitsLookups k m l)) [
       | None ↦ tt
       | Some version ↦ (here, sorted-entries (not_named sent kept ++ with_info sent))
     ]
 
-put_at_fits : (m : ℕ) (station : List ℕ) (c : ReserveNow) (connector : ℕ) (id : Option ℕ) (l : Lookups) → IsSome (l.registration station) → IfSome (put_at station c connector id) (FitsLookups m l)
-put_at_fits m station c connector None l here = tt
-put_at_fits m station c connector (Some id) l here = here
+put_at_fits : (k : List ℕ → Bool) → (m : ℕ) (station : List ℕ) (c : ReserveNow) (connector : ℕ) (id : Option ℕ) (l : Lookups) → IsSome (l.registration station) → IfSome (put_at station c connector id) (FitsLookups k m l)
+put_at_fits k m station c connector None l here = tt
+put_at_fits k m station c connector (Some id) l here = here
 
-reserved_fits : (m : ℕ) (station : List ℕ) (c : ReserveNow) (l : Lookups) → IsSome (l.registration station) → IfSome (reserved station c) (FitsLookups m l)
-reserved_fits m station c l here =
-    elim (connector_of c.connector_id) as (λ o. IfSome (option_and_then (λ connector. put_at station c connector (reservation_id c.reservation_id)) o) (FitsLookups m l)) [
+reserved_fits : (k : List ℕ → Bool) → (m : ℕ) (station : List ℕ) (c : ReserveNow) (l : Lookups) → IsSome (l.registration station) → IfSome (reserved station c) (FitsLookups k m l)
+reserved_fits k m station c l here =
+    elim (connector_of c.connector_id) as (λ o. IfSome (option_and_then (λ connector. put_at station c connector (reservation_id c.reservation_id)) o) (FitsLookups k m l)) [
       | None ↦ tt
-      | Some connector ↦ put_at_fits m station c connector (reservation_id c.reservation_id) l here
+      | Some connector ↦ put_at_fits k m station c connector (reservation_id c.reservation_id) l here
     ]
 
-cancelled_fits : (m : ℕ) (station : List ℕ) (c : CancelReservation) (l : Lookups) → IfSome (cancelled station c) (FitsLookups m l)
-cancelled_fits m station c l = elim (reservation_id c.reservation_id) as (λ o. IfSome (option_map (λ id. Holdings (ReservationDropped station id)) o) (FitsLookups m l)) [ None ↦ tt | Some id ↦ tt ]
+cancelled_fits : (k : List ℕ → Bool) → (m : ℕ) (station : List ℕ) (c : CancelReservation) (l : Lookups) → IfSome (cancelled station c) (FitsLookups k m l)
+cancelled_fits k m station c l = elim (reservation_id c.reservation_id) as (λ o. IfSome (option_map (λ id. Holdings (ReservationDropped station id)) o) (FitsLookups k m l)) [ None ↦ tt | Some id ↦ tt ]
 
-accepted_fits : (m : ℕ) (station : List ℕ) (c : Command) (l : Lookups) → IsSome (l.registration station) → IfSome (accepted_edit station c l) (FitsLookups m l)
-accepted_fits m station (command.CancelReservation c) l here = cancelled_fits m station c l
-accepted_fits m station (command.ReserveNow c) l here = reserved_fits m station c l here
-accepted_fits m station (command.SendLocalList c) l here = list_fits m station c l here
-accepted_fits m station c l here = tt
+accepted_fits : (k : List ℕ → Bool) → (m : ℕ) (station : List ℕ) (c : Command) (l : Lookups) → IsSome (l.registration station) → IfSome (accepted_edit station c l) (FitsLookups k m l)
+accepted_fits k m station (command.CancelReservation c) l here = cancelled_fits k m station c l
+accepted_fits k m station (command.ReserveNow c) l here = reserved_fits k m station c l here
+accepted_fits k m station (command.SendLocalList c) l here = list_fits k m station c l here
+accepted_fits k m station c l here = tt
 
-when_accepted_fits : (m : ℕ) (station : List ℕ) (c : Command) (l : Lookups) → IfSome (edit_when_accepted station c l) (FitsLookups m l)
-when_accepted_fits m station c l =
-    elim (is_some (l.registration station)) as (λ t. is_some (l.registration station) ≡ t → IfSome (cond t (accepted_edit station c l) None) (FitsLookups m l)) [
-      | true ↦ λ here. accepted_fits m station c l here
+when_accepted_fits : (k : List ℕ → Bool) → (m : ℕ) (station : List ℕ) (c : Command) (l : Lookups) → IfSome (edit_when_accepted station c l) (FitsLookups k m l)
+when_accepted_fits k m station c l =
+    elim (is_some (l.registration station)) as (λ t. is_some (l.registration station) ≡ t → IfSome (cond t (accepted_edit station c l) None) (FitsLookups k m l)) [
+      | true ↦ λ here. accepted_fits k m station c l here
       | false ↦ λ none. tt
     ] refl
 
-edit_by_fits : (m : ℕ) (station : List ℕ) (c : Command) (read : Result Data FieldFault) (l : Lookups) → IfSome (edit_by station c read l) (FitsLookups m l)
-edit_by_fits m station c (Ok known) l = elim (is_accepted known) as (λ a. IfSome (cond a (edit_when_accepted station c l) None) (FitsLookups m l)) [ true ↦ when_accepted_fits m station c l | false ↦ tt ]
-edit_by_fits m station c (Err fault) l = tt
+edit_by_fits : (k : List ℕ → Bool) → (m : ℕ) (station : List ℕ) (c : Command) (read : Result Data FieldFault) (l : Lookups) → IfSome (edit_by station c read l) (FitsLookups k m l)
+edit_by_fits k m station c (Ok known) l = elim (is_accepted known) as (λ a. IfSome (cond a (edit_when_accepted station c l) None) (FitsLookups k m l)) [ true ↦ when_accepted_fits k m station c l | false ↦ tt ]
+edit_by_fits k m station c (Err fault) l = tt
 
-answer_fits : (m : ℕ) (station id : List ℕ) (gives : Command → Outcome) (edits : Command → Option Edit) (o : Option Command) (f : Facts) → ((c : Command) → IfSome (edits c) (FitsLookups m f.lookups)) → PlanFits m f (end_plan station id gives edits o)
+answer_fits : (m : ℕ) (station id : List ℕ) (gives : Command → Outcome) (edits : Command → Option Edit) (o : Option Command) (f : Facts) → ((c : Command) → IfSome (edits c) (FitsLookups (connected_in f) m f.lookups)) → PlanFits m f (end_plan station id gives edits o)
 answer_fits m station id gives edits None f fit = tt
 answer_fits m station id gives edits (Some c) f fit = fit c
 
-frame_fits : (answers : Answers) (station : List ℕ) (t : Frame) (m : ℕ) (f : Facts) → PlanFits m f (frame_plan answers station t m f)
-frame_fits answers station (Call id action payload) m f = call_fits answers station id (action_class action) payload m f
-frame_fits answers station (CallResult id payload) m f = answer_fits m station id (λ c. result_outcome c payload) (λ c. result_edit station c payload f.lookups) (answered_command id (f.slot station)) f (λ c. edit_by_fits m station c (known_members c payload) f.lookups)
-frame_fits answers station (CallError id error description) m f = answer_fits m station id (λ c. outcome.Error error description) (λ c. None) (answered_command id (f.slot station)) f (λ c. tt)
-frame_fits answers station (Broken id) m f = tt
-frame_fits answers station Ignored m f = tt
+frame_fits : (answers : Answers) (station text : List ℕ) (t : Frame) (m : ℕ) (f : Facts) → PlanFits m f (frame_plan answers station text t m f)
+frame_fits answers station text (Call id action payload) m f = call_fits answers station id text (action_class action) payload m f
+frame_fits answers station text (CallResult id payload) m f = answer_fits m station id (λ c. result_outcome c payload) (λ c. result_edit station c payload f.lookups) (answered_command id (f.slot station)) f (λ c. edit_by_fits (connected_in f) m station c (known_members c payload) f.lookups)
+frame_fits answers station text (CallError id error description) m f = answer_fits m station id (λ c. outcome.Error error description) (λ c. None) (answered_command id (f.slot station)) f (λ c. tt)
+frame_fits answers station text (Broken id) m f = tt
+frame_fits answers station text Ignored m f = tt
 
 command_fits : (m : ℕ) (station : List ℕ) (c : Command) (n : Result ℕ Refusal) (f : Facts) → PlanFits m f (command_plan station c n)
 command_fits m station c (Ok n) f = tt
@@ -317,6 +333,13 @@ policy_fits m station policy interval f =
         | true ↦ elim kept as (λ b. PlanFits m f (edit_plan (cond b (Err HasOpenTransactions) (Ok (Stations (station_edit.PolicySet station policy interval)))))) [ true ↦ tt | false ↦ ap is_some e ]
         | false ↦ tt
       ]
+    ] refl
+
+reader_fits : (m : ℕ) (station : List ℕ) (reader : Reader) (f : Facts) → PlanFits m f (edit_plan (reader_rule station reader f.lookups))
+reader_fits m station reader f =
+    elim (f.lookups.registration station) as (λ o. f.lookups.registration station ≡ o → PlanFits m f (edit_plan (reader_edit station reader o))) [
+      | None ↦ λ e. tt
+      | Some r ↦ λ e. ap is_some e
     ] refl
 
 put_fits : (m : ℕ) (t : Tag) (f : Facts) → PlanFits m f (edit_plan (put_rule t))
@@ -369,6 +392,7 @@ close_fits station number meter m f =
 admin_fits : (is_hosted : List ℕ → Bool) (a : Admin) (m : ℕ) (f : Facts) → PlanFits m f (edit_plan (admin_rule is_hosted a m f.lookups))
 admin_fits is_hosted (admin.StationAdd station policy interval) m f = add_fits m station policy interval f
 admin_fits is_hosted (admin.StationPolicy station policy interval) m f = policy_fits m station policy interval f
+admin_fits is_hosted (admin.StationReader station reader) m f = reader_fits m station reader f
 admin_fits is_hosted (admin.TagPut tag) m f = put_fits m tag f
 admin_fits is_hosted (admin.TagDrop tag) m f = drop_fits m tag f
 admin_fits is_hosted (admin.Grant grant) m f = grant_fits m is_hosted grant f
@@ -386,13 +410,28 @@ forget_fits station until m f =
       | false ↦ tt
     ]
 
+station_drop_fits : (station : List ℕ) (m : ℕ) (f : Facts) → PlanFits m f (edit_plan (station_drop_rule station (connected_in f station) m f.lookups))
+station_drop_fits station m f =
+    let dropped : Result Edit Refusal = Ok (Stations (StationDropped station)) in
+    elim (f.lookups.registration station) as (λ o. PlanFits m f (edit_plan (dropped_edit station (connected_in f station) m f.lookups o))) [
+      | None ↦ tt
+      | Some r ↦ elim (f.lookups.has_open station) as (λ b. f.lookups.has_open station ≡ b → PlanFits m f (edit_plan (cond b (Err HasOpenTransactions) (cond (is_needed station (connected_in f station) m f.lookups) (Err NotAllowedNow) dropped)))) [
+        | true ↦ λ is. tt
+        | false ↦ λ none. elim (connected_in f station) as (λ c. connected_in f station ≡ c → PlanFits m f (edit_plan (cond (is_needed station c m f.lookups) (Err NotAllowedNow) dropped))) [
+          | true ↦ λ is. tt
+          | false ↦ λ apart. elim (has_no_rows (f.lookups.forgettable station m)) as (λ e. PlanFits m f (edit_plan (cond (not e) (Err NotAllowedNow) dropped))) [ true ↦ (none, apart) | false ↦ tt ]
+        ] refl
+      ] refl
+    ]
+
 pub plan_fits : (is_hosted : List ℕ → Bool) (answers : Answers) (what : What) (m : ℕ) (f : Facts) → PlanFits m f (plan is_hosted answers what m f)
 plan_fits is_hosted answers (what.Connect station) m f = elim (f.lookups.registration station) as (λ o. f.lookups.registration station ≡ o → PlanFits m f (connect_plan station o)) [ None ↦ λ e. tt | Some r ↦ λ e. ap is_some e ] refl
 plan_fits is_hosted answers (what.Disconnect station) m f = tt
-plan_fits is_hosted answers (what.Frame station text) m f = elim (f.slot station).is_connected as (λ c. PlanFits m f (cond c (frame_plan answers station (frame text) m f) (turned_plan station))) [ true ↦ frame_fits answers station (frame text) m f | false ↦ tt ]
+plan_fits is_hosted answers (what.Frame station text) m f = elim (f.slot station).is_connected as (λ c. PlanFits m f (cond c (frame_plan answers station text (frame text) m f) (turned_plan station))) [ true ↦ frame_fits answers station text (frame text) m f | false ↦ tt ]
 plan_fits is_hosted answers (what.Do station command) m f = command_fits m station command (command_rule station command (f.lookups.registration station) f.slots (f.slot station) m f.lookups) f
 plan_fits is_hosted answers (what.Admin a) m f = admin_fits is_hosted a m f
 plan_fits is_hosted answers what.Connections m f = tt
+plan_fits is_hosted answers (what.DropStation station) m f = station_drop_fits station m f
 plan_fits is_hosted answers (what.Forget station until) m f = forget_fits station until m f
 plan_fits is_hosted answers (what.List listing) m f = elim (rows_rule listing m f.lookups) as (λ r. PlanFits m f (list_plan r)) [ Ok rows ↦ tt | Err refusal ↦ tt ]
 
@@ -413,28 +452,30 @@ owner_apart b key rows good (Some a) fits = elim fits [
     theirs (Some info) is has = subst (IsAnother b) has (granted_tag-owner b key rows good info is)
 
 -- what the look-ups over the rows allow, the rows allow
-pub edit_fits : (m : ℕ) (b : List ℕ) (rows : Rows) → WellFormedRows rows → (e : Edit) → FitsLookups m (lookups_at b rows) e → EditFits b e rows
-edit_fits m b rows good (Stations (StationAdded station policy interval)) fits = fits
-edit_fits m b rows good (Stations (BootSeen station boot state)) fits = fits
-edit_fits m b rows good (Stations (PolicySet station policy interval)) fits = fits
-edit_fits m b rows good (Stations (ConnectorSeen station connector report)) fits = fits
-edit_fits m b rows good (Tags (TagPut key tag)) fits = fits
-edit_fits m b rows good (Tags (TagDropped key)) fits = tt
-edit_fits m b rows good (Tags (GrantPut key to until)) fits = fits
-edit_fits m b rows good (Tags (GrantDropped key to)) fits = tt
-edit_fits m b rows good (Transactions (TxStarted station number start owner)) fits = (fits.0, fits.1, fits.2, owner_apart b start.id.key rows good owner fits.3, fits.4)
-edit_fits m b rows good (Transactions (TxStopped station number stop first readings)) fits = (fits.0, fits.1)
-edit_fits m b rows good (Transactions (ReadingsAdded station first readings)) fits = fits
-edit_fits m b rows good (Transactions (Forgotten station gone)) fits = subst (λ (g : Forgettable). AllByRecursion (λ n. IsStopped (tx_in b station n rows.transactions)) g.transactions) (sym fits.1) (forgettable-stopped b station fits.0 rows good)
-edit_fits m b rows good (Holdings (ReservationPut station id reservation)) fits = fits
-edit_fits m b rows good (Holdings (ReservationDropped station id)) fits = tt
-edit_fits m b rows good (Holdings (ListSet station list)) fits = fits
-edit_fits m b rows good (Stations (ReportSeen station status moment)) fits = fits
+pub edit_fits : (k : List ℕ → Bool) (m : ℕ) (b : List ℕ) (rows : Rows) → WellFormedRows rows → (e : Edit) → FitsLookups k m (lookups_at b rows) e → EditFits b e rows
+edit_fits k m b rows good (Stations (StationAdded station policy interval)) fits = fits
+edit_fits k m b rows good (Stations (BootSeen station boot state)) fits = fits
+edit_fits k m b rows good (Stations (PolicySet station policy interval)) fits = fits
+edit_fits k m b rows good (Stations (ReaderSet station reader)) fits = fits
+edit_fits k m b rows good (Stations (StationDropped station)) fits = fits.0
+edit_fits k m b rows good (Stations (ConnectorSeen station connector report)) fits = fits
+edit_fits k m b rows good (Tags (TagPut key tag)) fits = fits
+edit_fits k m b rows good (Tags (TagDropped key)) fits = tt
+edit_fits k m b rows good (Tags (GrantPut key to until)) fits = fits
+edit_fits k m b rows good (Tags (GrantDropped key to)) fits = tt
+edit_fits k m b rows good (Transactions (TxStarted station number start owner)) fits = (fits.0, fits.1, fits.2, owner_apart b start.id.key rows good owner fits.3, fits.4)
+edit_fits k m b rows good (Transactions (TxStopped station number stop first readings)) fits = (fits.0, fits.1)
+edit_fits k m b rows good (Transactions (ReadingsAdded station first readings)) fits = fits
+edit_fits k m b rows good (Transactions (Forgotten station gone)) fits = subst (λ (g : Forgettable). AllByRecursion (λ n. IsStopped (tx_in b station n rows.transactions)) g.transactions) (sym fits.1) (forgettable-stopped b station fits.0 rows good)
+edit_fits k m b rows good (Holdings (ReservationPut station id reservation)) fits = fits
+edit_fits k m b rows good (Holdings (ReservationDropped station id)) fits = tt
+edit_fits k m b rows good (Holdings (ListSet station list)) fits = fits
+edit_fits k m b rows good (Stations (ReportSeen station status moment)) fits = fits
 
 -- the same of an edit that may be none
-pub option_fits : (m : ℕ) (b : List ℕ) (rows : Rows) → WellFormedRows rows → (o : Option Edit) → IfSome o (FitsLookups m (lookups_at b rows)) → ForSome o (λ d. EditFits b d rows)
-option_fits m b rows good None fits = λ d same. absurd (cc)
-option_fits m b rows good (Some e) fits = λ d same. edit_fits m b rows good d (subst (FitsLookups m (lookups_at b rows)) (some_is e d same) fits)
+pub option_fits : (k : List ℕ → Bool) (m : ℕ) (b : List ℕ) (rows : Rows) → WellFormedRows rows → (o : Option Edit) → IfSome o (FitsLookups k m (lookups_at b rows)) → ForSome o (λ d. EditFits b d rows)
+option_fits k m b rows good None fits = λ d same. absurd (cc)
+option_fits k m b rows good (Some e) fits = λ d same. edit_fits k m b rows good d (subst (FitsLookups k m (lookups_at b rows)) (some_is e d same) fits)
   where
     some_is : (e d : Edit) → Some e ≡ Some d → e ≡ d
     some_is e d same = cc

@@ -4,11 +4,13 @@ use Rattle.ocpp_types.specs.declared.refusal.Refusal.{Refusal}
 use Rattle.hub_rows.specs.declared.change.Edit.{Edit}
 use Rattle.hub_rows.specs.declared.change.Edit.TheVariants.{Transactions}
 use Rattle.hub_rows.specs.declared.change.TransactionEdit.TheVariants.{Forgotten}
-use Rattle.hub_rows.specs.Forgetting.{numbers_of}
+use Rattle.hub_rows.specs.Forgetting.{has_no_rows, numbers_of}
 use Rattle.hub_rows.specs.declared.forgettable.History.{History}
 use Rattle.event_plans.specs.declared.plan.Effect.TheVariants as effect
 use Rattle.hub_rows.specs.declared.store.StoreFault.{StoreFault}
 use Rattle.hub_rows.specs.declared.station_row.Registration.{Registration}
+use Rattle.ocpp_payload.specs.declared.action.Action.{Action}
+use Rattle.ocpp_payload.specs.declared.fault.FieldFault.{FieldFault}
 use Rattle.registry.specs.declared.decision.Decision.{Decision}
 use Rattle.operator_cmds.specs.declared.command.Command.{Command}
 use Rattle.hub_events.specs.declared.listing.Row.{Row}
@@ -18,7 +20,7 @@ use Rattle.event_plans.specs.declared.plan.Plan.{Plan}
 use Rattle.pending_calls.specs.Slot.{answered_command}
 use Rattle.event_plans.specs.Commands.{end_plan, failure_plan}
 use Rattle.event_plans.specs.Effects.{StationSlot, IsReady, edit_effect}
-use Rattle.event_plans.specs.Plans.{connect_plan, decided_plan, edit_plan, forget_plan, forgetting, has_no_rows, list_plan}
+use Rattle.event_plans.specs.Plans.{connect_plan, decided_plan, repaired_plan, edit_plan, forget_plan, forgetting, list_plan}
 
 pub connect_ready : (slot : List ℕ → StationSlot) (station : List ℕ) (o : Option Registration) (p : Plan) → p ≡ connect_plan station o → IsReady slot p.effect
 connect_ready slot station None p is = rw is tt
@@ -45,6 +47,9 @@ effect_ready slot (Some e) = tt
 
 pub decided_ready : (slot : List ℕ → StationSlot) (station id : List ℕ) (d : Decision) (p : Plan) → p ≡ decided_plan station id d → IsReady slot p.effect
 decided_ready slot station id d p is = rw is (effect_ready slot d.edit)
+
+pub repaired_ready : (slot : List ℕ → StationSlot) (station id : List ℕ) (action : Action) (fault : FieldFault) (d : Decision) (p : Plan) → p ≡ repaired_plan station id action fault d → IsReady slot p.effect
+repaired_ready slot station id action fault d p is = rw is (effect_ready slot d.edit)
 
 pub end_ready : (slot : List ℕ → StationSlot) (station id : List ℕ) (gives : Command → Outcome) (edits : Command → Option Edit) (o : Option Command) → IsReady slot (end_plan station id gives edits o).effect
 end_ready slot station id gives edits None = tt

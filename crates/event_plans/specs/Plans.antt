@@ -1,17 +1,19 @@
 -- What is said, and what changes, as each event's answer is known.
-use Rattle.std.specs.Prelude.{ℕ, ◌==◌, Bool, List, [], ◌∷◌, ◌++◌, ◌&&◌, if◌then◌else◌, length, map, Option, Some, None, Result, Ok, Err}
+use Rattle.std.specs.Prelude.{ℕ, List, [], ◌∷◌, ◌++◌, if◌then◌else◌, length, map, Option, Some, None, Result, Ok, Err}
 use Rattle.serde_json.specs.Written.{compact_text}
 use Rattle.ocpp_types.specs.ErrorCode.{error_code_name}
 use Rattle.ocpp_types.specs.declared.error_code.ErrorCode.{ErrorCode}
 use Rattle.ocpp_types.specs.declared.refusal.Refusal.{Refusal}
 use Rattle.ocpp_frame.specs.Written.{result_data, error_data}
+use Rattle.ocpp_payload.specs.declared.action.Action.{Action}
 use Rattle.ocpp_payload.specs.declared.conf.Conf.{Conf as Answer}
+use Rattle.ocpp_payload.specs.declared.fault.FieldFault.{FieldFault}
 use Rattle.ocpp_payload.specs.Conf.{conf_data}
 use Rattle.hub_rows.specs.declared.change.Edit.{Edit}
 use Rattle.hub_rows.specs.declared.change.Edit.TheVariants.{Transactions}
 use Rattle.hub_rows.specs.declared.change.TransactionEdit.TheVariants.{Forgotten}
 use Rattle.hub_rows.specs.declared.forgettable.History.{History}
-use Rattle.hub_rows.specs.Forgetting.{numbers_of}
+use Rattle.hub_rows.specs.Forgetting.{has_no_rows, numbers_of}
 use Rattle.hub_rows.specs.declared.station_row.Registration.{Registration}
 use Rattle.registry.specs.declared.decision.Decision.{Decision}
 use Rattle.registry.specs.declared.decision.Reply.{Reply}
@@ -79,16 +81,17 @@ reply_text id (Error c) = error_text id c []
 abbrev pub decided_plan : List ℕ → List ℕ → Decision → Plan
 decided_plan station id d = record { said = said.Send station (reply_text id d.reply) ∷ []; effect = edit_effect d.edit }
 
+-- the same of a call that is read with repairs, which is told before: the action, and the fault for which it is refused
+-- otherwise
+abbrev pub repaired_plan : List ℕ → List ℕ → Action → FieldFault → Decision → Plan
+repaired_plan station id action fault d = record { said = said.Repaired station action fault ∷ said.Send station (reply_text id d.reply) ∷ []; effect = edit_effect d.edit }
+
 -- ---- requests of the operator
 
 -- an edit is taken or refused
 abbrev pub edit_plan : Result Edit Refusal → Plan
 edit_plan (Ok edit) = record { said = said.Accepted None ∷ []; effect = effect.Edit edit }
 edit_plan (Err refusal) = only (said.Refused refusal)
-
--- nothing of a station's history
-abbrev pub has_no_rows : History → Bool
-has_no_rows gone = (length gone.readings == 0) && (length gone.transactions == 0)
 
 -- rows of a station go, if there are any
 abbrev pub forgetting : List ℕ → History → Effect

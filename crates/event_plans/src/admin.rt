@@ -10,7 +10,7 @@ use hub_events::Admin;
 use hub_rows::{Edit, Store, StoreFault};
 use id_tags::{plan_drop, plan_grant, plan_put, plan_revoke};
 use ocpp_types::{Moment, Refusal, Text};
-use registry::{StationAt, Terms, plan_add, plan_policy};
+use registry::{StationAt, Terms, plan_add, plan_policy, plan_reader};
 use std::alloc::Global;
 
 /// The edit that an operator's request asks for, or the refusal of its rule. `hosted` are the
@@ -50,6 +50,9 @@ pub fn decide_admin<S: Store>(
                 interval: *interval,
             };
             plan_policy(alloc, store, name, station.as_str(), terms)
+        }
+        Admin::StationReader { station, reader } => {
+            plan_reader(alloc, store, name, station.as_str(), *reader)
         }
         Admin::TagPut { tag } => Ok(plan_put(alloc, tag.as_ref())?),
         Admin::TagDrop { tag } => plan_drop(alloc, store, name, tag.as_str()),

@@ -20,7 +20,7 @@ use hub_rows::{Store, StoreFault};
 use ocpp_types::{Boxed, Text};
 use operator_cmds::Command;
 use pending_calls::Slots;
-use registry::StationAt;
+use registry::{StationAt, plan_station_drop};
 use station_calls::{Book, VendorHandler};
 use std::alloc::Global;
 
@@ -67,6 +67,16 @@ pub fn plan_event<S: Store, V: VendorHandler>(
         }
         What::Admin(admin) => {
             let answer = decide_admin(alloc, &mut book.store, op, admin, moment, hosted)?;
+            Ok(edit_plan(alloc, answer)?)
+        }
+        What::DropStation { station } => {
+            let at = StationAt {
+                op,
+                station,
+                moment,
+            };
+            let is_connected = slots.is_connected(op.as_str(), station.as_str());
+            let answer = plan_station_drop(alloc, &mut book.store, &at, is_connected)?;
             Ok(edit_plan(alloc, answer)?)
         }
         What::List(listing) => plan_list(alloc, &mut book.store, op, listing, moment),

@@ -6,20 +6,21 @@ ghost use Rattle.pending_calls.specs.Slots.{slot_at};
 ghost use Rattle.ocpp_frame.specs.Frame.{frame};
 ghost use Rattle.station_calls.specs.Book.{book_view, book_rows, book_answers, IsCleanBook};
 ghost use Rattle.event_plans.specs.Effects.{StationSlot, IsReady};
-ghost use Rattle.event_plans.specs.Table.{facts_of, frame_plan, call_plan, state_plan};
+ghost use Rattle.event_plans.specs.Table.{facts_of, frame_plan, call_plan};
 
 use crate::answers::{plan_error, plan_result};
-use crate::message_at::MessageAt;
+use crate::message_at::{CallAt, MessageAt};
 use crate::plan::Plan;
-use crate::short_plans::{decided_plan, error_plan};
+use crate::requests::plan_request;
+use crate::short_plans::error_plan;
 use hub_rows::{Store, StoreFault};
 use ocpp_frame::{Frame, Payload, read_frame};
-use ocpp_payload::{Action, ActionClass, action_class, read_request};
+use ocpp_payload::{ActionClass, action_class};
 use ocpp_types::{Boxed, ErrorCode, Text};
 use operator_cmds::Command;
 use pending_calls::Slots;
-use registry::{StationAt, is_allowed};
-use station_calls::{Book, VendorHandler, decide};
+use registry::StationAt;
+use station_calls::{Book, VendorHandler};
 use std::alloc::Global;
 
 /// The plan for a text of a connected station, by the frame that it is.
@@ -33,7 +34,7 @@ pub fn plan_text<S: Store, V: VendorHandler>(
 ) -> Result<Plan, StoreFault>
     ensures reads { OnlyReads (book_view S.view) book.old book.new result }
     ensures plan { IsCleanBook S.view book.new → IfOk result (λ p. p
-        ≡ frame_plan (book_answers V.view book.old) at.now.station.now (frame text.now) at.now.moment
+        ≡ frame_plan (book_answers V.view book.old) at.now.station.now text.now (frame text.now) at.now.moment
         (facts_of at.now.op.now (book_rows S.view book.old) slots.now)) }
     ensures answers { book_answers V.view book.new ≡ book_answers V.view book.old }
     ensures ready { IfOk result (λ p. IsReady (λ st. slot_at at.now.op.now st slots.now) p.effect) }
@@ -45,7 +46,7 @@ pub fn plan_text<S: Store, V: VendorHandler>(
             payload,
         } => {
             let class = action_class(action.as_str());
-            plan_call(alloc, book, &MessageAt { at, id: &id }, class, &payload)
+            plan_call(alloc, book, &CallAt { at, id: &id, text }, class, &payload)
         }
         Frame::Broken { id } => {
             let code = ErrorCode::FormationViolation;
@@ -71,58 +72,22 @@ pub fn plan_text<S: Store, V: VendorHandler>(
 fn plan_call<S: Store, V: VendorHandler>(
     alloc: Global,
     book: &mut Book<S, V>,
-    call: &MessageAt<'_>,
+    call: &CallAt<'_>,
     class: ActionClass,
     payload: &Payload,
 ) -> Result<Plan, StoreFault>
     ensures reads { OnlyReads (book_view S.view) book.old book.new result }
     ensures plan { IsCleanBook S.view book.new → IfOk result (λ p. p
-        ≡ call_plan (book_answers V.view book.old) call.now.at.now.station.now call.now.id.now class payload.now call.now.at.now.moment (lookups_at call.now.at.now.op.now (book_rows S.view book.old))) }
+        ≡ call_plan (book_answers V.view book.old) call.now.at.now.station.now call.now.id.now call.now.text.now class payload.now call.now.at.now.moment (lookups_at call.now.at.now.op.now (book_rows S.view book.old))) }
     ensures answers { book_answers V.view book.new ≡ book_answers V.view book.old }
     ensures ready { IfOk result (λ p. (slot : List ℕ → StationSlot) → IsReady slot p.effect) }
 {
     let code = match class {
         ActionClass::Known(action) => {
-            return plan_known(alloc, book, call, action, payload);
+            return plan_request(alloc, book, call, action, payload);
         }
         ActionClass::NotSupported => ErrorCode::NotSupported,
         ActionClass::NotImplemented => ErrorCode::NotImplemented,
     };
     Ok(error_plan(alloc, call.at.station, call.id, code, "")?)
-}
-
-/// The plan for a call of a supported action: first the station's state, then the payload. Its request is
-/// decided, or its first faulty member is told.
-#[tactic(auto, using(crate::proofs::Readiness::decided_ready))]
-fn plan_known<S: Store, V: VendorHandler>(
-    alloc: Global,
-    book: &mut Book<S, V>,
-    call: &MessageAt<'_>,
-    action: Action,
-    payload: &Payload,
-) -> Result<Plan, StoreFault>
-    ensures reads { OnlyReads (book_view S.view) book.old book.new result }
-    ensures plan { IsCleanBook S.view book.new → IfOk result (λ p. p
-        ≡ state_plan (book_answers V.view book.old) call.now.at.now.station.now ((lookups_at call.now.at.now.op.now (book_rows S.view book.old)).registration call.now.at.now.station.now)
-        call.now.id.now action payload.now call.now.at.now.moment (lookups_at call.now.at.now.op.now (book_rows S.view book.old))) }
-    ensures answers { book_answers V.view book.new ≡ book_answers V.view book.old }
-    ensures ready { IfOk result (λ p. (slot : List ℕ → StationSlot) → IsReady slot p.effect) }
-{
-    let StationAt { op, station, .. } = *call.at;
-    let Some(registration) = book.store.station(op.as_str(), station.as_str())? else {
-        return Ok(error_plan(alloc, station, call.id, ErrorCode::InternalError, "")?);
-    };
-    if !is_allowed(registration.state, action) {
-        return Ok(error_plan(alloc, station, call.id, ErrorCode::SecurityError, "")?);
-    }
-    match read_request(alloc, action, payload.as_value())? {
-        Ok(request) => {
-            let decision = decide(alloc, book, call.at, registration, request)?;
-            Ok(decided_plan(alloc, station, call.id, decision)?)
-        }
-        Err(fault) => {
-            let field = fault.field.as_str();
-            Ok(error_plan(alloc, station, call.id, fault.code, field)?)
-        }
-    }
 }

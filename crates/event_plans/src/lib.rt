@@ -10,6 +10,7 @@ mod frames;
 mod list;
 mod message_at;
 mod plan;
+mod requests;
 mod short_plans;
 mod sizes;
 

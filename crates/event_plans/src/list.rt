@@ -31,6 +31,7 @@ pub fn plan_list<S: Store>(
         Listing::Grants => grants(alloc, store, op),
         Listing::Granted => granted(alloc, store, op),
         Listing::Uses => uses(alloc, store, op),
+        Listing::Readers => readers(alloc, store, op),
         Listing::Connectors { station } => connectors(alloc, store, op, station),
         Listing::OpenTransactions => open_transactions(alloc, store, op),
         Listing::Transactions { station, first } => {
@@ -86,6 +87,13 @@ fn uses<S: Store>(alloc: Global, store: &mut S, op: &Text) -> Result<Plan, Store
     ensures { Lists S.view op.now (λ l. Ok (map row.Use l.uses)) store.old store.new result }
 {
     let rows = store.uses(op.as_str())?;
+    Ok(show(alloc, rows)?)
+}
+
+fn readers<S: Store>(alloc: Global, store: &mut S, op: &Text) -> Result<Plan, StoreFault>
+    ensures { Lists S.view op.now (λ l. Ok (map row.Reader l.readers)) store.old store.new result }
+{
+    let rows = store.readers(op.as_str())?;
     Ok(show(alloc, rows)?)
 }
 

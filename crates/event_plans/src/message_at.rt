@@ -11,3 +11,14 @@ pub struct MessageAt<'a> {
     /// The id of the call, or of the call that is answered.
     pub id: &'a Text,
 }
+
+/// A call of a station at a moment.
+#[derive(Clone, Copy, Drop)]
+pub struct CallAt<'a> {
+    /// The station and the moment.
+    pub at: &'a StationAt<'a>,
+    /// The id of the call.
+    pub id: &'a Text,
+    /// The text of its frame.
+    pub text: &'a Text,
+}

@@ -1,12 +1,13 @@
 //! Plans from facts: one small function for each kind of event (docs/RULES.md).
 ghost use Rattle.std.specs.Prelude.{◌≡◌, IfOk};
-ghost use Rattle.event_plans.specs.Plans.{turned_plan, connect_plan, disconnect_plan, sent_plan, error_plan, error_text, conf_text, reply_text, decided_plan, edit_plan, forget_plan, forgetting};
+ghost use Rattle.event_plans.specs.Plans.{turned_plan, connect_plan, disconnect_plan, sent_plan, error_plan, error_text, conf_text, reply_text, decided_plan, repaired_plan, edit_plan, forget_plan, forgetting};
 
+use crate::message_at::CallAt;
 use crate::plan::{Effect, Plan, one};
 use hub_events::{Row, Said};
 use hub_rows::{Edit, History, Registration, TransactionEdit};
 use ocpp_frame::{write_error, write_result};
-use ocpp_payload::{Conf, write_conf};
+use ocpp_payload::{Action, Conf, FieldFault, write_conf};
 use ocpp_types::{Boxed, ErrorCode, Mem, Named, Refusal, Text};
 use registry::{Decision, Reply};
 use std::alloc::Global;
@@ -102,6 +103,33 @@ pub fn decided_plan(alloc: Global, station: &Text, id: &Text, decision: Decision
     let station = station.clone()?;
     Ok(Plan {
         said: one(alloc, Said::Send { station, text })?,
+        effect: Effect::from(decision.edit),
+    })
+}
+
+/// A call that is read with repairs is answered as a rule decided. That it is, and the fault, is told before.
+pub fn repaired_plan(
+    alloc: Global,
+    call: &CallAt<'_>,
+    action: Action,
+    fault: FieldFault,
+    decision: Decision,
+) -> Mem<Plan>
+    ensures { IfOk result (λ p. p ≡ repaired_plan call.now.at.now.station.now call.now.id.now action fault decision) }
+{
+    let text = reply_text(alloc, call.id, &decision.reply)?;
+    let told = Said::Repaired {
+        station: call.at.station.clone()?,
+        action,
+        fault,
+    };
+    let mut said = one(alloc, told)?;
+    said.push(Said::Send {
+        station: call.at.station.clone()?,
+        text,
+    })?;
+    Ok(Plan {
+        said,
         effect: Effect::from(decision.edit),
     })
 }

@@ -2,9 +2,9 @@
 ghost use Rattle.std.specs.Prelude.{◌≡◌, ◌+◌, Some, OnOk, OnErr};
 
 use hub_rows::{
-    Change, ConnectorRow, GrantRow, GrantedTag, History, Info, LocalList, ReadingRow, Registration,
-    ReportRow, ReservationId, ReservationRow, StartKey, StationRow, Store, StoreFault, TagRow,
-    TxKey, TxRow, TxState, UseRow,
+    Change, ConnectorRow, GrantRow, GrantedTag, History, Info, LocalList, Reader, ReaderRow,
+    ReadingRow, Registration, ReportRow, ReservationId, ReservationRow, StartKey, StationRow,
+    Store, StoreFault, TagRow, TxKey, TxRow, TxState, UseRow,
 };
 use ocpp_types::{Listed, Moment, TagKey};
 
@@ -202,6 +202,16 @@ impl<S: Store> Store for Failing<S> {
     fn uses(&mut self, op: &str) -> Result<Listed<UseRow>, StoreFault> {
         self.count_call()?;
         self.store.uses(op)
+    }
+
+    fn reader(&mut self, op: &str, station: &str) -> Result<Reader, StoreFault> {
+        self.count_call()?;
+        self.store.reader(op, station)
+    }
+
+    fn readers(&mut self, op: &str) -> Result<Listed<ReaderRow>, StoreFault> {
+        self.count_call()?;
+        self.store.readers(op)
     }
 
     fn apply(&mut self, change: &Change<'_>) -> Result<(), StoreFault> {

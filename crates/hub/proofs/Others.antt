@@ -1,5 +1,5 @@
 -- An event of another operator leaves an operator alone.
-use Rattle.std.specs.Prelude.{◌≡◌, ◌⊎◌, ℕ, Option, None, Some, IfSome, List, [], ◌∷◌, ◌++◌, length, drop, map, false, cond}
+use Rattle.std.specs.Prelude.{◌≡◌, ◌⊎◌, ℕ, Option, None, Some, IfSome, List, [], ◌∷◌, ◌++◌, length, drop, map, Bool, false, cond}
 use Rattle.std.proofs.Common.{refl, sym, ◌∙◌, ap, subst, inl, inr}
 use Rattle.std.proofs.Math.Seq.{drop-length}
 use Rattle.std.proofs.lemmas.Bool.{true≢false}
@@ -27,7 +27,7 @@ use Rattle.hub.specs.Effects.{edit_of}
 use Rattle.event_plans.specs.declared.plan.Effect.{Effect}
 use Rattle.event_plans.specs.declared.plan.Effect.TheVariants as effect
 use Rattle.event_plans.specs.Table.{Facts}
-use Rattle.event_plans.proofs.Fitting.{EffectFits, FitsLookups, plan_fits}
+use Rattle.event_plans.proofs.Fitting.{EffectFits, FitsLookups, connected_in, plan_fits}
 use Rattle.hub.specs.Others.{AddsUse, IsOfAnother, LeavesAlone, edits_tags, is_of_tags}
 use Rattle.hub.specs.View.{Granted, Own, Use, granted_to, uses_of, news, more_uses, shown_by, seen_of}
 use Rattle.hub.specs.WellFormed.{WellFormed}
@@ -79,7 +79,7 @@ either-after a b (Some e) rows = either-edit a b e rows
 -- ---- the use that is added
 
 -- the edit of an effect fits as the effect does
-fits-edit : (m : ℕ) (f : Facts) (e : Effect) → EffectFits m f e → IfSome (edit_of e) (FitsLookups m f.lookups)
+fits-edit : (m : ℕ) (f : Facts) (e : Effect) → EffectFits m f e → IfSome (edit_of e) (FitsLookups (connected_in f) m f.lookups)
 fits-edit m f effect.Nothing fits = tt
 fits-edit m f (effect.Edit e) fits = fits
 fits-edit m f (effect.Connect station) fits = tt
@@ -87,16 +87,16 @@ fits-edit m f (effect.Disconnect station) fits = tt
 fits-edit m f (effect.Submit station command text) fits = tt
 fits-edit m f (effect.Answer station id outcome edit) fits = fits
 
-adds-after : (a b : List ℕ) (m : ℕ) (rows : Rows) → WellFormedRows rows → (o : Option Edit) → IfSome o (FitsLookups m (lookups_at b rows)) → AddsTo a b m rows o (own (λ r. r.op) a (rows_after b o rows).uses)
-adds-after a b m rows good None fits = inl refl
-adds-after a b m rows good (Some e) fits = edit-adds a b m rows good e fits
+adds-after : (k : List ℕ → Bool) (a b : List ℕ) (m : ℕ) (rows : Rows) → WellFormedRows rows → (o : Option Edit) → IfSome o (FitsLookups k m (lookups_at b rows)) → AddsTo a b m rows o (own (λ r. r.op) a (rows_after b o rows).uses)
+adds-after k a b m rows good None fits = inl refl
+adds-after k a b m rows good (Some e) fits = edit-adds k a b m rows good e fits
 
 adds-use : (setting : Setting) (a : List ℕ) (w : World) (b : List ℕ) (m : ℕ) (what : What) → WellFormed w
     → (uses_of a (world_step setting w (At b m what)) ≡ uses_of a w) ⊎ ((u : UseRow) × AddsUse a setting w (At b m what) (world_step setting w (At b m what)) u)
 adds-use setting a w b m what good =
     let f = facts_at setting.first_number b w in
     let e = (plan_at setting w b m what).effect in
-    elim (adds-after a b m w.rows good.rows (edit_of e) (fits-edit m f e (plan_fits setting.is_hosted setting.answers what m f))) [
+    elim (adds-after (connected_in f) a b m w.rows good.rows (edit_of e) (fits-edit m f e (plan_fits setting.is_hosted setting.answers what m f))) [
       | inl same ↦ inl same
       | inr one ↦ inr (one.0, record { added = one.1; tells = one.2 })
     ]

@@ -139,12 +139,12 @@ module _ (a b : List ℕ) (m : ℕ) (rows : Rows) (good : WellFormedRows rows) (
             | false ↦ λ full. none
           ] refl grown
 
-pub edit-adds : (a b : List ℕ) (m : ℕ) (rows : Rows) → WellFormedRows rows → (e : Edit) → FitsLookups m (lookups_at b rows) e → AddsTo a b m rows (Some e) (own (λ r. r.op) a (edit b e rows).uses)
-edit-adds a b m rows good (Transactions (TxStopped station number stop first readings)) fits = stop-adds a b m rows good station number stop first readings fits.2 fits.0
-edit-adds a b m rows good (Stations (StationAdded station policy interval)) fits = inl refl
-edit-adds a b m rows good (Tags (TagDropped key)) fits = inl refl
-edit-adds a b m rows good (Holdings (ReservationDropped station id)) fits = inl refl
-edit-adds a b m rows good e fits = inl refl
+pub edit-adds : (k : List ℕ → Bool) (a b : List ℕ) (m : ℕ) (rows : Rows) → WellFormedRows rows → (e : Edit) → FitsLookups k m (lookups_at b rows) e → AddsTo a b m rows (Some e) (own (λ r. r.op) a (edit b e rows).uses)
+edit-adds k a b m rows good (Transactions (TxStopped station number stop first readings)) fits = stop-adds a b m rows good station number stop first readings fits.2 fits.0
+edit-adds k a b m rows good (Stations (StationAdded station policy interval)) fits = inl refl
+edit-adds k a b m rows good (Tags (TagDropped key)) fits = inl refl
+edit-adds k a b m rows good (Holdings (ReservationDropped station id)) fits = inl refl
+edit-adds k a b m rows good e fits = inl refl
 
 -- two uses that tell the same are one
 pub one-use : (a b : List ℕ) (m : ℕ) (rows others : Rows) (d e : Option Edit) (u v : UseRow) → TellsOfUse a b m rows d u → TellsOfUse a b m others e v

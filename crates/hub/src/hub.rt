@@ -3,6 +3,7 @@ ghost use Rattle.std.specs.Prelude.{◌≡◌, ◌≢◌, ◌&&◌, ◌⊎◌, �
 ghost use Rattle.std.specs.List.{AllWithin};
 ghost use Rattle.hub_rows.specs.Reads.{IsCounted};
 ghost use Rattle.hub_rows.specs.Operators.{are_operators};
+ghost use Rattle.hub_rows.specs.Readers.{reader_in};
 ghost use Rattle.hub_rows.specs.Rows.{registration_at};
 
 use crate::commit::commit;
@@ -10,7 +11,7 @@ use crate::fault::Fault;
 use crate::tick::expire_all;
 use event_plans::plan_event;
 use hub_events::{Event, OperatorEvent, Out};
-use hub_rows::{Store, are_operators, is_hosted};
+use hub_rows::{Reader, Store, are_operators, is_hosted};
 use ocpp_types::{Boxed, Text};
 use operator_cmds::Command;
 use pending_calls::Slots;
@@ -44,7 +45,7 @@ impl<S: Store + Drop, V: VendorHandler> Hub<S, V> {
     ghost use Rattle.hub.specs.World.{outputs_of, world_outputs, world_step, run_outputs, world_run};
     ghost use Rattle.hub.specs.Others.{IsOfAnother, LeavesAlone};
     ghost use Rattle.hub.specs.View.{view, seen, operator_run_outputs, operator_run};
-    ghost use Rattle.hub.specs.WellFormed.{SlotsHaveStations};
+    ghost use Rattle.hub.specs.WellFormed.{ConnectedAreOnRecord};
     ghost use Rattle.hub_events.specs.declared.event.Event.{Event};
     ghost use Rattle.hub_events.specs.declared.event.Event.TheVariants as event;
 
@@ -62,7 +63,7 @@ impl<S: Store + Drop, V: VendorHandler> Hub<S, V> {
         ensures setting { IfOk result (λ h. setting V.view h ≡ setting_of V.view operators.items vendors.items) }
         ensures clean { IfOk result (λ h. is_clean S.view h ↔ (S.view store).clean) }
         ensures failures { IfOk result (λ h. failures_of S.view h ≡ (S.view store).failures) }
-        ensures stations { IfOk result (λ h. SlotsHaveStations (world S.view h)) }
+        ensures stations { IfOk result (λ h. ConnectedAreOnRecord (world S.view h)) }
         ensures found { IfOk result (λ h. (r : Rows) → (hub_view S.view h).may_find r ↔ (S.view store).may_find r) }
         ensures kept { IsKept (S.view store) → IfOk result (λ h. IsKept (hub_view S.view h)) }
     {
@@ -116,6 +117,18 @@ impl<S: Store + Drop, V: VendorHandler> Hub<S, V> {
         Ok(self.book.store.station(op, station)?.is_some())
     }
 
+    /// How the requests of a station are read.
+    #[tactic(auto, unfolding(crate::specs::Hub::setting))]
+    pub fn reader(&mut self, op: &str, station: &str) -> Result<Reader, Fault>
+        ensures counted { IsCounted (hub_view S.view) self.old self.new (result ≡ Err Fault.Store) }
+        ensures reader { is_clean S.view self.new → IfOk result (λ r. r ≡ reader_in op.now station.now (world S.view self.old).rows.readers) }
+        ensures world { is_clean S.view self.new → world S.view self.new ≡ world S.view self.old }
+        ensures setting { setting V.view self.new ≡ setting V.view self.old }
+        ensures fault { IfErr result (λ f. f ≢ Fault.NoSuchOperator) }
+    {
+        Ok(self.book.store.reader(op, station)?)
+    }
+
     /// Asks the store for records of which no answer is kept, to find whether it still gives any. There are none, since
     /// no operator has this name.
     #[tactic(auto, unfolding(crate::specs::Hub::setting))]
@@ -159,7 +172,7 @@ impl<S: Store + Drop, V: VendorHandler> Hub<S, V> {
             → OnErr result (world S.view self.new ≡ world S.view self.old) }
         ensures fault_slots { OnErr result ((world S.view self.new).slots ≡ (world S.view self.old).slots) }
         ensures stations { is_clean S.view self.new
-            → SlotsHaveStations (world S.view self.old) → SlotsHaveStations (world S.view self.new) }
+            → ConnectedAreOnRecord (world S.view self.old) → ConnectedAreOnRecord (world S.view self.new) }
         ensures stopped { FindsOldOr (world_step (setting V.view self.old) (world S.view self.old) event.now).rows
             (hub_view S.view self.old) (hub_view S.view self.new) }
         ensures kept { IsKept (hub_view S.view self.old) → OnOk result (IsKept (hub_view S.view self.new)) }
@@ -198,7 +211,7 @@ impl<S: Store + Drop, V: VendorHandler> Hub<S, V> {
             → view a (world S.view self.new) ≡ operator_run (setting V.view self.old) a
             (view a (world S.view self.old)) (seen (setting V.view self.old) a (world S.view self.old) (take result.1 events.now)) }
         ensures stations { is_clean S.view self.new
-            → SlotsHaveStations (world S.view self.old) → SlotsHaveStations (world S.view self.new) }
+            → ConnectedAreOnRecord (world S.view self.old) → ConnectedAreOnRecord (world S.view self.new) }
         ensures stopped { IsKept (hub_view S.view self.old) → (r : Rows) → (hub_view S.view self.new).may_find r
             → (r ≡ (world_run (setting V.view self.old) (world S.view self.old) (take result.1 events.now)).rows)
             ⊎ (IsSome result.2 × (r ≡ (world_run (setting V.view self.old) (world S.view self.old) (take (result.1 + 1) events.now)).rows)) }

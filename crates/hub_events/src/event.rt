@@ -1,7 +1,7 @@
 //! What the hub is handed.
 
 use crate::listing::Listing;
-use hub_rows::Tag;
+use hub_rows::{Reader, Tag};
 use id_tags::Grant;
 use ocpp_types::{Boxed, Moment, Policy, Text};
 use operator_cmds::Command;
@@ -59,6 +59,10 @@ pub enum What {
     List(Listing),
     /// The operator asks which of its stations are connected.
     Connections,
+    /// The operator drops a station.
+    DropStation {
+        station: Text,
+    },
     /// The operator forgets the history of a station before a moment.
     Forget {
         station: Text,
@@ -95,6 +99,11 @@ pub enum Admin {
         station: Text,
         policy: Policy,
         interval: u64,
+    },
+    /// How the requests of a station are read.
+    StationReader {
+        station: Text,
+        reader: Reader,
     },
     /// An open transaction of a station is closed, with its meter in Wh, or else by its readings.
     TransactionClose {

@@ -4,7 +4,7 @@ ghost use Rattle.hub_events.specs.declared.listing.Row.{Row};
 ghost use Rattle.hub_events.specs.declared.listing.Row.TheVariants as shown;
 
 use hub_rows::{
-    ConnectorRow, GrantRow, GrantedTag, LocalTag, ReadingRow, ReportRow, ReservationRow,
+    ConnectorRow, GrantRow, GrantedTag, LocalTag, ReaderRow, ReadingRow, ReportRow, ReservationRow,
     StationRow, TagRow, TxRow, UseRow,
 };
 use ocpp_types::{Moment, Text};
@@ -22,6 +22,8 @@ pub enum Listing {
     Granted,
     /// The uses of its id tags at the stations of other operators.
     Uses,
+    /// How its stations are read, where it chose that.
+    Readers,
     /// The connectors of a station that were reported on.
     Connectors {
         station: Text,
@@ -83,6 +85,7 @@ pub enum Row {
         entry: LocalTag,
     },
     Report(ReportRow),
+    Reader(ReaderRow),
     /// A connected station, and how many calls are in flight and waiting there.
     Connection {
         station: Text,
@@ -174,6 +177,14 @@ impl Shown for ReservationRow {
 
     fn into_row(self) -> Row {
         Row::Reservation(self)
+    }
+}
+
+impl Shown for ReaderRow {
+    ghost as_row = { shown.Reader };
+
+    fn into_row(self) -> Row {
+        Row::Reader(self)
     }
 }
 

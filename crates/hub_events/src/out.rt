@@ -1,6 +1,7 @@
 //! What the hub answers.
 
 use crate::listing::Row;
+use ocpp_payload::{Action, FieldFault};
 use ocpp_types::{Boxed, ErrorCode, FieldName, Refusal, Text};
 
 /// One output: what is said, and the operator that it is for.
@@ -30,6 +31,12 @@ pub enum Said {
     /// turned away.
     Turned {
         station: Text,
+    },
+    /// A request of a station is read with repairs. The fault is that for which it is refused otherwise.
+    Repaired {
+        station: Text,
+        action: Action,
+        fault: FieldFault,
     },
     /// A request of the operator is refused, and has changed nothing.
     Refused(Refusal),

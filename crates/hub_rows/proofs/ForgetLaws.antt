@@ -32,9 +32,19 @@ all-map : {R S : Type 0} (P : S → Type 0) (f : R → S) (rs : List R) → AllB
 all-map P f [] all = tt
 all-map P f (x ∷ xs) all = (all.0, all-map P f xs all.1)
 
-all-two : {R : Type 0} (P Q S : R → Type 0) → ((r : R) → P r → Q r → S r) → (rs : List R) → AllByRecursion P rs → AllByRecursion Q rs → AllByRecursion S rs
+pub all-two : {R : Type 0} (P Q S : R → Type 0) → ((r : R) → P r → Q r → S r) → (rs : List R) → AllByRecursion P rs → AllByRecursion Q rs → AllByRecursion S rs
 all-two P Q S joins [] first second = tt
 all-two P Q S joins (x ∷ xs) first second = (joins x first.0 second.0, all-two P Q S joins xs first.1 second.1)
+
+-- each row of a list in order is found by its key
+pub each-found : {R : Type 0} (key : R → List (List ℕ)) (has_key : R → R → Bool) → ((t r : R) → has_key t r ≡ is_eq (key_cmp (key r) (key t))) → (rs : List R) → IsStrictlySortedBy (by_key key) rs → AllByRecursion (λ t. find (has_key t) rs ≡ Some t) rs
+unfolding IsStrictlySortedBy
+each-found key has_key by_its [] sorted = tt
+each-found key has_key by_its (x ∷ xs) sorted = (
+  ap (λ c. cond c (Some x) (find (has_key x) xs)) (by_its x x ∙ ap is_eq (tied_itself keys_total (key x))),
+  all-two (λ y. by_key key x y ≡ Less) (λ y. find (has_key y) xs ≡ Some y) (λ y. find (has_key y) (x ∷ xs) ≡ Some y)
+      (λ y below there. ap (λ c. cond c (Some x) (find (has_key y) xs)) (by_its y x ∙ ap is_eq below) ∙ there) xs sorted.0 (each-found key has_key by_its xs sorted.1),
+)
 
 -- ---- transactions
 
@@ -44,16 +54,6 @@ has_key_of t r = bytes_eq r.op t.op && is_tx t.station t.number r
 
 by_its_key : (t r : TxRow) → has_key_of t r ≡ is_eq (key_cmp (tx_key r) (tx_key t))
 by_its_key t r = three_parts r.op r.station t.op t.station r.number t.number
-
--- each is found by its key
-pub each-found : (txs : List TxRow) → IsStrictlySortedBy (by_key tx_key) txs → AllByRecursion (λ t. find (has_key_of t) txs ≡ Some t) txs
-unfolding IsStrictlySortedBy
-each-found [] sorted = tt
-each-found (x ∷ xs) sorted = (
-  ap (λ c. cond c (Some x) (find (has_key_of x) xs)) (by_its_key x x ∙ ap is_eq (tied_itself keys_total (tx_key x))),
-  all-two (λ y. by_key tx_key x y ≡ Less) (λ y. find (has_key_of y) xs ≡ Some y) (λ y. find (has_key_of y) (x ∷ xs) ≡ Some y)
-      (λ y below there. ap (λ c. cond c (Some x) (find (has_key_of y) xs)) (by_its_key y x ∙ ap is_eq below) ∙ there) xs sorted.0 (each-found xs sorted.1),
-)
 
 has_stop : (until : ℕ) (o : Option Stop) → is_before until o ≡ true → is_none o ≡ false
 has_stop until None is = absurd (true≢false (sym is))
@@ -66,7 +66,7 @@ forgettable-stopped b station until rows good =
     let gone = map (λ r. r.number) (forgettable_in b station until rows).readings in
     let left : TxRow → Bool = λ t. is_over until t && not (is_left (readings_in b station None rows.readings) gone t) in
     let Here : TxRow → Type 0 = λ t. (find (has_key_of t) txs ≡ Some t) × (bytes_eq t.op b && bytes_eq t.station station ≡ true) in
-    let here : AllByRecursion Here (txs_in b station txs) = all-passed (λ t. find (has_key_of t) txs ≡ Some t) (λ t. bytes_eq t.op b && bytes_eq t.station station) txs (each-found txs good.transactions.sorted) in
+    let here : AllByRecursion Here (txs_in b station txs) = all-passed (λ t. find (has_key_of t) txs ≡ Some t) (λ t. bytes_eq t.op b && bytes_eq t.station station) txs (each-found tx_key has_key_of by_its_key txs good.transactions.sorted) in
     all-map (λ n. IsStopped (tx_in b station n txs)) (λ t. t.number) _
     (all-take (λ t. IsStopped (tx_in b station t.number txs)) _ _
     (all-weaker (λ t. Here t × (left t ≡ true)) (λ t. IsStopped (tx_in b station t.number txs))

@@ -8,6 +8,7 @@ pub mod GrantLaws
 pub mod OwnLaws
 pub mod OwnerLaws
 pub mod UseLaws
+pub mod DroppedLaws
 pub mod WellFormedLaws
 pub mod NameLaws
 pub mod ForgetLaws

@@ -8,11 +8,11 @@ use Rattle.std.specs.Option.{option_map}
 use Rattle.std.specs.Str.{bytes_eq}
 use Rattle.hub_rows.specs.declared.change.Edit.{Edit}
 use Rattle.hub_rows.specs.declared.change.Edit.TheVariants.{Stations, Tags, Transactions, Holdings}
-use Rattle.hub_rows.specs.declared.change.StationEdit.TheVariants.{StationAdded, BootSeen, PolicySet, ConnectorSeen, ReportSeen}
+use Rattle.hub_rows.specs.declared.change.StationEdit.TheVariants.{StationAdded, BootSeen, PolicySet, ReaderSet, StationDropped, ConnectorSeen, ReportSeen}
 use Rattle.hub_rows.specs.declared.change.TagEdit.TheVariants.{TagPut, TagDropped, GrantPut, GrantDropped}
 use Rattle.hub_rows.specs.declared.change.TransactionEdit.TheVariants.{TxStarted, TxStopped, ReadingsAdded, Forgotten}
 use Rattle.hub_rows.specs.declared.change.HoldingEdit.TheVariants.{ReservationPut, ReservationDropped, ListSet}
-use Rattle.hub_rows.specs.Rows.{Rows, station_rest, connector_rest, tag_rest, grant_rest, tx_rest, reading_rest, reservation_rest, list_rest, report_rest, tx_owner_rest, use_rest, use_key}
+use Rattle.hub_rows.specs.Rows.{Rows, station_rest, connector_rest, tag_rest, grant_rest, tx_rest, reading_rest, reservation_rest, list_rest, report_rest, reader_rest, tx_owner_rest, use_rest, use_key}
 use Rattle.hub_rows.specs.declared.tx_row.TxRow.{TxRow}
 use Rattle.hub_rows.specs.declared.tx_row.TxKey.{TxKey}
 use Rattle.hub_rows.specs.declared.reading_row.Reading.{Reading}
@@ -22,11 +22,12 @@ use Rattle.ocpp_types.specs.declared.authorization_status.AuthorizationStatus.{A
 use Rattle.ocpp_types.specs.declared.authorization_status.AuthorizationStatus.TheVariants.{Accepted, Blocked, Expired, Invalid, ConcurrentTx}
 use Rattle.hub_rows.specs.Keyed.{by_key, found, put_all, own, those, greatest}
 use Rattle.hub_rows.specs.WellFormed.{WellFormedRows}
-use Rattle.hub_rows.specs.Changes.{edit, new_station, with_boot, with_policy, connector_row, tag_row, grant_row, tx_row, with_stop, with_readings, reservation_row, list_row, report_row}
+use Rattle.hub_rows.specs.Changes.{edit, new_station, with_boot, with_policy, connector_row, tag_row, grant_row, tx_row, with_stop, with_readings, reservation_row, list_row, report_row, reader_row}
 use Rattle.hub_rows.specs.Forgetting.{forgettable, is_one_of}
 use Rattle.hub_rows.specs.Grants.{granted_in, is_grant}
 use Rattle.hub_rows.specs.Own.{own_rows, own_edit, own_named, own_readings, own_shifted, own_with_owner}
 use Rattle.hub_rows.specs.declared.use_row.UseRow.{UseRow}
+use Rattle.hub_rows.specs.Readers.{chosen}
 use Rattle.hub_rows.specs.Uses.{with_owner, settled_use, with_use, use_by, uses_settled, if_of, owner_in, last_use_in, use_row}
 use Rattle.hub_rows.proofs.WellFormedLaws.{IsSettled, is_settled}
 use Rattle.hub_rows.specs.Reservations.{is_named, is_reservation, shifted, without_named}
@@ -92,6 +93,15 @@ own_rows-edit a (Stations (BootSeen station boot state)) rows good =
     λ i. record (own_rows a rows) { stations = own-changed (λ r. r.op) a (λ r. bytes_eq r.station station) (with_boot boot state) rows.stations (λ r. refl) i }
 own_rows-edit a (Stations (PolicySet station policy interval)) rows good =
     λ i. record (own_rows a rows) { stations = own-changed (λ r. r.op) a (λ r. bytes_eq r.station station) (with_policy policy interval) rows.stations (λ r. refl) i }
+own_rows-edit a (Stations (StationDropped station)) rows good =
+    λ i. record (own_rows a rows) {
+      stations = own-without (λ r. r.op) a (λ r. bytes_eq r.station station) rows.stations i;
+      connectors = own-without (λ r. r.op) a (λ r. bytes_eq r.station station) rows.connectors i;
+      reservations = own-without (λ r. r.op) a (λ r. bytes_eq r.station station) rows.reservations i;
+      local_lists = own-without (λ r. r.op) a (λ r. bytes_eq r.station station) rows.local_lists i;
+      reports = own-without (λ r. r.op) a (λ r. bytes_eq r.station station) rows.reports i;
+      readers = own-without (λ r. r.op) a (λ r. bytes_eq r.station station) rows.readers i;
+    }
 own_rows-edit a (Stations (ConnectorSeen station connector report)) rows good =
     λ i. record (own_rows a rows) { connectors = own-put (λ r. r.op) connector_rest a (connector_row a station connector report) rows.connectors good.connectors.sorted refl i }
 own_rows-edit a (Tags (TagPut key tag)) rows good =
@@ -118,6 +128,8 @@ own_rows-edit a (Holdings (ListSet station list)) rows good =
     λ i. record (own_rows a rows) { local_lists = own-put (λ r. r.op) list_rest a (list_row a station list) rows.local_lists good.local_lists.sorted refl i }
 own_rows-edit a (Stations (ReportSeen station status moment)) rows good =
     λ i. record (own_rows a rows) { reports = own-put (λ r. r.op) report_rest a (report_row a station status moment) rows.reports good.reports.sorted refl i }
+own_rows-edit a (Stations (ReaderSet station reader)) rows good =
+    λ i. record (own_rows a rows) { readers = own-put (λ r. r.op) reader_rest a (reader_row a station reader) rows.readers good.readers.sorted refl i }
 
 -- the edit of another is seen in one's uses alone
 pub own_rows-edit_other : (a b : List ℕ) (e : Edit) (rows : Rows) → b ≢ a → own_rows a (edit b e rows) ≡ record (own_rows a rows) { uses = own (λ r. r.op) a (edit b e rows).uses }
@@ -127,6 +139,15 @@ own_rows-edit_other a b (Stations (BootSeen station boot state)) rows other =
     λ i. record (own_rows a rows) { stations = own-changed_other (λ r. r.op) a b (λ r. bytes_eq r.station station) (with_boot boot state) rows.stations (λ r. refl) other i }
 own_rows-edit_other a b (Stations (PolicySet station policy interval)) rows other =
     λ i. record (own_rows a rows) { stations = own-changed_other (λ r. r.op) a b (λ r. bytes_eq r.station station) (with_policy policy interval) rows.stations (λ r. refl) other i }
+own_rows-edit_other a b (Stations (StationDropped station)) rows other =
+    λ i. record (own_rows a rows) {
+      stations = own-without_other (λ r. r.op) a b (λ r. bytes_eq r.station station) rows.stations other i;
+      connectors = own-without_other (λ r. r.op) a b (λ r. bytes_eq r.station station) rows.connectors other i;
+      reservations = own-without_other (λ r. r.op) a b (λ r. bytes_eq r.station station) rows.reservations other i;
+      local_lists = own-without_other (λ r. r.op) a b (λ r. bytes_eq r.station station) rows.local_lists other i;
+      reports = own-without_other (λ r. r.op) a b (λ r. bytes_eq r.station station) rows.reports other i;
+      readers = own-without_other (λ r. r.op) a b (λ r. bytes_eq r.station station) rows.readers other i;
+    }
 own_rows-edit_other a b (Stations (ConnectorSeen station connector report)) rows other =
     λ i. record (own_rows a rows) { connectors = own-put_other (λ r. r.op) connector_rest a (connector_row b station connector report) rows.connectors other i }
 own_rows-edit_other a b (Tags (TagPut key tag)) rows other =
@@ -153,6 +174,8 @@ own_rows-edit_other a b (Holdings (ListSet station list)) rows other =
     λ i. record (own_rows a rows) { local_lists = own-put_other (λ r. r.op) list_rest a (list_row b station list) rows.local_lists other i }
 own_rows-edit_other a b (Stations (ReportSeen station status moment)) rows other =
     λ i. record (own_rows a rows) { reports = own-put_other (λ r. r.op) report_rest a (report_row b station status moment) rows.reports other i }
+own_rows-edit_other a b (Stations (ReaderSet station reader)) rows other =
+    λ i. record (own_rows a rows) { readers = own-put_other (λ r. r.op) reader_rest a (reader_row b station reader) rows.readers other i }
 
 -- ---- uses
 
@@ -267,4 +290,6 @@ same_lookups a rows good =
       forgettable = λ station until. forgettable until (those-own (λ r. r.op) a (λ r. bytes_eq r.station station) rows.transactions i) (all_readings station i);
       reports = λ station. those-own (λ r. r.op) a (λ r. bytes_eq r.station station) rows.reports i;
       uses = own-those (λ r. r.op) a rows.uses i;
+      reader = λ station. chosen (found-own (λ r. r.op) a (λ r. bytes_eq r.station station) rows.readers i);
+      readers = own-those (λ r. r.op) a rows.readers i;
     }

@@ -1,17 +1,17 @@
 -- What a change leaves of well formed rows.
-use Rattle.std.specs.Prelude.{◌≡◌, ◌≢◌, nat_lt, ℕ, ◌+◌, ◌<◌, ◌≤◌, List, [], ◌∷◌, length, Bool, ◌&&◌, ◌==◌, cond, not, true, false, filter, Option, None, Some, is_some, IsSome, IfSome}
+use Rattle.std.specs.Prelude.{◌≡◌, ◌≢◌, nat_lt, ℕ, ◌+◌, ◌<◌, ◌≤◌, List, [], ◌∷◌, length, Bool, ◌&&◌, cond, not, true, false, filter, Option, None, Some, is_some, IsSome, IfSome}
 use Rattle.std.proofs.Common.{refl, sym, ◌∙◌, ap, subst, arith, ⊎_elim}
 use Rattle.std.specs.List.{AllByRecursion}
 use Rattle.std.specs.List.Sorted.{IsStrictlySortedBy}
 use Rattle.std.specs.Option.{option_map}
 use Rattle.std.specs.Ordering.{is_eq}
 use Rattle.std.specs.Str.{bytes_eq}
-use Rattle.std.proofs.lemmas.Bool.{and_parts}
+use Rattle.std.proofs.lemmas.Bool.{and_parts, true≢false}
 use Rattle.std.proofs.lemmas.Bool.Decides.{nat_tests}
 use Rattle.std.proofs.lemmas.List.Kept.{IsStrictlySortedBy-filter}
 use Rattle.hub_rows.specs.declared.change.Edit.{Edit}
 use Rattle.hub_rows.specs.declared.change.Edit.TheVariants.{Stations, Tags, Transactions, Holdings}
-use Rattle.hub_rows.specs.declared.change.StationEdit.TheVariants.{StationAdded, BootSeen, PolicySet, ConnectorSeen, ReportSeen}
+use Rattle.hub_rows.specs.declared.change.StationEdit.TheVariants.{StationAdded, BootSeen, PolicySet, ReaderSet, StationDropped, ConnectorSeen, ReportSeen}
 use Rattle.hub_rows.specs.declared.change.TagEdit.TheVariants.{TagPut, TagDropped, GrantPut, GrantDropped}
 use Rattle.hub_rows.specs.declared.change.TransactionEdit.TheVariants.{TxStarted, TxStopped, ReadingsAdded, Forgotten}
 use Rattle.hub_rows.specs.declared.change.HoldingEdit.TheVariants.{ReservationPut, ReservationDropped, ListSet}
@@ -30,17 +30,19 @@ use Rattle.hub_rows.specs.declared.reading_row.Reading.{Reading}
 use Rattle.hub_rows.specs.declared.reading_row.ReadingRow.{ReadingRow}
 use Rattle.hub_rows.specs.declared.reservation_row.ReservationRow.{ReservationRow}
 use Rattle.hub_rows.specs.declared.list_row.ListRow.{ListRow}
+use Rattle.hub_rows.specs.declared.reader_row.ReaderRow.{ReaderRow}
 use Rattle.hub_rows.specs.declared.report_row.ReportRow.{ReportRow}
 use Rattle.hub_rows.specs.declared.tx_row.TxOwnerRow.{TxOwnerRow}
 use Rattle.hub_rows.specs.declared.use_row.UseRow.{UseRow}
-use Rattle.hub_rows.specs.Rows.{Rows, no_rows, station_in, registration_in, registration_of, station_key, connector_key, tag_key, grant_key, tx_key, reading_key, reservation_key, list_key, report_key, tx_owner_key, use_key}
+use Rattle.hub_rows.specs.Rows.{Rows, no_rows, station_in, registration_in, registration_of, station_key, connector_key, tag_key, grant_key, tx_key, reading_key, reservation_key, list_key, report_key, reader_key, tx_owner_key, use_key}
 use Rattle.hub_rows.specs.Keyed.{key_cmp, by_key, found, put, put_all, changed, without}
-use Rattle.hub_rows.specs.Transactions.{is_accepted, is_tx, tx_in, state_of, reading_rows, AreNext, last_of_all, last_tx_in}
-use Rattle.hub_rows.specs.WellFormed.{IsOnRecord, IsNumber, IsGoodConnector, IsGoodTag, IsGoodGrant, IsGoodTx, IsGoodReading, IsGoodReservation, IsGoodList, IsGoodReport, IsGoodTxOwner, AreGood, WellFormedRows}
-use Rattle.hub_rows.specs.Changes.{edit, new_station, with_boot, with_policy, connector_row, tag_row, grant_row, tx_row, with_stop, with_readings, reservation_row, list_row, report_row, IsOpen, IsAnother, EditFits}
+use Rattle.hub_rows.specs.Transactions.{is_accepted, is_tx, reading_rows, AreNext, last_of_all, last_tx_in}
+use Rattle.hub_rows.specs.WellFormed.{IsOnRecord, IsNumber, IsGoodConnector, IsGoodTag, IsGoodGrant, IsGoodTx, IsGoodReading, IsGoodReservation, IsGoodList, IsGoodReport, IsGoodReader, IsGoodTxOwner, AreGood, WellFormedRows}
+use Rattle.hub_rows.specs.Changes.{edit, new_station, with_boot, with_policy, connector_row, tag_row, grant_row, tx_row, with_stop, with_readings, reservation_row, list_row, report_row, reader_row, IsAnother, EditFits}
 use Rattle.hub_rows.specs.Reservations.{is_named, is_reservation, without_named}
 use Rattle.hub_rows.specs.Uses.{is_owner_of, owner_in, with_owner, use_by, settled_use, use_row, with_use, last_use_in}
-use Rattle.hub_rows.proofs.ListLaws.{by_key_total, same_key, same_text, two_parts, all-put, all-put_all, all-filter, all-changed, all-weaker, sorted-put, sorted-put_all, sorted-changed, some-put, some-map, found_all, found_is}
+use Rattle.hub_rows.proofs.ListLaws.{by_key_total, same_key, same_text, two_parts, all-put, all-put_all, all-filter, all-changed, all-weaker, sorted-put, sorted-put_all, sorted-changed, some-put, some-map, found_is}
+use Rattle.hub_rows.proofs.DroppedLaws.{all-kept, kept_station, station-dropped}
 use Rattle.hub_rows.proofs.OwnerLaws.{BeganAccepted, KeepsBegun, began-kept, find-kept, found-new, keeps-new, keeps-stopped, next-above}
 use Rattle.hub_rows.proofs.UseLaws.{good-next}
 
@@ -61,18 +63,6 @@ module _ {R : Type 0} (key : R → List (List ℕ)) (P : R → Type 0) where
 
   good-weaker : (Q : R → Type 0) → ((r : R) → P r → Q r) → (rs : List R) → AreGood key P rs → AreGood key Q rs
   good-weaker Q f rs good = record { sorted = good.sorted; each = all-weaker P Q f rs good.each }
-
--- ---- rows that are left
-
--- what is so of each row that is left is so of all of them
-all-kept : {R : Type 0} (P Q : R → Type 0) (d : R → Bool) → ((r : R) → d r ≡ false → P r → Q r) → (rs : List R) → AllByRecursion P rs → AllByRecursion Q (filter (λ r. not (d r)) rs)
-all-kept P Q d stays [] all = tt
-all-kept P Q d stays (x ∷ xs) all =
-    let left = filter (λ r. not (d r)) xs in
-    elim (d x) as (λ c. d x ≡ c → AllByRecursion Q (cond (not c) (x ∷ left) left)) [
-      | true ↦ λ gone. all-kept P Q d stays xs all.1
-      | false ↦ λ is. (stays x is all.0, all-kept P Q d stays xs all.1)
-    ] refl
 
 -- ---- stations on record
 
@@ -103,15 +93,21 @@ keeps-changed c test f same stations b station on =
     some-map t (λ r. cond (bytes_eq r.op c && test r) (f r) r)
     (λ r. elim (bytes_eq r.op c && test r) as (λ y. t (cond y (f r) r) ≡ t r) [ true ↦ λ i. bytes_eq ((same r).0 i) b && bytes_eq ((same r).1 i) station | false ↦ refl ]) stations on
 
--- no edit takes a station off the record
-pub keeps-edit : (b : List ℕ) (e : Edit) (rows : Rows) → KeepsRecord rows.stations (edit b e rows).stations
-keeps-edit b (Stations (StationAdded station policy interval)) rows = keeps-put (new_station b station policy interval) rows.stations
-keeps-edit b (Stations (BootSeen station boot state)) rows = keeps-changed b (λ r. bytes_eq r.station station) (with_boot boot state) (λ r. (refl, refl)) rows.stations
-keeps-edit b (Stations (PolicySet station policy interval)) rows = keeps-changed b (λ r. bytes_eq r.station station) (with_policy policy interval) (λ r. (refl, refl)) rows.stations
-keeps-edit b (Tags (TagDropped key)) rows = λ c s on. on
-keeps-edit b (Transactions (ReadingsAdded station first readings)) rows = λ c s on. on
-keeps-edit b (Holdings (ReservationDropped station id)) rows = λ c s on. on
-keeps-edit b e rows = λ c s on. on
+-- whether an edit of operator b drops the station of that name of operator c
+abbrev pub drops : List ℕ → Edit → List ℕ → List ℕ → Bool
+drops b (Stations (StationDropped station)) c name = bytes_eq c b && bytes_eq name station
+drops b e c name = false
+
+-- an edit takes a station off the record only if it drops it
+pub keeps-edit : (b : List ℕ) (e : Edit) (rows : Rows) → (c station : List ℕ) → drops b e c station ≡ false → IsOnRecord c station rows.stations → IsOnRecord c station (edit b e rows).stations
+keeps-edit b (Stations (StationAdded station policy interval)) rows c s other = keeps-put (new_station b station policy interval) rows.stations c s
+keeps-edit b (Stations (BootSeen station boot state)) rows c s other = keeps-changed b (λ r. bytes_eq r.station station) (with_boot boot state) (λ r. (refl, refl)) rows.stations c s
+keeps-edit b (Stations (PolicySet station policy interval)) rows c s other = keeps-changed b (λ r. bytes_eq r.station station) (with_policy policy interval) (λ r. (refl, refl)) rows.stations c s
+keeps-edit b (Stations (StationDropped station)) rows c s other = kept_station b station rows.stations c s other
+keeps-edit b (Tags (TagDropped key)) rows c s other = λ on. on
+keeps-edit b (Transactions (ReadingsAdded station first readings)) rows c s other = λ on. on
+keeps-edit b (Holdings (ReservationDropped station id)) rows c s other = λ on. on
+keeps-edit b e rows c s other = λ on. on
 
 -- ---- tags on record
 
@@ -150,23 +146,24 @@ module _ (rows : Rows) (good : WellFormedRows rows) where
     connectors = good-weaker connector_key (IsGoodConnector rows.stations) (IsGoodConnector rs) (λ r on. keeps r.op r.station on) rows.connectors good.connectors;
     tags = good.tags;
     grants = good.grants;
-    transactions = good-weaker tx_key (IsGoodTx rows.stations) (IsGoodTx rs) (λ r g. record { station = keeps r.op r.station g.station; number = g.number; key = g.key }) rows.transactions good.transactions;
-    readings = good-weaker reading_key (IsGoodReading rows.stations) (IsGoodReading rs) (λ r g. record { station = keeps r.op r.station g.station; number = g.number }) rows.readings good.readings;
+    transactions = good-weaker tx_key (IsGoodTx rows.stations) (IsGoodTx rs) (λ r g. record { station = λ is. keeps r.op r.station (g.station is); number = g.number; key = g.key }) rows.transactions good.transactions;
+    readings = good.readings;
     reservations = good-weaker reservation_key (IsGoodReservation rows.stations) (IsGoodReservation rs) (λ r on. keeps r.op r.station on) rows.reservations good.reservations;
     local_lists = good-weaker list_key (IsGoodList rows.stations) (IsGoodList rs) (λ r g. record { station = keeps r.op r.station g.station; entries = g.entries }) rows.local_lists good.local_lists;
     reports = good-weaker report_key (IsGoodReport rows.stations) (IsGoodReport rs) (λ r on. keeps r.op r.station on) rows.reports good.reports;
     tx_owners = good.tx_owners;
     uses = good.uses;
+    readers = good-weaker reader_key (IsGoodReader rows.stations) (IsGoodReader rs) (λ r on. keeps r.op r.station on) rows.readers good.readers;
   }
 
   pub well_formed-connectors : (rs : List ConnectorRow) → AreGood connector_key (IsGoodConnector rows.stations) rs → WellFormedRows (record rows { connectors = rs })
-  well_formed-connectors rs new = record { stations = good.stations; connectors = new; tags = good.tags; grants = good.grants; transactions = good.transactions; readings = good.readings; reservations = good.reservations; local_lists = good.local_lists; reports = good.reports; tx_owners = good.tx_owners; uses = good.uses }
+  well_formed-connectors rs new = record { stations = good.stations; connectors = new; tags = good.tags; grants = good.grants; transactions = good.transactions; readings = good.readings; reservations = good.reservations; local_lists = good.local_lists; reports = good.reports; tx_owners = good.tx_owners; uses = good.uses; readers = good.readers }
 
   pub well_formed-tags : (rs : List TagRow) (gs : List GrantRow) → AreGood tag_key IsGoodTag rs → AreGood grant_key (IsGoodGrant rs) gs → WellFormedRows (record rows { tags = rs; grants = gs })
-  well_formed-tags rs gs new granted = record { stations = good.stations; connectors = good.connectors; tags = new; grants = granted; transactions = good.transactions; readings = good.readings; reservations = good.reservations; local_lists = good.local_lists; reports = good.reports; tx_owners = good.tx_owners; uses = good.uses }
+  well_formed-tags rs gs new granted = record { stations = good.stations; connectors = good.connectors; tags = new; grants = granted; transactions = good.transactions; readings = good.readings; reservations = good.reservations; local_lists = good.local_lists; reports = good.reports; tx_owners = good.tx_owners; uses = good.uses; readers = good.readers }
 
   pub well_formed-grants : (gs : List GrantRow) → AreGood grant_key (IsGoodGrant rows.tags) gs → WellFormedRows (record rows { grants = gs })
-  well_formed-grants gs new = record { stations = good.stations; connectors = good.connectors; tags = good.tags; grants = new; transactions = good.transactions; readings = good.readings; reservations = good.reservations; local_lists = good.local_lists; reports = good.reports; tx_owners = good.tx_owners; uses = good.uses }
+  well_formed-grants gs new = record { stations = good.stations; connectors = good.connectors; tags = good.tags; grants = new; transactions = good.transactions; readings = good.readings; reservations = good.reservations; local_lists = good.local_lists; reports = good.reports; tx_owners = good.tx_owners; uses = good.uses; readers = good.readers }
 
   -- each transaction that was on record and began Accepted still is
   pub well_formed-transactions : (rs : List TxRow) → AreGood tx_key (IsGoodTx rows.stations) rs → KeepsBegun rows.transactions rs → WellFormedRows (record rows { transactions = rs })
@@ -182,49 +179,39 @@ module _ (rows : Rows) (good : WellFormedRows rows) where
     reports = good.reports;
     tx_owners = good-weaker tx_owner_key (IsGoodTxOwner rows.transactions) (IsGoodTxOwner rs) (λ r g. record { tx = keeps r.op r.station r.number g.tx; owner = g.owner }) rows.tx_owners good.tx_owners;
     uses = good.uses;
+    readers = good.readers;
   }
 
-  pub well_formed-readings : (rs : List ReadingRow) → AreGood reading_key (IsGoodReading rows.stations) rs → WellFormedRows (record rows { readings = rs })
-  well_formed-readings rs new = record { stations = good.stations; connectors = good.connectors; tags = good.tags; grants = good.grants; transactions = good.transactions; readings = new; reservations = good.reservations; local_lists = good.local_lists; reports = good.reports; tx_owners = good.tx_owners; uses = good.uses }
+  pub well_formed-readings : (rs : List ReadingRow) → AreGood reading_key IsGoodReading rs → WellFormedRows (record rows { readings = rs })
+  well_formed-readings rs new = record { stations = good.stations; connectors = good.connectors; tags = good.tags; grants = good.grants; transactions = good.transactions; readings = new; reservations = good.reservations; local_lists = good.local_lists; reports = good.reports; tx_owners = good.tx_owners; uses = good.uses; readers = good.readers }
 
   pub well_formed-reservations : (rs : List ReservationRow) → AreGood reservation_key (IsGoodReservation rows.stations) rs → WellFormedRows (record rows { reservations = rs })
-  well_formed-reservations rs new = record { stations = good.stations; connectors = good.connectors; tags = good.tags; grants = good.grants; transactions = good.transactions; readings = good.readings; reservations = new; local_lists = good.local_lists; reports = good.reports; tx_owners = good.tx_owners; uses = good.uses }
+  well_formed-reservations rs new = record { stations = good.stations; connectors = good.connectors; tags = good.tags; grants = good.grants; transactions = good.transactions; readings = good.readings; reservations = new; local_lists = good.local_lists; reports = good.reports; tx_owners = good.tx_owners; uses = good.uses; readers = good.readers }
 
   pub well_formed-local_lists : (rs : List ListRow) → AreGood list_key (IsGoodList rows.stations) rs → WellFormedRows (record rows { local_lists = rs })
-  well_formed-local_lists rs new = record { stations = good.stations; connectors = good.connectors; tags = good.tags; grants = good.grants; transactions = good.transactions; readings = good.readings; reservations = good.reservations; local_lists = new; reports = good.reports; tx_owners = good.tx_owners; uses = good.uses }
+  well_formed-local_lists rs new = record { stations = good.stations; connectors = good.connectors; tags = good.tags; grants = good.grants; transactions = good.transactions; readings = good.readings; reservations = good.reservations; local_lists = new; reports = good.reports; tx_owners = good.tx_owners; uses = good.uses; readers = good.readers }
 
   pub well_formed-reports : (rs : List ReportRow) → AreGood report_key (IsGoodReport rows.stations) rs → WellFormedRows (record rows { reports = rs })
-  well_formed-reports rs new = record { stations = good.stations; connectors = good.connectors; tags = good.tags; grants = good.grants; transactions = good.transactions; readings = good.readings; reservations = good.reservations; local_lists = good.local_lists; reports = new; tx_owners = good.tx_owners; uses = good.uses }
+  well_formed-reports rs new = record { stations = good.stations; connectors = good.connectors; tags = good.tags; grants = good.grants; transactions = good.transactions; readings = good.readings; reservations = good.reservations; local_lists = good.local_lists; reports = new; tx_owners = good.tx_owners; uses = good.uses; readers = good.readers }
+
+  pub well_formed-readers : (rs : List ReaderRow) → AreGood reader_key (IsGoodReader rows.stations) rs → WellFormedRows (record rows { readers = rs })
+  well_formed-readers rs new = record { stations = good.stations; connectors = good.connectors; tags = good.tags; grants = good.grants; transactions = good.transactions; readings = good.readings; reservations = good.reservations; local_lists = good.local_lists; reports = good.reports; tx_owners = good.tx_owners; uses = good.uses; readers = new }
 
 -- ---- new numbers
 
 number_of : (last first : ℕ) → AreNext last first 1 → IsNumber first
 number_of last first next = ⊎_elim (λ none. absurd (omega (arith, none))) (λ follow. (follow.from_one, let to = follow.to_the_end in omega (arith, to))) next
 
-readings_from : (stations : List StationRow) (b station : List ℕ) (first : ℕ) (readings : List Reading) → IsOnRecord b station stations → 1 ≤ first → first + length readings ≤ last_of_all + 1 → AllByRecursion (IsGoodReading stations) (reading_rows b station first readings)
-readings_from stations b station first [] on from to = tt
-readings_from stations b station first (r ∷ rs) on from to = (record { station = on; number = (from, omega (arith, to)) }, readings_from stations b station (first + 1) rs on (omega (arith, from)) (omega (arith, to)))
+readings_from : (b station : List ℕ) (first : ℕ) (readings : List Reading) → 1 ≤ first → first + length readings ≤ last_of_all + 1 → AllByRecursion IsGoodReading (reading_rows b station first readings)
+readings_from b station first [] from to = tt
+readings_from b station first (r ∷ rs) from to = ((from, omega (arith, to)), readings_from b station (first + 1) rs (omega (arith, from)) (omega (arith, to)))
 
-good_readings : (stations : List StationRow) (b station : List ℕ) (last first : ℕ) (readings : List Reading) → IsOnRecord b station stations → AreNext last first (length readings) → AllByRecursion (IsGoodReading stations) (reading_rows b station first readings)
-good_readings stations b station last first [] on next = tt
-good_readings stations b station last first (r ∷ rs) on next =
-    ⊎_elim (λ none. absurd (omega (arith, none))) (λ follow. readings_from stations b station first (r ∷ rs) on follow.from_one follow.to_the_end) next
+good_readings : (b station : List ℕ) (last first : ℕ) (readings : List Reading) → AreNext last first (length readings) → AllByRecursion IsGoodReading (reading_rows b station first readings)
+good_readings b station last first [] next = tt
+good_readings b station last first (r ∷ rs) next =
+    ⊎_elim (λ none. absurd (omega (arith, none))) (λ follow. readings_from b station first (r ∷ rs) follow.from_one follow.to_the_end) next
 
 -- ---- changes
-
-open_some : (o : Option TxRow) → IsOpen (option_map state_of o) → IsSome o
-open_some None is_open = absurd is_open
-open_some (Some r) is_open = refl
-
--- the station of a transaction is on record
-pub on_record-tx : (b station : List ℕ) (number : ℕ) (rows : Rows) → WellFormedRows rows → IsOpen (tx_in b station number rows.transactions) → IsOnRecord b station rows.stations
-on_record-tx b station number rows good is_open =
-    let t : TxRow → Bool = (λ r. bytes_eq r.op b && is_tx station number r) in
-    let at = found_all (IsGoodTx rows.stations) t rows.transactions good.transactions.each (open_some _ is_open) in
-    let r : TxRow = at.0 in
-    let parts = and_parts (bytes_eq r.op b) (is_tx station number r) at.1.1 in
-    let of_station = and_parts (bytes_eq r.station station) (r.number == number) parts.1 in
-    subst (λ s. IsOnRecord b s rows.stations) (same_text r.station station of_station.0) (subst (λ o. IsOnRecord o r.station rows.stations) (same_text r.op b parts.0) at.1.0.station)
 
 module _ (b : List ℕ) (rows : Rows) (good : WellFormedRows rows) where
   pub station-put : (r : StationRow) → WellFormedRows (record rows { stations = put (by_key station_key) r rows.stations })
@@ -260,11 +247,11 @@ module _ (b : List ℕ) (rows : Rows) (good : WellFormedRows rows) where
 
   pub tx-stopped : (station : List ℕ) (number : ℕ) (stop : Stop) → WellFormedRows (record rows { transactions = changed (λ r. r.op) b (is_tx station number) (with_stop stop) rows.transactions })
   tx-stopped station number stop = well_formed-transactions rows good _
-      (good-changed tx_key (IsGoodTx rows.stations) (λ r. r.op) b (is_tx station number) (with_stop stop) (λ r. refl) (λ r g. record { station = g.station; number = g.number; key = g.key }) rows.transactions good.transactions) (keeps-stopped b (is_tx station number) stop rows.transactions)
+      (good-changed tx_key (IsGoodTx rows.stations) (λ r. r.op) b (is_tx station number) (with_stop stop) (λ r. refl) (λ r g. record { station = λ is. absurd (true≢false (sym is)); number = g.number; key = g.key }) rows.transactions good.transactions) (keeps-stopped b (is_tx station number) stop rows.transactions)
 
-  pub readings-put : (station : List ℕ) (last first : ℕ) (readings : List Reading) → IsOnRecord b station rows.stations → AreNext last first (length readings) → WellFormedRows (record rows { readings = with_readings b station first readings rows.readings })
-  readings-put station last first readings on next = well_formed-readings rows good _
-      (good-put_all reading_key (IsGoodReading rows.stations) (reading_rows b station first readings) rows.readings (good_readings rows.stations b station last first readings on next) good.readings)
+  pub readings-put : (station : List ℕ) (last first : ℕ) (readings : List Reading) → AreNext last first (length readings) → WellFormedRows (record rows { readings = with_readings b station first readings rows.readings })
+  readings-put station last first readings next = well_formed-readings rows good _
+      (good-put_all reading_key IsGoodReading (reading_rows b station first readings) rows.readings (good_readings b station last first readings next) good.readings)
 
   pub reservation-put : (r : ReservationRow) → IsGoodReservation rows.stations r → WellFormedRows (record rows { reservations = put (by_key reservation_key) r rows.reservations })
   reservation-put r new = well_formed-reservations rows good _ (good-put reservation_key (IsGoodReservation rows.stations) r rows.reservations new good.reservations)
@@ -278,6 +265,9 @@ module _ (b : List ℕ) (rows : Rows) (good : WellFormedRows rows) where
 
   pub report-put : (r : ReportRow) → IsGoodReport rows.stations r → WellFormedRows (record rows { reports = put (by_key report_key) r rows.reports })
   report-put r new = well_formed-reports rows good _ (good-put report_key (IsGoodReport rows.stations) r rows.reports new good.reports)
+
+  pub reader-put : (r : ReaderRow) → IsGoodReader rows.stations r → WellFormedRows (record rows { readers = put (by_key reader_key) r rows.readers })
+  reader-put r new = well_formed-readers rows good _ (good-put reader_key (IsGoodReader rows.stations) r rows.readers new good.readers)
 
   -- the owner of the tag of a transaction that began Accepted
   pub owner-put : (station : List ℕ) (number : ℕ) (owner : Option (List ℕ)) → IsAnother b owner → IfSome owner (λ a. BeganAccepted (found (λ t. t.op) b (is_tx station number) rows.transactions)) → WellFormedRows (record rows { tx_owners = with_owner b station number owner rows.tx_owners })
@@ -294,6 +284,7 @@ module _ (b : List ℕ) (rows : Rows) (good : WellFormedRows rows) where
     reports = good.reports;
     tx_owners = good-put tx_owner_key (IsGoodTxOwner rows.transactions) (record { op = b; station = station; number = number; owner = a }) rows.tx_owners (record { tx = on; owner = other }) good.tx_owners;
     uses = good.uses;
+    readers = good.readers;
   }
 
   -- transactions are forgotten with the owners of their tags
@@ -305,7 +296,7 @@ module _ (b : List ℕ) (rows : Rows) (good : WellFormedRows rows) where
         tags = good.tags;
         grants = good.grants;
         transactions = good-filter tx_key (IsGoodTx rows.stations) (λ r. not (bytes_eq r.op b && is_one_of (λ r. r.station) (λ r. r.number) station gone.transactions r)) rows.transactions good.transactions;
-        readings = good-filter reading_key (IsGoodReading rows.stations) (λ r. not (bytes_eq r.op b && is_one_of (λ r. r.station) (λ r. r.number) station gone.readings r)) rows.readings good.readings;
+        readings = good-filter reading_key IsGoodReading (λ r. not (bytes_eq r.op b && is_one_of (λ r. r.station) (λ r. r.number) station gone.readings r)) rows.readings good.readings;
         reservations = good.reservations;
         local_lists = good.local_lists;
         reports = good.reports;
@@ -315,6 +306,7 @@ module _ (b : List ℕ) (rows : Rows) (good : WellFormedRows rows) where
               (λ r stays it. record { tx = began-kept b station gone.transactions rows.transactions r.op r.station r.number stays it.tx; owner = it.owner }) rows.tx_owners good.tx_owners.each;
         };
         uses = good.uses;
+        readers = good.readers;
       }
 
   -- the next use of an owner
@@ -331,6 +323,7 @@ module _ (b : List ℕ) (rows : Rows) (good : WellFormedRows rows) where
     reports = good.reports;
     tx_owners = good.tx_owners;
     uses = good-next r rows.uses good.uses number host next;
+    readers = good.readers;
   }
 
 -- ---- uses
@@ -375,6 +368,7 @@ pub well_formed-edit : (b : List ℕ) (e : Edit) (rows : Rows) → WellFormedRow
 well_formed-edit b (Stations (StationAdded station policy interval)) rows good fits = station-put b rows good (new_station b station policy interval)
 well_formed-edit b (Stations (BootSeen station boot state)) rows good fits = station-changed b rows good station (with_boot boot state) (λ r. (refl, refl))
 well_formed-edit b (Stations (PolicySet station policy interval)) rows good fits = station-changed b rows good station (with_policy policy interval) (λ r. (refl, refl))
+well_formed-edit b (Stations (StationDropped station)) rows good fits = station-dropped b rows good station fits
 well_formed-edit b (Stations (ConnectorSeen station connector report)) rows good fits = connector-put b rows good (connector_row b station connector report) (on_record b station rows.stations fits)
 well_formed-edit b (Tags (TagPut key tag)) rows good fits = tag-put b rows good (tag_row b key tag) (record { key = fits })
 well_formed-edit b (Tags (TagDropped key)) rows good fits = tag-dropped b rows good key
@@ -384,19 +378,20 @@ well_formed-edit b (Transactions (TxStarted station number start owner)) rows go
     let r : TxRow = tx_row b station number start in
     let above : last_tx_in b station rows.transactions < number = next-above (last_tx_in b station rows.transactions) number fits.1 in
     let begun : WellFormedRows (record rows { transactions = put (by_key tx_key) r rows.transactions })
-    = tx-put b rows good r (record { station = on_record b station rows.stations fits.0; number = number_of _ number fits.1; key = fits.2 }) above in
+    = tx-put b rows good r (record { station = λ is. on_record b station rows.stations fits.0; number = number_of _ number fits.1; key = fits.2 }) above in
     let freed = reservations-without b (record rows { transactions = put (by_key tx_key) r rows.transactions }) begun (is_named station start.reservation) in
     owner-put b (record rows { transactions = put (by_key tx_key) r rows.transactions; reservations = without_named b station start.reservation rows.reservations }) freed station number owner fits.3 (if_some owner (λ status. subst BeganAccepted (sym (found-new r rows.transactions above)) (ap is_accepted status)) fits.4)
 well_formed-edit b (Transactions (TxStopped station number stop first readings)) rows good fits =
     let ended : WellFormedRows (record rows { transactions = changed (λ r. r.op) b (is_tx station number) (with_stop stop) rows.transactions }) = tx-stopped b rows good station number stop in
-    let read = readings-put b (record rows { transactions = changed (λ r. r.op) b (is_tx station number) (with_stop stop) rows.transactions }) ended station _ first readings (on_record-tx b station number rows good fits.0) fits.1 in
+    let read = readings-put b (record rows { transactions = changed (λ r. r.op) b (is_tx station number) (with_stop stop) rows.transactions }) ended station _ first readings fits.1 in
     use-settled b (record rows { transactions = changed (λ r. r.op) b (is_tx station number) (with_stop stop) rows.transactions; readings = with_readings b station first readings rows.readings }) read (settled_use b station number stop rows) (is_settled b station number stop rows good)
-well_formed-edit b (Transactions (ReadingsAdded station first readings)) rows good fits = readings-put b rows good station _ first readings (on_record b station rows.stations fits.0) fits.1
+well_formed-edit b (Transactions (ReadingsAdded station first readings)) rows good fits = readings-put b rows good station _ first readings fits.1
 well_formed-edit b (Transactions (Forgotten station gone)) rows good fits = forgotten b rows good station gone
 well_formed-edit b (Holdings (ReservationPut station id reservation)) rows good fits = reservation-put b rows good (reservation_row b station id reservation) (on_record b station rows.stations fits)
 well_formed-edit b (Holdings (ReservationDropped station id)) rows good fits = reservations-without b rows good (is_reservation station id)
 well_formed-edit b (Holdings (ListSet station list)) rows good fits = list-put b rows good (list_row b station list) (record { station = on_record b station rows.stations fits.0; entries = fits.1 })
 well_formed-edit b (Stations (ReportSeen station status moment)) rows good fits = report-put b rows good (report_row b station status moment) (on_record b station rows.stations fits)
+well_formed-edit b (Stations (ReaderSet station reader)) rows good fits = reader-put b rows good (reader_row b station reader) (on_record b station rows.stations fits)
 
 pub well_formed-no_rows : WellFormedRows no_rows
 unfolding IsStrictlySortedBy
@@ -412,4 +407,5 @@ well_formed-no_rows = record {
   reports = record { sorted = tt; each = tt };
   tx_owners = record { sorted = tt; each = tt };
   uses = record { sorted = tt; each = tt };
+  readers = record { sorted = tt; each = tt };
 }

@@ -24,11 +24,13 @@ use Rattle.hub_rows.specs.declared.reservation_row.Reservation.{Reservation}
 use Rattle.hub_rows.specs.declared.reservation_row.ReservationRow.{ReservationRow}
 use Rattle.hub_rows.specs.declared.list_row.ListRow.{ListRow}
 use Rattle.hub_rows.specs.declared.list_row.LocalList.{LocalList}
+use Rattle.hub_rows.specs.declared.reader_row.Reader.{Reader}
+use Rattle.hub_rows.specs.declared.reader_row.ReaderRow.{ReaderRow}
 use Rattle.hub_rows.specs.declared.report_row.ReportRow.{ReportRow}
 use Rattle.hub_rows.specs.declared.report_row.ReportedStatus.{ReportedStatus}
 use Rattle.hub_rows.specs.declared.change.Edit.{Edit}
 use Rattle.hub_rows.specs.declared.change.Edit.TheVariants.{Stations, Tags, Transactions, Holdings}
-use Rattle.hub_rows.specs.declared.change.StationEdit.TheVariants.{StationAdded, BootSeen, PolicySet, ConnectorSeen, ReportSeen}
+use Rattle.hub_rows.specs.declared.change.StationEdit.TheVariants.{StationAdded, BootSeen, PolicySet, ReaderSet, StationDropped, ConnectorSeen, ReportSeen}
 use Rattle.hub_rows.specs.declared.change.TagEdit.TheVariants.{TagPut, TagDropped, GrantPut, GrantDropped}
 use Rattle.hub_rows.specs.declared.change.TransactionEdit.TheVariants.{TxStarted, TxStopped, ReadingsAdded, Forgotten}
 use Rattle.hub_rows.specs.declared.change.HoldingEdit.TheVariants.{ReservationPut, ReservationDropped, ListSet}
@@ -37,9 +39,9 @@ use Rattle.hub_rows.specs.Forgetting.{is_one_of}
 use Rattle.hub_rows.specs.Grants.{is_grant}
 use Rattle.hub_rows.specs.LocalLists.{AreEntries}
 use Rattle.hub_rows.specs.Reservations.{is_reservation, without_named}
-use Rattle.hub_rows.specs.Rows.{Rows, station_key, connector_key, tag_key, grant_key, tx_key, reading_key, reservation_key, list_key, report_key, registration_at}
+use Rattle.hub_rows.specs.Rows.{Rows, station_key, connector_key, tag_key, grant_key, tx_key, reading_key, reservation_key, list_key, report_key, reader_key, registration_at}
 use Rattle.hub_rows.specs.Tags.{own_tag_in}
-use Rattle.hub_rows.specs.Transactions.{is_tx, tx_in, reading_rows, last_tx_in, last_reading_in, AreNext}
+use Rattle.hub_rows.specs.Transactions.{is_tx, tx_in, has_open_in, reading_rows, last_tx_in, last_reading_in, AreNext}
 use Rattle.hub_rows.specs.Uses.{with_owner, settled_use, with_use}
 
 -- a station that is new
@@ -90,12 +92,25 @@ list_row b station list = record { op = b; station = station; list = list }
 abbrev pub report_row : List ℕ → List ℕ → ReportedStatus → ℕ → ReportRow
 report_row b station status moment = record { op = b; station = station; status = status; moment = moment }
 
--- an edit of the rows of operator b; a tag is dropped with its grants, a start ends the reservation that it
--- names, a stop settles a use of the owner that granted the tag, and forgotten transactions go with the owners of their tags
+-- how a station is read
+abbrev pub reader_row : List ℕ → List ℕ → Reader → ReaderRow
+reader_row b station reader = record { op = b; station = station; reader = reader }
+
+-- an edit of the rows of operator b; a station is dropped with all that it reported and holds and with its reader, but not its history,
+-- a tag with its grants; a start ends the reservation that it names, a stop settles a use of the owner that granted the
+-- tag, and forgotten transactions go with the owners of their tags
 abbrev pub edit : List ℕ → Edit → Rows → Rows
 edit b (Stations (StationAdded station policy interval)) rows = record rows { stations = put (by_key station_key) (new_station b station policy interval) rows.stations }
 edit b (Stations (BootSeen station boot state)) rows = record rows { stations = changed (λ r. r.op) b (λ r. bytes_eq r.station station) (with_boot boot state) rows.stations }
 edit b (Stations (PolicySet station policy interval)) rows = record rows { stations = changed (λ r. r.op) b (λ r. bytes_eq r.station station) (with_policy policy interval) rows.stations }
+edit b (Stations (StationDropped station)) rows = record rows {
+  stations = without (λ r. r.op) b (λ r. bytes_eq r.station station) rows.stations;
+  connectors = without (λ r. r.op) b (λ r. bytes_eq r.station station) rows.connectors;
+  reservations = without (λ r. r.op) b (λ r. bytes_eq r.station station) rows.reservations;
+  local_lists = without (λ r. r.op) b (λ r. bytes_eq r.station station) rows.local_lists;
+  reports = without (λ r. r.op) b (λ r. bytes_eq r.station station) rows.reports;
+  readers = without (λ r. r.op) b (λ r. bytes_eq r.station station) rows.readers;
+}
 edit b (Stations (ConnectorSeen station connector report)) rows = record rows { connectors = put (by_key connector_key) (connector_row b station connector report) rows.connectors }
 edit b (Tags (TagPut key tag)) rows = record rows { tags = put (by_key tag_key) (tag_row b key tag) rows.tags }
 edit b (Tags (TagDropped key)) rows = record rows { tags = without (λ r. r.op) b (λ r. bytes_eq r.key key) rows.tags; grants = without (λ r. r.op) b (λ r. bytes_eq r.key key) rows.grants }
@@ -113,6 +128,7 @@ edit b (Holdings (ReservationPut station id reservation)) rows = record rows { r
 edit b (Holdings (ReservationDropped station id)) rows = record rows { reservations = without (λ r. r.op) b (is_reservation station id) rows.reservations }
 edit b (Holdings (ListSet station list)) rows = record rows { local_lists = put (by_key list_key) (list_row b station list) rows.local_lists }
 edit b (Stations (ReportSeen station status moment)) rows = record rows { reports = put (by_key report_key) (report_row b station status moment) rows.reports }
+edit b (Stations (ReaderSet station reader)) rows = record rows { readers = put (by_key reader_key) (reader_row b station reader) rows.readers }
 
 abbrev pub IsOpen : Option TxState → Type 0
 IsOpen None = ⊥
@@ -127,8 +143,8 @@ abbrev pub IsAnother : List ℕ → Option (List ℕ) → Type 0
 IsAnother b None = Unit {0}
 IsAnother b (Some a) = a ≢ b
 
--- an edit that the rows allow: a new station isn't there, one that is edited or has the row is,
--- a transaction that is stopped is open, those that are forgotten are stopped, new numbers follow the station's last, if it has one, the
+-- an edit that the rows allow: a new station isn't there, one that is edited or has the row is, one that is dropped has
+-- no open transaction, a transaction that is stopped is open, those that are forgotten are stopped, new numbers follow the station's last, if it has one, the
 -- key of a tag is the key of its text, a tag that is granted is the operator's own and is granted to
 -- another, the owner of a granted tag is another and is kept for a start that is Accepted alone, and a local list has
 -- its entries in the order of their keys
@@ -136,6 +152,8 @@ abbrev pub EditFits : List ℕ → Edit → Rows → Type 0
 EditFits b (Stations (StationAdded station policy interval)) rows = registration_at b station rows ≡ None
 EditFits b (Stations (BootSeen station boot state)) rows = IsSome (registration_at b station rows)
 EditFits b (Stations (PolicySet station policy interval)) rows = IsSome (registration_at b station rows)
+EditFits b (Stations (ReaderSet station reader)) rows = IsSome (registration_at b station rows)
+EditFits b (Stations (StationDropped station)) rows = has_open_in b station rows.transactions ≡ false
 EditFits b (Stations (ConnectorSeen station connector report)) rows = IsSome (registration_at b station rows)
 EditFits b (Tags (TagPut key tag)) rows = key ≡ key_of tag.text
 EditFits b (Tags (TagDropped key)) rows = Unit {0}

@@ -65,6 +65,10 @@ old_rows until txs readings gone = record { readings = gone; transactions = old_
 abbrev pub forgettable : ℕ → List TxRow → List ReadingRow → History
 forgettable until txs readings = old_rows until txs readings (old_readings MAX_FORGOTTEN until txs readings)
 
+-- no history
+abbrev pub has_no_rows : History → Bool
+has_no_rows h = (length h.readings == 0) && (length h.transactions == 0)
+
 -- by their numbers
 abbrev pub numbers_of : History → Forgettable
 numbers_of h = record { readings = map (λ r. r.number) h.readings; transactions = map (λ t. t.number) h.transactions }

@@ -3,6 +3,7 @@ pub mod Keyed
 pub mod Places
 pub mod Failures
 pub mod Reads
+pub mod Readers
 pub mod Reports
 pub mod Rows
 pub mod Tags

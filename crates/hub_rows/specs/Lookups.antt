@@ -24,10 +24,13 @@ use Rattle.hub_rows.specs.declared.reading_row.ReadingRow.{ReadingRow}
 use Rattle.hub_rows.specs.declared.reservation_row.ReservationRow.{ReservationRow}
 use Rattle.hub_rows.specs.declared.list_row.ListRow.{ListRow}
 use Rattle.hub_rows.specs.declared.list_row.LocalList.{LocalList}
+use Rattle.hub_rows.specs.declared.reader_row.Reader.{Reader}
+use Rattle.hub_rows.specs.declared.reader_row.ReaderRow.{ReaderRow}
 use Rattle.hub_rows.specs.declared.report_row.ReportRow.{ReportRow}
 use Rattle.hub_rows.specs.declared.use_row.UseRow.{UseRow}
 use Rattle.hub_rows.specs.Keyed.{found, those}
 use Rattle.hub_rows.specs.Grants.{granted_in, granted_tag_in, grants_in, has_grant_in}
+use Rattle.hub_rows.specs.Readers.{chosen, reader_in, readers_in}
 use Rattle.hub_rows.specs.Reservations.{reservations_in, reserved_until_in}
 use Rattle.hub_rows.specs.Rows.{Rows, registration_at}
 use Rattle.hub_rows.specs.Tags.{own_tag_in}
@@ -80,6 +83,9 @@ pub record Lookups : Type 0 where
   pub forgettable : List ℕ → ℕ → History
   pub reports : List ℕ → List ReportRow
   pub uses : List UseRow
+  -- how the requests of a station are read, and what was chosen
+  pub reader : List ℕ → Reader
+  pub readers : List ReaderRow
 
 -- ---- over the rows of all operators
 
@@ -135,12 +141,15 @@ lookups_at b rows = record {
   forgettable = λ station until. forgettable_in b station until rows;
   reports = λ station. reports_in b station rows.reports;
   uses = uses_in b rows.uses;
+  reader = λ station. reader_in b station rows.readers;
+  readers = readers_in b rows.readers;
 }
 
 -- ---- over the rows of one operator alone
 
--- Each question is answered once more here, except two parts, which are shared with the rows of all operators: the key
--- of a parent's text (`key_of`), and what may go of the rows of one station (`forgettable`).
+-- Each question is answered once more here, except three parts, which are shared with the rows of all operators: the key
+-- of a parent's text (`key_of`), what may go of the rows of one station (`forgettable`), and the reader by its row
+-- (`chosen`).
 
 -- how a station is registered
 abbrev pub own_registration : StationRow → Registration
@@ -232,4 +241,6 @@ own_lookups a rows granted = record {
   forgettable = λ station until. forgettable until (filter (λ r. bytes_eq r.station station) rows.transactions) (filter (λ r. bytes_eq r.station station) rows.readings);
   reports = λ station. filter (λ r. bytes_eq r.station station) rows.reports;
   uses = rows.uses;
+  reader = λ station. chosen (find (λ r. bytes_eq r.station station) rows.readers);
+  readers = rows.readers;
 }

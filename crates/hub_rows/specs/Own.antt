@@ -6,7 +6,7 @@ use Rattle.std.specs.Str.{bytes_eq}
 use Rattle.ocpp_types.specs.declared.state.State.TheVariants.{Fresh}
 use Rattle.hub_rows.specs.declared.change.Edit.{Edit}
 use Rattle.hub_rows.specs.declared.change.Edit.TheVariants.{Stations, Tags, Transactions, Holdings}
-use Rattle.hub_rows.specs.declared.change.StationEdit.TheVariants.{StationAdded, BootSeen, PolicySet, ConnectorSeen, ReportSeen}
+use Rattle.hub_rows.specs.declared.change.StationEdit.TheVariants.{StationAdded, BootSeen, PolicySet, ReaderSet, StationDropped, ConnectorSeen, ReportSeen}
 use Rattle.hub_rows.specs.declared.change.TagEdit.TheVariants.{TagPut, TagDropped, GrantPut, GrantDropped}
 use Rattle.hub_rows.specs.declared.change.TransactionEdit.TheVariants.{TxStarted, TxStopped, ReadingsAdded, Forgotten}
 use Rattle.hub_rows.specs.declared.change.HoldingEdit.TheVariants.{ReservationPut, ReservationDropped, ListSet}
@@ -18,7 +18,7 @@ use Rattle.hub_rows.specs.declared.tx_row.TxOwnerRow.{TxOwnerRow}
 use Rattle.hub_rows.specs.declared.tx_row.TxRow.{TxRow}
 use Rattle.hub_rows.specs.Forgetting.{has_number}
 use Rattle.hub_rows.specs.Keyed.{put, put_all, by_key, own}
-use Rattle.hub_rows.specs.Rows.{Rows, station_rest, connector_rest, tag_rest, grant_rest, tx_rest, reading_rest, reservation_rest, list_rest, report_rest, tx_owner_rest}
+use Rattle.hub_rows.specs.Rows.{Rows, station_rest, connector_rest, tag_rest, grant_rest, tx_rest, reading_rest, reservation_rest, list_rest, report_rest, reader_rest, tx_owner_rest}
 
 -- how far a signed number is from the least one of 32 bits
 abbrev pub own_shifted : ℤ → ℕ
@@ -41,7 +41,7 @@ own_with_owner a station number None owners = owners
 own_with_owner a station number (Some owner) owners = put (by_key tx_owner_rest) (record { op = a; station = station; number = number; owner = owner }) owners
 
 abbrev pub own_rows : List ℕ → Rows → Rows
-own_rows a rows = record { stations = own (λ r. r.op) a rows.stations; connectors = own (λ r. r.op) a rows.connectors; tags = own (λ r. r.op) a rows.tags; grants = own (λ r. r.op) a rows.grants; transactions = own (λ r. r.op) a rows.transactions; readings = own (λ r. r.op) a rows.readings; reservations = own (λ r. r.op) a rows.reservations; local_lists = own (λ r. r.op) a rows.local_lists; reports = own (λ r. r.op) a rows.reports; tx_owners = own (λ r. r.op) a rows.tx_owners; uses = own (λ r. r.op) a rows.uses }
+own_rows a rows = record { stations = own (λ r. r.op) a rows.stations; connectors = own (λ r. r.op) a rows.connectors; tags = own (λ r. r.op) a rows.tags; grants = own (λ r. r.op) a rows.grants; transactions = own (λ r. r.op) a rows.transactions; readings = own (λ r. r.op) a rows.readings; reservations = own (λ r. r.op) a rows.reservations; local_lists = own (λ r. r.op) a rows.local_lists; reports = own (λ r. r.op) a rows.reports; tx_owners = own (λ r. r.op) a rows.tx_owners; uses = own (λ r. r.op) a rows.uses; readers = own (λ r. r.op) a rows.readers }
 
 -- an edit of the rows of one operator, by what tells them apart; its uses are left, since the owner of a granted tag
 -- is another
@@ -49,6 +49,14 @@ abbrev pub own_edit : List ℕ → Edit → Rows → Rows
 own_edit a (Stations (StationAdded station policy interval)) rows = record rows { stations = put (by_key station_rest) (record { op = a; station = station; policy = policy; interval = interval; state = Fresh; boot = None }) rows.stations }
 own_edit a (Stations (BootSeen station boot state)) rows = record rows { stations = map (λ (r : StationRow). if bytes_eq r.station station then record r { boot = Some boot; state = state } else r) rows.stations }
 own_edit a (Stations (PolicySet station policy interval)) rows = record rows { stations = map (λ (r : StationRow). if bytes_eq r.station station then record r { policy = policy; interval = interval } else r) rows.stations }
+own_edit a (Stations (StationDropped station)) rows = record rows {
+  stations = filter (λ r. not (bytes_eq r.station station)) rows.stations;
+  connectors = filter (λ r. not (bytes_eq r.station station)) rows.connectors;
+  reservations = filter (λ r. not (bytes_eq r.station station)) rows.reservations;
+  local_lists = filter (λ r. not (bytes_eq r.station station)) rows.local_lists;
+  reports = filter (λ r. not (bytes_eq r.station station)) rows.reports;
+  readers = filter (λ r. not (bytes_eq r.station station)) rows.readers;
+}
 own_edit a (Stations (ConnectorSeen station connector report)) rows = record rows { connectors = put (by_key connector_rest) (record { op = a; station = station; connector = connector; report = report }) rows.connectors }
 own_edit a (Tags (TagPut key tag)) rows = record rows { tags = put (by_key tag_rest) (record { op = a; key = key; tag = tag }) rows.tags }
 own_edit a (Tags (TagDropped key)) rows = record rows { tags = filter (λ r. not (bytes_eq r.key key)) rows.tags; grants = filter (λ r. not (bytes_eq r.key key)) rows.grants }
@@ -66,3 +74,4 @@ own_edit a (Holdings (ReservationPut station id reservation)) rows = record rows
 own_edit a (Holdings (ReservationDropped station id)) rows = record rows { reservations = filter (λ r. not (bytes_eq r.station station && r.id == id)) rows.reservations }
 own_edit a (Holdings (ListSet station list)) rows = record rows { local_lists = put (by_key list_rest) (record { op = a; station = station; list = list }) rows.local_lists }
 own_edit a (Stations (ReportSeen station status moment)) rows = record rows { reports = put (by_key report_rest) (record { op = a; station = station; status = status; moment = moment }) rows.reports }
+own_edit a (Stations (ReaderSet station reader)) rows = record rows { readers = put (by_key reader_rest) (record { op = a; station = station; reader = reader }) rows.readers }

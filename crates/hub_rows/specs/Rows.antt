@@ -11,6 +11,7 @@ use Rattle.hub_rows.specs.declared.tx_row.TxRow.{TxRow}
 use Rattle.hub_rows.specs.declared.reading_row.ReadingRow.{ReadingRow}
 use Rattle.hub_rows.specs.declared.reservation_row.ReservationRow.{ReservationRow}
 use Rattle.hub_rows.specs.declared.list_row.ListRow.{ListRow}
+use Rattle.hub_rows.specs.declared.reader_row.ReaderRow.{ReaderRow}
 use Rattle.hub_rows.specs.declared.report_row.ReportRow.{ReportRow}
 use Rattle.hub_rows.specs.declared.tx_row.TxOwnerRow.{TxOwnerRow}
 use Rattle.hub_rows.specs.declared.use_row.UseRow.{UseRow}
@@ -30,10 +31,11 @@ pub record Rows : Type 0 where
   pub reports : List ReportRow
   pub tx_owners : List TxOwnerRow
   pub uses : List UseRow
+  pub readers : List ReaderRow
 
 -- no rows
 abbrev pub no_rows : Rows
-no_rows = record { stations = []; connectors = []; tags = []; grants = []; transactions = []; readings = []; reservations = []; local_lists = []; reports = []; tx_owners = []; uses = [] }
+no_rows = record { stations = []; connectors = []; tags = []; grants = []; transactions = []; readings = []; reservations = []; local_lists = []; reports = []; tx_owners = []; uses = []; readers = [] }
 
 -- what tells an operator's rows of a kind apart, and the key
 abbrev pub station_rest : StationRow → List (List ℕ)
@@ -101,6 +103,12 @@ use_rest r = (r.number ∷ []) ∷ []
 
 abbrev pub use_key : UseRow → List (List ℕ)
 use_key r = r.op ∷ use_rest r
+
+abbrev pub reader_rest : ReaderRow → List (List ℕ)
+reader_rest r = r.station ∷ []
+
+abbrev pub reader_key : ReaderRow → List (List ℕ)
+reader_key r = r.op ∷ reader_rest r
 
 abbrev pub registration_of : StationRow → Registration
 registration_of r = record { policy = r.policy; interval = r.interval; state = r.state }

@@ -11,14 +11,15 @@ use Rattle.hub_rows.specs.declared.tx_row.TxRow.{TxRow}
 use Rattle.hub_rows.specs.declared.reading_row.ReadingRow.{ReadingRow}
 use Rattle.hub_rows.specs.declared.reservation_row.ReservationRow.{ReservationRow}
 use Rattle.hub_rows.specs.declared.list_row.ListRow.{ListRow}
+use Rattle.hub_rows.specs.declared.reader_row.ReaderRow.{ReaderRow}
 use Rattle.hub_rows.specs.declared.report_row.ReportRow.{ReportRow}
 use Rattle.hub_rows.specs.declared.tx_row.TxOwnerRow.{TxOwnerRow}
 use Rattle.hub_rows.specs.declared.use_row.UseRow.{UseRow}
 use Rattle.hub_rows.specs.Keyed.{by_key, found}
 use Rattle.hub_rows.specs.LocalLists.{AreEntries}
-use Rattle.hub_rows.specs.Rows.{Rows, station_in, station_key, connector_key, tag_key, grant_key, tx_key, reading_key, reservation_key, list_key, report_key, tx_owner_key, use_key}
+use Rattle.hub_rows.specs.Rows.{Rows, station_in, station_key, connector_key, tag_key, grant_key, tx_key, reading_key, reservation_key, list_key, report_key, reader_key, tx_owner_key, use_key}
 use Rattle.hub_rows.specs.Tags.{tag_in}
-use Rattle.hub_rows.specs.Transactions.{is_accepted, is_tx, last_of_all}
+use Rattle.hub_rows.specs.Transactions.{is_accepted, is_open, is_tx, last_of_all}
 
 -- a station of operator b is among those of all
 abbrev pub IsOnRecord : List ℕ → List ℕ → List StationRow → Type 0
@@ -43,17 +44,16 @@ pub record IsGoodGrant (tags : List TagRow) (r : GrantRow) : Type 0 where
   pub tag : IsSome (tag_in r.op r.key tags)
   pub receiver : r.to ≢ r.op
 
--- of a station that is on record, with a number in range
+-- with a number in range; of a station that is on record, while it is open
 pub record IsGoodTx (stations : List StationRow) (r : TxRow) : Type 0 where
-  pub station : IsOnRecord r.op r.station stations
+  pub station : is_open r ≡ true → IsOnRecord r.op r.station stations
   pub number : IsNumber r.number
   -- its tag's key is that of the tag as it was sent
   pub key : r.start.id.key ≡ key_of r.start.tag
 
--- the same of a reading
-pub record IsGoodReading (stations : List StationRow) (r : ReadingRow) : Type 0 where
-  pub station : IsOnRecord r.op r.station stations
-  pub number : IsNumber r.number
+-- with a number in range
+abbrev pub IsGoodReading : ReadingRow → Type 0
+IsGoodReading r = IsNumber r.number
 
 abbrev pub IsGoodReservation : List StationRow → ReservationRow → Type 0
 IsGoodReservation stations r = IsOnRecord r.op r.station stations
@@ -65,6 +65,9 @@ pub record IsGoodList (stations : List StationRow) (r : ListRow) : Type 0 where
 
 abbrev pub IsGoodReport : List StationRow → ReportRow → Type 0
 IsGoodReport stations r = IsOnRecord r.op r.station stations
+
+abbrev pub IsGoodReader : List StationRow → ReaderRow → Type 0
+IsGoodReader stations r = IsOnRecord r.op r.station stations
 
 -- whether it is there, and began Accepted
 abbrev pub began_accepted : Option TxRow → Bool
@@ -96,9 +99,10 @@ pub record WellFormedRows (rows : Rows) : Type 0 where
   pub tags : AreGood tag_key IsGoodTag rows.tags
   pub grants : AreGood grant_key (IsGoodGrant rows.tags) rows.grants
   pub transactions : AreGood tx_key (IsGoodTx rows.stations) rows.transactions
-  pub readings : AreGood reading_key (IsGoodReading rows.stations) rows.readings
+  pub readings : AreGood reading_key IsGoodReading rows.readings
   pub reservations : AreGood reservation_key (IsGoodReservation rows.stations) rows.reservations
   pub local_lists : AreGood list_key (IsGoodList rows.stations) rows.local_lists
   pub reports : AreGood report_key (IsGoodReport rows.stations) rows.reports
   pub tx_owners : AreGood tx_owner_key (IsGoodTxOwner rows.transactions) rows.tx_owners
   pub uses : AreGood use_key (IsGoodUse rows.uses) rows.uses
+  pub readers : AreGood reader_key (IsGoodReader rows.stations) rows.readers

@@ -3,6 +3,7 @@
 use crate::connector_row::ConnectorReport;
 use crate::forgettable::Forgettable;
 use crate::list_row::LocalList;
+use crate::reader_row::Reader;
 use crate::reading_row::Reading;
 use crate::report_row::ReportedStatus;
 use crate::reservation_row::{Reservation, ReservationId};
@@ -47,6 +48,15 @@ pub enum StationEdit {
         station: Text,
         policy: Policy,
         interval: u32,
+    },
+    /// How the requests of a station are read.
+    ReaderSet {
+        station: Text,
+        reader: Reader,
+    },
+    /// A station is gone, with its connectors, reservations, local list, reports and reader. What is left of its history stays.
+    StationDropped {
+        station: Text,
     },
     /// A report on a connector, in place of the one before.
     ConnectorSeen {

@@ -1,6 +1,6 @@
 //! What of a station's history may go.
 ghost use Rattle.std.specs.Prelude.{◌≡◌, map, IfOk};
-ghost use Rattle.hub_rows.specs.Forgetting.{numbers_of};
+ghost use Rattle.hub_rows.specs.Forgetting.{has_no_rows, numbers_of};
 
 use crate::reading_row::ReadingRow;
 use crate::tx_row::TxRow;
@@ -25,6 +25,13 @@ pub struct Forgettable {
 }
 
 impl History {
+    /// Whether it has no rows.
+    pub fn is_empty(&self) -> bool
+        ensures { result ≡ has_no_rows self.now }
+    {
+        self.readings.as_slice().is_empty() && self.transactions.as_slice().is_empty()
+    }
+
     /// The numbers of the rows.
     pub fn numbers(&self, alloc: Global) -> Mem<Forgettable>
         ensures { IfOk result (λ f. f ≡ numbers_of self.now) }

@@ -7,6 +7,7 @@ ghost use Rattle.hub_rows.specs.Lookups.{stations_in, tags_in, connectors_in, lo
 ghost use Rattle.hub_rows.specs.Transactions.{is_used_in, same_start_in, tx_in, has_open_in, open_txs_in, txs_from_in, readings_in, last_tx_in, last_reading_in};
 ghost use Rattle.hub_rows.specs.Changes.{edit, EditFits};
 ghost use Rattle.hub_rows.specs.Grants.{granted_in, granted_tag_in, grants_in, has_grant_in};
+ghost use Rattle.hub_rows.specs.Readers.{reader_in, readers_in};
 ghost use Rattle.hub_rows.specs.Reservations.{reservations_in, reserved_until_in};
 ghost use Rattle.hub_rows.specs.Reads.{OnlyReads, IsCounted};
 ghost use Rattle.hub_rows.specs.Stops.{IsKept, FindsOldOr};
@@ -19,6 +20,7 @@ use crate::forgettable::History;
 use crate::grant_row::GrantRow;
 use crate::info::{GrantedTag, Info};
 use crate::list_row::LocalList;
+use crate::reader_row::{Reader, ReaderRow};
 use crate::reading_row::ReadingRow;
 use crate::report_row::ReportRow;
 use crate::reservation_row::{ReservationId, ReservationRow};
@@ -256,6 +258,18 @@ pub trait Store {
         ensures reads { OnlyReads view self.old self.new result }
         ensures found { (view self.new).clean
             → IfOk result (λ r. r ≡ uses_in op.now (view self.old).rows.uses) };
+
+    /// How the requests of a station are read.
+    fn reader(&mut self, op: &str, station: &str) -> Result<Reader, StoreFault>
+        ensures reads { OnlyReads view self.old self.new result }
+        ensures found { (view self.new).clean
+            → IfOk result (λ r. r ≡ reader_in op.now station.now (view self.old).rows.readers) };
+
+    /// The readers that an operator chose, in the order of the stations' names.
+    fn readers(&mut self, op: &str) -> Result<Listed<ReaderRow>, StoreFault>
+        ensures reads { OnlyReads view self.old self.new result }
+        ensures found { (view self.new).clean
+            → IfOk result (λ r. r ≡ readers_in op.now (view self.old).rows.readers) };
 
     /// Makes a change that fits.
     fn apply(&mut self, change: &Change<'_>) -> Result<(), StoreFault>

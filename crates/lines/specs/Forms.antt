@@ -4,6 +4,7 @@ use Rattle.hub_events.specs.declared.event.What.{What}
 use Rattle.hub_events.specs.declared.event.What.TheVariants as what
 use Rattle.hub_events.specs.declared.event.Admin.TheVariants as admin
 use Rattle.hub_events.specs.declared.listing.Listing.TheVariants as listing
+use Rattle.hub_rows.specs.Readers.{readers}
 use Rattle.ocpp_types.specs.Named.{named}
 use Rattle.operator_cmds.specs.Command.{command}
 use Rattle.ocpp_types.specs.Policy.{policies}
@@ -58,6 +59,19 @@ abbrev pub station_policy_form : List ℕ → Option What
 station_policy_form rest = do
   words ← policy_words rest
   Some (what.Admin (admin.StationPolicy words.0 words.1.0 words.1.1))
+
+-- `station reader ST strict|tolerant`
+abbrev pub station_reader_form : List ℕ → Option What
+station_reader_form rest = do
+  station ← first_word rest
+  reader ← named readers station.1
+  Some (what.Admin (admin.StationReader station.0 reader))
+
+-- `station drop ST`
+abbrev pub station_drop_form : List ℕ → Option What
+station_drop_form rest = do
+  station ← only_word rest
+  Some (what.DropStation station)
 
 -- `0` or `1`, whether a tag is blocked
 abbrev pub mark_of : List ℕ → Option Bool
@@ -117,7 +131,7 @@ by_word forms text = do
 
 -- the forms after `station`
 abbrev pub station_form : List ℕ → Option What
-station_form = by_word ((codes "add", station_add_form) ∷ (codes "policy", station_policy_form) ∷ [])
+station_form = by_word ((codes "add", station_add_form) ∷ (codes "policy", station_policy_form) ∷ (codes "reader", station_reader_form) ∷ (codes "drop", station_drop_form) ∷ [])
 
 -- the forms after `tag`
 abbrev pub tag_form : List ℕ → Option What
@@ -194,7 +208,7 @@ station_list_form = by_word ((codes "connectors", connectors_form) ∷ (codes "t
 
 -- the listings of an operator
 abbrev pub plain_list : List ℕ → Option What
-plain_list = named ((codes "stations", what.List listing.Stations) ∷ (codes "connections", what.Connections) ∷ (codes "tags", what.List listing.Tags) ∷ (codes "grants", what.List listing.Grants) ∷ (codes "granted", what.List listing.Granted) ∷ (codes "uses", what.List listing.Uses) ∷ (codes "open", what.List listing.OpenTransactions) ∷ [])
+plain_list = named ((codes "stations", what.List listing.Stations) ∷ (codes "connections", what.Connections) ∷ (codes "tags", what.List listing.Tags) ∷ (codes "grants", what.List listing.Grants) ∷ (codes "granted", what.List listing.Granted) ∷ (codes "uses", what.List listing.Uses) ∷ (codes "open", what.List listing.OpenTransactions) ∷ (codes "readers", what.List listing.Readers) ∷ [])
 
 -- the forms after `list`
 abbrev pub list_by_word : Option What → List ℕ → Option What

@@ -5,7 +5,7 @@ use Rattle.std.specs.List.{position_or_len}
 use Rattle.hub_events.specs.declared.event.Event.{Event}
 use Rattle.hub_events.specs.declared.event.Event.TheVariants as event
 use Rattle.hub_events.specs.declared.event.What.{What}
-use Rattle.hub_events.specs.declared.event.What.TheVariants.{Connect, Disconnect, Frame, Do, Admin, List as Listing, Connections, Forget}
+use Rattle.hub_events.specs.declared.event.What.TheVariants.{Connect, Disconnect, Frame, Do, Admin, List as Listing, Connections, DropStation, Forget}
 use Rattle.lines.specs.declared.input_line.TheConstants.{MAX_LINE}
 use Rattle.lines.specs.Forms.{what_of}
 use Rattle.lines.specs.Words.{◌>>=◌}
@@ -19,6 +19,7 @@ is_order (Do station command) = true
 is_order (Admin admin) = true
 is_order (Listing listing) = true
 is_order Connections = true
+is_order (DropStation station) = true
 is_order (Forget station until) = true
 
 abbrev pub has_line_feed : List ℕ → Bool

@@ -5,10 +5,11 @@ use Rattle.hub_events.specs.declared.out.Out.{Out}
 use Rattle.hub_events.specs.declared.out.Outcome.{Outcome}
 use Rattle.hub_events.specs.declared.out.Outcome.TheVariants as outcome
 use Rattle.hub_events.specs.declared.out.Said.{Said}
-use Rattle.hub_events.specs.declared.out.Said.TheVariants.{Send, Done, Turned, Refused, Row, Accepted}
+use Rattle.hub_events.specs.declared.out.Said.TheVariants.{Send, Done, Turned, Repaired, Refused, Row, Accepted}
 use Rattle.lines.specs.RowLines.{row_line}
 use Rattle.serde_json.specs.Data.{Data, array, item, no_items, string}
 use Rattle.serde_json.specs.Written.{compact_text}
+use Rattle.ocpp_payload.specs.Action.{action_name}
 use Rattle.ocpp_types.specs.ErrorCode.{error_code_name}
 use Rattle.ocpp_types.specs.AuthorizationStatus.{authorization_status_name}
 use Rattle.ocpp_types.specs.Refusal.{refusal_number, refusal_name}
@@ -54,6 +55,7 @@ outcome_text outcome.Disconnected = codes "Disconnected"
 abbrev pub said_line : List ℕ → Said → List ℕ
 said_line op (Send station text) = op ++ (codes " " ++ (station ++ (codes " send " ++ text)))
 said_line op (Turned station) = op ++ (codes " " ++ (station ++ codes " turned"))
+said_line op (Repaired station action fault) = op ++ (codes " " ++ (station ++ (codes " repaired " ++ (action_name action ++ (codes " " ++ (error_code_name fault.code ++ (codes " " ++ fault.field)))))))
 said_line op (Refused refusal) = refused_line op refusal (refusal_detail refusal)
 said_line op (Row r) = row_line op r
 said_line op (Done station n outcome) = op ++ (codes " " ++ (station ++ (codes " done " ++ (decimal n ++ (codes " " ++ outcome_text outcome)))))

@@ -37,7 +37,9 @@ use Rattle.hub_rows.specs.declared.reading_row.Reading.{Reading}
 use Rattle.hub_rows.specs.declared.reading_row.ReadingRow.{ReadingRow}
 use Rattle.hub_rows.specs.Reports.{kind_of, reported_name}
 use Rattle.hub_rows.specs.Reservations.{unshifted}
+use Rattle.hub_rows.specs.declared.reader_row.ReaderRow.{ReaderRow}
 use Rattle.hub_rows.specs.declared.report_row.ReportRow.{ReportRow}
+use Rattle.hub_rows.specs.Readers.{reader_name}
 use Rattle.hub_rows.specs.declared.list_row.LocalTag.{LocalTag}
 use Rattle.hub_rows.specs.declared.reservation_row.Reservation.{Reservation}
 use Rattle.hub_rows.specs.declared.reservation_row.ReservationRow.{ReservationRow}
@@ -166,6 +168,10 @@ local_tag_line op station e = op ++ (codes " row localtag " ++ (station ++ (code
 abbrev pub report_line : List ℕ → ReportRow → List ℕ
 report_line op r = op ++ (codes " row report " ++ (r.station ++ (codes " " ++ (kind_of r.status ++ (codes " " ++ (reported_name r.status ++ (codes " " ++ decimal r.moment)))))))
 
+-- `OP row reader ST strict|tolerant`
+abbrev pub reader_line : List ℕ → ReaderRow → List ℕ
+reader_line op r = op ++ (codes " row reader " ++ (r.station ++ (codes " " ++ reader_name r.reader)))
+
 -- `OP row connection ST CALLS`
 abbrev pub connection_line : List ℕ → List ℕ → ℕ → List ℕ
 connection_line op station calls = op ++ (codes " row connection " ++ (station ++ (codes " " ++ decimal calls)))
@@ -187,5 +193,6 @@ row_line op (row.Reservation r) = reservation_line op r
 row_line op (row.LocalList station version) = local_list_line op station version
 row_line op (row.LocalTag station entry) = local_tag_line op station entry
 row_line op (row.Report r) = report_line op r
+row_line op (row.Reader r) = reader_line op r
 row_line op (row.Connection station calls) = connection_line op station calls
 row_line op (row.Forgotten station transactions readings) = forgotten_line op station transactions readings

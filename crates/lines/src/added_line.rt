@@ -45,6 +45,7 @@ fn add_out(text: &mut Vec<u8>, alloc: Global, out: &Out) -> Mem<()>
         } => add_send(text, &out.op, station, sent),
         Said::Done { .. }
         | Said::Turned { .. }
+        | Said::Repaired { .. }
         | Said::Refused(_)
         | Said::Row(_)
         | Said::Accepted { .. } => {

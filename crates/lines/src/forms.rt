@@ -3,7 +3,7 @@ ghost use Rattle.std.specs.Prelude.{◌≡◌, IfOk, option_map};
 ghost use Rattle.serde_json.specs.Read.{read};
 ghost use Rattle.serde_json.specs.View.{view};
 ghost use Rattle.lines.specs.Words.{only_word, parent_of};
-ghost use Rattle.lines.specs.Forms.{what_of, connect_form, disconnect_form, frame_form, call_form, station_form, station_add_form, station_policy_form, policy_words, tag_form, tag_put_form, tag_drop_form, transaction_form, transaction_close_form, forget_form, grant_form, revoke_form, mark_of};
+ghost use Rattle.lines.specs.Forms.{what_of, connect_form, disconnect_form, frame_form, call_form, station_form, station_add_form, station_policy_form, station_reader_form, station_drop_form, policy_words, tag_form, tag_put_form, tag_drop_form, transaction_form, transaction_close_form, forget_form, grant_form, revoke_form, mark_of};
 
 use crate::list_forms::list;
 use crate::words::{
@@ -11,7 +11,7 @@ use crate::words::{
     transaction_number,
 };
 use hub_events::{Admin, What};
-use hub_rows::Tag;
+use hub_rows::{Reader, Tag};
 use id_tags::Grant;
 use ocpp_types::{Boxed, Mem, Named, NoMemory, Policy, Text};
 use operator_cmds::read_command;
@@ -115,6 +115,8 @@ fn station(alloc: Global, rest: &str) -> Mem<Option<What>>
     match word {
         "add" => station_add(alloc, rest),
         "policy" => station_policy(alloc, rest),
+        "reader" => station_reader(alloc, rest),
+        "drop" => station_drop(alloc, rest),
         _ => Ok(None),
     }
 }
@@ -143,6 +145,28 @@ fn station_policy(alloc: Global, rest: &str) -> Mem<Option<What>>
         policy,
         interval,
     })))
+}
+
+fn station_reader(alloc: Global, rest: &str) -> Mem<Option<What>>
+    ensures { IfOk result (λ w. w ≡ station_reader_form rest.now) }
+{
+    let Some((station, rest)) = first_word(rest) else {
+        return Ok(None);
+    };
+    let Some(reader) = Reader::of(rest) else {
+        return Ok(None);
+    };
+    let station = Text::copy_of(alloc, station)?;
+    Ok(Some(What::Admin(Admin::StationReader { station, reader })))
+}
+
+fn station_drop(alloc: Global, rest: &str) -> Mem<Option<What>>
+    ensures { IfOk result (λ w. w ≡ station_drop_form rest.now) }
+{
+    let Some(station) = name_of(alloc, rest)? else {
+        return Ok(None);
+    };
+    Ok(Some(What::DropStation { station }))
 }
 
 /// `ST POLICY INTERVAL`

@@ -29,6 +29,7 @@ fn plain_list(rest: &str) -> Option<What>
         "granted" => Some(What::List(Listing::Granted)),
         "uses" => Some(What::List(Listing::Uses)),
         "open" => Some(What::List(Listing::OpenTransactions)),
+        "readers" => Some(What::List(Listing::Readers)),
         _ => None,
     }
 }

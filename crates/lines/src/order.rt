@@ -54,6 +54,7 @@ fn is_order(what: &What) -> bool
         | What::Admin(_)
         | What::List(_)
         | What::Connections
+        | What::DropStation { .. }
         | What::Forget { .. } => true,
     }
 }

@@ -25,6 +25,15 @@ pub fn print_out(alloc: Global, out: &Out) -> Mem<String>
             format!(in alloc; "{op} {station} done {number} {outcome}")?
         }
         Said::Turned { station } => format!(in alloc; "{op} {station} turned")?,
+        Said::Repaired {
+            station,
+            action,
+            fault,
+        } => {
+            let (action, code) = (action.name(), fault.code.name());
+            let field = fault.field.as_str();
+            format!(in alloc; "{op} {station} repaired {action} {code} {field}")?
+        }
         Said::Refused(refusal) => print_refused(alloc, op, refusal)?,
         Said::Row(row) => print_row(alloc, op, row.as_ref())?,
         Said::Accepted {

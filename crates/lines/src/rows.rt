@@ -6,15 +6,16 @@ ghost use Rattle.serde_json.specs.Written.{has_float};
 ghost use Rattle.ocpp_types.specs.Phase.{phase_name};
 ghost use Rattle.ocpp_types.specs.UnitOfMeasure.{unit_of_measure_name};
 ghost use Rattle.hub_rows.specs.Reservations.{unshifted};
-ghost use Rattle.lines.specs.RowLines.{row_line, station_line, tag_line, grant_line, granted_line, use_line, connector_line, tx_line, reading_line, reservation_line, local_tag_line, report_line, entry_data, reading_fields, report_fields, reservation_fields, start_fields, stop_fields, taken_fields, sampled_fields, value_fields, name_field, micro_of};
+ghost use Rattle.lines.specs.RowLines.{row_line, station_line, tag_line, grant_line, granted_line, use_line, connector_line, tx_line, reading_line, reservation_line, local_tag_line, report_line, reader_line, entry_data, reading_fields, report_fields, reservation_fields, start_fields, stop_fields, taken_fields, sampled_fields, value_fields, name_field, micro_of};
 
 use crate::fields::{
     Signed, boot_field, mark, moment_field, quoted, signed_field, text_field, widened,
 };
 use hub_events::Row;
 use hub_rows::{
-    ConnectorReport, ConnectorRow, GrantRow, GrantedTag, LocalTag, Reading, ReadingRow, ReportRow,
-    Reservation, ReservationId, ReservationRow, Start, StationRow, Stop, TagRow, TxRow, UseRow,
+    ConnectorReport, ConnectorRow, GrantRow, GrantedTag, LocalTag, ReaderRow, Reading, ReadingRow,
+    ReportRow, Reservation, ReservationId, ReservationRow, Start, StationRow, Stop, TagRow, TxRow,
+    UseRow,
 };
 use ocpp_payload::Tabled;
 use ocpp_types::{Mem, Named, Phase, Text, UnitOfMeasure, ValueFormat, read_micro};
@@ -41,6 +42,7 @@ pub fn print_row(alloc: Global, op: &Text, row: &Row) -> Mem<String>
         }
         Row::LocalTag { station, entry } => print_local_tag(alloc, op, station, entry),
         Row::Report(row) => print_report(alloc, op, row),
+        Row::Reader(row) => print_reader(alloc, op, row),
         Row::Connection { station, calls } => {
             Ok(format!(in alloc; "{op} row connection {station} {calls}")?)
         }
@@ -295,6 +297,14 @@ fn entry_object(alloc: Global, entry: &LocalTag) -> Mem<Value>
     let info = entry.info.write(alloc)?;
     put(&mut members, alloc, "idTagInfo", info)?;
     Ok(Value::Object(members))
+}
+
+fn print_reader(alloc: Global, op: &Text, row: &ReaderRow) -> Mem<String>
+    ensures { IfOk result (λ s. string_bytes s ≡ reader_line op.now row.now) }
+{
+    let station = row.station.as_str();
+    let reader = row.reader.name();
+    Ok(format!(in alloc; "{op} row reader {station} {reader}")?)
 }
 
 fn print_report(alloc: Global, op: &Text, row: &ReportRow) -> Mem<String>

@@ -1,5 +1,6 @@
 //! Faults of a connector.
 
+use crate::enumerated::Enumerated;
 use crate::named::Named;
 
 /// What is wrong with a connector or its station (OCPP 1.6, type ChargePointErrorCode).
@@ -71,5 +72,28 @@ impl Named for ChargePointErrorCode {
             ChargePointErrorCode::UnderVoltage => "UnderVoltage",
             ChargePointErrorCode::WeakSignal => "WeakSignal",
         }
+    }
+}
+
+impl Enumerated for ChargePointErrorCode {
+    fn all_names() -> &'static [&'static str] {
+        &[
+            "ConnectorLockFailure",
+            "EVCommunicationError",
+            "GroundFailure",
+            "HighTemperature",
+            "InternalError",
+            "LocalListConflict",
+            "NoError",
+            "OtherError",
+            "OverCurrentFailure",
+            "OverVoltage",
+            "PowerMeterFailure",
+            "PowerSwitchFailure",
+            "ReaderFailure",
+            "ResetFailure",
+            "UnderVoltage",
+            "WeakSignal",
+        ]
     }
 }

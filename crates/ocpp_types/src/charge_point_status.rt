@@ -1,5 +1,6 @@
 //! States of a connector.
 
+use crate::enumerated::Enumerated;
 use crate::named::Named;
 
 /// The status of a connector (OCPP 1.6, type ChargePointStatus).
@@ -50,5 +51,21 @@ impl Named for ChargePointStatus {
             ChargePointStatus::Unavailable => "Unavailable",
             ChargePointStatus::Faulted => "Faulted",
         }
+    }
+}
+
+impl Enumerated for ChargePointStatus {
+    fn all_names() -> &'static [&'static str] {
+        &[
+            "Available",
+            "Preparing",
+            "Charging",
+            "SuspendedEVSE",
+            "SuspendedEV",
+            "Finishing",
+            "Reserved",
+            "Unavailable",
+            "Faulted",
+        ]
     }
 }

@@ -1,5 +1,6 @@
 //! States of an upload of diagnostics.
 
+use crate::enumerated::Enumerated;
 use crate::named::Named;
 
 /// The status of an upload of diagnostics (OCPP 1.6, type DiagnosticsStatus).
@@ -35,5 +36,11 @@ impl Named for DiagnosticsStatus {
             DiagnosticsStatus::UploadFailed => "UploadFailed",
             DiagnosticsStatus::Uploading => "Uploading",
         }
+    }
+}
+
+impl Enumerated for DiagnosticsStatus {
+    fn all_names() -> &'static [&'static str] {
+        &["Idle", "Uploaded", "UploadFailed", "Uploading"]
     }
 }

@@ -1,5 +1,6 @@
 //! States of a firmware update.
 
+use crate::enumerated::Enumerated;
 use crate::named::Named;
 
 /// The status of a firmware update (OCPP 1.6, type FirmwareStatus).
@@ -44,5 +45,19 @@ impl Named for FirmwareStatus {
             FirmwareStatus::Installing => "Installing",
             FirmwareStatus::Installed => "Installed",
         }
+    }
+}
+
+impl Enumerated for FirmwareStatus {
+    fn all_names() -> &'static [&'static str] {
+        &[
+            "Downloaded",
+            "DownloadFailed",
+            "Downloading",
+            "Idle",
+            "InstallationFailed",
+            "Installing",
+            "Installed",
+        ]
     }
 }

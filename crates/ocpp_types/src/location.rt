@@ -1,5 +1,6 @@
 //! Where readings are taken.
 
+use crate::enumerated::Enumerated;
 use crate::named::Named;
 
 /// Where a reading was taken (OCPP 1.6, type Location).
@@ -38,5 +39,11 @@ impl Named for Location {
             Location::Inlet => "Inlet",
             Location::Outlet => "Outlet",
         }
+    }
+}
+
+impl Enumerated for Location {
+    fn all_names() -> &'static [&'static str] {
+        &["Body", "Cable", "EV", "Inlet", "Outlet"]
     }
 }

@@ -1,5 +1,6 @@
 //! What readings measure.
 
+use crate::enumerated::Enumerated;
 use crate::named::Named;
 
 /// What a reading measures (OCPP 1.6, type Measurand).
@@ -89,5 +90,34 @@ impl Named for Measurand {
             Measurand::Temperature => "Temperature",
             Measurand::Voltage => "Voltage",
         }
+    }
+}
+
+impl Enumerated for Measurand {
+    fn all_names() -> &'static [&'static str] {
+        &[
+            "Current.Export",
+            "Current.Import",
+            "Current.Offered",
+            "Energy.Active.Export.Register",
+            "Energy.Active.Import.Register",
+            "Energy.Reactive.Export.Register",
+            "Energy.Reactive.Import.Register",
+            "Energy.Active.Export.Interval",
+            "Energy.Active.Import.Interval",
+            "Energy.Reactive.Export.Interval",
+            "Energy.Reactive.Import.Interval",
+            "Frequency",
+            "Power.Active.Export",
+            "Power.Active.Import",
+            "Power.Factor",
+            "Power.Offered",
+            "Power.Reactive.Export",
+            "Power.Reactive.Import",
+            "RPM",
+            "SoC",
+            "Temperature",
+            "Voltage",
+        ]
     }
 }

@@ -1,5 +1,6 @@
 //! Phases of a reading.
 
+use crate::enumerated::Enumerated;
 use crate::named::Named;
 
 /// Where in the wiring a reading was taken (OCPP 1.6, type Phase).
@@ -53,5 +54,13 @@ impl Named for Phase {
             Phase::L2L3 => "L2-L3",
             Phase::L3L1 => "L3-L1",
         }
+    }
+}
+
+impl Enumerated for Phase {
+    fn all_names() -> &'static [&'static str] {
+        &[
+            "L1", "L2", "L3", "N", "L1-N", "L2-N", "L3-N", "L1-L2", "L2-L3", "L3-L1",
+        ]
     }
 }

@@ -1,5 +1,6 @@
 //! When a reading was taken.
 
+use crate::enumerated::Enumerated;
 use crate::named::Named;
 
 /// When a reading was taken (OCPP 1.6, type ReadingContext).
@@ -47,5 +48,20 @@ impl Named for ReadingContext {
             ReadingContext::TransactionEnd => "Transaction.End",
             ReadingContext::Trigger => "Trigger",
         }
+    }
+}
+
+impl Enumerated for ReadingContext {
+    fn all_names() -> &'static [&'static str] {
+        &[
+            "Interruption.Begin",
+            "Interruption.End",
+            "Other",
+            "Sample.Clock",
+            "Sample.Periodic",
+            "Transaction.Begin",
+            "Transaction.End",
+            "Trigger",
+        ]
     }
 }

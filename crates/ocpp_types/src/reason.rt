@@ -1,5 +1,6 @@
 //! Why transactions end.
 
+use crate::enumerated::Enumerated;
 use crate::named::Named;
 
 /// Why a transaction ended (OCPP 1.6, type Reason).
@@ -56,5 +57,23 @@ impl Named for Reason {
             Reason::SoftReset => "SoftReset",
             Reason::UnlockCommand => "UnlockCommand",
         }
+    }
+}
+
+impl Enumerated for Reason {
+    fn all_names() -> &'static [&'static str] {
+        &[
+            "DeAuthorized",
+            "EmergencyStop",
+            "EVDisconnected",
+            "HardReset",
+            "Local",
+            "Other",
+            "PowerLoss",
+            "Reboot",
+            "Remote",
+            "SoftReset",
+            "UnlockCommand",
+        ]
     }
 }

@@ -1,5 +1,6 @@
 //! Units of readings.
 
+use crate::enumerated::Enumerated;
 use crate::named::Named;
 
 /// The unit of a reading (OCPP 1.6, type UnitOfMeasure). `Celcius`, which some
@@ -72,5 +73,29 @@ impl Named for UnitOfMeasure {
             UnitOfMeasure::K => "K",
             UnitOfMeasure::Percent => "Percent",
         }
+    }
+}
+
+impl Enumerated for UnitOfMeasure {
+    fn all_names() -> &'static [&'static str] {
+        &[
+            "Wh",
+            "kWh",
+            "varh",
+            "kvarh",
+            "W",
+            "kW",
+            "VA",
+            "kVA",
+            "var",
+            "kvar",
+            "A",
+            "V",
+            "Celsius",
+            "Fahrenheit",
+            "K",
+            "Percent",
+            "Celcius",
+        ]
     }
 }

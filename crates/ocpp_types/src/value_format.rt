@@ -1,5 +1,6 @@
 //! Forms of a reading.
 
+use crate::enumerated::Enumerated;
 use crate::named::Named;
 
 /// How a reading is written (OCPP 1.6, type ValueFormat).
@@ -31,5 +32,11 @@ impl Named for ValueFormat {
             ValueFormat::Raw => "Raw",
             ValueFormat::SignedData => "SignedData",
         }
+    }
+}
+
+impl Enumerated for ValueFormat {
+    fn all_names() -> &'static [&'static str] {
+        &["Raw", "SignedData"]
     }
 }

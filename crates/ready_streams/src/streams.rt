@@ -155,7 +155,7 @@ impl Streams {
         Ok(())
     }
 
-    /// The places of the peers whose streams may be read, in order.
+    /// The places of the peers whose streams may be read, in any order.
     pub fn readable_peers(&mut self) -> &[usize] {
         self.places.clear();
         for token in &self.readable {
@@ -166,7 +166,6 @@ impl Streams {
                 }
             }
         }
-        self.places.sort_unstable();
         self.places.as_slice()
     }
 

@@ -2,6 +2,8 @@ pub mod InternalError
 pub mod Allowed
 pub mod Boot
 pub mod PolicySet
+pub mod ReaderSet
 pub mod StationAdded
+pub mod StationDropped
 pub mod Status
 pub mod Report

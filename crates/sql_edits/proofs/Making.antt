@@ -45,8 +45,8 @@ module _ {S : Type 0} {g : Ghosts S} where
   }
 
   -- the same, if more holds where it begins
-  pub makes_if : {A E : Type 0} {Begins : State → Type 0} {Edit : Trees → Trees → Type 0} {old new : Transaction S} {r : Result A E} → MakesIn g Edit old new r → ((s : State) → Begins s → IsInside s) → MakesIf g Begins Edit old new r
-  makes_if {A} {E} {Begins} {Edit} {old} {new} {r} part inside = record { same_reference = part.same_reference; goes = λ begins. part.goes (inside (state g old.conn.now) begins) }
+  pub makes_if : {A E : Type 0} {First Begins : State → Type 0} {Edit : Trees → Trees → Type 0} {old new : Transaction S} {r : Result A E} → MakesIf g First Edit old new r → ((s : State) → Begins s → First s) → MakesIf g Begins Edit old new r
+  makes_if {A} {E} {First} {Begins} {Edit} {old} {new} {r} part first = record { same_reference = part.same_reference; goes = λ begins. part.goes (first (state g old.conn.now) begins) }
 
   -- a look-up, by the first of the rows that are shown
   pub asks_first : {V T F : Type 0} {items : V → List Row} {s : TypedTable T} {p : T → Bool} {old new : Transaction S} {r : Result V Error} {q : Result (Option T) F} {P : Rows → Option T → Type 0} → ShowsInside g items s p old new r → OnOk q (IsOk r)

@@ -12,6 +12,7 @@ use Rattle.hub_rows.specs.Rows.{reading_key}
 use Rattle.meter_values.specs.Groups.{AreGroups}
 use Rattle.meter_values.specs.Readings.{all_readings}
 use Rattle.sql_rows.specs.Kept.{Within}
+use Rattle.sql_rows.specs.Opening.{rows_from, values_form}
 use Rattle.sql_rows.specs.TypedTable.{rows_in}
 use Rattle.sql_rows.specs.TypedTables.{meter_values, readings, rows_of}
 use Rattle.sql_edits.specs.declared.moving.MovedRun.{MovedRun}
@@ -67,6 +68,10 @@ pub record AreMoving (old new : Trees) : Type 0 where
 abbrev pub AreMoved : Trees → Trees → Type 0
 AreMoved old new = rows_of new ≡ record (rows_of old) { readings = rows_in readings old }
 
+-- what was kept as in a database of this form is kept as in ours
+abbrev pub IsKeptFrom : ℕ → Trees → Trees → Type 0
+IsKeptFrom form old new = rows_of new ≡ rows_from form old
+
 -- inside a transaction, with some readings moved
 abbrev pub IsMoving : State → Type 0
 IsMoving s = IsTrue s.is_open → Within s × AreApart s.now.trees
@@ -74,3 +79,7 @@ IsMoving s = IsTrue s.is_open → Within s × AreApart s.now.trees
 -- inside a transaction, with no meter value yet
 abbrev pub IsUnmoved : State → Type 0
 IsUnmoved s = IsTrue s.is_open → Within s × (rows_in meter_values s.now.trees ≡ [])
+
+-- inside a transaction, with no meter value yet where a database of this form has none
+abbrev pub IsUnmovedFrom : ℕ → State → Type 0
+IsUnmovedFrom form s = IsTrue s.is_open → Within s × (form < values_form → rows_in meter_values s.now.trees ≡ [])

@@ -8,9 +8,11 @@ ghost use Rattle.sql_edits.specs.Ready.{IsReady, MakesFitting, MayMake};
 
 use crate::connectors::put_connector;
 use crate::counts::put_count;
+use crate::dropping::drop_station;
 use crate::forget::forget;
 use crate::grants::{drop_grant, put_grant};
 use crate::local_lists::set_list;
+use crate::readers::put_reader;
 use crate::readings::add_readings;
 use crate::reports::put_report;
 use crate::reservations::{drop_reservation, put_reservation};
@@ -23,7 +25,7 @@ use sql_rows::told;
 use sqlite::{Alter, Connection, Error, Transaction};
 use std::alloc::Global;
 
-/// Makes an edit of a station, a connector or a report.
+/// Makes an edit of a station, its reader, a connector or a report.
 fn edit_stations<S: Alter>(
     tx: &mut Transaction<'_, S>,
     op: &str,
@@ -47,6 +49,10 @@ fn edit_stations<S: Alter>(
             policy,
             interval,
         } => set_policy(tx, op, station.as_str(), *policy, *interval),
+        StationEdit::ReaderSet { station, reader } => {
+            put_reader(tx, op, station.as_str(), *reader)
+        }
+        StationEdit::StationDropped { station } => drop_station(tx, op, station.as_str()),
         StationEdit::ConnectorSeen {
             station,
             connector,

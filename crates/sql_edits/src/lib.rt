@@ -6,10 +6,12 @@ mod changes;
 mod connectors;
 mod counts;
 mod cuts;
+mod dropping;
 mod forget;
 mod grants;
 mod local_lists;
 mod moving;
+mod readers;
 mod readings;
 mod reports;
 mod reservations;
@@ -19,4 +21,4 @@ mod txs;
 mod uses;
 
 pub use changes::apply;
-pub use moving::move_readings;
+pub use moving::move_from;

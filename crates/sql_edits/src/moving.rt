@@ -5,7 +5,7 @@ ghost use Rattle.sql_rows.specs.Kept.{AsksInsideIn, IsDropped, IsPage, MakesIf, 
 ghost use Rattle.sql_rows.specs.Opening.{StaysInside};
 ghost use Rattle.sql_rows.specs.TypedTable.{rows_in};
 ghost use Rattle.sql_rows.specs.TypedTables.{readings};
-ghost use Rattle.sql_edits.specs.Moving.{AreMoved, AreMoving, IsAnyRow, IsFirstRun, IsMoving, IsRun, IsUnmoved, is_in_range};
+ghost use Rattle.sql_edits.specs.Moving.{AreMoved, AreMoving, IsAnyRow, IsFirstRun, IsKeptFrom, IsMoving, IsRun, IsUnmoved, IsUnmovedFrom, is_in_range};
 
 use crate::binds::done;
 use crate::readings::put_values;
@@ -15,6 +15,9 @@ use ocpp_types::{Listed, Mem};
 use sql_rows::{first_row, listed};
 use sqlite::{Alter, Error, Row, Transaction, params};
 use std::alloc::Global;
+
+/// The first form of a database whose readings are kept as meter values.
+const VALUES_FORM: u32 = 5;
 
 fn find_any<S: Alter>(tx: &mut Transaction<'_, S>) -> Result<Vec<Row>, Error>
     ensures shows { ShowsAnyInside S.Store (λ v. v.items) readings tx.old tx.new result }
@@ -142,9 +145,8 @@ fn move_run<S: Alter>(
     drop_range(tx, op, station, moved.first, moved.last)
 }
 
-/// Moves all readings of hub_reading to meter values, where there are none yet: inside a transaction, which is rolled
-/// back after an error.
-pub fn move_readings<S: Alter>(tx: &mut Transaction<'_, S>, alloc: Global) -> Result<(), StoreFault>
+/// Moves all readings of hub_reading to meter values, where there are none yet.
+fn move_readings<S: Alter>(tx: &mut Transaction<'_, S>, alloc: Global) -> Result<(), StoreFault>
     ensures makes { MakesIf S.Store IsUnmoved AreMoved tx.old tx.new result }
     ensures stays { StaysInside S.Store tx.old tx.new result }
 {
@@ -155,4 +157,20 @@ pub fn move_readings<S: Alter>(tx: &mut Transaction<'_, S>, alloc: Global) -> Re
         }
     }
     Err(StoreFault::Failed)
+}
+
+/// Moves the readings of a database of that form to meter values, if it kept them one by one: inside a transaction, which
+/// is rolled back after an error.
+pub fn move_from<S: Alter>(
+    tx: &mut Transaction<'_, S>,
+    alloc: Global,
+    form: u32,
+) -> Result<(), StoreFault>
+    ensures makes { MakesIf S.Store (IsUnmovedFrom form) (IsKeptFrom form) tx.old tx.new result }
+    ensures stays { StaysInside S.Store tx.old tx.new result }
+{
+    if form >= VALUES_FORM {
+        return Ok(());
+    }
+    move_readings(tx, alloc)
 }

@@ -1,5 +1,5 @@
 -- What a look-up says, by the statements and the look-ups that it makes.
-use Rattle.std.proofs.Common.{◌≡◌, ◌∙◌, ℕ, List, [], Bool, Option, Result, Ok, Err, IfOk, IsErr, IsOk, OnOk, filter, find, map, refl, sym, subst, arith}
+use Rattle.std.proofs.Common.{◌≡◌, ◌∙◌, ℕ, List, [], Bool, Option, Result, Ok, Err, IfOk, IsErr, IsOk, OnOk, filter, find, map, option_map, refl, sym, subst, arith}
 use Rattle.std.proofs.lemmas.Result.{IfOk-from_err}
 use Rattle.sqlite_trees.specs.Tree.{Trees}
 use Rattle.sqlite_value.specs.Order.{Row, column}
@@ -7,9 +7,9 @@ use Rattle.sqlite.specs.declared.error.Error.{Error}
 use Rattle.sqlite.specs.Effect.{Database}
 use Rattle.sqlite.specs.State.{State}
 use Rattle.hub_rows.specs.Keyed.{first, greatest, put_all}
-use Rattle.sql_rows.specs.Kept.{IsPage, IsServing, Shows, ShowsLast, ShowsPage}
+use Rattle.sql_rows.specs.Kept.{IsPage, IsServing, Shows, ShowsLast, ShowsPage, ShowsText}
 use Rattle.sql_rows.specs.TypedTable.{TypedTable, cmp, rows_in}
-use Rattle.sql_rows.specs.Values.{count_in}
+use Rattle.sql_rows.specs.Values.{count_in, first_text}
 use Rattle.sql_rows.proofs.Calls.{first_finds, last_finds}
 use Rattle.sql_rows.proofs.StoreLemmas.{commits_after, commits_as, commits_then, rests_before, rests_then}
 use Rattle.sql_lookups.specs.Asks.{AsksIn}
@@ -35,6 +35,13 @@ page_finds items s number p db (Ok v) (Ok l) ok is shown = subst (IsPage number 
 page_finds items s number p db (Ok v) (Err e) ok is shown = tt
 page_finds items s number p db (Err x) (Ok l) ok is shown = absurd cc
 page_finds items s number p db (Err x) (Err e) ok is shown = tt
+
+text_finds : {V E F : Type 0} (items : V → List Row) (next : Option (List ℕ)) (r : Result V E) (q : Result (Option (List ℕ)) F) → OnOk q (IsOk r)
+    → IfOk r (λ v. IfOk q (λ o. o ≡ option_map first_text (first (items v)))) → IfOk r (λ v. option_map first_text (first (items v)) ≡ next) → IfOk q (λ o. o ≡ next)
+text_finds items next (Ok v) (Ok o) ok is shown = is ∙ shown
+text_finds items next (Ok v) (Err e) ok is shown = tt
+text_finds items next (Err x) (Ok o) ok is shown = absurd cc
+text_finds items next (Err x) (Err e) ok is shown = tt
 
 -- ---- one statement
 
@@ -70,6 +77,15 @@ pub asks_last : {V T F : Type 0} {items : V → List Row} {at : ℕ} {s : TypedT
     → IfOk r (λ v. IfOk q (λ n. n ≡ greatest (map (λ x. count_in (column x at)) (items v)))) → ((db : Trees) (n : ℕ) → n ≡ greatest (map number (filter p (rows_in s db))) → P db n) → AsksIn old new q P
 asks_last {V} {T} {F} {items} {at} {s} {number} {p} {old} {new} {r} {q} {P} shows ok last means = record {
   found = λ serves up. if_ok q (means old.now.trees) (last_finds items at (greatest (map number (filter p (rows_in s old.now.trees)))) r q ok last ((shows serves).ok up));
+  same = λ serves up. (shows serves).same up;
+  stops = commits_as old new r q ok (λ serves. (shows serves).stops);
+}
+
+-- the text of the first row
+pub asks_text : {V T F : Type 0} {items : V → List Row} {s : TypedTable T} {text : T → List ℕ} {p : T → Bool} {old new : State} {r : Result V Error} {q : Result (Option (List ℕ)) F} {P : Trees → Option (List ℕ) → Type 0} → (IsServing old → ShowsText items s text p old new r) → OnOk q (IsOk r)
+    → IfOk r (λ v. IfOk q (λ o. o ≡ option_map first_text (first (items v)))) → ((db : Trees) (o : Option (List ℕ)) → o ≡ option_map text (find p (rows_in s db)) → P db o) → AsksIn old new q P
+asks_text {V} {T} {F} {items} {s} {text} {p} {old} {new} {r} {q} {P} shows ok is means = record {
+  found = λ serves up. if_ok q (means old.now.trees) (text_finds items (option_map text (find p (rows_in s old.now.trees))) r q ok is ((shows serves).ok up));
   same = λ serves up. (shows serves).same up;
   stops = commits_as old new r q ok (λ serves. (shows serves).stops);
 }

@@ -1,9 +1,11 @@
 -- What a look-up says.
-use Rattle.std.specs.Prelude.{◌≡◌, ℕ, List, Option, option_map, Result}
+use Rattle.std.specs.Prelude.{◌≡◌, ℕ, List, Option, find, option_map, Result}
+use Rattle.std.specs.Ordering.{is_gt}
 use Rattle.sqlite_trees.specs.Tree.{Trees}
 use Rattle.sqlite.specs.State.{State}
-use Rattle.hub_rows.specs.Keyed.{first}
+use Rattle.hub_rows.specs.Keyed.{first, text_cmp}
 use Rattle.hub_rows.specs.Rows.{Rows}
+use Rattle.hub_rows.specs.declared.station_row.StationRow.{StationRow}
 use Rattle.sql_rows.specs.Kept.{CommitsNothing, FindsIn, IsTop, Rests}
 use Rattle.sql_rows.specs.TypedTables.{first_and_count, rows_of}
 use Rattle.sql_rows.specs.declared.meter_value_rows.MeterValueRow.{MeterValueRow}
@@ -28,3 +30,7 @@ IsTopRow {T} number all row = (ts : List T) × IsTop number all ts × (row ≡ f
 -- the first number of the last of some meter values, and how many readings it is, if there are any
 abbrev pub AreLastNumbers : List MeterValueRow → Option (ℕ × ℕ) → Type 0
 AreLastNumbers values numbers = (row : Option MeterValueRow) × IsTopRow (λ m. m.first) values row × (numbers ≡ option_map first_and_count row)
+
+-- the operator of the first station whose operator comes after a name, of stations in the order of their keys
+abbrev pub next_operator_in : List ℕ → List StationRow → Option (List ℕ)
+next_operator_in after stations = option_map (λ r. r.op) (find (λ r. is_gt (text_cmp r.op after)) stations)

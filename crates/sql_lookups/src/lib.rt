@@ -8,6 +8,7 @@ pub mod granted;
 pub mod grants;
 pub mod local_lists;
 mod pages;
+pub mod readers;
 pub mod readings;
 pub mod reports;
 pub mod reservations;

@@ -1,4 +1,5 @@
--- Reservations, local lists and their entries: their typed tables, and what the texts that write and show them mean.
+-- Reservations, local lists and their entries: their typed tables, and what the texts that write and show them mean,
+-- but the one that drops a list.
 use Rattle.std.proofs.Common.{◌&&◌, ◌++◌, ◌∷◌, ◌≡◌, ℕ, pos, List, [], refl, ap, inl, inr, filter, not, negsuc}
 use Rattle.sqlite_value.specs.Order.{Row}
 use Rattle.sqlite_schema.specs.declared.schema.Keys.TheVariants.{Enforced}
@@ -19,7 +20,7 @@ use Rattle.hub_rows.specs.declared.reservation_row.ReservationRow.{ReservationRo
 use Rattle.std.specs.Str.{bytes_eq}
 use Rattle.sqlite_value.specs.declared.value.Value.TheVariants.{Int, Text, Blob}
 use Rattle.sqlite_trees.specs.Tree.{Trees}
-use Rattle.hub_rows.specs.Keyed.{by_key, put}
+use Rattle.hub_rows.specs.Keyed.{by_key, put, without}
 use Rattle.hub_rows.specs.Rows.{reservation_key}
 use Rattle.sql_tables.specs.declared.list_entries.TheConstants as sql_list_entries
 use Rattle.sql_tables.specs.declared.lists.TheConstants as sql_lists
@@ -81,6 +82,11 @@ puts_reservation r = means_as (puts 7 reservations on_reservations sql_reservati
 pub drops_reservation : (op station : List ℕ) (n : ℕ) → Means sql_reservations.DROP.now (Text op ∷ Text station ∷ Int (unshifted n) ∷ []) (IsMade (λ rows. record rows { reservations = filter (λ r. not (bytes_eq r.op op && is_reservation station n r)) rows.reservations }))
 drops_reservation op station n =
     means_as (drops 7 reservations on_reservations sql_reservations.DROP.now (λ e. cc) (where_is 0 (1 ∷ 2 ∷ 3 ∷ [])) (Text op ∷ Text station ∷ Int (unshifted n) ∷ []) (λ r. bytes_eq r.op op && is_reservation station n r) (tests.of_reservation op station n) frees_reservations texts.drop_reservation_is)
+    (λ old new h. reservations_made old new _ h.rows h.frame)
+
+pub drops_reservations : (op station : List ℕ) → Means sql_reservations.DROP_ALL.now (Text op ∷ Text station ∷ []) (IsMade (λ rows. record rows { reservations = without (λ r. r.op) op (λ r. bytes_eq r.station station) rows.reservations }))
+drops_reservations op station =
+    means_as (drops 7 reservations on_reservations sql_reservations.DROP_ALL.now (λ e. cc) (where_is 0 (1 ∷ 2 ∷ [])) (Text op ∷ Text station ∷ []) (λ r. bytes_eq r.op op && bytes_eq r.station station) (tests.of_reservations op station) frees_reservations texts.drop_reservations_is)
     (λ old new h. reservations_made old new _ h.rows h.frame)
 
 pub reads_reservation : (op station : List ℕ) (n : ℕ) → ReadsRows sql_reservations.FIND.now (Text op ∷ Text station ∷ Int (unshifted n) ∷ Int (unshifted n) ∷ []) reservations (λ r. bytes_eq r.op op && is_reservation station n r)

@@ -15,7 +15,7 @@ use Rattle.sql_rows.specs.TypedTables.{metas}
 use Rattle.sql_rows.specs.Kept.{IsNumbered, our_meta}
 
 pub all_plain : AllByRecursion (λ (i : Index). i.order ≡ plain) hub_schema.indexes
-all_plain = (refl, (refl, (refl, (refl, (refl, (refl, (refl, (refl, (refl, (refl, (refl, (refl, (refl, (refl, (refl, (refl, (refl, (refl, (refl, tt)))))))))))))))))))
+all_plain = (refl, (refl, (refl, (refl, (refl, (refl, (refl, (refl, (refl, (refl, (refl, (refl, (refl, (refl, (refl, (refl, (refl, (refl, (refl, (refl, tt))))))))))))))))))))
 
 -- a table with another tree has the rows that it had
 pub same_in : {T : Type 0} (s : TypedTable T) (tree : ℕ) (old new : Trees) → Has hub_schema.tables s.table → Spares hub_schema tree old new → (s.table.tree ≡ tree → ⊥) → rows_in s new ≡ rows_in s old

@@ -19,11 +19,13 @@ pub mod HoldingTables
 pub mod LastLaws
 pub mod DownLaws
 pub mod PageLaws
+pub mod FirstLaws
 pub mod AnyLaws
 pub mod Selects
 pub mod Writes
 pub mod Tests
 pub mod CascadeLemmas
+pub mod CascadeWrites
 pub mod TagWrites
 pub mod ChangedLaws
 pub mod TxReads
@@ -31,6 +33,7 @@ pub mod RowEdits
 pub mod MeterValueLaws
 pub mod CutLaws
 pub mod ListEdits
+pub mod ListWrites
 pub mod ValueEdits
 pub mod OrderedLaws
 pub mod CreateLemmas

@@ -43,6 +43,9 @@ use Rattle.ocpp_types.specs.declared.diagnostics_status.DiagnosticsStatus.TheVar
 use Rattle.ocpp_types.specs.FirmwareStatus.{firmware_statuses, firmware_status_name}
 use Rattle.ocpp_types.specs.declared.firmware_status.FirmwareStatus.{FirmwareStatus}
 use Rattle.ocpp_types.specs.declared.firmware_status.FirmwareStatus.TheVariants as firmware
+use Rattle.hub_rows.specs.Readers.{readers, reader_name}
+use Rattle.hub_rows.specs.declared.reader_row.Reader.{Reader}
+use Rattle.hub_rows.specs.declared.reader_row.Reader.TheVariants as reader
 use Rattle.sql_rows.specs.Values.{name_in, name_if_any, text_or_null}
 
 pub status_back : (x : ChargePointStatus) → name_in charge_point_statuses status.Available (Text (charge_point_status_name x)) ≡ x
@@ -56,6 +59,10 @@ judged_back x = refl
 pub policy_back : (x : Policy) → name_in policies policy.Accepted (Text (policy_name x)) ≡ x
 policy_back policy.Accepted = refl
 policy_back x = refl
+
+pub reader_back : (x : Reader) → name_in readers reader.Strict (Text (reader_name x)) ≡ x
+reader_back reader.Strict = refl
+reader_back x = refl
 
 pub state_back : (x : State) → name_in states state.Fresh (Text (state_name x)) ≡ x
 state_back state.Fresh = refl

@@ -9,7 +9,7 @@ use Rattle.sqlite.specs.Store.{Ghosts}
 use Rattle.sqlite_trees.specs.Tree.{Trees}
 use Rattle.sqlite_schema.specs.declared.schema.Schema.{Schema}
 use Rattle.sql_tables.specs.Opening.{no_schema, schema_at}
-use Rattle.sql_tables.specs.Tables.{first_tables, second_tables, third_tables, hub_schema}
+use Rattle.sql_tables.specs.Tables.{first_tables, second_tables, third_tables, fourth_tables, hub_schema}
 use Rattle.hub_rows.proofs.WellFormedLaws.{well_formed-no_rows}
 use Rattle.hub_rows.specs.WellFormed.{WellFormedRows}
 use Rattle.sql_rows.specs.TypedTables.{rows_of}
@@ -126,4 +126,5 @@ ours_empty s blank (suc zero) is = absurd (let both : no_schema.tables ≡ first
 ours_empty s blank (suc (suc zero)) is = absurd (let both : no_schema.tables ≡ second_tables.tables = ap (λ (c : Schema). c.tables) (sym blank ∙ is) in cc)
 ours_empty s blank (suc (suc (suc zero))) is = absurd (let both : no_schema.tables ≡ third_tables.tables = ap (λ (c : Schema). c.tables) (sym blank ∙ is) in cc)
 ours_empty s blank (suc (suc (suc (suc zero)))) is = absurd (let both : no_schema.tables ≡ third_tables.tables = ap (λ (c : Schema). c.tables) (sym blank ∙ is) in cc)
-ours_empty s blank (suc (suc (suc (suc (suc n))))) is = absurd (let both : no_schema.tables ≡ hub_schema.tables = ap (λ (c : Schema). c.tables) (sym blank ∙ is) in cc)
+ours_empty s blank (suc (suc (suc (suc (suc zero))))) is = absurd (let both : no_schema.tables ≡ fourth_tables.tables = ap (λ (c : Schema). c.tables) (sym blank ∙ is) in cc)
+ours_empty s blank (suc (suc (suc (suc (suc (suc n)))))) is = absurd (let both : no_schema.tables ≡ hub_schema.tables = ap (λ (c : Schema). c.tables) (sym blank ∙ is) in cc)

@@ -67,23 +67,23 @@ top_of number x (y ∷ xs) =
 -- ---- what is shown, and what stands behind it
 
 module _ (tree : ℕ) (wanted project : List Term) (at most : ℕ) (db : Trees) (params : Row) (rows : List Row) (answer : IsAnswer (page_query tree wanted project at most) db params rows) where
-  abbrev passing : Row → Type 0
+  abbrev pub passing : Row → Type 0
   passing r = list_all (holds (params ∷ r ∷ [])) wanted ≡ true
 
-  abbrev out_of : Row → Output
+  abbrev pub out_of : Row → Output
   out_of r = output (page_query tree wanted project at most) (params ∷ r ∷ [])
 
-  abbrev lt : Output → Output → Bool
+  abbrev pub lt : Output → Output → Bool
   lt x y = is_lt (output_cmp (page_query tree wanted project at most) x y)
 
-  still : (a b c : Output) → lt b a ≡ false → lt c b ≡ false → lt c a ≡ false
+  pub still : (a b c : Output) → lt b a ≡ false → lt c b ≡ false → lt c a ≡ false
   still a b c p q =
       less_not (value_cmp (column c.0 0) (column a.0 0)) (on_and_on value_cmp value_cmp_total (column c.0 0) (column b.0 0) (column a.0 0) (not_less (value_cmp (column c.0 0) (column b.0 0)) q) (not_less (value_cmp (column b.0 0) (column a.0 0)) p))
 
-  there_is : (r : Row) → Has (db tree) r → passing r → Has answer.ordered (out_of r)
+  pub there_is : (r : Row) → Has (db tree) r → passing r → Has answer.ordered (out_of r)
   there_is = ordered_has wanted project (by_column at ∷ []) (lit (Int (pos most))) db tree params rows answer
 
-  comes_from : (o : Output) → Has answer.ordered o → (r : Row) × Has (db tree) r × passing r × (o ≡ out_of r)
+  pub comes_from : (o : Output) → Has answer.ordered o → (r : Row) × Has (db tree) r × passing r × (o ≡ out_of r)
   comes_from = ordered_from wanted project (by_column at ∷ []) (lit (Int (pos most))) db tree params rows answer
 
   pub shown_from : (x : Row) → Has rows x → (r : Row) × Has (db tree) r × passing r × (x ≡ eval_all project (params ∷ r ∷ []))

@@ -16,14 +16,14 @@ use Rattle.sqlite.specs.Steps.{FailsToCommit}
 use Rattle.sqlite.specs.Held.{Held, state}
 use Rattle.sqlite.specs.Store.{Ghosts}
 use Rattle.sql_tables.specs.Opening.{our_form, tables_at, schema_at}
-use Rattle.sql_tables.specs.Tables.{hub_schema, first_tables, second_tables, third_tables, hub_report, hub_tx_owner, hub_use, hub_meter_value}
+use Rattle.sql_tables.specs.Tables.{hub_schema, first_tables, second_tables, third_tables, fourth_tables, hub_report, hub_tx_owner, hub_use, hub_meter_value, hub_reader}
 use Rattle.hub_rows.specs.Keyed.{put_all}
 use Rattle.hub_rows.specs.Rows.{Rows}
 use Rattle.hub_rows.specs.WellFormed.{WellFormedRows}
 use Rattle.sql_rows.specs.TypedTable.{cmp, rows_in, typed, AreTyped}
 use Rattle.sql_rows.specs.TypedTables.{metas, meter_values, hub_good, rows_of}
 use Rattle.sql_rows.specs.Kept.{Leaves, IsInside, IsNumbered, Inside, IsPutIn, our_meta}
-use Rattle.sql_rows.specs.Opening.{IsInsideAs, IsInsideWith, HasTables, MakesOurs, Rested, Prepares, rows_at, rows_before, trees_at, IsCut, Holds, IsRaised}
+use Rattle.sql_rows.specs.Opening.{IsInsideAs, IsInsideWith, HasTables, MakesOurs, Rested, Prepares, rows_at, rows_before, rows_from, trees_at, values_form, IsCut, Holds, IsRaised}
 use Rattle.sql_rows.proofs.HubTables.{rest_is}
 use Rattle.sql_rows.proofs.MetaTable.{metas_made, number_put}
 use Rattle.sqlite_rules.specs.Lists.{Has}
@@ -72,8 +72,34 @@ kept_tables [] rows db t same none = absurd none
 kept_tables (u ∷ ts) rows db t same (inl here) = ap (λ (k : Table). db k.tree) here ∙ same.0 ∙ sym (ap (λ (k : Table). rows k.tree) here)
 kept_tables (u ∷ ts) rows db t same (inr later) = kept_tables ts rows db t same.1 later
 
-pub before_is : (rows db : Trees) → KeepsRows hub_schema.tables rows db → rows_before db ≡ rows_before rows
+before_is : (rows db : Trees) → KeepsRows hub_schema.tables rows db → rows_before db ≡ rows_before rows
 before_is rows db kept = ap rows_before (rest_is [] rows db (λ t listed apart. kept_tables hub_schema.tables rows db t kept listed))
+
+pub from_is : (n : ℕ) (rows db : Trees) → KeepsRows hub_schema.tables rows db → rows_from n db ≡ rows_from n rows
+from_is zero rows db kept = before_is rows db kept
+from_is (suc zero) rows db kept = before_is rows db kept
+from_is (suc (suc zero)) rows db kept = before_is rows db kept
+from_is (suc (suc (suc zero))) rows db kept = before_is rows db kept
+from_is (suc (suc (suc (suc zero)))) rows db kept = before_is rows db kept
+from_is (suc (suc (suc (suc (suc n))))) rows db kept = ap rows_of (rest_is [] rows db (λ t listed apart. kept_tables hub_schema.tables rows db t kept listed))
+
+-- of a form without meter values
+pub from_before : (n : ℕ) → n < values_form → (db : Trees) → rows_from n db ≡ rows_before db
+from_before zero earlier db = refl
+from_before (suc zero) earlier db = refl
+from_before (suc (suc zero)) earlier db = refl
+from_before (suc (suc (suc zero))) earlier db = refl
+from_before (suc (suc (suc (suc zero)))) earlier db = refl
+from_before (suc (suc (suc (suc (suc n))))) earlier db = absurd (omega (arith, earlier))
+
+-- of one that has them
+pub from_values : (n : ℕ) → (n < values_form → ⊥) → (db : Trees) → rows_from n db ≡ rows_of db
+from_values zero later db = absurd (later (omega arith))
+from_values (suc zero) later db = absurd (later (omega arith))
+from_values (suc (suc zero)) later db = absurd (later (omega arith))
+from_values (suc (suc (suc zero))) later db = absurd (later (omega arith))
+from_values (suc (suc (suc (suc zero)))) later db = absurd (later (omega arith))
+from_values (suc (suc (suc (suc (suc n))))) later db = refl
 
 pub no_values : (rows db : Trees) → KeepsRows hub_schema.tables rows db → rows meter_values.table.tree ≡ [] → rows_in meter_values db ≡ []
 no_values rows db kept none = ap (λ (l : List Row). put_all (cmp meter_values) (map (typed meter_values) l) []) (kept_tables hub_schema.tables rows db hub_meter_value kept on_meter_values.listed ∙ none)
@@ -83,24 +109,30 @@ no_values rows db kept none = ap (λ (l : List Row). put_all (cmp meter_values) 
 abbrev IsTypedAt : ℕ → Trees → Table → Type 0
 IsTypedAt n db t = IsTable (trees_at n db t.tree) × AllByRecursion (hub_good t.tree) (trees_at n db t.tree)
 
-pub typed_at : (n : ℕ) → n < our_form → (db : Trees) → AreTyped (schema_at n) hub_good db → AreTyped hub_schema hub_good (trees_at n db)
-typed_at zero earlier db are_typed = ((tt, tt), ((tt, tt), ((tt, tt), ((tt, tt), ((tt, tt), ((tt, tt), ((tt, tt), ((tt, tt), ((tt, tt), ((tt, tt), ((tt, tt), ((tt, tt), ((tt, tt), ((tt, tt), tt))))))))))))))
-typed_at (suc zero) earlier db are_typed = more_tables (IsTypedAt 1 db) third_tables.tables hub_meter_value
-    (more_tables (IsTypedAt 1 db) (second_tables.tables ++ hub_tx_owner ∷ []) hub_use
-    (more_tables (IsTypedAt 1 db) second_tables.tables hub_tx_owner (more_tables (IsTypedAt 1 db) first_tables.tables hub_report are_typed (tt, tt)) (tt, tt)) (tt, tt)) (tt, tt)
-typed_at (suc (suc zero)) earlier db are_typed = more_tables (IsTypedAt 2 db) third_tables.tables hub_meter_value
-    (more_tables (IsTypedAt 2 db) (second_tables.tables ++ hub_tx_owner ∷ []) hub_use (more_tables (IsTypedAt 2 db) second_tables.tables hub_tx_owner are_typed (tt, tt)) (tt, tt)) (tt, tt)
-typed_at (suc (suc (suc zero))) earlier db are_typed = more_tables (IsTypedAt 3 db) third_tables.tables hub_meter_value are_typed (tt, tt)
-typed_at (suc (suc (suc (suc zero)))) earlier db are_typed = more_tables (IsTypedAt 4 db) third_tables.tables hub_meter_value are_typed (tt, tt)
-typed_at (suc (suc (suc (suc (suc n))))) earlier db are_typed = absurd (omega (arith, earlier))
+-- the tables that schemas 4 and 5 have beside those of schema 3
+since_third : (n : ℕ) (db : Trees) → AllByRecursion (IsTypedAt n db) third_tables.tables → IsTypedAt n db hub_meter_value → IsTypedAt n db hub_reader → AllByRecursion (IsTypedAt n db) hub_schema.tables
+since_third n db typed values readers = more_tables (IsTypedAt n db) fourth_tables.tables hub_reader (more_tables (IsTypedAt n db) third_tables.tables hub_meter_value typed values) readers
 
-pub rows_at_is : (n : ℕ) → n < our_form → (db : Trees) → rows_before (trees_at n db) ≡ rows_at n db
+pub typed_at : (n : ℕ) → n < our_form → (db : Trees) → AreTyped (schema_at n) hub_good db → AreTyped hub_schema hub_good (trees_at n db)
+typed_at zero earlier db are_typed = ((tt, tt), ((tt, tt), ((tt, tt), ((tt, tt), ((tt, tt), ((tt, tt), ((tt, tt), ((tt, tt), ((tt, tt), ((tt, tt), ((tt, tt), ((tt, tt), ((tt, tt), ((tt, tt), ((tt, tt), tt)))))))))))))))
+typed_at (suc zero) earlier db are_typed = since_third 1 db
+    (more_tables (IsTypedAt 1 db) (second_tables.tables ++ hub_tx_owner ∷ []) hub_use
+    (more_tables (IsTypedAt 1 db) second_tables.tables hub_tx_owner (more_tables (IsTypedAt 1 db) first_tables.tables hub_report are_typed (tt, tt)) (tt, tt)) (tt, tt)) (tt, tt) (tt, tt)
+typed_at (suc (suc zero)) earlier db are_typed = since_third 2 db
+    (more_tables (IsTypedAt 2 db) (second_tables.tables ++ hub_tx_owner ∷ []) hub_use (more_tables (IsTypedAt 2 db) second_tables.tables hub_tx_owner are_typed (tt, tt)) (tt, tt)) (tt, tt) (tt, tt)
+typed_at (suc (suc (suc zero))) earlier db are_typed = since_third 3 db are_typed (tt, tt) (tt, tt)
+typed_at (suc (suc (suc (suc zero)))) earlier db are_typed = since_third 4 db are_typed (tt, tt) (tt, tt)
+typed_at (suc (suc (suc (suc (suc zero))))) earlier db are_typed = more_tables (IsTypedAt 5 db) fourth_tables.tables hub_reader are_typed (tt, tt)
+typed_at (suc (suc (suc (suc (suc (suc n)))))) earlier db are_typed = absurd (omega (arith, earlier))
+
+pub rows_at_is : (n : ℕ) → n < our_form → (db : Trees) → rows_from n (trees_at n db) ≡ rows_at n db
 rows_at_is zero earlier db = refl
 rows_at_is (suc zero) earlier db = refl
 rows_at_is (suc (suc zero)) earlier db = refl
 rows_at_is (suc (suc (suc zero))) earlier db = refl
 rows_at_is (suc (suc (suc (suc zero)))) earlier db = refl
-rows_at_is (suc (suc (suc (suc (suc n))))) earlier db = absurd (omega (arith, earlier))
+rows_at_is (suc (suc (suc (suc (suc zero))))) earlier db = refl
+rows_at_is (suc (suc (suc (suc (suc (suc n)))))) earlier db = absurd (omega (arith, earlier))
 
 kept_at : (n : ℕ) → n < our_form → (db : Trees) → KeepsRows (schema_at n).tables (trees_at n db) db
 kept_at zero earlier db = tt
@@ -108,7 +140,8 @@ kept_at (suc zero) earlier db = (refl, (refl, (refl, (refl, (refl, (refl, (refl,
 kept_at (suc (suc zero)) earlier db = (refl, (refl, (refl, (refl, (refl, (refl, (refl, (refl, (refl, (refl, (refl, tt)))))))))))
 kept_at (suc (suc (suc zero))) earlier db = (refl, (refl, (refl, (refl, (refl, (refl, (refl, (refl, (refl, (refl, (refl, (refl, (refl, tt)))))))))))))
 kept_at (suc (suc (suc (suc zero)))) earlier db = (refl, (refl, (refl, (refl, (refl, (refl, (refl, (refl, (refl, (refl, (refl, (refl, (refl, tt)))))))))))))
-kept_at (suc (suc (suc (suc (suc n))))) earlier db = absurd (omega (arith, earlier))
+kept_at (suc (suc (suc (suc (suc zero))))) earlier db = (refl, (refl, (refl, (refl, (refl, (refl, (refl, (refl, (refl, (refl, (refl, (refl, (refl, (refl, tt))))))))))))))
+kept_at (suc (suc (suc (suc (suc (suc n)))))) earlier db = absurd (omega (arith, earlier))
 
 not_below : (t k : ℕ) → k ≤ t → nat_lt t k ≡ false
 not_below t k over = grind (arith, nat_tests)
@@ -117,7 +150,7 @@ pub cut_at : (n : ℕ) (db : Trees) → IsCut n (trees_at n db)
 cut_at n db t over = rw (not_below t (next_tree (tables_at n)) over) refl
 
 -- there is no meter value yet
-pub cut_values : (n : ℕ) → n < our_form → (rows : Trees) → IsCut n rows → rows meter_values.table.tree ≡ []
+pub cut_values : (n : ℕ) → n < values_form → (rows : Trees) → IsCut n rows → rows meter_values.table.tree ≡ []
 cut_values zero earlier rows cut = cut 26 (omega arith)
 cut_values (suc zero) earlier rows cut = cut 26 (omega arith)
 cut_values (suc (suc zero)) earlier rows cut = cut 26 (omega arith)
@@ -131,7 +164,8 @@ cut_later (suc zero) earlier rows cut t over = cut t (omega (arith, over))
 cut_later (suc (suc zero)) earlier rows cut t over = cut t (omega (arith, over))
 cut_later (suc (suc (suc zero))) earlier rows cut t over = cut t (omega (arith, over))
 cut_later (suc (suc (suc (suc zero)))) earlier rows cut t over = cut t (omega (arith, over))
-cut_later (suc (suc (suc (suc (suc n))))) earlier rows cut t over = absurd (omega (arith, earlier))
+cut_later (suc (suc (suc (suc (suc zero))))) earlier rows cut t over = cut t (omega (arith, over))
+cut_later (suc (suc (suc (suc (suc (suc n)))))) earlier rows cut t over = absurd (omega (arith, earlier))
 
 -- ---- the ends
 

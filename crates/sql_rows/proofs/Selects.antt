@@ -1,7 +1,7 @@
 -- What a SELECT answers, in any state of a connection.
 use Rattle.sqlite_rules.specs.Lists.{Has}
-use Rattle.std.proofs.Common.{◌≡◌, ◌<◌, Equal, ℕ, List, [], Bool, Ok, Err, Result, IsTrue, IfOk, IfErr, map, filter, sym, subst, inl, inr}
-use Rattle.sqlite_value.specs.declared.value.Value.TheVariants.{Null}
+use Rattle.std.proofs.Common.{◌≡◌, ◌<◌, Equal, ℕ, List, [], Bool, Ok, Err, Result, IsTrue, IfOk, IfErr, map, filter, find, option_map, ◌∷◌, sym, subst, inl, inr}
+use Rattle.sqlite_value.specs.declared.value.Value.TheVariants.{Null, Text}
 use Rattle.sqlite_value.specs.declared.keys.Key as sort
 use Rattle.sqlite_value.specs.Order.{Row, column}
 use Rattle.sqlite_trees.specs.Tree.{Trees}
@@ -14,18 +14,19 @@ use Rattle.sqlite.specs.declared.error.Error.{Error}
 use Rattle.sqlite.specs.Listing.{understood}
 use Rattle.sqlite.specs.State.{State, HasCleanDisk, Survives, Shown, FailsToQuery, CommitsShowing}
 use Rattle.sqlite.proofs.Callers.{IsPlain, reads_as}
-use Rattle.hub_rows.specs.Keyed.{put_all, greatest}
+use Rattle.hub_rows.specs.Keyed.{first, put_all, greatest}
 use Rattle.sql_tables.specs.Tables.{hub_schema}
 use Rattle.sql_tables.specs.Forms.{any_query, plain_query, last_query, page_query}
 use Rattle.sql_tables.specs.Meanings.{IsRead}
 use Rattle.sql_rows.specs.TypedTable.{TypedTable, cmp, rows_in, AreTyped}
 use Rattle.sql_rows.specs.TypedTables.{hub_good}
-use Rattle.sql_rows.specs.Kept.{AreTopCells, IsServing, IsAsBefore, IsUncommitted, CommitsNothing, IsPage, IsTop, Shows, ShowsLast, ShowsPage, ShowsTop, ShowsTopCells}
-use Rattle.sql_rows.specs.Values.{count_in}
+use Rattle.sql_rows.specs.Kept.{AreTopCells, IsServing, IsAsBefore, IsUncommitted, CommitsNothing, IsPage, IsTop, Shows, ShowsLast, ShowsPage, ShowsText, ShowsTop, ShowsTopCells}
+use Rattle.sql_rows.specs.Values.{count_in, first_text}
 use Rattle.sql_rows.proofs.TypedTableLemmas.{IsTypedTable}
 use Rattle.sql_rows.proofs.ReadLaws.{AreCells, IsNumbered, IsTest, IsWhole, lists_those, once}
 use Rattle.sql_rows.proofs.DownLaws.{last_is, top_is, top_read}
 use Rattle.sql_rows.proofs.PageLaws.{IsApart, page_is}
+use Rattle.sql_rows.proofs.FirstLaws.{IsLed, IsTexted, first_is}
 use Rattle.sql_rows.proofs.StoreLemmas.{obeys_in, serves_still, shown_was, shown_up, shown_unchanged, commits_none, failed_was, fails_before}
 
 -- what its answers are, and that it changes nothing
@@ -115,6 +116,20 @@ pub record ReadsPage {T : Type 0} (sql : List ℕ) (params : Row) (s : TypedTabl
   pub text : IsRead sql (page_query s.table.tree wanted project place most) names
   pub test : IsTest s wanted params p
 
+-- it shows the text of the first row that passes, which stands at that place
+pub record ReadsText {T : Type 0} (sql : List ℕ) (params : Row) (s : TypedTable T) (text : T → List ℕ) (p : T → Bool) : Type 1 where
+  pub at : ℕ
+  pub is : IsTypedTable hub_schema hub_good at s
+  pub wanted : List Term
+  pub project : List Term
+  pub shown : AreCells s project (λ t. Text (text t) ∷ [])
+  pub place : ℕ
+  pub texted : IsTexted s text place
+  pub led : IsLed s text
+  pub names : List (List ℕ)
+  pub means : IsRead sql (page_query s.table.tree wanted project place 1) names
+  pub test : IsTest s wanted params p
+
 pub shows : {T : Type 0} {sql : List ℕ} {params : Row} {s : TypedTable T} {p : T → Bool} → ReadsRows sql params s p
     → {V : Type 0} (items : V → List Row) (old new : State) (values : Row) (r : Result V Error) → (HasCleanDisk new → IfOk r (λ v. Shown sql values old new (items v))) → (HasCleanDisk new → IfErr r (FailsToQuery sql values old new))
     → Survives old new (CommitsShowing sql values old) → values ≡ params → IsServing old → (IsTrue new.is_open → HasCleanDisk new) → Shows items s p old new r
@@ -165,4 +180,14 @@ shows_top_cells {T} {sql} {params} {s} {cells} {number} {p} f items old new valu
       (λ db kept obeys rows answer. top_is f.at s f.is f.wanted f.project cells f.shown params p f.test f.place number f.numbered db kept obeys rows answer) items old new values r given h (ok (clean up));
   same = λ up. stays sql (last_query s.table.tree f.wanted f.project f.place) f.names f.text params items old new values r h up (ok (clean up)) (err (clean up));
   stops = stops sql (last_query s.table.tree f.wanted f.project f.place) f.names f.text params items old new values r survives ok;
+}
+
+pub shows_text : {T : Type 0} {sql : List ℕ} {params : Row} {s : TypedTable T} {text : T → List ℕ} {p : T → Bool} → ReadsText sql params s text p
+    → {V : Type 0} (items : V → List Row) (old new : State) (values : Row) (r : Result V Error) → (HasCleanDisk new → IfOk r (λ v. Shown sql values old new (items v))) → (HasCleanDisk new → IfErr r (FailsToQuery sql values old new))
+    → Survives old new (CommitsShowing sql values old) → values ≡ params → IsServing old → (IsTrue new.is_open → HasCleanDisk new) → ShowsText items s text p old new r
+shows_text {T} {sql} {params} {s} {text} {p} f items old new values r ok err survives given h clean = record {
+  ok = λ up. answers sql (page_query s.table.tree f.wanted f.project f.place 1) f.names f.means params (λ db rows. option_map first_text (first rows) ≡ option_map text (find p (rows_in s db)))
+      (λ db kept obeys rows answer. first_is f.at s f.is f.wanted f.project params p f.test f.place text f.texted f.shown f.led db kept obeys rows answer) items old new values r given h (ok (clean up));
+  same = λ up. stays sql (page_query s.table.tree f.wanted f.project f.place 1) f.names f.means params items old new values r h up (ok (clean up)) (err (clean up));
+  stops = stops sql (page_query s.table.tree f.wanted f.project f.place 1) f.names f.means params items old new values r survives ok;
 }

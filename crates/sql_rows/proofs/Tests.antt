@@ -2,7 +2,7 @@
 -- and all from a key on where it goes from that to a blob, which is above every text and every number.
 use Rattle.std.proofs.Common.{◌≡◌, ◌∙◌, ◌&&◌, ◌==◌, ℕ, nat_le, ℤ, pos, negsuc, List, [], ◌∷◌, ◌++◌, ap, ap₂, subst, refl, sym, arith, Option, Some, None, Bool, true, false, true≢false, inl, inr, eqb-true, eq-eqb, Ordering, Less, Equal, Greater, int_cmp}
 use Rattle.std.specs.Str.{bytes_eq}
-use Rattle.std.specs.Ordering.{int_eq, is_eq, is_le, is_ge, nat_cmp}
+use Rattle.std.specs.Ordering.{int_eq, is_eq, is_gt, is_le, is_ge, nat_cmp}
 use Rattle.std.specs.Cmp.Lexicographic.{slice_cmp}
 use Rattle.std.proofs.lemmas.Bool.{cases_Bool, false_from_ne_true}
 use Rattle.std.proofs.lemmas.Bool.Decides.{nat_tests}
@@ -16,15 +16,16 @@ use Rattle.sqlite_value.specs.declared.value.Value.TheVariants.{Int, Text, Blob}
 use Rattle.sqlite_value.specs.declared.keys.Collation.TheVariants.{Binary}
 use Rattle.sqlite_value.proofs.OrderLemmas.{value_cmp-Int}
 use Rattle.sqlite_sql.specs.declared.ops.BinaryOp.TheVariants.{Compare}
-use Rattle.sqlite_sql.specs.declared.ops.CompareOp.TheVariants.{Eq, Ge, Le}
+use Rattle.sqlite_sql.specs.declared.ops.CompareOp.TheVariants.{Eq, Ge, Gt, Le}
 use Rattle.sqlite_sql.specs.Ops.{binary, is_true, from_truth}
 use Rattle.hub_rows.specs.Grants.{is_grant}
+use Rattle.hub_rows.specs.Keyed.{text_cmp}
 use Rattle.hub_rows.specs.Reservations.{shifted, unshifted, is_reservation}
 use Rattle.hub_rows.specs.Transactions.{is_open, counts, is_tx, is_started, is_sent_with}
 use Rattle.hub_rows.specs.Uses.{is_owner_of}
 use Rattle.hub_rows.specs.declared.tx_row.StartKey.{StartKey}
-use Rattle.sql_tables.specs.Forms.{where_is, range_is}
-use Rattle.sql_rows.specs.TypedTables.{metas, stations, connectors, tags, grants, txs, readings, reservations, lists, entries, reports, tx_owners, uses, meter_values, is_meter_value}
+use Rattle.sql_tables.specs.Forms.{above_is, where_is, range_is}
+use Rattle.sql_rows.specs.TypedTables.{metas, stations, connectors, tags, grants, txs, readings, reservations, lists, entries, readers, reports, tx_owners, uses, meter_values, is_meter_value}
 use Rattle.sql_rows.specs.Values.{flag, number_or_null}
 use Rattle.sql_rows.proofs.ReadLaws.{IsTest}
 use Rattle.sql_rows.proofs.TableLemmas.{equal_is}
@@ -149,6 +150,15 @@ all_signed n = ap₂ (λ a b. a && (b && true)) (at_least (unshifted n) (negsuc 
 last_text : (s t : List ℕ) → equals (Text s) (Text t) && true ≡ bytes_eq s t
 last_text s t = ap (λ b. b && true) (text_test s t) ∙ and_true (bytes_eq s t)
 
+-- ---- above a text
+
+text_above : (s t : List ℕ) → is_true (binary (Compare Gt Binary) (Text s) (Text t)) ≡ is_gt (slice_cmp nat_cmp s t)
+unfolding binary value_cmp lib.Ieee.is_nan lib.Ieee.lt
+text_above s t = truth_is (is_gt (slice_cmp nat_cmp s t))
+
+pub after_operator : (op : List ℕ) → IsTest stations (above_is 0 1) (Text op ∷ []) (λ r. is_gt (text_cmp r.op op))
+after_operator op = λ id r. ap (λ b. b && true) (text_above r.op op) ∙ and_true (is_gt (slice_cmp nat_cmp r.op op))
+
 pub of_metas : (name : List ℕ) → IsTest metas (where_is 0 (1 ∷ [])) (Text name ∷ []) (λ m. bytes_eq m.name name)
 of_metas name = λ id m. last_text m.name name
 
@@ -157,6 +167,9 @@ of_metas name = λ id m. last_text m.name name
 module _ (op station : List ℕ) where
   pub one_station : IsTest stations (where_is 0 (1 ∷ []) ++ range_is 1 2) (Text op ∷ Text station ∷ Text station ∷ []) (λ r. bytes_eq r.op op && bytes_eq r.station station)
   one_station = λ id r. ap₂ ◌&&◌ (text_test r.op op) (one_text r.station station)
+
+  pub of_station : IsTest stations (where_is 0 (1 ∷ 2 ∷ [])) (Text op ∷ Text station ∷ []) (λ r. bytes_eq r.op op && bytes_eq r.station station)
+  of_station = λ id r. ap₂ ◌&&◌ (text_test r.op op) (last_text r.station station)
 
   pub of_connectors : IsTest connectors (where_is 0 (1 ∷ 2 ∷ [])) (Text op ∷ Text station ∷ []) (λ r. bytes_eq r.op op && bytes_eq r.station station)
   of_connectors = λ id r. ap₂ ◌&&◌ (text_test r.op op) (last_text r.station station)
@@ -170,11 +183,20 @@ module _ (op station : List ℕ) where
   pub of_reports : IsTest reports (where_is 0 (1 ∷ 2 ∷ [])) (Text op ∷ Text station ∷ []) (λ r. bytes_eq r.op op && bytes_eq r.station station)
   of_reports = λ id r. ap₂ ◌&&◌ (text_test r.op op) (last_text r.station station)
 
+  pub one_reader : IsTest readers (where_is 0 (1 ∷ []) ++ range_is 1 2) (Text op ∷ Text station ∷ Text station ∷ []) (λ r. bytes_eq r.op op && bytes_eq r.station station)
+  one_reader = λ id r. ap₂ ◌&&◌ (text_test r.op op) (one_text r.station station)
+
+  pub of_reader : IsTest readers (where_is 0 (1 ∷ 2 ∷ [])) (Text op ∷ Text station ∷ []) (λ r. bytes_eq r.op op && bytes_eq r.station station)
+  of_reader = λ id r. ap₂ ◌&&◌ (text_test r.op op) (last_text r.station station)
+
   pub one_reservation : (n : ℕ) → IsTest reservations (where_is 0 (1 ∷ 2 ∷ []) ++ range_is 2 3) (Text op ∷ Text station ∷ Int (unshifted n) ∷ Int (unshifted n) ∷ []) (λ r. bytes_eq r.op op && is_reservation station n r)
   one_reservation n = λ id r. ap₂ ◌&&◌ (text_test r.op op) (ap₂ ◌&&◌ (text_test r.station station) (one_number (unshifted r.id) (unshifted n) ∙ same_signed r.id n))
 
   pub all_reservations : IsTest reservations (where_is 0 (1 ∷ 2 ∷ []) ++ range_is 2 3) (Text op ∷ Text station ∷ Int (negsuc 2147483647) ∷ Blob [] ∷ []) (λ r. bytes_eq r.op op && bytes_eq r.station station)
   all_reservations = λ id r. ap₂ ◌&&◌ (text_test r.op op) (ap₂ ◌&&◌ (text_test r.station station) (all_signed r.id) ∙ and_true (bytes_eq r.station station))
+
+  pub of_reservations : IsTest reservations (where_is 0 (1 ∷ 2 ∷ [])) (Text op ∷ Text station ∷ []) (λ r. bytes_eq r.op op && bytes_eq r.station station)
+  of_reservations = λ id r. ap₂ ◌&&◌ (text_test r.op op) (last_text r.station station)
 
   pub of_reservation : (n : ℕ) → IsTest reservations (where_is 0 (1 ∷ 2 ∷ 3 ∷ [])) (Text op ∷ Text station ∷ Int (unshifted n) ∷ []) (λ r. bytes_eq r.op op && is_reservation station n r)
   of_reservation n = λ id r. ap₂ ◌&&◌ (text_test r.op op) (ap₂ ◌&&◌ (text_test r.station station) (ap (λ b. b && true) (signed_test r.id n) ∙ and_true (r.id == n)))
@@ -225,6 +247,9 @@ module _ (op station : List ℕ) where
 module _ (op : List ℕ) where
   pub all_stations : IsTest stations (where_is 0 (1 ∷ []) ++ range_is 1 2) (Text op ∷ Text [] ∷ Blob [] ∷ []) (λ r. bytes_eq r.op op && true)
   all_stations = λ id r. ap₂ ◌&&◌ (text_test r.op op) (all_texts r.station)
+
+  pub all_readers : IsTest readers (where_is 0 (1 ∷ []) ++ range_is 1 2) (Text op ∷ Text [] ∷ Blob [] ∷ []) (λ r. bytes_eq r.op op && true)
+  all_readers = λ id r. ap₂ ◌&&◌ (text_test r.op op) (all_texts r.station)
 
   pub one_tag : (key : List ℕ) → IsTest tags (where_is 0 (1 ∷ []) ++ range_is 1 2) (Text op ∷ Text key ∷ Text key ∷ []) (λ r. bytes_eq r.op op && bytes_eq r.key key)
   one_tag key = λ id r. ap₂ ◌&&◌ (text_test r.op op) (one_text r.key key)

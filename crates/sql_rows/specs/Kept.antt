@@ -1,5 +1,5 @@
 -- What a connection keeps, and what a call makes of it.
-use Rattle.std.specs.Prelude.{◌≡◌, ◌⊎◌, ◌&&◌, ℕ, ◌+◌, codes, find, nat_le, ◌≤◌, false, true, not, Option, None, Some, List, [], ◌∷◌, map, filter, Bool, IsTrue, Result, Ok, Err, OnOk, OnErr, IfOk}
+use Rattle.std.specs.Prelude.{◌≡◌, ◌⊎◌, ◌&&◌, ℕ, ◌+◌, codes, find, nat_le, ◌≤◌, false, true, not, Option, None, Some, option_map, List, [], ◌∷◌, map, filter, Bool, IsTrue, Result, Ok, Err, OnOk, OnErr, IfOk}
 use Rattle.std.specs.declared.cmp.Ordering.TheVariants.{Equal}
 use Rattle.std.specs.Str.{bytes_eq}
 use Rattle.sqlite_rules.specs.Lists.{Has}
@@ -12,14 +12,14 @@ use Rattle.sqlite.specs.Effect.{IsDatabase}
 use Rattle.sqlite.specs.Held.{state}
 use Rattle.sqlite.specs.State.{State, HasCleanDisk, Survives}
 use Rattle.sqlite.specs.Store.{Ghosts}
-use Rattle.hub_rows.specs.Keyed.{greatest, put, put_all}
+use Rattle.hub_rows.specs.Keyed.{first, greatest, put, put_all}
 use Rattle.hub_rows.specs.Rows.{Rows}
 use Rattle.sql_tables.specs.Opening.{our_number}
 use Rattle.sql_tables.specs.Tables.{hub_schema}
 use Rattle.sql_rows.specs.declared.meta_rows.MetaRow.{MetaRow}
 use Rattle.sql_rows.specs.TypedTable.{TypedTable, cmp, rows_in, AreTyped, Spares}
 use Rattle.sql_rows.specs.TypedTables.{hub_good, metas, rows_of}
-use Rattle.sql_rows.specs.Values.{count_in}
+use Rattle.sql_rows.specs.Values.{count_in, first_text}
 
 -- ---- the rows of hub_meta
 
@@ -135,6 +135,12 @@ AreTopCells {T} cells number all rows = (ts : List T) × IsTop number all ts × 
 -- the cells that are shown are those of the row with the greatest number of those that pass, and nothing changes
 pub record ShowsTopCells {V T : Type 0} (items : V → List Row) (s : TypedTable T) (cells : T → Row) (number : T → ℕ) (p : T → Bool) (old new : State) (r : Result V Error) : Type 0 where
   pub ok : IsTrue new.is_open → IfOk r (λ v. AreTopCells cells number (filter p (rows_in s old.now.trees)) (items v))
+  pub same : IsTrue new.is_open → IsAsBefore old new
+  pub stops : CommitsNothing old new r
+
+-- the text that is shown is that of the first row that passes, if there are any, and nothing changes
+pub record ShowsText {V T : Type 0} (items : V → List Row) (s : TypedTable T) (text : T → List ℕ) (p : T → Bool) (old new : State) (r : Result V Error) : Type 0 where
+  pub ok : IsTrue new.is_open → IfOk r (λ v. option_map first_text (first (items v)) ≡ option_map text (find p (rows_in s old.now.trees)))
   pub same : IsTrue new.is_open → IsAsBefore old new
   pub stops : CommitsNothing old new r
 

@@ -31,11 +31,12 @@ rows_before db = record (rows_of db) { readings = rows_in readings db }
 -- the rows of the hub in a database of this form
 abbrev pub rows_at : ℕ → Trees → Rows
 rows_at zero db = no_rows
-rows_at (suc zero) db = record (rows_before db) { reports = []; tx_owners = []; uses = [] }
-rows_at (suc (suc zero)) db = record (rows_before db) { tx_owners = []; uses = [] }
-rows_at (suc (suc (suc zero))) db = rows_before db
-rows_at (suc (suc (suc (suc zero)))) db = rows_before db
-rows_at (suc (suc (suc (suc (suc n))))) db = rows_of db
+rows_at (suc zero) db = record (rows_before db) { reports = []; tx_owners = []; uses = []; readers = [] }
+rows_at (suc (suc zero)) db = record (rows_before db) { tx_owners = []; uses = []; readers = [] }
+rows_at (suc (suc (suc zero))) db = record (rows_before db) { readers = [] }
+rows_at (suc (suc (suc (suc zero)))) db = record (rows_before db) { readers = [] }
+rows_at (suc (suc (suc (suc (suc zero))))) db = record (rows_of db) { readers = [] }
+rows_at (suc (suc (suc (suc (suc (suc n)))))) db = rows_of db
 
 -- what this project writes into the tables of a database of this form
 pub record AreOurs (form : ℕ) (db : Trees) : Type 0 where
@@ -89,9 +90,22 @@ IsCutAs form schema rows s = IsCut form rows × IsInsideAs rows schema s
 abbrev pub IsCutTo : ℕ → State → Type 0
 IsCutTo form s = (rows : Trees) × IsCutAs form (schema_at form) rows s
 
+-- the first form whose readings are kept as meter values
+abbrev pub values_form : ℕ
+values_form = 5
+
+-- the rows of the hub in our tables, where these have the rows of a database of this form
+abbrev pub rows_from : ℕ → Trees → Rows
+rows_from zero db = rows_before db
+rows_from (suc zero) db = rows_before db
+rows_from (suc (suc zero)) db = rows_before db
+rows_from (suc (suc (suc zero))) db = rows_before db
+rows_from (suc (suc (suc (suc zero)))) db = rows_before db
+rows_from (suc (suc (suc (suc (suc n))))) db = rows_of db
+
 -- with these rows of the hub
 abbrev pub IsEarlier : ℕ → Rows → State → Type 0
-IsEarlier form all s = (rows : Trees) × AreTyped hub_schema hub_good rows × (rows_before rows ≡ all) × IsCutAs form (schema_at form) rows s
+IsEarlier form all s = (rows : Trees) × AreTyped hub_schema hub_good rows × (rows_from form rows ≡ all) × IsCutAs form (schema_at form) rows s
 
 -- our schema, with these rows of the hub
 abbrev pub IsInsideWith : Rows → State → Type 0

@@ -5,7 +5,7 @@ use Rattle.sqlite_value.specs.declared.value.Value.{Value}
 use Rattle.sqlite_value.specs.declared.value.Value.TheVariants.{Int, Text}
 use Rattle.sqlite_value.specs.Order.{Row, column}
 use Rattle.sqlite_trees.specs.Tree.{Trees}
-use Rattle.sql_tables.specs.Tables.{hub_meta, hub_station, hub_connector, hub_tag, hub_grant, hub_tx, hub_reading, hub_reservation, hub_list, hub_list_entry, hub_report, hub_tx_owner, hub_use, hub_meter_value}
+use Rattle.sql_tables.specs.Tables.{hub_meta, hub_station, hub_connector, hub_tag, hub_grant, hub_tx, hub_reading, hub_reservation, hub_list, hub_list_entry, hub_report, hub_tx_owner, hub_use, hub_meter_value, hub_reader}
 use Rattle.ocpp_types.specs.TagKey.{key_of}
 use Rattle.ocpp_types.specs.Policy.{policy_name, policies}
 use Rattle.ocpp_types.specs.State.{state_name, states}
@@ -46,6 +46,8 @@ use Rattle.hub_rows.specs.declared.reservation_row.ReservationRow.{ReservationRo
 use Rattle.hub_rows.specs.declared.list_row.ListRow.{ListRow}
 use Rattle.hub_rows.specs.declared.list_row.LocalTag.{LocalTag}
 use Rattle.hub_rows.specs.declared.report_row.ReportRow.{ReportRow}
+use Rattle.hub_rows.specs.declared.reader_row.ReaderRow.{ReaderRow}
+use Rattle.hub_rows.specs.declared.reader_row.Reader.TheVariants as reader
 use Rattle.hub_rows.specs.declared.tx_row.TxOwnerRow.{TxOwnerRow}
 use Rattle.hub_rows.specs.declared.use_row.UseRow.{UseRow}
 use Rattle.hub_rows.specs.declared.report_row.ReportedStatus.{ReportedStatus}
@@ -59,7 +61,8 @@ use Rattle.sql_rows.specs.declared.list_rows.ListHead.{ListHead}
 use Rattle.sql_rows.specs.declared.list_rows.EntryRow.{EntryRow}
 use Rattle.sql_rows.specs.declared.meta_rows.MetaRow.{MetaRow}
 use Rattle.sql_rows.specs.declared.meter_value_rows.MeterValueRow.{MeterValueRow}
-use Rattle.hub_rows.specs.Rows.{Rows, station_key, connector_key, tag_key, grant_key, tx_key, reading_key, reservation_key, report_key, tx_owner_key, use_key}
+use Rattle.hub_rows.specs.Rows.{Rows, station_key, connector_key, tag_key, grant_key, tx_key, reading_key, reservation_key, report_key, reader_key, tx_owner_key, use_key}
+use Rattle.hub_rows.specs.Readers.{reader_name, readers as reader_names}
 use Rattle.hub_rows.specs.Reports.{kind_of, reported_name}
 use Rattle.hub_rows.specs.Transactions.{is_open, counts, is_sent_with, reading_rows}
 use Rattle.hub_rows.specs.Reservations.{shifted, unshifted}
@@ -338,6 +341,17 @@ reports = record {
   read = λ r. record { op = text_in (column r 0); station = text_in (column r 1); status = status_in (column r 2) (column r 3); moment = count_in (column r 4) };
 }
 
+-- ---- readers
+
+abbrev pub readers : TypedTable ReaderRow
+readers = record {
+  table = hub_reader;
+  parts = text_part ∷ text_part ∷ [];
+  key = reader_key;
+  row = λ r. Text r.op ∷ Text r.station ∷ Text (reader_name r.reader) ∷ [];
+  read = λ r. record { op = text_in (column r 0); station = text_in (column r 1); reader = name_in reader_names reader.Strict (column r 2) };
+}
+
 -- ---- settled uses
 
 abbrev pub tx_owners : TypedTable TxOwnerRow
@@ -384,6 +398,7 @@ rows_of db = record {
   reports = rows_in reports db;
   tx_owners = rows_in tx_owners db;
   uses = rows_in uses db;
+  readers = rows_in readers db;
 }
 
 abbrev pub Good : Type 1
@@ -401,4 +416,4 @@ any_row r = ⊤
 -- what the rows of each tree are
 abbrev pub hub_good : ℕ → Row → Type 0
 hub_good = good_at (IsRowOf metas ∷ any_row ∷ IsRowOf stations ∷ any_row ∷ IsRowOf connectors ∷ any_row ∷ IsRowOf tags ∷ any_row ∷ IsRowOf grants ∷ any_row ∷ IsRowOf txs ∷ any_row ∷ IsRowOf readings ∷ any_row
-    ∷ IsRowOf reservations ∷ any_row ∷ IsRowOf lists ∷ any_row ∷ IsRowOf entries ∷ any_row ∷ IsRowOf reports ∷ any_row ∷ IsRowOf tx_owners ∷ any_row ∷ IsRowOf uses ∷ any_row ∷ IsRowOf meter_values ∷ [])
+    ∷ IsRowOf reservations ∷ any_row ∷ IsRowOf lists ∷ any_row ∷ IsRowOf entries ∷ any_row ∷ IsRowOf reports ∷ any_row ∷ IsRowOf tx_owners ∷ any_row ∷ IsRowOf uses ∷ any_row ∷ IsRowOf meter_values ∷ any_row ∷ IsRowOf readers ∷ [])

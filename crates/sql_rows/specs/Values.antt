@@ -27,6 +27,10 @@ abbrev pub count_in : Value → ℕ
 count_in (Int (pos n)) = n
 count_in _ = 0
 
+-- the text in the first column
+abbrev pub first_text : Row → List ℕ
+first_text r = text_in (column r 0)
+
 -- the numbers in the first two columns
 abbrev pub numbers_in : Row → ℕ × ℕ
 numbers_in r = (count_in (column r 0), count_in (column r 1))

@@ -15,4 +15,4 @@ pub use columns::told;
 pub use list_rows::{EntryRow, ListHead};
 pub use meta_rows::MetaRow;
 pub use meter_value_rows::MeterValueRow;
-pub use stored::{Stored, first_row, is_found, listed, only_number, only_pair};
+pub use stored::{Stored, first_row, is_found, listed, only_number, only_pair, only_text};

@@ -1,4 +1,4 @@
-//! Stations, connectors and reports, read from their columns.
+//! Stations, connectors, reports and readers, read from their columns.
 ghost use Rattle.std.specs.Prelude.{◌≡◌, IfOk, None, Some};
 ghost use Rattle.sqlite.specs.Held.{state};
 ghost use Rattle.sql_rows.specs.TypedTables.{boot_in, status_in};
@@ -7,7 +7,8 @@ ghost use Rattle.sqlite_value.specs.Order.{column};
 use crate::columns::{connector, count, moment, moment_if_any, named, number, text, text_if_any};
 use crate::stored::Stored;
 use hub_rows::{
-    Boot, ConnectorReport, ConnectorRow, ReportRow, ReportedStatus, StationRow, StoreFault,
+    Boot, ConnectorReport, ConnectorRow, ReaderRow, ReportRow, ReportedStatus, StationRow,
+    StoreFault,
 };
 use ocpp_types::{BootNotification, Boxed};
 use sqlite::Row;
@@ -100,6 +101,20 @@ impl Stored for ReportRow {
             station: text(row, 1)?,
             status: status(row)?,
             moment: moment(row, 4)?,
+        })
+    }
+}
+
+impl Stored for ReaderRow {
+    ghost use Rattle.sql_rows.specs.TypedTables.{readers};
+
+    ghost read = { readers.read };
+
+    fn read(alloc: Global, row: &Row) -> Result<ReaderRow, StoreFault> {
+        Ok(ReaderRow {
+            op: text(row, 0)?,
+            station: text(row, 1)?,
+            reader: named(row, 2)?,
         })
     }
 }

@@ -2,11 +2,11 @@
 ghost use Rattle.std.specs.Prelude.{◌≡◌, [], map, option_map, IfOk, IsOk, OnOk, is_some};
 ghost use Rattle.hub_rows.specs.Keyed.{by_key, first, put_all, found, greatest};
 ghost use Rattle.sqlite_value.specs.Order.{column};
-ghost use Rattle.sql_rows.specs.Values.{count_in, numbers_in};
+ghost use Rattle.sql_rows.specs.Values.{count_in, first_text, numbers_in};
 
-use crate::columns::{count, told};
+use crate::columns::{count, text, told};
 use hub_rows::{Keyed, StoreFault, put_row};
-use ocpp_types::Listed;
+use ocpp_types::{Listed, Text};
 use sqlite::{Error, Row};
 use std::alloc::Global;
 
@@ -97,6 +97,27 @@ fn pair_of(rows: &[Row]) -> Result<Option<(u32, u32)>, StoreFault>
     match rows {
         [] => Ok(None),
         [row] => Ok(Some((count(row, 0)?, count(row, 1)?))),
+        _ => Err(StoreFault::Failed),
+    }
+}
+
+/// The text in the first column of the row of an answer of one row at most.
+pub fn only_text(answer: Result<Vec<Row>, Error>) -> Result<Option<Text>, StoreFault>
+    ensures ok { OnOk result (IsOk answer) }
+    ensures text { IfOk answer (λ rows. IfOk result (λ text. text ≡ option_map first_text (first rows.items))) }
+{
+    match answer {
+        Ok(rows) => text_of(&rows),
+        Err(error) => Err(told(error)),
+    }
+}
+
+fn text_of(rows: &[Row]) -> Result<Option<Text>, StoreFault>
+    ensures { IfOk result (λ text. text ≡ option_map first_text (first rows.now)) }
+{
+    match rows {
+        [] => Ok(None),
+        [row] => Ok(Some(text(row, 0)?)),
         _ => Err(StoreFault::Failed),
     }
 }

@@ -5,13 +5,14 @@ use Rattle.sqlite_schema.specs.declared.schema.Schema.{Schema}
 use Rattle.sqlite_catalog.specs.Change.{created, indexed, next_tree, without_index}
 use Rattle.sqlite_tied.specs.Compute.{everything}
 use Rattle.sqlite.specs.Listing.{understood}
-use Rattle.sql_tables.specs.Tables.{first_tables, second_tables, third_tables, fourth_tables, hub_meta, hub_station, hub_connector, hub_tag, hub_grant, hub_tx, hub_reading, hub_reservation, hub_list, hub_list_entry, hub_report, hub_tx_owner, hub_use, hub_meter_value, hub_grant_to, hub_tx_in_use, hub_tx_is_open, hub_tx_start_at}
+use Rattle.sql_tables.specs.Tables.{first_tables, second_tables, third_tables, fourth_tables, fifth_tables, hub_meta, hub_station, hub_connector, hub_tag, hub_grant, hub_tx, hub_reading, hub_reservation, hub_list, hub_list_entry, hub_report, hub_tx_owner, hub_use, hub_meter_value, hub_reader, hub_grant_to, hub_tx_in_use, hub_tx_is_open, hub_tx_start_at}
 use Rattle.sql_tables.specs.declared.connectors.TheConstants as connectors
 use Rattle.sql_tables.specs.declared.grants.TheConstants as grants
 use Rattle.sql_tables.specs.declared.list_entries.TheConstants as list_entries
 use Rattle.sql_tables.specs.declared.lists.TheConstants as lists
 use Rattle.sql_tables.specs.declared.meta.TheConstants as meta
 use Rattle.sql_tables.specs.declared.meter_values.TheConstants as meter_values
+use Rattle.sql_tables.specs.declared.readers.TheConstants as readers
 use Rattle.sql_tables.specs.declared.readings.TheConstants as readings
 use Rattle.sql_tables.specs.declared.reports.TheConstants as reports
 use Rattle.sql_tables.specs.declared.reservations.TheConstants as reservations
@@ -136,6 +137,16 @@ pub fourth_made : created third_tables (record hub_meter_value { tree = 0 }) ≡
 unfolding digits
 fourth_made = refl
 
+-- ---- the table that schema 5 has beside them
+
+pub reader_made : IsCreate readers.CREATE.now fourth_tables (record hub_reader { tree = 0 })
+unfolding understood everything
+reader_made = record { command = refl; plain = (refl, refl); text = refl; defined = refl; uncounted = refl }
+
+pub fifth_made : created fourth_tables (record hub_reader { tree = 0 }) ≡ fifth_tables
+unfolding digits
+fifth_made = refl
+
 -- ---- the further indexes, after the tables of each form
 
 abbrev pub with_grant_to : ℕ → Schema
@@ -148,7 +159,8 @@ grant_to_made (suc zero) made = record { command = refl; plain = (refl, refl); t
 grant_to_made (suc (suc zero)) made = record { command = refl; plain = (refl, refl); text = refl; here = refl; defined = refl }
 grant_to_made (suc (suc (suc zero))) made = record { command = refl; plain = (refl, refl); text = refl; here = refl; defined = refl }
 grant_to_made (suc (suc (suc (suc zero)))) made = record { command = refl; plain = (refl, refl); text = refl; here = refl; defined = refl }
-grant_to_made (suc (suc (suc (suc (suc n))))) made = record { command = refl; plain = (refl, refl); text = refl; here = refl; defined = refl }
+grant_to_made (suc (suc (suc (suc (suc zero))))) made = record { command = refl; plain = (refl, refl); text = refl; here = refl; defined = refl }
+grant_to_made (suc (suc (suc (suc (suc (suc n)))))) made = record { command = refl; plain = (refl, refl); text = refl; here = refl; defined = refl }
 
 abbrev pub with_tx_in_use : ℕ → Schema
 with_tx_in_use n = indexed (with_grant_to n) hub_tx (hub_tx_in_use 0)
@@ -160,7 +172,8 @@ tx_in_use_made (suc zero) made = record { command = refl; plain = (refl, refl); 
 tx_in_use_made (suc (suc zero)) made = record { command = refl; plain = (refl, refl); text = refl; here = refl; defined = refl }
 tx_in_use_made (suc (suc (suc zero))) made = record { command = refl; plain = (refl, refl); text = refl; here = refl; defined = refl }
 tx_in_use_made (suc (suc (suc (suc zero)))) made = record { command = refl; plain = (refl, refl); text = refl; here = refl; defined = refl }
-tx_in_use_made (suc (suc (suc (suc (suc n))))) made = record { command = refl; plain = (refl, refl); text = refl; here = refl; defined = refl }
+tx_in_use_made (suc (suc (suc (suc (suc zero))))) made = record { command = refl; plain = (refl, refl); text = refl; here = refl; defined = refl }
+tx_in_use_made (suc (suc (suc (suc (suc (suc n)))))) made = record { command = refl; plain = (refl, refl); text = refl; here = refl; defined = refl }
 
 abbrev pub with_tx_is_open : ℕ → Schema
 with_tx_is_open n = indexed (with_tx_in_use n) hub_tx (hub_tx_is_open (open_columns_at n) 0)
@@ -172,7 +185,8 @@ tx_is_open_made (suc zero) made = record { command = refl; plain = (refl, refl);
 tx_is_open_made (suc (suc zero)) made = record { command = refl; plain = (refl, refl); text = refl; here = refl; defined = refl }
 tx_is_open_made (suc (suc (suc zero))) made = record { command = refl; plain = (refl, refl); text = refl; here = refl; defined = refl }
 tx_is_open_made (suc (suc (suc (suc zero)))) made = record { command = refl; plain = (refl, refl); text = refl; here = refl; defined = refl }
-tx_is_open_made (suc (suc (suc (suc (suc n))))) made = record { command = refl; plain = (refl, refl); text = refl; here = refl; defined = refl }
+tx_is_open_made (suc (suc (suc (suc (suc zero))))) made = record { command = refl; plain = (refl, refl); text = refl; here = refl; defined = refl }
+tx_is_open_made (suc (suc (suc (suc (suc (suc n)))))) made = record { command = refl; plain = (refl, refl); text = refl; here = refl; defined = refl }
 
 abbrev pub with_tx_start_at : ℕ → Schema
 with_tx_start_at n = indexed (with_tx_is_open n) hub_tx (hub_tx_start_at (start_columns_at n) 0)
@@ -184,7 +198,8 @@ tx_start_at_made (suc zero) made = record { command = refl; plain = (refl, refl)
 tx_start_at_made (suc (suc zero)) made = record { command = refl; plain = (refl, refl); text = refl; here = refl; defined = refl }
 tx_start_at_made (suc (suc (suc zero))) made = record { command = refl; plain = (refl, refl); text = refl; here = refl; defined = refl }
 tx_start_at_made (suc (suc (suc (suc zero)))) made = record { command = refl; plain = (refl, refl); text = refl; here = refl; defined = refl }
-tx_start_at_made (suc (suc (suc (suc (suc n))))) made = record { command = refl; plain = (refl, refl); text = refl; here = refl; defined = refl }
+tx_start_at_made (suc (suc (suc (suc (suc zero))))) made = record { command = refl; plain = (refl, refl); text = refl; here = refl; defined = refl }
+tx_start_at_made (suc (suc (suc (suc (suc (suc n)))))) made = record { command = refl; plain = (refl, refl); text = refl; here = refl; defined = refl }
 
 abbrev pub with_reading_transaction : ℕ → Schema
 with_reading_transaction n = indexed (with_tx_start_at n) (readings_at n) (by_transaction_at n 0)
@@ -196,7 +211,8 @@ reading_transaction_made (suc zero) made = record { command = refl; plain = (ref
 reading_transaction_made (suc (suc zero)) made = record { command = refl; plain = (refl, refl); text = refl; here = refl; defined = refl }
 reading_transaction_made (suc (suc (suc zero))) made = record { command = refl; plain = (refl, refl); text = refl; here = refl; defined = refl }
 reading_transaction_made (suc (suc (suc (suc zero)))) made = record { command = refl; plain = (refl, refl); text = refl; here = refl; defined = refl }
-reading_transaction_made (suc (suc (suc (suc (suc n))))) made = record { command = refl; plain = (refl, refl); text = refl; here = refl; defined = refl }
+reading_transaction_made (suc (suc (suc (suc (suc zero))))) made = record { command = refl; plain = (refl, refl); text = refl; here = refl; defined = refl }
+reading_transaction_made (suc (suc (suc (suc (suc (suc n)))))) made = record { command = refl; plain = (refl, refl); text = refl; here = refl; defined = refl }
 
 -- with all of them
 pub all_made : (n : ℕ) → 0 < n → with_reading_transaction n ≡ schema_at n
@@ -206,7 +222,8 @@ all_made (suc zero) made = refl
 all_made (suc (suc zero)) made = refl
 all_made (suc (suc (suc zero))) made = refl
 all_made (suc (suc (suc (suc zero)))) made = refl
-all_made (suc (suc (suc (suc (suc n))))) made = refl
+all_made (suc (suc (suc (suc (suc zero))))) made = refl
+all_made (suc (suc (suc (suc (suc (suc n)))))) made = refl
 
 -- ---- they are dropped
 
@@ -220,7 +237,8 @@ grant_to_dropped (suc zero) made = record { at = 10; command = refl; plain = (re
 grant_to_dropped (suc (suc zero)) made = record { at = 11; command = refl; plain = (refl, refl); here = refl }
 grant_to_dropped (suc (suc (suc zero))) made = record { at = 13; command = refl; plain = (refl, refl); here = refl }
 grant_to_dropped (suc (suc (suc (suc zero)))) made = record { at = 13; command = refl; plain = (refl, refl); here = refl }
-grant_to_dropped (suc (suc (suc (suc (suc n))))) made = record { at = 14; command = refl; plain = (refl, refl); here = refl }
+grant_to_dropped (suc (suc (suc (suc (suc zero))))) made = record { at = 14; command = refl; plain = (refl, refl); here = refl }
+grant_to_dropped (suc (suc (suc (suc (suc (suc n)))))) made = record { at = 15; command = refl; plain = (refl, refl); here = refl }
 
 abbrev pub without_tx_in_use : ℕ → Schema
 without_tx_in_use n = without_index (without_grant_to n) (next_tree (tables_at n) + 1)
@@ -232,7 +250,8 @@ tx_in_use_dropped (suc zero) made = record { at = 10; command = refl; plain = (r
 tx_in_use_dropped (suc (suc zero)) made = record { at = 11; command = refl; plain = (refl, refl); here = refl }
 tx_in_use_dropped (suc (suc (suc zero))) made = record { at = 13; command = refl; plain = (refl, refl); here = refl }
 tx_in_use_dropped (suc (suc (suc (suc zero)))) made = record { at = 13; command = refl; plain = (refl, refl); here = refl }
-tx_in_use_dropped (suc (suc (suc (suc (suc n))))) made = record { at = 14; command = refl; plain = (refl, refl); here = refl }
+tx_in_use_dropped (suc (suc (suc (suc (suc zero))))) made = record { at = 14; command = refl; plain = (refl, refl); here = refl }
+tx_in_use_dropped (suc (suc (suc (suc (suc (suc n)))))) made = record { at = 15; command = refl; plain = (refl, refl); here = refl }
 
 abbrev pub without_tx_is_open : ℕ → Schema
 without_tx_is_open n = without_index (without_tx_in_use n) (next_tree (tables_at n) + 2)
@@ -244,7 +263,8 @@ tx_is_open_dropped (suc zero) made = record { at = 10; command = refl; plain = (
 tx_is_open_dropped (suc (suc zero)) made = record { at = 11; command = refl; plain = (refl, refl); here = refl }
 tx_is_open_dropped (suc (suc (suc zero))) made = record { at = 13; command = refl; plain = (refl, refl); here = refl }
 tx_is_open_dropped (suc (suc (suc (suc zero)))) made = record { at = 13; command = refl; plain = (refl, refl); here = refl }
-tx_is_open_dropped (suc (suc (suc (suc (suc n))))) made = record { at = 14; command = refl; plain = (refl, refl); here = refl }
+tx_is_open_dropped (suc (suc (suc (suc (suc zero))))) made = record { at = 14; command = refl; plain = (refl, refl); here = refl }
+tx_is_open_dropped (suc (suc (suc (suc (suc (suc n)))))) made = record { at = 15; command = refl; plain = (refl, refl); here = refl }
 
 abbrev pub without_tx_start_at : ℕ → Schema
 without_tx_start_at n = without_index (without_tx_is_open n) (next_tree (tables_at n) + 3)
@@ -256,7 +276,8 @@ tx_start_at_dropped (suc zero) made = record { at = 10; command = refl; plain = 
 tx_start_at_dropped (suc (suc zero)) made = record { at = 11; command = refl; plain = (refl, refl); here = refl }
 tx_start_at_dropped (suc (suc (suc zero))) made = record { at = 13; command = refl; plain = (refl, refl); here = refl }
 tx_start_at_dropped (suc (suc (suc (suc zero)))) made = record { at = 13; command = refl; plain = (refl, refl); here = refl }
-tx_start_at_dropped (suc (suc (suc (suc (suc n))))) made = record { at = 14; command = refl; plain = (refl, refl); here = refl }
+tx_start_at_dropped (suc (suc (suc (suc (suc zero))))) made = record { at = 14; command = refl; plain = (refl, refl); here = refl }
+tx_start_at_dropped (suc (suc (suc (suc (suc (suc n)))))) made = record { at = 15; command = refl; plain = (refl, refl); here = refl }
 
 pub by_transaction_tree : (n tree : ℕ) → (by_transaction_at n tree).tree ≡ tree
 by_transaction_tree zero tree = refl
@@ -264,7 +285,8 @@ by_transaction_tree (suc zero) tree = refl
 by_transaction_tree (suc (suc zero)) tree = refl
 by_transaction_tree (suc (suc (suc zero))) tree = refl
 by_transaction_tree (suc (suc (suc (suc zero)))) tree = refl
-by_transaction_tree (suc (suc (suc (suc (suc n))))) tree = refl
+by_transaction_tree (suc (suc (suc (suc (suc zero))))) tree = refl
+by_transaction_tree (suc (suc (suc (suc (suc (suc n)))))) tree = refl
 
 abbrev pub without_reading_transaction : ℕ → Schema
 without_reading_transaction n = without_index (without_tx_start_at n) (next_tree (tables_at n) + 4)
@@ -276,7 +298,8 @@ reading_transaction_dropped (suc zero) made = record { at = 10; command = refl; 
 reading_transaction_dropped (suc (suc zero)) made = record { at = 11; command = refl; plain = (refl, refl); here = refl }
 reading_transaction_dropped (suc (suc (suc zero))) made = record { at = 13; command = refl; plain = (refl, refl); here = refl }
 reading_transaction_dropped (suc (suc (suc (suc zero)))) made = record { at = 13; command = refl; plain = (refl, refl); here = refl }
-reading_transaction_dropped (suc (suc (suc (suc (suc n))))) made = record { at = 14; command = refl; plain = (refl, refl); here = refl }
+reading_transaction_dropped (suc (suc (suc (suc (suc zero))))) made = record { at = 14; command = refl; plain = (refl, refl); here = refl }
+reading_transaction_dropped (suc (suc (suc (suc (suc (suc n)))))) made = record { at = 15; command = refl; plain = (refl, refl); here = refl }
 
 -- without them
 pub all_dropped : (n : ℕ) → 0 < n → without_reading_transaction n ≡ tables_at n
@@ -285,4 +308,5 @@ all_dropped (suc zero) made = refl
 all_dropped (suc (suc zero)) made = refl
 all_dropped (suc (suc (suc zero))) made = refl
 all_dropped (suc (suc (suc (suc zero)))) made = refl
-all_dropped (suc (suc (suc (suc (suc n))))) made = refl
+all_dropped (suc (suc (suc (suc (suc zero))))) made = refl
+all_dropped (suc (suc (suc (suc (suc (suc n)))))) made = refl

@@ -3,7 +3,7 @@ use Rattle.std.proofs.Common.{[], ◌∷◌, ◌++◌, codes, refl}
 use Rattle.sqlite_tied.specs.Compute.{everything}
 use Rattle.sqlite.specs.Listing.{understood}
 use Rattle.sqlite_sql.specs.Query.{inner, end}
-use Rattle.sql_tables.specs.Forms.{add_command, any_query, by_column, cols, drop_command, last_query, page_query, plain_query, put_command, range_is, where_is}
+use Rattle.sql_tables.specs.Forms.{above_is, add_command, any_query, by_column, cols, drop_command, last_query, page_query, plain_query, put_command, range_is, where_is}
 use Rattle.sql_tables.specs.Meanings.{IsRead, IsWrite}
 use Rattle.sql_tables.specs.declared.connectors.TheConstants as connectors
 use Rattle.sql_tables.specs.declared.grants.TheConstants as grants
@@ -11,6 +11,7 @@ use Rattle.sql_tables.specs.declared.list_entries.TheConstants as list_entries
 use Rattle.sql_tables.specs.declared.lists.TheConstants as lists
 use Rattle.sql_tables.specs.declared.meta.TheConstants as meta
 use Rattle.sql_tables.specs.declared.meter_values.TheConstants as meter_values
+use Rattle.sql_tables.specs.declared.readers.TheConstants as readers
 use Rattle.sql_tables.specs.declared.readings.TheConstants as readings
 use Rattle.sql_tables.specs.declared.reports.TheConstants as reports
 use Rattle.sql_tables.specs.declared.reservations.TheConstants as reservations
@@ -19,7 +20,7 @@ use Rattle.sql_tables.specs.declared.tags.TheConstants as tags
 use Rattle.sql_tables.specs.declared.tx_owners.TheConstants as tx_owners
 use Rattle.sql_tables.specs.declared.txs.TheConstants as txs
 use Rattle.sql_tables.specs.declared.uses.TheConstants as uses
-use Rattle.sql_tables.specs.Tables.{names_of, hub_meta, hub_station, hub_connector, hub_tag, hub_grant, hub_tx, hub_reading, hub_reservation, hub_list, hub_list_entry, hub_report, hub_tx_owner, hub_use, hub_meter_value}
+use Rattle.sql_tables.specs.Tables.{names_of, hub_meta, hub_station, hub_connector, hub_tag, hub_grant, hub_tx, hub_reading, hub_reservation, hub_list, hub_list_entry, hub_report, hub_tx_owner, hub_use, hub_meter_value, hub_reader}
 
 pub put_meta_is : IsWrite meta.PUT.now (put_command 0 0 1 1)
 unfolding understood everything
@@ -73,6 +74,10 @@ pub put_report_is : IsWrite reports.PUT.now (put_command 10 20 3 2)
 unfolding understood everything
 put_report_is = (refl, (refl, refl))
 
+pub put_reader_is : IsWrite readers.PUT.now (put_command 14 28 2 1)
+unfolding understood everything
+put_reader_is = (refl, (refl, refl))
+
 pub add_tx_owner_is : IsWrite tx_owners.ADD.now (add_command 11 4)
 unfolding understood everything
 add_tx_owner_is = (refl, (refl, refl))
@@ -80,6 +85,14 @@ add_tx_owner_is = (refl, (refl, refl))
 pub add_use_is : IsWrite uses.ADD.now (add_command 12 6)
 unfolding understood everything
 add_use_is = (refl, (refl, refl))
+
+pub drop_station_is : IsWrite stations.DROP.now (drop_command 1 2 (where_is 0 (1 ∷ 2 ∷ [])))
+unfolding understood everything
+drop_station_is = (refl, (refl, refl))
+
+pub drop_connectors_is : IsWrite connectors.DROP.now (drop_command 2 4 (where_is 0 (1 ∷ 2 ∷ [])))
+unfolding understood everything
+drop_connectors_is = (refl, (refl, refl))
 
 pub drop_tag_is : IsWrite tags.DROP.now (drop_command 3 6 (where_is 0 (1 ∷ 2 ∷ [])))
 unfolding understood everything
@@ -93,9 +106,25 @@ pub drop_reservation_is : IsWrite reservations.DROP.now (drop_command 7 14 (wher
 unfolding understood everything
 drop_reservation_is = (refl, (refl, refl))
 
+pub drop_reservations_is : IsWrite reservations.DROP_ALL.now (drop_command 7 14 (where_is 0 (1 ∷ 2 ∷ [])))
+unfolding understood everything
+drop_reservations_is = (refl, (refl, refl))
+
+pub drop_list_is : IsWrite lists.DROP.now (drop_command 8 16 (where_is 0 (1 ∷ 2 ∷ [])))
+unfolding understood everything
+drop_list_is = (refl, (refl, refl))
+
 pub drop_entries_is : IsWrite list_entries.DROP.now (drop_command 9 18 (where_is 0 (1 ∷ 2 ∷ [])))
 unfolding understood everything
 drop_entries_is = (refl, (refl, refl))
+
+pub drop_reports_is : IsWrite reports.DROP.now (drop_command 10 20 (where_is 0 (1 ∷ 2 ∷ [])))
+unfolding understood everything
+drop_reports_is = (refl, (refl, refl))
+
+pub drop_reader_is : IsWrite readers.DROP.now (drop_command 14 28 (where_is 0 (1 ∷ 2 ∷ [])))
+unfolding understood everything
+drop_reader_is = (refl, (refl, refl))
 
 pub drop_meter_values_is : IsWrite meter_values.DROP.now (drop_command 13 26 (where_is 0 (1 ∷ 2 ∷ []) ++ range_is 2 3))
 unfolding understood everything
@@ -116,6 +145,10 @@ drop_tx_owners_is = (refl, (refl, refl))
 pub find_stations_is : IsRead stations.FIND.now (plain_query (inner 2 end) (where_is 0 (1 ∷ []) ++ range_is 1 2) (cols 1 1 15) (by_column 2 ∷ [])) (names_of hub_station)
 unfolding understood everything
 find_stations_is = (refl, (refl, refl), refl)
+
+pub next_operator_is : IsRead stations.NEXT_OPERATOR.now (page_query 2 (above_is 0 1) (cols 1 1 1) 1 1) (codes "op" ∷ [])
+unfolding understood everything
+next_operator_is = (refl, (refl, refl), refl)
 
 pub list_connectors_is : IsRead connectors.LIST.now (plain_query (inner 4 end) (where_is 0 (1 ∷ 2 ∷ [])) (cols 1 1 9) (by_column 3 ∷ [])) (names_of hub_connector)
 unfolding understood everything
@@ -208,6 +241,10 @@ list_entries_is = (refl, (refl, refl), refl)
 pub list_reports_is : IsRead reports.LIST.now (plain_query (inner 20 end) (where_is 0 (1 ∷ 2 ∷ [])) (cols 1 1 5) (by_column 3 ∷ [])) (names_of hub_report)
 unfolding understood everything
 list_reports_is = (refl, (refl, refl), refl)
+
+pub find_readers_is : IsRead readers.FIND.now (plain_query (inner 28 end) (where_is 0 (1 ∷ []) ++ range_is 1 2) (cols 1 1 3) (by_column 2 ∷ [])) (names_of hub_reader)
+unfolding understood everything
+find_readers_is = (refl, (refl, refl), refl)
 
 pub find_tx_owner_is : IsRead tx_owners.FIND.now (plain_query (inner 22 end) (where_is 0 (1 ∷ 2 ∷ 3 ∷ [])) (cols 1 1 4) ([])) (names_of hub_tx_owner)
 unfolding understood everything

@@ -4,7 +4,7 @@ use Rattle.sqlite_value.specs.declared.value.Value.TheVariants.{Null, Int}
 use Rattle.sqlite_value.specs.declared.keys.Collation.TheVariants.{Binary}
 use Rattle.sqlite_value.specs.declared.keys.Key.{Key}
 use Rattle.sqlite_sql.specs.declared.ops.BinaryOp.TheVariants.{Compare}
-use Rattle.sqlite_sql.specs.declared.ops.CompareOp.TheVariants.{Eq, Ge, Le}
+use Rattle.sqlite_sql.specs.declared.ops.CompareOp.TheVariants.{Eq, Ge, Gt, Le}
 use Rattle.sqlite_sql.specs.Term.{Term, lit, col, op2}
 use Rattle.sqlite_sql.specs.Query.{Query, Join, inner, end}
 use Rattle.sqlite.specs.Command.{Command}
@@ -42,6 +42,10 @@ where_is from (at ∷ columns) = op2 (Compare Eq Binary) (col 1 at) (col 0 from)
 -- this column lies between that parameter and the next
 abbrev pub range_is : ℕ → ℕ → List Term
 range_is from at = op2 (Compare Ge Binary) (col 1 at) (col 0 from) ∷ op2 (Compare Le Binary) (col 1 at) (col 0 (suc from)) ∷ []
+
+-- this column is above that parameter
+abbrev pub above_is : ℕ → ℕ → List Term
+above_is from at = op2 (Compare Gt Binary) (col 1 at) (col 0 from) ∷ []
 
 abbrev pub by_column : ℕ → Term × Key
 by_column at = (col 1 at, record { collation = Binary; descending = false })

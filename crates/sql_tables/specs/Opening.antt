@@ -13,7 +13,7 @@ use Rattle.sqlite.specs.Does.{lacks_sequence}
 use Rattle.sqlite.specs.Given.{IsPlain}
 use Rattle.sqlite.specs.Listing.{understood}
 use Rattle.sqlite.specs.State.{text_of}
-use Rattle.sql_tables.specs.Tables.{first_tables, second_tables, third_tables, fourth_tables, hub_reading, hub_meter_value, hub_reading_transaction, hub_meter_value_transaction, with_indexes}
+use Rattle.sql_tables.specs.Tables.{first_tables, second_tables, third_tables, fourth_tables, fifth_tables, hub_reading, hub_meter_value, hub_reading_transaction, hub_meter_value_transaction, with_indexes}
 use Rattle.sql_tables.specs.declared.meter_values.TheConstants as meter_values
 use Rattle.sql_tables.specs.declared.readings.TheConstants as readings
 use Rattle.sql_tables.specs.declared.txs.TheConstants as txs
@@ -26,9 +26,9 @@ no_schema = record { tables = []; indexes = []; views = [] }
 
 -- the form of the databases of this program; the forms are numbered in the order in which a database is raised from one to
 -- the next: 0 is empty, 1 and 2 are schemas 1 and 2, 3 and 4 are the earlier and the later form of schema 3, which differ
--- in the columns of hub_tx_is_open, and 5 is schema 4
+-- in the columns of hub_tx_is_open, and 5 and 6 are schemas 4 and 5
 abbrev pub our_form : ℕ
-our_form = 5
+our_form = 6
 
 -- the number of the schema of a database of this form, 0 where it is empty
 abbrev pub number_of : ℕ → ℕ
@@ -37,7 +37,8 @@ number_of (suc zero) = 1
 number_of (suc (suc zero)) = 2
 number_of (suc (suc (suc zero))) = 3
 number_of (suc (suc (suc (suc zero)))) = 3
-number_of (suc (suc (suc (suc (suc n))))) = 4
+number_of (suc (suc (suc (suc (suc zero))))) = 4
+number_of (suc (suc (suc (suc (suc (suc n)))))) = 5
 
 -- the number of the schema of this program
 abbrev pub our_number : ℕ
@@ -50,7 +51,8 @@ tables_at (suc zero) = first_tables
 tables_at (suc (suc zero)) = second_tables
 tables_at (suc (suc (suc zero))) = third_tables
 tables_at (suc (suc (suc (suc zero)))) = third_tables
-tables_at (suc (suc (suc (suc (suc n))))) = fourth_tables
+tables_at (suc (suc (suc (suc (suc zero))))) = fourth_tables
+tables_at (suc (suc (suc (suc (suc (suc n)))))) = fifth_tables
 
 -- the columns of hub_tx_is_open in each form
 abbrev pub open_columns_at : ℕ → List ℕ

@@ -127,6 +127,10 @@ hub_use = keyed_table (codes "hub_use") 24 (text (codes "op") ∷ whole (codes "
 abbrev pub hub_meter_value : Table
 hub_meter_value = keyed_table (codes "hub_meter_value") 26 (text (codes "op") ∷ text (codes "station") ∷ whole (codes "first") ∷ whole (codes "connector") ∷ whole_or_null (codes "transaction_id") ∷ whole (codes "at") ∷ whole (codes "count") ∷ text (codes "sampled") ∷ []) 3 []
 
+-- how the requests of stations are read, where their operators chose
+abbrev pub hub_reader : Table
+hub_reader = keyed_table (codes "hub_reader") 28 (text (codes "op") ∷ text (codes "station") ∷ text (codes "reader") ∷ []) 2 []
+
 -- ---- the further indexes, each by its tree
 
 abbrev pub hub_grant_to : ℕ → Index
@@ -187,10 +191,18 @@ fourth_tables = record {
   views = [];
 }
 
+-- schema 5 has that of readers beside them
+abbrev pub fifth_tables : Schema
+fifth_tables = record {
+  tables = fourth_tables.tables ++ hub_reader ∷ [];
+  indexes = fourth_tables.indexes ++ key_index (codes "sqlite_autoindex_hub_reader_1") 28 2 ∷ [];
+  views = [];
+}
+
 -- tables, and after them the further indexes
 abbrev pub with_indexes : List ℕ → List ℕ → (ℕ → Index) → Schema → Schema
 with_indexes open_columns start_columns by_transaction schema = record schema { indexes = schema.indexes ++ further_indexes open_columns start_columns by_transaction (next_tree schema) }
 
--- schema 4, which is that of this program
+-- schema 5, which is that of this program
 abbrev pub hub_schema : Schema
-hub_schema = with_indexes (1 ∷ 12 ∷ 2 ∷ []) (1 ∷ 2 ∷ 7 ∷ 4 ∷ 6 ∷ 5 ∷ []) hub_meter_value_transaction fourth_tables
+hub_schema = with_indexes (1 ∷ 12 ∷ 2 ∷ []) (1 ∷ 2 ∷ 7 ∷ 4 ∷ 6 ∷ 5 ∷ []) hub_meter_value_transaction fifth_tables

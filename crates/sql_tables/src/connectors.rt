@@ -25,3 +25,6 @@ pub const PUT: &str = with_columns!(
     "INSERT INTO hub_connector (",
     ") VALUES (?1, ?2, ?3, ?4, ?5, ?6, ?7, ?8, ?9) ON CONFLICT (op, station, connector) DO UPDATE SET status = excluded.status, error_code = excluded.error_code, at = excluded.at, info = excluded.info, vendor_id = excluded.vendor_id, vendor_error_code = excluded.vendor_error_code"
 );
+
+/// Drops the connectors of a station.
+pub const DROP: &str = "DELETE FROM hub_connector WHERE op = ?1 AND station = ?2";

@@ -8,6 +8,7 @@ pub mod list_entries;
 pub mod lists;
 pub mod meta;
 pub mod meter_values;
+pub mod readers;
 pub mod readings;
 pub mod reports;
 pub mod reservations;

@@ -22,3 +22,6 @@ pub const PUT: &str = with_columns!(
     "INSERT INTO hub_list (",
     ") VALUES (?1, ?2, ?3) ON CONFLICT (op, station) DO UPDATE SET version = excluded.version"
 );
+
+/// Drops the version of a station's local list, with the entries of that list.
+pub const DROP: &str = "DELETE FROM hub_list WHERE op = ?1 AND station = ?2";

@@ -25,3 +25,6 @@ pub const PUT: &str = with_columns!(
     "INSERT INTO hub_report (",
     ") VALUES (?1, ?2, ?3, ?4, ?5) ON CONFLICT (op, station, kind) DO UPDATE SET status = excluded.status, moment = excluded.moment"
 );
+
+/// Drops the reports of a station.
+pub const DROP: &str = "DELETE FROM hub_report WHERE op = ?1 AND station = ?2";

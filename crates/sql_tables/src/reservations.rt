@@ -28,3 +28,6 @@ pub const PUT: &str = with_columns!(
 
 pub const DROP: &str =
     "DELETE FROM hub_reservation WHERE op = ?1 AND station = ?2 AND reservation_id = ?3";
+
+/// Drops all reservations at a station.
+pub const DROP_ALL: &str = "DELETE FROM hub_reservation WHERE op = ?1 AND station = ?2";

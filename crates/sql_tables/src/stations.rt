@@ -20,8 +20,13 @@ pub const FIND: &str = with_columns!(
     " FROM hub_station WHERE op = ?1 AND station BETWEEN ?2 AND ?3 ORDER BY station"
 );
 
+/// The first of the operators with stations that come after a name.
+pub const NEXT_OPERATOR: &str = "SELECT op FROM hub_station WHERE op > ?1 ORDER BY op LIMIT 1";
+
 /// Puts a station in place of the one with its key.
 pub const PUT: &str = with_columns!(
     "INSERT INTO hub_station (",
     ") VALUES (?1, ?2, ?3, ?4, ?5, ?6, ?7, ?8, ?9, ?10, ?11, ?12, ?13, ?14, ?15) ON CONFLICT (op, station) DO UPDATE SET policy = excluded.policy, interval = excluded.interval, state = excluded.state, booted = excluded.booted, charge_point_model = excluded.charge_point_model, charge_point_vendor = excluded.charge_point_vendor, charge_box_serial_number = excluded.charge_box_serial_number, charge_point_serial_number = excluded.charge_point_serial_number, firmware_version = excluded.firmware_version, iccid = excluded.iccid, imsi = excluded.imsi, meter_serial_number = excluded.meter_serial_number, meter_type = excluded.meter_type"
 );
+
+pub const DROP: &str = "DELETE FROM hub_station WHERE op = ?1 AND station = ?2";

@@ -17,8 +17,8 @@ unfolding chars
 chars_short [] = omega arith
 chars_short (b ∷ bs) = let h = after_short (continuation_len b) (lead_bits b) bs in omega (arith, h)
 
-pub id_short : (n : ℕ) → n ≤ 1006 → characters (call_id n) ≤ 36
+pub id_short : (n : ℕ) → n ≤ 4000000000 → characters (call_id n) ≤ 36
 id_short n few =
     let all = chars_short (call_id n) in
-    let digits = length-decimal-le 4 n (omega arith) (omega (arith, few)) (omega (arith, few)) in
+    let digits = length-decimal-le 10 n (omega arith) (omega (arith, few)) (omega (arith, few)) in
     omega (arith, all, digits)

@@ -1,47 +1,32 @@
 -- What a session keeps.
 use Rattle.std.proofs.Common.{◌≡◌, ◌≤◌, ◌<◌, ◌+◌, ℕ, ℤ, List, Result, Ok, Err, Option, Some, None, Bool, true, false, codes, length, refl, sym, subst, ap, arith, true≢false}
-use Rattle.std.specs.Prelude.{IsNone, IfSome, nat_lt, nat_le, bytes_eq, is_some, OnOk, OnErr, option_and_then, if◌then◌else◌}
-use Rattle.std.proofs.lemmas.Bool.{ltb-true, leb-true}
+use Rattle.std.specs.Prelude.{IsNone, IfSome, nat_lt, nat_le, bytes_eq, is_some, OnOk, OnErr, option_and_then, unwrap_or, ◌&&◌, if◌then◌else◌}
+use Rattle.std.specs.Ordering.{int_eq}
+use Rattle.std.proofs.lemmas.Bool.{leb-false}
 use Rattle.ocpp_types.specs.Text.{characters}
 use Rattle.serde_json.specs.Data.{Data}
-use Rattle.serde_json.specs.Find.{get, as_number, as_integer}
+use Rattle.serde_json.specs.Find.{get, as_number, as_integer, as_str}
 use Rattle.ocpp_frame.specs.declared.frame.Frame.{Frame}
 use Rattle.ocpp_frame.specs.declared.frame.Frame.TheVariants.{Call, CallResult, CallError, Broken, Ignored}
 use Rattle.ocpp_payload.specs.declared.action.Action.{Action}
 use Rattle.station_sim.specs.Bounds.{bad_field, is_name, is_connector, is_int_64}
-use Rattle.station_sim.specs.Calls.{call_of}
-use Rattle.station_sim.specs.Results.{after_result, after_start, is_accepted, status_of, tag_status_of, transaction_of, is_int_32, within_32}
-use Rattle.station_sim.specs.Kept.{IsSession, has_number, most_calls, readings_sent, count_in_flight}
-use Rattle.station_sim.specs.Session.{start, call_by, due_call, after_call, after_message, is_id}
+use Rattle.station_sim.specs.Remote.{start_of, stop_of, ordered_tag, fitting, names, is_idle, open_at, goes_on, same}
+use Rattle.station_sim.specs.Replies.{version_of}
+use Rattle.station_sim.specs.Results.{after_result, after_error, after_start, next_session, rest_of, interval_after, is_accepted, status_of, tag_status_of, transaction_of, is_int_32, within_32}
+use Rattle.station_sim.specs.Kept.{IsSession, has_number}
+use Rattle.station_sim.specs.Session.{start, call_by, wanted_call, due_call, is_spent, after_call, after_message, after_command, answered, moved, begun, stopped, is_id}
 use Rattle.station_sim.specs.declared.script.BadScript.TheVariants.{Vendor, Model, Tag, Connector, Readings}
-use Rattle.station_sim.specs.declared.version.ListVersion.{ListVersion}
 use Rattle.station_sim.specs.declared.script.Script.{Script}
 use Rattle.station_sim.specs.declared.session.Session.{Session}
 use Rattle.station_sim.specs.declared.stage.Stage.{Stage}
-use Rattle.station_sim.specs.declared.stage.Stage.TheVariants.{Boot, Status, Authorize, Start, Charging, Refused, Ended}
+use Rattle.station_sim.specs.declared.stage.Stage.TheVariants.{Boot, Status, Authorize, Start, Charging, Stopping, Refused, Idle, Ended}
 
 pub keeps_start : (script : Script) → bad_field script ≡ None → is_int_64 script.meter_start ≡ true → is_int_64 script.meter_stop ≡ true → IsSession (start script)
-keeps_start script good first last = record { bounds = ap is_some good; start_meter = first; stop_meter = last; number = refl; sent = omega arith; few = omega arith }
+keeps_start script good first last = record { bounds = ap is_some good; start_meter = first; stop_meter = last; number = refl; tag = refl; few = omega arith }
 
-most_bound : (stage : Stage) (n : ℕ) → n ≤ 1 → readings_sent stage ≤ 1000 → most_calls stage n ≤ 1005
-most_bound Boot n one sent = omega (arith, one)
-most_bound Status n one sent = omega (arith, one)
-most_bound Authorize n one sent = omega (arith, one)
-most_bound Start n one sent = omega (arith, one)
-most_bound (Charging transaction m) n one sent = omega (arith, one, sent)
-most_bound (Refused transaction) n one sent = omega (arith, one)
-most_bound Ended n one sent = omega arith
-
-one_in_flight : (o : Option (List ℕ)) → count_in_flight o ≤ 1
-one_in_flight None = omega arith
-one_in_flight (Some id) = omega arith
-
--- a session has made at most 1005 calls
-pub few_calls : (s : Session) → IsSession s → s.calls ≤ 1005
-few_calls s good =
-    let most = most_bound s.stage (count_in_flight s.in_flight) (one_in_flight s.in_flight) good.sent in
-    let few = good.few in
-    omega (arith, most, few)
+-- one more call may be made
+pub may_call : (s : Session) → is_spent s ≡ false → s.calls + 1 ≤ 4000000000
+may_call s more = let below : s.calls < 4000000000 = leb-false 4000000000 s.calls more in omega (arith, below)
 
 -- ---- bounds
 
@@ -68,49 +53,34 @@ bounded script none =
 
 -- ---- a call
 
--- the call of a stage may be made
-may_call : (script : Script) (stage : Stage) (time : List ℕ) (calls : ℕ) → calls ≤ most_calls stage 0 → IfSome (call_of script stage time) (λ _. calls + 1 ≤ most_calls stage 1)
-may_call script Boot time calls few = omega (arith, few)
-may_call script Status time calls few = omega (arith, few)
-may_call script Authorize time calls few = omega (arith, few)
-may_call script Start time calls few = omega (arith, few)
-may_call script (Charging transaction sent) time calls few = omega (arith, few)
-may_call script (Refused transaction) time calls few = omega (arith, few)
-may_call script Ended time calls few = tt
+keeps_due : (s : Session) (at : ℕ) (call : Option (Action × Data)) → IsSession s → IfSome call (λ _. s.calls + 1 ≤ 4000000000) → IsSession (after_call s at call)
+keeps_due s at None good may = good
+keeps_due s at (Some call) good may = record { bounds = good.bounds; start_meter = good.start_meter; stop_meter = good.stop_meter; number = good.number; tag = good.tag; few = may }
 
-keeps_due : (s : Session) (call : Option (Action × Data)) → IsSession s → IfSome call (λ _. s.calls + 1 ≤ most_calls s.stage 1) → IsSession (after_call s call)
-keeps_due s None good may = good
-keeps_due s (Some call) good may = record { bounds = good.bounds; start_meter = good.start_meter; stop_meter = good.stop_meter; number = good.number; sent = good.sent; few = may }
+if_some : {X : Type 0} {P : Type 0} (o : Option X) → P → IfSome o (λ _. P)
+if_some None p = tt
+if_some (Some x) p = p
 
-keeps_by : (s : Session) (o : Option (List ℕ)) (time : List ℕ) → s.in_flight ≡ o → IsSession s → IsSession (after_call s (call_by o (call_of s.script s.stage time)))
-keeps_by s None time e good =
-    keeps_due s (call_of s.script s.stage time) good (may_call s.script s.stage time s.calls (subst (λ o. s.calls ≤ most_calls s.stage (count_in_flight o)) e good.few))
-keeps_by s (Some id) time e good = good
+may_unless : (s : Session) (at : ℕ) (b : Bool) → is_spent s ≡ b → IfSome (if b then None else call_by s.in_flight (wanted_call s at)) (λ _. s.calls + 1 ≤ 4000000000)
+may_unless s at true e = tt
+may_unless s at false e = if_some (call_by s.in_flight (wanted_call s at)) (may_call s e)
 
-pub keeps_call : (s : Session) (time : List ℕ) → IsSession s → IsSession (after_call s (due_call s time))
-keeps_call s time good = keeps_by s s.in_flight time refl good
+pub keeps_call : (s : Session) (at : ℕ) → IsSession s → IsSession (after_call s at (due_call s at))
+keeps_call s at good = keeps_due s at (due_call s at) good (may_unless s at (is_spent s) refl)
 
--- ---- a message
+-- ---- an answer
 
--- a stage may follow once the call of another was after_answer
-pub record Follows (old new : Stage) : Type 0 where
-  pub sent : readings_sent new ≤ 1000
-  pub most : most_calls old 1 ≤ most_calls new 0
-  pub number : has_number new ≡ true
+either : (b : Bool) (x y : Stage) → has_number x ≡ true → has_number y ≡ true → has_number (if b then x else y) ≡ true
+either true x y one other = one
+either false x y one other = other
 
-either : (b : Bool) (old x y : Stage) → (b ≡ true → Follows old x) → Follows old y → Follows old (if b then x else y)
-either true old x y one other = one refl
-either false old x y one other = other
+next : (script : Script) (left : ℕ) → has_number (next_session script left) ≡ true
+next script left = either (nat_lt 0 left) Authorize (rest_of script) refl (either script.stays Idle Ended refl refl)
 
-ends : (stage : Stage) → readings_sent stage ≤ 1000 → Follows stage Ended
-ends stage sent = record { sent = omega arith; most = most_bound stage 1 (omega arith) sent; number = refl }
-
-starts : (status : Option (List ℕ)) (transaction : Option ℤ) → IfSome transaction (λ z. is_int_32 z ≡ true) → Follows Start (after_start status transaction)
-starts (Some status) (Some transaction) fits =
-    either (is_accepted (Some status)) Start (Charging transaction 0) (Refused transaction)
-    (λ _. record { sent = omega arith; most = omega arith; number = fits }) (record { sent = omega arith; most = omega arith; number = fits })
-starts (Some status) None fits = record { sent = omega arith; most = omega arith; number = refl }
-starts None transaction fits = record { sent = omega arith; most = omega arith; number = refl }
+starts : (script : Script) (left : ℕ) (status : Option (List ℕ)) (transaction : Option ℤ) → IfSome transaction (λ z. is_int_32 z ≡ true) → has_number (after_start script left status transaction) ≡ true
+starts script left (Some status) (Some transaction) fits = either (is_accepted (Some status)) (Charging transaction 0) (Refused transaction) fits fits
+starts script left (Some status) None fits = next script left
+starts script left None transaction fits = next script left
 
 fits_if : (b : Bool) (z : ℤ) → is_int_32 z ≡ b → IfSome (if b then Some z else None) (λ z. is_int_32 z ≡ true)
 fits_if true z e = e
@@ -120,44 +90,115 @@ fits : (o : Option ℤ) → IfSome (option_and_then within_32 o) (λ z. is_int_3
 fits None = tt
 fits (Some z) = fits_if (is_int_32 z) z refl
 
-follows : (script : Script) (stage : Stage) (payload : Data) → length script.readings.items ≤ 1000 → readings_sent stage ≤ 1000 → has_number stage ≡ true → Follows stage (after_result script stage payload)
-follows script Boot payload few sent number = either (is_accepted (status_of payload)) Boot Status Ended (λ _. record { sent = omega arith; most = omega arith; number = refl }) (ends Boot sent)
-follows script Status payload few sent number = record { sent = omega arith; most = omega arith; number = refl }
-follows script Authorize payload few sent number = either (is_accepted (tag_status_of payload)) Authorize Start Ended (λ _. record { sent = omega arith; most = omega arith; number = refl }) (ends Authorize sent)
-follows script Start payload few sent number =
-    starts (tag_status_of payload) (transaction_of payload) (fits (option_and_then as_integer (option_and_then as_number (get (codes "transactionId") payload))))
-follows script (Charging transaction n) payload few sent number =
-    either (nat_lt n (length script.readings.items)) (Charging transaction n) (Charging transaction (n + 1)) Ended
-    (λ e. let below : n < length script.readings.items = ltb-true _ _ e in record { sent = omega (arith, below, few); most = omega arith; number = number })
-    (ends (Charging transaction n) sent)
-follows script (Refused transaction) payload few sent number = ends (Refused transaction) sent
-follows script Ended payload few sent number = ends Ended sent
+transaction_fits : (payload : Data) → IfSome (transaction_of payload) (λ z. is_int_32 z ≡ true)
+transaction_fits payload = fits (option_and_then as_integer (option_and_then as_number (get (codes "transactionId") payload)))
 
-keeps_if : (s : Session) (stage : Stage) (b : Bool) (own : List ℕ) → s.in_flight ≡ Some own → IsSession s → Follows s.stage stage → IsSession (if b then record s { stage = stage; in_flight = None } else s)
-keeps_if s stage false own e good next = good
-keeps_if s stage true own e good next =
-    let few = subst (λ o. s.calls ≤ most_calls s.stage (count_in_flight o)) e good.few in
-    let most = next.most in
-    record { bounds = good.bounds; start_meter = good.start_meter; stop_meter = good.stop_meter; number = next.number; sent = next.sent; few = omega (arith, few, most) }
+follows : (script : Script) (left : ℕ) (stage : Stage) (payload : Data) → has_number stage ≡ true → has_number (after_result script left stage payload) ≡ true
+follows script left Boot payload number = either (is_accepted (status_of payload)) Status Ended refl refl
+follows script left Status payload number = next script left
+follows script left Authorize payload number = either (is_accepted (tag_status_of payload)) Start (next_session script left) refl (next script left)
+follows script left Start payload number = starts script left (tag_status_of payload) (transaction_of payload) (transaction_fits payload)
+follows script left (Charging transaction n) payload number = either (nat_lt n (length script.readings.items)) (Charging transaction (n + 1)) (next_session script left) number (next script left)
+follows script left (Stopping transaction) payload number = next script left
+follows script left (Refused transaction) payload number = next script left
+follows script left Idle payload number = refl
+follows script left Ended payload number = refl
 
-keeps_answered : (s : Session) (stage : Stage) (id : List ℕ) (o : Option (List ℕ)) → s.in_flight ≡ o → IsSession s → Follows s.stage stage
-    → IsSession (if is_id id o then record s { stage = stage; in_flight = None } else s)
-keeps_answered s stage id None e good next = good
-keeps_answered s stage id (Some own) e good next = keeps_if s stage (bytes_eq own id) own e good next
+fails : (script : Script) (left : ℕ) (stage : Stage) → has_number (after_error script left stage) ≡ true
+fails script left Boot = refl
+fails script left Status = refl
+fails script left Authorize = next script left
+fails script left Start = next script left
+fails script left (Charging transaction n) = next script left
+fails script left (Stopping transaction) = next script left
+fails script left (Refused transaction) = next script left
+fails script left Idle = refl
+fails script left Ended = refl
 
-keeps_version : (s : Session) (b : Bool) (version : ListVersion) → IsSession s → IsSession (if b then record s { version = version } else s)
-keeps_version s false version good = good
-keeps_version s true version good = record { bounds = good.bounds; start_meter = good.start_meter; stop_meter = good.stop_meter; number = good.number; sent = good.sent; few = good.few }
+keeps_moved : (s : Session) (stage : Stage) (interval : ℕ) (b : Bool) → IsSession s → has_number stage ≡ true → IsSession (record (if b then moved stage interval s else s) { in_flight = None })
+keeps_moved s stage interval true good number = record { bounds = good.bounds; start_meter = good.start_meter; stop_meter = good.stop_meter; number = number; tag = good.tag; few = good.few }
+keeps_moved s stage interval false good number = record { bounds = good.bounds; start_meter = good.start_meter; stop_meter = good.stop_meter; number = good.number; tag = good.tag; few = good.few }
+
+keeps_if : (s : Session) (stage : Stage) (interval : ℕ) (b : Bool) → IsSession s → has_number stage ≡ true → IsSession (if b then answered stage interval s else s)
+keeps_if s stage interval true good number = keeps_moved s stage interval s.moves good number
+keeps_if s stage interval false good number = good
+
+-- ---- a command
+
+tag_if : (b : Bool) (tag : List ℕ) → nat_le (characters tag) 20 ≡ b → IfSome (if b then Some tag else None) (λ tag. nat_le (characters tag) 20 ≡ true)
+tag_if true tag e = e
+tag_if false tag e = tt
+
+tag_fits : (o : Option (List ℕ)) → IfSome (option_and_then fitting o) (λ tag. nat_le (characters tag) 20 ≡ true)
+tag_fits None = tt
+tag_fits (Some tag) = tag_if (nat_le (characters tag) 20) tag refl
+
+start_fits : (b : Bool) (payload : Data) → IfSome (if b then ordered_tag payload else None) (λ tag. nat_le (characters tag) 20 ≡ true)
+start_fits true payload = tag_fits (option_and_then as_str (get (codes "idTag") payload))
+start_fits false payload = tt
+
+keeps_begun : (s : Session) (o : Option (List ℕ)) → IsSession s → IfSome o (λ tag. nat_le (characters tag) 20 ≡ true) → IsSession (begun o s)
+keeps_begun s None good tag = good
+keeps_begun s (Some t) good tag = record { bounds = good.bounds; start_meter = good.start_meter; stop_meter = good.stop_meter; number = refl; tag = tag; few = good.few }
+
+same_if : (b : Bool) (z : ℤ) → is_int_32 z ≡ true → IfSome (if b then Some z else None) (λ z. is_int_32 z ≡ true)
+same_if true z e = e
+same_if false z e = tt
+
+same_fits : (asked : ℤ) (o : Option ℤ) → IfSome o (λ z. is_int_32 z ≡ true) → IfSome (option_and_then (same asked) o) (λ z. is_int_32 z ≡ true)
+same_fits asked None e = tt
+same_fits asked (Some z) e = same_if (int_eq z asked) z e
+
+open_fits : (s : Session) (stage : Stage) → has_number stage ≡ true → IfSome (open_at s stage) (λ z. is_int_32 z ≡ true)
+open_fits s Boot number = tt
+open_fits s Status number = tt
+open_fits s Authorize number = tt
+open_fits s Start number = tt
+open_fits s (Charging transaction sent) number = same_if (s.script.stays && goes_on s sent) transaction number
+open_fits s (Stopping transaction) number = tt
+open_fits s (Refused transaction) number = tt
+open_fits s Idle number = tt
+open_fits s Ended number = tt
+
+stop_fits : (s : Session) (o : Option ℤ) → has_number s.stage ≡ true → IfSome (option_and_then (λ asked. option_and_then (same asked) (open_at s s.stage)) o) (λ z. is_int_32 z ≡ true)
+stop_fits s None number = tt
+stop_fits s (Some asked) number = same_fits asked (open_at s s.stage) (open_fits s s.stage number)
+
+keeps_stopped : (s : Session) (o : Option ℤ) → IsSession s → IfSome o (λ z. is_int_32 z ≡ true) → IsSession (stopped o s)
+keeps_stopped s None good fits = good
+keeps_stopped s (Some z) good fits = record { bounds = good.bounds; start_meter = good.start_meter; stop_meter = good.stop_meter; number = fits; tag = good.tag; few = good.few }
+
+one_of : (b : Bool) (x y : Session) → IsSession x → IsSession y → IsSession (if b then x else y)
+one_of true x y one other = one
+one_of false x y one other = other
+
+keeps_command : (s : Session) (action : List ℕ) (payload : Data) → IsSession s → IsSession (after_command action payload s)
+keeps_command s action payload good =
+    one_of (bytes_eq action (codes "SendLocalList")) (record s { version = unwrap_or (version_of payload) s.version }) _
+    (record { bounds = good.bounds; start_meter = good.start_meter; stop_meter = good.stop_meter; number = good.number; tag = good.tag; few = good.few })
+    (one_of (bytes_eq action (codes "RemoteStartTransaction")) (begun (start_of s payload) s) _
+    (keeps_begun s (start_of s payload) good (start_fits (is_idle s.stage && names s.script.connector (get (codes "connectorId") payload)) payload))
+    (one_of (bytes_eq action (codes "RemoteStopTransaction")) (stopped (stop_of s payload) s) s
+    (keeps_stopped s (stop_of s payload) good (stop_fits s (transaction_of payload) good.number))
+    good))
+
+-- ---- a message
 
 pub keeps_message : (f : Frame) (s : Session) → IsSession s → IsSession (after_message f s)
-keeps_message (Call id action payload) s good = keeps_version s (bytes_eq action (codes "SendLocalList")) _ good
+keeps_message (Call id action payload) s good = keeps_command s action payload good
 keeps_message (CallResult id payload) s good =
-    keeps_answered s (after_result s.script s.stage payload) id s.in_flight refl good (follows s.script s.stage payload (leb-true _ _ (bounded s.script good.bounds).readings) good.sent good.number)
-keeps_message (CallError id code description) s good = keeps_answered s Ended id s.in_flight refl good (ends s.stage good.sent)
+    keeps_if s (after_result s.script s.left s.stage payload) (interval_after s.stage payload s.interval) (is_id id s.in_flight) good (follows s.script s.left s.stage payload good.number)
+keeps_message (CallError id code description) s good =
+    keeps_if s (after_error s.script s.left s.stage) s.interval (is_id id s.in_flight) good (fails s.script s.left s.stage)
 keeps_message (Broken id) s good = good
 keeps_message Ignored s good = good
 
 -- after a step, whatever it gave
-pub after_either : {X E : Type 0} (old new : Session) (time : List ℕ) (r : Result X E) → IsSession old → OnOk r (new ≡ after_call old (due_call old time)) → OnErr r (new ≡ old) → IsSession new
-after_either old new time (Ok x) good ok err = subst IsSession (sym ok) (keeps_call old time good)
-after_either old new time (Err e) good ok err = subst IsSession (sym err) good
+pub after_either : {X E : Type 0} (old new : Session) (at : ℕ) (r : Result X E) → IsSession old → OnOk r (new ≡ after_call old at (due_call old at)) → OnErr r (new ≡ old) → IsSession new
+after_either old new at (Ok x) good ok err = subst IsSession (sym ok) (keeps_call old at good)
+after_either old new at (Err e) good ok err = subst IsSession (sym err) good
+
+-- after a message, whatever it gave
+pub heard : {X E : Type 0} (old new : Session) (f : Frame) (r : Result X E) → IsSession old → OnOk r (new ≡ after_message f old) → OnErr r (new ≡ old) → IsSession new
+heard old new f (Ok x) good ok err = subst IsSession (sym ok) (keeps_message f old good)
+heard old new f (Err e) good ok err = subst IsSession (sym err) good

@@ -62,7 +62,7 @@ after_text (Some t) s = after_message (frame t) s
 -- the reply to the text that was read, if any
 abbrev pub IsReplyTo : Option (List ℕ) → Session → Option (List ℕ) → Type 0
 IsReplyTo None s reply = reply ≡ None
-IsReplyTo (Some t) s reply = IsWritten (reply_to s.version (frame t)) reply
+IsReplyTo (Some t) s reply = IsWritten (reply_to s (frame t)) reply
 
 module _ {T : Type 0} where
   -- one send of a text
@@ -83,12 +83,12 @@ module _ {T : Type 0} where
     pub text : r ≡ read_outcome gave
 
   -- the next call is written and sent; where it finds no memory nothing has changed
-  abbrev pub Calls : (T → Option (List ℕ)) → List ℕ → Session → Session → Socket T → Socket T → Result (Option (List ℕ)) SimFault → Type 0
-  Calls contents time s s2 old new (Ok call) =
-      IsWritten (next_call s time) call × (s2 ≡ after_call s (due_call s time)) × Sends contents call old new (Ok tt)
-  Calls contents time s s2 old new (Err fault) =
+  abbrev pub Calls : (T → Option (List ℕ)) → ℕ → Session → Session → Socket T → Socket T → Result (Option (List ℕ)) SimFault → Type 0
+  Calls contents at s s2 old new (Ok call) =
+      IsWritten (next_call s at) call × (s2 ≡ after_call s at (due_call s at)) × Sends contents call old new (Ok tt)
+  Calls contents at s s2 old new (Err fault) =
       ((fault ≡ NoMemory) × (s2 ≡ s) × (new ≡ old))
-      ⊎ ((call : Option (List ℕ)) × IsWritten (next_call s time) call × (s2 ≡ after_call s (due_call s time)) × Sends contents call old new (Err fault))
+      ⊎ ((call : Option (List ℕ)) × IsWritten (next_call s at) call × (s2 ≡ after_call s at (due_call s at)) × Sends contents call old new (Err fault))
 
   -- a text is taken and its reply sent; where the reply finds no memory nothing has changed
   abbrev pub Replies : (T → Option (List ℕ)) → Option (List ℕ) → Session → Session → Socket T → Socket T → Result (Option (List ℕ)) SimFault → Type 0
@@ -107,10 +107,10 @@ module _ {T : Type 0} where
       ⊎ ((mid : Socket T) × (text : Option (List ℕ)) × Hears remaining old mid (Ok text) × Replies contents text s s2 mid new (Err fault))
 
   -- one round: the call, the read and the reply, or what failed of them
-  abbrev pub Drives : (T → Option (List ℕ)) → (T → Option (List ℕ)) → List ℕ → Session → Session → Socket T → Socket T → Result (Option (List ℕ) × (Option (List ℕ) × Option (List ℕ))) SimFault → Type 0
-  Drives remaining contents time s s2 old new (Ok d) =
-      (called : Session) × (mid : Socket T) × Calls contents time s called old mid (Ok d.0) × Answers remaining contents called s2 mid new (Ok d.1)
-  Drives remaining contents time s s2 old new (Err fault) =
-      Calls contents time s s2 old new (Err fault)
+  abbrev pub Drives : (T → Option (List ℕ)) → (T → Option (List ℕ)) → ℕ → Session → Session → Socket T → Socket T → Result (Option (List ℕ) × (Option (List ℕ) × Option (List ℕ))) SimFault → Type 0
+  Drives remaining contents at s s2 old new (Ok d) =
+      (called : Session) × (mid : Socket T) × Calls contents at s called old mid (Ok d.0) × Answers remaining contents called s2 mid new (Ok d.1)
+  Drives remaining contents at s s2 old new (Err fault) =
+      Calls contents at s s2 old new (Err fault)
       ⊎ ((call : Option (List ℕ)) × (called : Session) × (mid : Socket T)
-      × Calls contents time s called old mid (Ok call) × Answers remaining contents called s2 mid new (Err fault))
+      × Calls contents at s called old mid (Ok call) × Answers remaining contents called s2 mid new (Err fault))

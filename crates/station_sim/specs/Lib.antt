@@ -1,6 +1,7 @@
 pub mod Bounds
 pub mod Calls
 pub mod Results
+pub mod Remote
 pub mod Replies
 pub mod Session
 pub mod Sim

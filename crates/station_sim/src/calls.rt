@@ -4,7 +4,7 @@ ghost use Rattle.ocpp_frame.specs.declared.frame.Frame.TheVariants.{Call};
 ghost use Rattle.ocpp_payload.specs.Action.{action_name};
 ghost use Rattle.ocpp_types.specs.Text.{characters};
 ghost use Rattle.serde_json.specs.View.{view};
-ghost use Rattle.station_sim.specs.Calls.{call_id, boot_payload, status_payload, authorize_payload, start_payload, meter_value, reading_payload, stop_payload, refused_payload, charging_call, call_of};
+ghost use Rattle.station_sim.specs.Calls.{call_id, tag_of, heartbeat, boot_payload, status_payload, authorize_payload, start_payload, meter_value, reading_payload, stop_payload, refused_payload, last_call, charging_call, call_of};
 ghost use Rattle.station_sim.specs.Written.{IsTextOf, IsWritable};
 
 use crate::script::Script;
@@ -31,24 +31,61 @@ pub fn call_text(alloc: Global, id: &str, call: DueCall) -> Mem<String>
     write_call(alloc, id, call.action.name(), call.payload)
 }
 
-/// The call of a stage at a time, `None` once the script has ended (OCPP 1.6, section 4).
-pub fn call_of(alloc: Global, script: &Script, stage: Stage, time: &str) -> Mem<Option<DueCall>>
+/// The call of a stage at a time, `None` where it has none (OCPP 1.6, section 4). The session has a tag of a
+/// command that began it, or none.
+pub fn call_of(
+    alloc: Global,
+    script: &Script,
+    ordered: &Option<Text>,
+    stage: Stage,
+    time: &str,
+) -> Mem<Option<DueCall>>
     ensures { IfOk result (λ call. option_map (λ c. (c.action, view c.payload)) call
-        ≡ call_of script.now stage time.now) }
+        ≡ call_of script.now ordered.now stage time.now) }
 {
     let (action, payload) = match stage {
         Stage::Boot => (Action::BootNotification, boot(alloc, script)?),
         Stage::Status => (Action::StatusNotification, status(alloc)?),
         Stage::Authorize => (Action::Authorize, authorize(alloc, script)?),
-        Stage::Start => (Action::StartTransaction, start(alloc, script, time)?),
-        Stage::Charging { transaction, sent } => charging(alloc, script, transaction, sent, time)?,
+        Stage::Start => {
+            let tag = tag_of(script, ordered);
+            (Action::StartTransaction, start(alloc, script, tag, time)?)
+        }
+        Stage::Charging { transaction, sent } => {
+            return charging(alloc, script, ordered, transaction, sent, time);
+        }
+        Stage::Stopping { transaction } => {
+            let tag = tag_of(script, ordered);
+            let payload = stop(alloc, script, tag, "Remote", transaction, time)?;
+            (Action::StopTransaction, payload)
+        }
         Stage::Refused { transaction } => (
             Action::StopTransaction,
             refused(alloc, script, transaction, time)?,
         ),
-        Stage::Ended => return Ok(None),
+        Stage::Idle | Stage::Ended => return Ok(None),
     };
     Ok(Some(DueCall { action, payload }))
+}
+
+/// A heartbeat.
+pub fn heartbeat(alloc: Global) -> Mem<DueCall>
+    ensures { IfOk result (λ call. (call.action, view call.payload) ≡ heartbeat) }
+{
+    Ok(DueCall {
+        action: Action::Heartbeat,
+        payload: json!(in alloc; {})?,
+    })
+}
+
+/// The tag of a session: that of the command which began it, or the script's.
+fn tag_of<'a>(script: &'a Script, ordered: &'a Option<Text>) -> &'a str
+    ensures { result.now ≡ tag_of script.now ordered.now }
+{
+    match ordered {
+        Some(tag) => tag.as_str(),
+        None => script.tag.as_str(),
+    }
 }
 
 /// The id of the call of that number.
@@ -61,22 +98,43 @@ pub fn call_id(alloc: Global, number: u32) -> Mem<Text>
 fn charging(
     alloc: Global,
     script: &Script,
+    ordered: &Option<Text>,
     transaction: i32,
     sent: usize,
     time: &str,
-) -> Mem<(Action, Value)>
-    ensures { IfOk result (λ call. (call.0, view call.1)
-        ≡ charging_call script.now transaction (slice_get script.now.readings.items sent) time.now) }
+) -> Mem<Option<DueCall>>
+    ensures { IfOk result (λ call. option_map (λ c. (c.action, view c.payload)) call
+        ≡ charging_call script.now ordered.now transaction (slice_get script.now.readings.items sent) time.now) }
 {
     match script.readings.get(sent) {
         Some(reading) => {
             let payload = meter_values(alloc, script, transaction, *reading, time)?;
-            Ok((Action::MeterValues, payload))
+            let action = Action::MeterValues;
+            Ok(Some(DueCall { action, payload }))
         }
-        None => Ok((
-            Action::StopTransaction,
-            stop(alloc, script, transaction, time)?,
-        )),
+        None => last_call(alloc, script, ordered, transaction, time),
+    }
+}
+
+/// What follows the last reading: the stop of a session of its own.
+fn last_call(
+    alloc: Global,
+    script: &Script,
+    ordered: &Option<Text>,
+    transaction: i32,
+    time: &str,
+) -> Mem<Option<DueCall>>
+    ensures { IfOk result (λ call. option_map (λ c. (c.action, view c.payload)) call
+        ≡ last_call script.now ordered.now transaction time.now) }
+{
+    match ordered {
+        Some(_) => Ok(None),
+        None => {
+            let tag = script.tag.as_str();
+            let payload = stop(alloc, script, tag, "Local", transaction, time)?;
+            let action = Action::StopTransaction;
+            Ok(Some(DueCall { action, payload }))
+        }
     }
 }
 
@@ -101,10 +159,9 @@ fn authorize(alloc: Global, script: &Script) -> Mem<Value>
     Ok(json!(in alloc; {"idTag": tag})?)
 }
 
-fn start(alloc: Global, script: &Script, time: &str) -> Mem<Value>
-    ensures { IfOk result (λ v. view v ≡ start_payload script.now time.now) }
+fn start(alloc: Global, script: &Script, tag: &str, time: &str) -> Mem<Value>
+    ensures { IfOk result (λ v. view v ≡ start_payload script.now tag.now time.now) }
 {
-    let tag = script.tag.as_str();
     let connector = script.connector;
     let meter = script.meter_start;
     Ok(json!(in alloc; {
@@ -140,15 +197,21 @@ fn meter_value(alloc: Global, reading: i64, time: &str) -> Mem<Value>
     Ok(json!(in alloc; {"sampledValue": [{"unit": "Wh", "value": value}], "timestamp": time})?)
 }
 
-fn stop(alloc: Global, script: &Script, transaction: i32, time: &str) -> Mem<Value>
-    ensures { IfOk result (λ v. view v ≡ stop_payload script.now transaction time.now) }
+fn stop(
+    alloc: Global,
+    script: &Script,
+    tag: &str,
+    reason: &str,
+    transaction: i32,
+    time: &str,
+) -> Mem<Value>
+    ensures { IfOk result (λ v. view v ≡ stop_payload script.now tag.now reason.now transaction time.now) }
 {
-    let tag = script.tag.as_str();
     let meter = script.meter_stop;
     Ok(json!(in alloc; {
         "idTag": tag,
         "meterStop": meter,
-        "reason": "Local",
+        "reason": reason,
         "timestamp": time,
         "transactionId": transaction
     })?)

@@ -7,7 +7,10 @@ ghost use Rattle.station_sim.specs.Replies.{commands};
 #[derive(Clone, Copy, Debug, PartialEq, Eq, Drop)]
 pub enum Answer {
     Accepted,
-    Rejected,
+    /// Accepted, if the session takes the start.
+    RemoteStart,
+    /// Accepted, if the session takes the stop.
+    RemoteStop,
     Unlocked,
     NotImplemented,
     UnknownVendorId,
@@ -29,8 +32,8 @@ pub fn answer_of(action: &str) -> Option<Answer>
         "SendLocalList" => Some(Answer::Accepted),
         "ReserveNow" => Some(Answer::Accepted),
         "CancelReservation" => Some(Answer::Accepted),
-        "RemoteStartTransaction" => Some(Answer::Rejected),
-        "RemoteStopTransaction" => Some(Answer::Rejected),
+        "RemoteStartTransaction" => Some(Answer::RemoteStart),
+        "RemoteStopTransaction" => Some(Answer::RemoteStop),
         "UnlockConnector" => Some(Answer::Unlocked),
         "TriggerMessage" => Some(Answer::NotImplemented),
         "DataTransfer" => Some(Answer::UnknownVendorId),

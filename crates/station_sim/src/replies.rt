@@ -4,11 +4,12 @@ ghost use Rattle.ocpp_frame.specs.declared.frame.Frame.TheVariants.{CallResult};
 ghost use Rattle.ocpp_types.specs.Named.{named};
 ghost use Rattle.serde_json.specs.Data.{string};
 ghost use Rattle.serde_json.specs.View.{view, items_view};
-ghost use Rattle.station_sim.specs.Replies.{commands, status, texts, keys_of, configuration, version_data, answer_payload, reply_with, reply_to};
+ghost use Rattle.station_sim.specs.Replies.{commands, status, accepted_if, texts, keys_of, configuration, version_data, answer_payload, reply_with, reply_to};
 ghost use Rattle.station_sim.specs.Written.{IsTextOf, IsWritten, IsWritable};
 
 use crate::command::{Answer, answer_of};
-use crate::version::ListVersion;
+use crate::remote::{start_of, stop_of};
+use crate::session::Session;
 use ocpp_frame::{Frame, Payload, write_error, write_result};
 use ocpp_types::{ErrorCode, Mem, Named, Text};
 use serde_json::{Value, json};
@@ -16,16 +17,16 @@ use std::alloc::Global;
 
 /// The text of the reply to a message: to a command its answer, or the error NotImplemented for an
 /// action that it doesn't answer; to a broken call the error FormationViolation; to another message none
-/// (OCPP-J 1.6, sections 4.2.2 and 4.2.3). `version` is that of the local list.
-pub fn reply_to(alloc: Global, version: ListVersion, frame: &Frame) -> Mem<Option<String>>
-    ensures { IfOk result (λ reply. IsWritten (reply_to version frame.now) (option_map string_bytes reply)) }
+/// (OCPP-J 1.6, sections 4.2.2 and 4.2.3). The session is as it was before the message.
+pub fn reply_to(alloc: Global, session: &Session, frame: &Frame) -> Mem<Option<String>>
+    ensures { IfOk result (λ reply. IsWritten (reply_to session.now frame.now) (option_map string_bytes reply)) }
 {
     match frame {
         Frame::Call {
             id,
             action,
             payload,
-        } => Ok(Some(command_reply(alloc, version, id, action, payload)?)),
+        } => Ok(Some(command_reply(alloc, session, id, action, payload)?)),
         Frame::Broken { id } => {
             let code = ErrorCode::FormationViolation.name();
             Ok(Some(write_error(alloc, id.as_str(), code, "")?))
@@ -36,17 +37,17 @@ pub fn reply_to(alloc: Global, version: ListVersion, frame: &Frame) -> Mem<Optio
 
 fn command_reply(
     alloc: Global,
-    version: ListVersion,
+    session: &Session,
     id: &Text,
     action: &Text,
     payload: &Payload,
 ) -> Mem<String>
     ensures { IfOk result (λ s. IsTextOf (reply_with id.now
-        (option_map (answer_payload version payload.now) (named commands action.now))) (string_bytes s)) }
+        (option_map (answer_payload session.now payload.now) (named commands action.now))) (string_bytes s)) }
 {
     match answer_of(action.as_str()) {
         Some(answer) => {
-            let payload = answer_payload(alloc, version, payload.as_value(), answer)?;
+            let payload = answer_payload(alloc, session, payload.as_value(), answer)?;
             result_text(alloc, id.as_str(), payload)
         }
         None => write_error(alloc, id.as_str(), ErrorCode::NotImplemented.name(), ""),
@@ -60,33 +61,39 @@ fn result_text(alloc: Global, id: &str, payload: Value) -> Mem<String>
     write_result(alloc, id, payload)
 }
 
-fn answer_payload(
-    alloc: Global,
-    version: ListVersion,
-    payload: &Value,
-    answer: Answer,
-) -> Mem<Value>
-    ensures value { IfOk result (λ v. view v ≡ answer_payload version (view payload.now) answer) }
+fn answer_payload(alloc: Global, session: &Session, payload: &Value, answer: Answer) -> Mem<Value>
+    ensures value { IfOk result (λ v. view v ≡ answer_payload session.now (view payload.now) answer) }
     ensures writable { IfOk result (λ v. IsWritable (view v)) }
 {
-    let payload = payload_of(alloc, version, payload, answer)?;
+    let payload = payload_of(alloc, session, payload, answer)?;
     Ok(payload)
 }
 
-fn payload_of(alloc: Global, version: ListVersion, payload: &Value, answer: Answer) -> Mem<Value>
-    ensures { IfOk result (λ v. view v ≡ answer_payload version (view payload.now) answer) }
+fn payload_of(alloc: Global, session: &Session, payload: &Value, answer: Answer) -> Mem<Value>
+    ensures { IfOk result (λ v. view v ≡ answer_payload session.now (view payload.now) answer) }
 {
     match answer {
         Answer::Accepted => status(alloc, "Accepted"),
-        Answer::Rejected => status(alloc, "Rejected"),
+        Answer::RemoteStart => accepted_if(alloc, start_of(session, payload).is_some()),
+        Answer::RemoteStop => accepted_if(alloc, stop_of(session, payload).is_some()),
         Answer::Unlocked => status(alloc, "Unlocked"),
         Answer::NotImplemented => status(alloc, "NotImplemented"),
         Answer::UnknownVendorId => status(alloc, "UnknownVendorId"),
         Answer::Version => {
-            let version = version.to_value();
+            let version = session.version.to_value();
             Ok(json!(in alloc; {"listVersion": version})?)
         }
         Answer::Keys => configuration(alloc, keys_of(alloc, payload)?),
+    }
+}
+
+fn accepted_if(alloc: Global, is_accepted: bool) -> Mem<Value>
+    ensures { IfOk result (λ v. view v ≡ accepted_if is_accepted) }
+{
+    if is_accepted {
+        status(alloc, "Accepted")
+    } else {
+        status(alloc, "Rejected")
     }
 }
 

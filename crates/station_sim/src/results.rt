@@ -1,35 +1,103 @@
 //! How the script goes on after the result of a call.
 ghost use Rattle.std.specs.Prelude.{◌≡◌, option_map};
 ghost use Rattle.serde_json.specs.View.{view};
-ghost use Rattle.station_sim.specs.Results.{status_of, tag_status_of, is_accepted, transaction_of, after_start, after_result};
+ghost use Rattle.station_sim.specs.Results.{status_of, tag_status_of, is_accepted, transaction_of, rest_of, next_session, after_start, after_result, after_error, given_interval, interval_after};
 
 use crate::script::Script;
 use crate::stage::Stage;
 use serde_json::Value;
 
-/// The stage after a result with that payload (OCPP 1.6, Authorize.conf,
-/// BootNotification.conf, StartTransaction.conf).
-pub fn after_result(script: &Script, stage: Stage, payload: &Value) -> Stage
-    ensures { result ≡ after_result script.now stage (view payload.now) }
+/// The seconds between heartbeats where the result of a boot gives none that are taken.
+pub const INTERVAL: u32 = 10;
+
+/// The most seconds between heartbeats that are taken: a day.
+pub const MAX_INTERVAL: u32 = 86_400;
+
+/// The stage after a result with that payload, where so many sessions of its own are left (OCPP 1.6,
+/// Authorize.conf, BootNotification.conf, StartTransaction.conf).
+pub fn after_result(script: &Script, left: u32, stage: Stage, payload: &Value) -> Stage
+    ensures { result ≡ after_result script.now left stage (view payload.now) }
 {
     match stage {
         Stage::Boot if is_accepted(status_of(payload)) => Stage::Status,
-        Stage::Status => Stage::Authorize,
         Stage::Authorize if is_accepted(tag_status_of(payload)) => Stage::Start,
-        Stage::Start => after_start(tag_status_of(payload), transaction_of(payload)),
+        Stage::Start => {
+            after_start(
+                script,
+                left,
+                tag_status_of(payload),
+                transaction_of(payload),
+            )
+        }
         Stage::Charging { transaction, sent } if sent < script.readings.len() => Stage::Charging {
             transaction,
             sent: sent + 1,
         },
-        _ => Stage::Ended,
+        Stage::Boot | Stage::Ended => Stage::Ended,
+        Stage::Idle => Stage::Idle,
+        _ => next_session(script, left),
     }
 }
 
-fn after_start(status: Option<&str>, transaction: Option<i32>) -> Stage
-    ensures { result ≡ after_start (option_map (λ s. s.now) status.entry) transaction }
+/// The stage after an error in the place of a result.
+pub fn after_error(script: &Script, left: u32, stage: Stage) -> Stage
+    ensures { result ≡ after_error script.now left stage }
+{
+    match stage {
+        Stage::Boot | Stage::Status | Stage::Ended => Stage::Ended,
+        Stage::Idle => Stage::Idle,
+        _ => next_session(script, left),
+    }
+}
+
+/// The next session of its own, if some are left. Without one a station that stays waits, and another has ended.
+fn next_session(script: &Script, left: u32) -> Stage
+    ensures { result ≡ next_session script.now left }
+{
+    if left > 0 {
+        Stage::Authorize
+    } else {
+        rest_of(script)
+    }
+}
+
+fn rest_of(script: &Script) -> Stage
+    ensures { result ≡ rest_of script.now }
+{
+    if script.stays {
+        Stage::Idle
+    } else {
+        Stage::Ended
+    }
+}
+
+/// The seconds between heartbeats after the result of a stage's call.
+pub fn interval_after(stage: Stage, payload: &Value, interval: u32) -> u32
+    ensures { result ≡ interval_after stage (view payload.now) interval }
+{
+    match stage {
+        Stage::Boot => interval_of(payload).unwrap_or(INTERVAL),
+        _ => interval,
+    }
+}
+
+/// The interval that the result of a boot gives, where that is 1 to MAX_INTERVAL (OCPP 1.6, BootNotification.conf).
+fn interval_of(payload: &Value) -> Option<u32>
+    ensures { result ≡ given_interval (view payload.now) }
+{
+    let interval = payload.get("interval")?.as_number()?.as_u64()?;
+    if 1 <= interval && interval <= u64::from(MAX_INTERVAL) {
+        Some(interval as u32)
+    } else {
+        None
+    }
+}
+
+fn after_start(script: &Script, left: u32, status: Option<&str>, transaction: Option<i32>) -> Stage
+    ensures { result ≡ after_start script.now left (option_map (λ s. s.now) status.entry) transaction }
 {
     let (Some(status), Some(transaction)) = (status, transaction) else {
-        return Stage::Ended;
+        return next_session(script, left);
     };
     if is_accepted(Some(status)) {
         Stage::Charging {
@@ -63,7 +131,7 @@ fn tag_status_of(payload: &Value) -> Option<&str>
 }
 
 /// The member `transactionId`, where that is an integer of 32 bits.
-fn transaction_of(payload: &Value) -> Option<i32>
+pub fn transaction_of(payload: &Value) -> Option<i32>
     ensures { result ≡ transaction_of (view payload.now) }
 {
     let number = payload.get("transactionId")?.as_number()?.as_i128()?;

@@ -1,11 +1,11 @@
-//! The script of one charging session.
+//! The script of a station.
 ghost use Rattle.std.specs.Prelude.{◌≡◌};
 ghost use Rattle.station_sim.specs.Bounds.{is_name, bad_field};
 
 use ocpp_types::{Text, count_characters};
 use thiserror::Error;
 
-/// What a station says of itself and what it does in one charging session.
+/// What a station says of itself, what it does in a charging session, and how many it has.
 #[derive(Drop)]
 pub struct Script {
     /// 1 to 20 characters (OCPP 1.6, BootNotification.req).
@@ -22,6 +22,10 @@ pub struct Script {
     pub readings: Vec<i64>,
     /// In Wh.
     pub meter_stop: i64,
+    /// How many sessions of its own it runs, one after the other.
+    pub sessions: u32,
+    /// It stays after these, and takes part in the sessions that the central system begins and ends.
+    pub stays: bool,
 }
 
 /// The first field of a script that is out of its bounds.

@@ -3,11 +3,10 @@ ghost use Rattle.std.specs.Prelude.{◌≡◌, ◌≤◌, None, Some, IfOk, IfEr
 ghost use Rattle.std.proofs.Props.{props};
 ghost use Rattle.ocpp_frame.specs.Frame.{frame};
 ghost use Rattle.ocpp_types.specs.Time.{last_read_moment};
-ghost use Rattle.ocpp_types.specs.TimeText.{time_text};
 ghost use Rattle.station_sim.specs.Bounds.{bad_field};
 ghost use Rattle.station_sim.specs.Replies.{reply_to};
 ghost use Rattle.station_sim.specs.Kept.{IsSession};
-ghost use Rattle.station_sim.specs.Session.{IsRead, start, due_call, next_call, after_call, after_message, is_done};
+ghost use Rattle.station_sim.specs.Session.{IsRead, start, due_call, next_call, after_call, after_message, is_done, is_waiting};
 ghost use Rattle.station_sim.specs.Written.{IsWritten};
 
 use crate::replies::reply_to;
@@ -18,7 +17,8 @@ use ocpp_types::{Mem, Moment, print_time};
 use std::alloc::Global;
 
 /// A scripted station: it makes the calls of its script, each once the one before was answered, and
-/// answers the calls of the central system.
+/// answers the calls of the central system. One that stays runs the sessions that the central system
+/// begins, and sends heartbeats while it has no other call.
 #[derive(Drop)]
 pub struct Sim {
     pub(crate) alloc: Global,
@@ -47,35 +47,36 @@ impl Sim {
 
     /// The text of the next call at that moment. That call is in flight afterwards. The ids of the
     /// calls are `s1`, `s2` and so on. `None` while a call is in flight, since a station makes one
-    /// call at a time, and once the script has ended (OCPP-J 1.6, sections 4.1.1 and 4.2.1). The
+    /// call at a time, while nothing is to be called, and once the script has ended (OCPP-J 1.6,
+    /// sections 4.1.1 and 4.2.1). The
     /// central system reads the payload without fault, unless `at` is past the last moment that
     /// `parse_time` reads. Where there is no memory nothing changes.
     pub fn step(&mut self, at: Moment) -> Mem<Option<String>>
         ensures text { IfOk result (λ text.
-            IsWritten (next_call (session_of self.old) (time_text at)) (option_map string_bytes text)) }
+            IsWritten (next_call (session_of self.old) at) (option_map string_bytes text)) }
         ensures read { IfOk result (λ _. at ≤ last_read_moment
-            → IsRead (due_call (session_of self.old) (time_text at))) }
+            → IsRead (due_call (session_of self.old) at)) }
         ensures ok { OnOk result (session_of self.new
-            ≡ after_call (session_of self.old) (due_call (session_of self.old) (time_text at))) }
+            ≡ after_call (session_of self.old) at (due_call (session_of self.old) at)) }
         ensures err { OnErr result (session_of self.new ≡ session_of self.old) }
     {
         let time = print_time(self.alloc, at)?;
-        self.session.make_call(self.alloc, time.as_str())
+        self.session.make_call(self.alloc, at, time.as_str())
     }
 
     /// Takes a text of the central system, and gives the text of the reply if it gets one: a call gets
     /// one always, also once the script has ended, and any other text none. Only an answer with the id
-    /// of the call in flight moves the script on (OCPP-J 1.6, sections 4.2.1 to 4.2.3). Where there is
-    /// no memory nothing changes.
+    /// of the call in flight moves the script on, and a remote start or stop that is accepted (OCPP-J
+    /// 1.6, sections 4.2.1 to 4.2.3). Where there is no memory nothing changes.
     pub fn on_text(&mut self, text: &str) -> Mem<Option<String>>
         ensures reply { IfOk result (λ reply. IsWritten
-            (reply_to (session_of self.old).version (frame text.now)) (option_map string_bytes reply)) }
+            (reply_to (session_of self.old) (frame text.now)) (option_map string_bytes reply)) }
         ensures ok { OnOk result (session_of self.new ≡ after_message (frame text.now) (session_of self.old)) }
         ensures err { OnErr result (session_of self.new ≡ session_of self.old) }
     {
         let frame = read_frame(self.alloc, text)?;
-        let reply = reply_to(self.alloc, self.session.version, &frame)?;
-        self.session.hear(&frame);
+        let reply = reply_to(self.alloc, &self.session, &frame)?;
+        self.session.hear(self.alloc, &frame)?;
         Ok(reply)
     }
 
@@ -84,5 +85,12 @@ impl Sim {
         ensures { result ≡ is_done (session_of self.now) }
     {
         self.session.is_done()
+    }
+
+    /// Whether it waits for commands: no session runs, and no call is in flight.
+    pub fn waits(&self) -> bool
+        ensures { result ≡ is_waiting (session_of self.now) }
+    {
+        self.session.is_waiting()
     }
 }

@@ -1,6 +1,5 @@
 //! A station over its socket.
 ghost use Rattle.std.specs.Prelude.{◌≡◌, option_map, string_bytes};
-ghost use Rattle.ocpp_types.specs.TimeText.{time_text};
 ghost use Rattle.station_sim.specs.Drives.{fault_of, failed_read, read_outcome, text_of, pair_of, texts_of, Sends, Hears, Calls, Replies, Answers, Drives};
 ghost use Rattle.station_sim.specs.Sim.{session_of};
 
@@ -51,7 +50,7 @@ pub fn drive<T: Read + Write + Drop, K: MaskKeys + Drop>(
     socket: &mut WebSocket<T, K>,
     at: Moment,
 ) -> Result<Drove, SimFault>
-    ensures { Drives T.remaining T.contents (time_text at) (session_of sim.old) (session_of sim.new)
+    ensures { Drives T.remaining T.contents at (session_of sim.old) (session_of sim.new)
         socket.old socket.new (texts_of result) }
 {
     let call = make_call(sim, socket, at)?;
@@ -76,7 +75,7 @@ fn make_call<T: Read + Write + Drop, K: MaskKeys + Drop>(
     socket: &mut WebSocket<T, K>,
     at: Moment,
 ) -> Result<Option<String>, SimFault>
-    ensures { Calls T.contents (time_text at) (session_of sim.old) (session_of sim.new)
+    ensures { Calls T.contents at (session_of sim.old) (session_of sim.new)
         socket.old socket.new (text_of result) }
 {
     let call = sim.step(at)?;

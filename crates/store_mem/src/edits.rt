@@ -2,7 +2,7 @@
 ghost use Rattle.std.specs.Prelude.{◌≡◌, OnOk, OnErr};
 ghost use Rattle.hub_rows.specs.Changes.{edit, EditFits};
 ghost use Rattle.hub_rows.specs.declared.change.Edit.TheVariants.{Stations, Tags, Transactions, Holdings};
-ghost use Rattle.hub_rows.specs.declared.change.StationEdit.TheVariants.{StationAdded, PolicySet, ConnectorSeen, ReportSeen};
+ghost use Rattle.hub_rows.specs.declared.change.StationEdit.TheVariants.{StationAdded, PolicySet, ReaderSet, ConnectorSeen, ReportSeen};
 ghost use Rattle.hub_rows.specs.declared.change.TransactionEdit.TheVariants.{Forgotten};
 ghost use Rattle.hub_rows.specs.WellFormed.{WellFormedRows};
 ghost use Rattle.store_mem.specs.Lists.{rows_in};
@@ -14,9 +14,9 @@ use crate::station_copies::copy_of;
 use crate::stations::{StationChange, change_station};
 use crate::tx_owners::owner_row;
 use hub_rows::{
-    ConnectorReport, ConnectorRow, Edit, Forgettable, GrantRow, HoldingEdit, ListRow, ReportRow,
-    ReportedStatus, ReservationRow, StationEdit, StationRow, TagEdit, TagRow, TransactionEdit,
-    put_row,
+    ConnectorReport, ConnectorRow, Edit, Forgettable, GrantRow, HoldingEdit, ListRow, Reader,
+    ReaderRow, ReportRow, ReportedStatus, ReservationRow, StationEdit, StationRow, TagEdit, TagRow,
+    TransactionEdit, put_row,
 };
 use ocpp_types::{Mem, Moment, Policy, State, Text};
 
@@ -61,6 +61,10 @@ impl Lists {
                 policy,
                 interval,
             } => self.set_policy(op, station, *policy, *interval),
+            StationEdit::ReaderSet { station, reader } => self.put_reader(op, station, *reader)?,
+            StationEdit::StationDropped { station } => {
+                self.drop_station(op.as_str(), station.as_str());
+            }
             StationEdit::ConnectorSeen {
                 station,
                 connector,
@@ -143,6 +147,21 @@ impl Lists {
             moment,
         };
         put_row(&mut self.reports, row)?;
+        Ok(())
+    }
+
+    /// Keeps how the requests of a station are read.
+    fn put_reader(&mut self, op: &Text, station: &Text, reader: Reader) -> Mem<()>
+        requires { WellFormedRows (rows_in self.old) }
+        ensures ok { OnOk result (rows_in self.new ≡ edit op.now (Stations (ReaderSet station.now reader)) (rows_in self.old)) }
+        ensures err { OnErr result (rows_in self.new ≡ rows_in self.old) }
+    {
+        let row = ReaderRow {
+            op: op.clone()?,
+            station: station.clone()?,
+            reader,
+        };
+        put_row(&mut self.readers, row)?;
         Ok(())
     }
 

@@ -2,6 +2,7 @@
 #![tactic(auto)]
 
 mod copies;
+mod dropping;
 mod edits;
 mod forgettable;
 mod granted;
@@ -12,6 +13,7 @@ mod mem_store;
 mod named_groups;
 mod numbers;
 mod open;
+mod readers;
 mod readings;
 mod received;
 mod reservations;

@@ -13,7 +13,7 @@ use crate::transactions::Transactions;
 use crate::tx_owners::TxOwners;
 use crate::uses::{Uses, next_use};
 use hub_rows::{
-    ConnectorRow, History, ListRow, ReportRow, ReservationRow, StationRow, Stop, UseRow,
+    ConnectorRow, History, ListRow, ReaderRow, ReportRow, ReservationRow, StationRow, Stop, UseRow,
 };
 use ocpp_types::{Mem, Moment, Text};
 use std::alloc::Global;
@@ -33,6 +33,7 @@ pub struct Lists {
     pub reports: Vec<ReportRow>,
     pub tx_owners: TxOwners,
     pub uses: Uses,
+    pub readers: Vec<ReaderRow>,
 }
 
 impl Lists {
@@ -53,6 +54,7 @@ impl Lists {
             reports: Vec::new(alloc),
             tx_owners: TxOwners::new(alloc),
             uses: Uses::new(alloc),
+            readers: Vec::new(alloc),
         }
     }
 

@@ -9,13 +9,14 @@ use crate::copies::{copies, own_copies};
 use crate::granted::{granted, granted_tag};
 use crate::groups::rows_of_group;
 use crate::lists::Lists;
+use crate::readers::reader_of;
 use crate::reservations::reserved_until;
 use crate::station_copies::{copies_of_station, local_list_of};
 use crate::stations::registration_of;
 use hub_rows::{
-    Change, ConnectorRow, GrantRow, GrantedTag, History, Info, LocalList, ReadingRow, Registration,
-    ReportRow, ReservationId, ReservationRow, StartKey, StationRow, Store, StoreFault, TagRow,
-    TxKey, TxRow, TxState, UseRow,
+    Change, ConnectorRow, GrantRow, GrantedTag, History, Info, LocalList, Reader, ReaderRow,
+    ReadingRow, Registration, ReportRow, ReservationId, ReservationRow, StartKey, StationRow,
+    Store, StoreFault, TagRow, TxKey, TxRow, TxState, UseRow,
 };
 use ocpp_types::{Listed, Moment, TagKey};
 use std::alloc::Global;
@@ -172,6 +173,14 @@ impl Store for MemStore {
 
     fn uses(&mut self, op: &str) -> Result<Listed<UseRow>, StoreFault> {
         Ok(copies(self.lists.alloc, self.lists.uses.of_owner(op))?)
+    }
+
+    fn reader(&mut self, op: &str, station: &str) -> Result<Reader, StoreFault> {
+        Ok(reader_of(&self.lists.readers, op, station))
+    }
+
+    fn readers(&mut self, op: &str) -> Result<Listed<ReaderRow>, StoreFault> {
+        Ok(own_copies(self.lists.alloc, &self.lists.readers, op)?)
     }
 
     fn apply(&mut self, change: &Change<'_>) -> Result<(), StoreFault> {

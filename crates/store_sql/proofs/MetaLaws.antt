@@ -70,13 +70,18 @@ lists_fourth : ListsMeta (schema_at 5)
 unfolding understood everything
 lists_fourth = record { command = refl; plain = (refl, refl); unlisted = refl }
 
+lists_fifth : ListsMeta (schema_at 6)
+unfolding understood everything
+lists_fifth = record { command = refl; plain = (refl, refl); unlisted = refl }
+
 lists_meta : (n : ℕ) → 0 < n → ListsMeta (schema_at n)
 lists_meta zero some = absurd (omega (arith, some))
 lists_meta (suc zero) some = lists_first
 lists_meta (suc (suc zero)) some = lists_second
 lists_meta (suc (suc (suc zero))) some = lists_third
 lists_meta (suc (suc (suc (suc zero)))) some = lists_later_third
-lists_meta (suc (suc (suc (suc (suc n))))) some = lists_fourth
+lists_meta (suc (suc (suc (suc (suc zero))))) some = lists_fourth
+lists_meta (suc (suc (suc (suc (suc (suc n)))))) some = lists_fifth
 
 -- ---- it is a table of each of these forms
 
@@ -87,7 +92,8 @@ meta_named (suc zero) some = refl
 meta_named (suc (suc zero)) some = refl
 meta_named (suc (suc (suc zero))) some = refl
 meta_named (suc (suc (suc (suc zero)))) some = refl
-meta_named (suc (suc (suc (suc (suc n))))) some = refl
+meta_named (suc (suc (suc (suc (suc zero))))) some = refl
+meta_named (suc (suc (suc (suc (suc (suc n)))))) some = refl
 
 abbrev ArePlain : Schema → Type 0
 ArePlain schema = AllByRecursion (λ (i : Index). i.order ≡ plain) schema.indexes
@@ -123,7 +129,8 @@ meta_at (suc zero) some = meta_of (schema_at 1) refl (inl refl) (inl refl) (plai
 meta_at (suc (suc zero)) some = meta_of (schema_at 2) refl (inl refl) (inl refl) (plain_at 2) (λ olds news some. rw some refl)
 meta_at (suc (suc (suc zero))) some = meta_of (schema_at 3) refl (inl refl) (inl refl) (plain_at 3) (λ olds news some. rw some refl)
 meta_at (suc (suc (suc (suc zero)))) some = meta_of (schema_at 4) refl (inl refl) (inl refl) (plain_at 4) (λ olds news some. rw some refl)
-meta_at (suc (suc (suc (suc (suc n))))) some = on_metas
+meta_at (suc (suc (suc (suc (suc zero))))) some = meta_of (schema_at 5) refl (inl refl) (inl refl) (plain_at 5) (λ olds news some. rw some refl)
+meta_at (suc (suc (suc (suc (suc (suc n)))))) some = on_metas
 
 -- ---- the rows that are listed
 

@@ -27,7 +27,7 @@ use sqlite_value::value::ValueRef;
 use std::alloc::Global;
 
 /// How many tables this schema has.
-const TABLES: usize = 14;
+const TABLES: usize = 15;
 
 /// All rows of `hub_meta`, as it is in any database. Nothing changes, whatever the text means there.
 fn meta_rows<S: Alter>(conn: &mut Connection<S>) -> Result<Vec<Row>, Error>

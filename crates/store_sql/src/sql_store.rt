@@ -7,13 +7,13 @@ use crate::fault::{PrepareFault, fault};
 use crate::mark::Mark;
 use crate::opening::{changes, prepare};
 use hub_rows::{
-    Change, ConnectorRow, GrantRow, GrantedTag, History, Info, LocalList, ReadingRow, Registration,
-    ReportRow, ReservationId, ReservationRow, StartKey, StationRow, Store, StoreFault, TagRow,
-    TxKey, TxRow, TxState, UseRow,
+    Change, ConnectorRow, GrantRow, GrantedTag, History, Info, LocalList, Reader, ReaderRow,
+    ReadingRow, Registration, ReportRow, ReservationId, ReservationRow, StartKey, StationRow,
+    Store, StoreFault, TagRow, TxKey, TxRow, TxState, UseRow,
 };
-use ocpp_types::{Listed, Moment, TagKey};
+use ocpp_types::{Listed, Moment, TagKey, Text};
 use sql_lookups::{
-    connectors, forget, granted, grants, local_lists, readings, reports, reservations,
+    connectors, forget, granted, grants, local_lists, readers, readings, reports, reservations,
     station_readings, stations, tags, txs, uses,
 };
 use sqlite::{Alter, Connection, FileFrom, FileStore, MemStore, Start};
@@ -76,7 +76,10 @@ impl<A: Alter> Model for SqlStore<A> {
 }
 
 impl<A: Alter> SqlStore<A> {
-    ghost use Rattle.store_sql.specs.Store.{CountsIfOurs, IsCleanSql, ServesIfOurs};
+    ghost use Rattle.std.specs.Prelude.{IfOk};
+    ghost use Rattle.store_sql.specs.Store.{CountsIfOurs, IsCleanSql, ServesIfOurs, sql_rows, sql_view};
+    ghost use Rattle.hub_rows.specs.Reads.{OnlyReads};
+    ghost use Rattle.sql_lookups.specs.Asks.{next_operator_in};
     ghost use Rattle.sql_rows.specs.Kept.{changes_in};
     ghost use Rattle.sql_rows.specs.Opening.{IsOurs};
     ghost use Rattle.sqlite.specs.Held.{state};
@@ -118,6 +121,15 @@ impl<A: Alter> SqlStore<A> {
         ensures { self.new ≡ self.old }
     {
         self.mark = Some(mark);
+    }
+
+    /// The first of the operators with stations on record that come after a name.
+    pub fn next_operator(&mut self, after: &str) -> Result<Option<Text>, StoreFault>
+        ensures reads { OnlyReads (sql_view A.Store) self.old self.new result }
+        ensures found { IsCleanSql A.Store self.new → IfOk result (λ r. r ≡ next_operator_in after.now (sql_rows A.Store self.old).stations) }
+    {
+        let found = stations::next_operator(&mut self.conn, after);
+        self.counted(found)
     }
 
     /// What was done, counted if the store failed.
@@ -397,6 +409,16 @@ impl<A: Alter> Store for SqlStore<A> {
 
     fn uses(&mut self, op: &str) -> Result<Listed<UseRow>, StoreFault> {
         let found = uses::uses(&mut self.conn, op);
+        self.counted(found)
+    }
+
+    fn reader(&mut self, op: &str, station: &str) -> Result<Reader, StoreFault> {
+        let found = readers::reader(&mut self.conn, op, station);
+        self.counted(found)
+    }
+
+    fn readers(&mut self, op: &str) -> Result<Listed<ReaderRow>, StoreFault> {
+        let found = readers::readers(&mut self.conn, op);
         self.counted(found)
     }
 

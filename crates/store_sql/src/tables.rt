@@ -2,23 +2,23 @@
 ghost use Rattle.std.specs.Prelude.{◌≡◌, ◌<◌, ◌≤◌, ℕ, ◌+◌, IfErr, IsTrue, OnOk, false, ⊤};
 ghost use Rattle.sqlite_trees.specs.Tree.{Trees};
 ghost use Rattle.sqlite.specs.Held.{state};
-ghost use Rattle.sql_tables.specs.Tables.{first_tables, second_tables, third_tables, fourth_tables, hub_schema};
+ghost use Rattle.sql_tables.specs.Tables.{first_tables, second_tables, third_tables, fourth_tables, fifth_tables, hub_schema};
 ghost use Rattle.sql_tables.specs.Opening.{create_by_transaction_at, create_tx_is_open_at, create_tx_start_at, drop_by_transaction_at, no_schema, our_form, schema_at, tables_at};
 ghost use Rattle.sql_rows.specs.Opening.{Alters, IsCutAs, IsCutTo, IsEarlier, IsInsideAs, IsInsideWith, IsPart, MakesOurs, MakesSchema, Prepares, Rested};
 ghost use Rattle.store_sql.specs.Faults.{IsFailure};
 
 use crate::fault::{PrepareFault, told};
-use sql_edits::move_readings;
+use sql_edits::move_from;
 use sqlite::{Alter, Connection, Error, Transaction, params};
 use std::alloc::Global;
 
 /// The number of this schema.
-pub(crate) const SCHEMA: u32 = 4;
+pub(crate) const SCHEMA: u32 = 5;
 
 /// The form of a database with this schema. The forms are numbered in the order in which a database is raised from one to
-/// the next: 0 is empty, 1 and 2 are schemas 1 and 2, 3 and 4 are the earlier and the later form of schema 3, and 5 is
-/// schema 4.
-pub(crate) const FORM: u32 = 5;
+/// the next: 0 is empty, 1 and 2 are schemas 1 and 2, 3 and 4 are the earlier and the later form of schema 3, and 5 and 6
+/// are schemas 4 and 5.
+pub(crate) const FORM: u32 = 6;
 
 /// The earlier form of schema 3, whose index of open transactions is that of schema 2.
 pub(crate) const EARLIER_THIRD: u32 = 3;
@@ -85,6 +85,13 @@ fn create_fourth<S: Alter>(tx: &mut Transaction<'_, S>) -> Result<(), Error>
     then_alter(tx, Ok(()), sql_tables::meter_values::CREATE)
 }
 
+/// The table that schema 5 has beside those of schema 4.
+fn create_fifth<S: Alter>(tx: &mut Transaction<'_, S>) -> Result<(), Error>
+    ensures makes { MakesSchema S.Store (IsCutAs 5 fourth_tables) fifth_tables tx.old tx.new result }
+{
+    then_alter(tx, Ok(()), sql_tables::readers::CREATE)
+}
+
 /// The tables that the form after this one has beside it. Both forms of schema 3 have the same.
 fn create_next<S: Alter>(tx: &mut Transaction<'_, S>, form: u32) -> Result<(), Error>
     requires earlier { form < our_form }
@@ -95,7 +102,8 @@ fn create_next<S: Alter>(tx: &mut Transaction<'_, S>, form: u32) -> Result<(), E
         1 => create_second(tx),
         2 => create_third(tx),
         3 => Ok(()),
-        _ => create_fourth(tx),
+        4 => create_fourth(tx),
+        _ => create_fifth(tx),
     }
 }
 
@@ -222,14 +230,14 @@ fn reach<S: Alter>(tx: &mut Transaction<'_, S>, from: u32) -> Result<(), Prepare
     told(make_schema(tx, from, FORM))
 }
 
-/// Makes of that form this schema, with its number. Readings become meter values.
+/// Makes of that form this schema, with its number. Readings of a form before schema 4 become meter values.
 fn fill<S: Alter>(tx: &mut Transaction<'_, S>, alloc: Global, from: u32) -> Result<(), PrepareFault>
     requires earlier { from < our_form }
     ensures makes { MakesOurs S.Store (IsCutTo from) (IsEarlier from) tx.old tx.new result }
     ensures failure { IfErr result IsFailure }
 {
     reach(tx, from)?;
-    move_readings(tx, alloc)?;
+    move_from(tx, alloc, from)?;
     told(put_number(tx))
 }
 

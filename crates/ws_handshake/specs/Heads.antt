@@ -11,6 +11,10 @@ use Rattle.ws_peers.specs.declared.routes.Route.{Route}
 use Rattle.ws_handshake.specs.declared.head.TheConstants.{MAX_FIELDS, MAX_HEAD}
 use Rattle.ws_handshake.specs.declared.answer.Answer.{Answer}
 use Rattle.ws_handshake.specs.declared.answer.Answer.TheVariants as answer
+use Rattle.ws_handshake.specs.Subprotocols.{subprotocol_name}
+use Rattle.ws_handshake.specs.declared.subprotocol.Offered.{Offered}
+use Rattle.ws_handshake.specs.declared.subprotocol.Subprotocol.{Subprotocol}
+use Rattle.ws_handshake.specs.declared.subprotocol.Subprotocol.TheVariants.{Named, InCapitals, WithJ}
 use Rattle.ws_handshake.specs.declared.head.Asked.{Asked}
 use Rattle.ws_handshake.specs.declared.head.Request.{Request}
 use Rattle.ws_handshake.specs.declared.head.Asked.TheVariants.{More, Plain, Upgraded}
@@ -47,9 +51,13 @@ lists name item fields = list_any (λ f. eq_ignore_case f.0 name && has_item ite
 abbrev pub lists_exactly : List ℕ → List ℕ → Fields → Bool
 lists_exactly name item fields = list_any (λ f. eq_ignore_case f.0 name && has_exactly item f.1) fields
 
--- a request offers the subprotocol of OCPP 1.6 (RFC 6455, section 11.3.4)
-abbrev pub offers_ocpp : Fields → Bool
-offers_ocpp fields = lists_exactly (codes "Sec-WebSocket-Protocol") (codes "ocpp1.6") fields
+-- a request offers a subprotocol (RFC 6455, section 11.3.4)
+abbrev pub offers : Subprotocol → Fields → Bool
+offers subprotocol fields = lists_exactly (codes "Sec-WebSocket-Protocol") (subprotocol_name subprotocol) fields
+
+-- which names of OCPP 1.6 it offers
+abbrev pub offered : Fields → Offered
+offered fields = record { named = offers Named fields; in_capitals = offers InCapitals fields; with_j = offers WithJ fields }
 
 -- an origin is one of these
 abbrev pub is_among : List (List ℕ) → List ℕ → Bool
@@ -111,7 +119,7 @@ is_version (Some value) = bytes_eq value (codes "13")
 abbrev pub KeyJudged : Route → Fields → ℕ → Option (List ℕ) → Asked → Type 0
 KeyJudged route fields len None asked = asked ≡ Plain answer.BadRequest
 KeyJudged route fields len (Some key) asked =
-    (IsValidKey key × (asked ≡ Upgraded record { route = route; offers_ocpp = offers_ocpp fields; accept = accept_key_of key; len = len }))
+    (IsValidKey key × (asked ≡ Upgraded record { route = route; offered = offered fields; accept = accept_key_of key; len = len }))
     ⊎ (¬ (IsValidKey key) × (asked ≡ Plain answer.BadRequest))
 
 -- an upgrade to a route, by its version

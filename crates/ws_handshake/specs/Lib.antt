@@ -1,3 +1,4 @@
 pub mod Answers
+pub mod Subprotocols
 pub mod Heads
 pub mod Shakes

@@ -2,13 +2,11 @@
 ghost use Rattle.std.specs.Prelude.{◌≡◌, length, All, option_map};
 ghost use Rattle.httparse.specs.Spans.{IsHeaderWithin};
 ghost use Rattle.websocket.specs.Headers.{eq_ignore_case, fields_of, header_value};
-ghost use Rattle.ws_handshake.specs.Heads.{is_between, has_item, has_exactly, has_foreign_origin, count_of, is_among, lists, lists_exactly, offers_ocpp, only_value};
+ghost use Rattle.ws_handshake.specs.Heads.{is_between, has_item, has_exactly, has_foreign_origin, count_of, is_among, lists, lists_exactly, offered, offers, only_value};
 
+use crate::subprotocol::{Offered, Subprotocol};
 use httparse::spans::HeaderSpan;
 use ocpp_types::Text;
-
-/// The subprotocol of a station (OCPP-J 1.6, section 3.1.2).
-const SUBPROTOCOL: &[u8] = b"ocpp1.6";
 
 /// Whether a field of that name lists the item. Several fields are one list, and letters have no case (RFC 9110,
 /// section 5.3).
@@ -24,12 +22,28 @@ pub fn lists(head: &[u8], fields: &[HeaderSpan], name: &[u8], item: &[u8]) -> bo
     false
 }
 
-/// Whether `ocpp1.6` is among the subprotocols that are offered (RFC 6455, section 11.3.4).
-pub fn offers_ocpp(head: &[u8], fields: &[HeaderSpan]) -> bool
+/// Which names of OCPP 1.6 are among the subprotocols that are offered (RFC 6455, section 11.3.4).
+pub fn offered(head: &[u8], fields: &[HeaderSpan]) -> Offered
     requires { All (IsHeaderWithin (length head.now)) fields.now }
-    ensures { result ≡ offers_ocpp (fields_of head.now fields.now) }
+    ensures { result ≡ offered (fields_of head.now fields.now) }
 {
-    lists_exactly(head, fields, b"Sec-WebSocket-Protocol", SUBPROTOCOL)
+    Offered {
+        named: offers(head, fields, Subprotocol::Named),
+        in_capitals: offers(head, fields, Subprotocol::InCapitals),
+        with_j: offers(head, fields, Subprotocol::WithJ),
+    }
+}
+
+fn offers(head: &[u8], fields: &[HeaderSpan], subprotocol: Subprotocol) -> bool
+    requires { All (IsHeaderWithin (length head.now)) fields.now }
+    ensures { result ≡ offers subprotocol (fields_of head.now fields.now) }
+{
+    lists_exactly(
+        head,
+        fields,
+        b"Sec-WebSocket-Protocol",
+        subprotocol.name().as_bytes(),
+    )
 }
 
 /// Whether a field of that name lists exactly the item.

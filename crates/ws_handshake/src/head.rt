@@ -5,7 +5,8 @@ ghost use Rattle.ws_handshake.specs.declared.head.TheConstants.{MAX_FIELDS};
 ghost use Rattle.ws_handshake.specs.Heads.{BytesJudged, HeadJudged, Judged, PathJudged, UpgradeJudged, VersionJudged, KeyJudged, HasFieldsWithin, fields_in, asks_upgrade, lacks_host, is_version, plain_answer, read_answer};
 
 use crate::answer::Answer;
-use crate::fields::{count_of, has_foreign_origin, lists, offers_ocpp, only_value};
+use crate::fields::{count_of, has_foreign_origin, lists, offered, only_value};
+use crate::subprotocol::Offered;
 use http::uri::{Uri, UriError};
 use httparse::Status;
 use httparse::spans::{EMPTY_HEADER_SPAN, HeaderSpan, parse_request};
@@ -37,8 +38,8 @@ pub enum Asked {
 pub struct Upgrade {
     /// Where its path leads.
     pub route: Route,
-    /// It offers the subprotocol `ocpp1.6`.
-    pub offers_ocpp: bool,
+    /// Which names of OCPP 1.6 it offers as its subprotocol.
+    pub offered: Offered,
     /// The value of `Sec-WebSocket-Accept` that answers its key.
     pub accept: [u8; 28],
     /// How many bytes its head has.
@@ -199,7 +200,7 @@ fn judge_key(route: Route, request: &Request<'_>, key: &[u8]) -> Asked
     match accept_key(key) {
         Ok(accept) => Asked::Upgraded(Upgrade {
             route,
-            offers_ocpp: offers_ocpp(request.bytes, request.fields),
+            offered: offered(request.bytes, request.fields),
             accept,
             len: request.len,
         }),

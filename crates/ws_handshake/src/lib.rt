@@ -4,8 +4,10 @@
 mod answer;
 mod fields;
 mod head;
+mod subprotocol;
 mod upgrade;
 
 pub use answer::{Answer, refuse};
 pub use head::{Asked, MAX_HEAD, Upgrade, judge};
+pub use subprotocol::{Offered, Subprotocol};
 pub use upgrade::shake;

@@ -2,9 +2,11 @@
 ghost use Rattle.std.specs.Prelude.{◌≡◌, false, Some, IfOk, vec_items, codes};
 ghost use Rattle.ws_handshake.specs.declared.upgrade.TheConstants.{MAX_MESSAGE};
 ghost use Rattle.ws_handshake.specs.Shakes.{Shaken, upgrade_text};
+ghost use Rattle.ws_handshake.specs.Subprotocols.{subprotocol_name};
 
 use crate::answer::take;
 use crate::head::Upgrade;
+use crate::subprotocol::Subprotocol;
 use httparse::Header;
 use std::alloc::Global;
 use std::io;
@@ -30,32 +32,36 @@ fn limits() -> WebSocketConfig
 }
 
 /// Reads the head of an upgrade from its stream, and no byte more, answers it, and gives its socket. The answer names
-/// the subprotocol `ocpp1.6` where it was offered (OCPP-J 1.6, section 3.1.2). Errors are those of the stream,
+/// that subprotocol, if there is one (OCPP-J 1.6, section 3.1.2). Errors are those of the stream,
 /// `InvalidInput` where the head has more than 8,192 bytes, and `OutOfMemory`.
 pub fn shake<T: Read + Write + Drop>(
     alloc: Global,
     stream: T,
     upgrade: &Upgrade,
+    subprotocol: Option<Subprotocol>,
 ) -> io::Result<WebSocket<T, NoMask>>
-    ensures { IfOk result (Shaken T.remaining T.contents upgrade.now stream) }
+    ensures { IfOk result (Shaken T.remaining T.contents upgrade.now subprotocol stream) }
 {
     let mut stream = stream;
     take(&mut stream, upgrade.len)?;
-    let text = upgrade_text(alloc, upgrade)?;
+    let text = upgrade_text(alloc, upgrade, subprotocol)?;
     stream.write_all(text.as_slice())?;
     let socket = WebSocket::from_raw_socket(alloc, stream, NoMask, Role::Server, Some(limits()));
     Ok(socket)
 }
 
 /// The bytes of the answer.
-fn upgrade_text(alloc: Global, upgrade: &Upgrade) -> io::Result<Vec<u8>>
-    ensures { IfOk result (λ text. vec_items text ≡ upgrade_text upgrade.now.accept upgrade.now.offers_ocpp) }
+fn upgrade_text(
+    alloc: Global,
+    upgrade: &Upgrade,
+    subprotocol: Option<Subprotocol>,
+) -> io::Result<Vec<u8>>
+    ensures { IfOk result (λ text. vec_items text ≡ upgrade_text upgrade.now.accept subprotocol) }
 {
     let mut text = Vec::new(alloc);
-    let gave = if upgrade.offers_ocpp {
-        write_response(&upgrade.accept, &[subprotocol()], &mut text)
-    } else {
-        write_response(&upgrade.accept, &[], &mut text)
+    let gave = match subprotocol {
+        Some(subprotocol) => write_response(&upgrade.accept, &[field(subprotocol)], &mut text),
+        None => write_response(&upgrade.accept, &[], &mut text),
     };
     match gave {
         Ok(()) => Ok(text),
@@ -63,13 +69,13 @@ fn upgrade_text(alloc: Global, upgrade: &Upgrade) -> io::Result<Vec<u8>>
     }
 }
 
-/// The field that names the subprotocol.
-fn subprotocol() -> Header<'static>
+/// The field that names a subprotocol.
+fn field(subprotocol: Subprotocol) -> Header<'static>
     ensures name { result.name.now ≡ codes "sec-websocket-protocol" }
-    ensures value { result.value.now ≡ codes "ocpp1.6" }
+    ensures value { result.value.now ≡ subprotocol_name subprotocol }
 {
     Header {
         name: "sec-websocket-protocol",
-        value: b"ocpp1.6",
+        value: subprotocol.name().as_bytes(),
     }
 }

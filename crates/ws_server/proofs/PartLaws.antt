@@ -113,6 +113,7 @@ module _ {T : Type 0} (contents : T → Option (List ℕ)) where
   said_settled op line (said.Send station text) ps qs told = station_settled op station text ps qs told
   said_settled op line (said.Done station number outcome) ps qs told = operator_settled op line ps qs told
   said_settled op line (said.Turned station) ps qs told = operator_settled op line ps qs told
+  said_settled op line (said.Repaired station action fault) ps qs told = operator_settled op line ps qs told
   said_settled op line (said.Refused refusal) ps qs told = operator_settled op line ps qs told
   said_settled op line (said.Row row) ps qs told = operator_settled op line ps qs told
   said_settled op line (said.Accepted number) ps qs told = operator_settled op line ps qs told

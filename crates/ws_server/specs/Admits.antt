@@ -8,7 +8,11 @@ use Rattle.hub_events.specs.declared.event.What.TheVariants as what
 use Rattle.hub_events.specs.declared.out.Out.{Out}
 use Rattle.hub_rows.specs.Rows.{Rows, registration_at}
 use Rattle.ws_handshake.specs.Heads.{Asks}
+use Rattle.hub_rows.specs.declared.reader_row.Reader.{Reader}
+use Rattle.hub_rows.specs.declared.reader_row.Reader.TheVariants.{Strict, Tolerant}
+use Rattle.hub_rows.specs.Readers.{reader_in}
 use Rattle.ws_handshake.specs.Shakes.{Shaken}
+use Rattle.ws_handshake.specs.Subprotocols.{chosen}
 use Rattle.ws_handshake.specs.declared.head.Asked.TheVariants.{Upgraded}
 use Rattle.ws_handshake.specs.declared.head.Upgrade.{Upgrade}
 use Rattle.ws_peers.specs.declared.peer.Peer.{Peer}
@@ -57,6 +61,15 @@ abbrev pub is_known : (List ℕ → Bool) → Rows → Route → Bool
 is_known is_hosted rows (Station op station) = is_hosted op && is_some (registration_at op station rows)
 is_known is_hosted rows (Operator op) = is_hosted op
 
+-- the requests of the station that a path leads to are read tolerantly
+abbrev pub is_tolerant_reader : Reader → Bool
+is_tolerant_reader Strict = false
+is_tolerant_reader Tolerant = true
+
+abbrev pub is_tolerant : Rows → Route → Bool
+is_tolerant rows (Station op station) = is_tolerant_reader (reader_in op station rows.readers)
+is_tolerant rows (Operator op) = false
+
 -- an operator has as many open connections as it may have; its stations have, where it is one of those named full, but one
 -- that is connected may come again
 abbrev pub is_full : {T : Type 0} → List (List ℕ) → Route → List (Peer T) → Bool
@@ -73,15 +86,19 @@ abbrev pub AsksFor : {T : Type 0} → List (List ℕ) → (T → Option (List �
 AsksFor origins remaining stream upgrade = (bytes : List ℕ) × ComeNext (remaining stream) bytes × Asks origins bytes (Upgraded upgrade)
 
 module _ {T : Type 0} (remaining contents : T → Option (List ℕ)) (m : ℕ) where
-  -- a connection is welcomed: its handshake is done and it is admitted, or nothing changes
-  abbrev pub Welcomes : T → Upgrade → Change (Peer T)
-  Welcomes stream upgrade old new steps r =
-      ((new ≡ old) × (steps ≡ [])) ⊎ ((socket : Socket T) × Shaken remaining contents upgrade stream socket × Admits contents socket m upgrade.route upgrade.offers_ocpp old new steps r)
+  -- a connection is welcomed: its handshake is done, with the subprotocol that is chosen, and it is admitted, or nothing
+  -- changes. The choice goes by whether its station is read tolerantly
+  abbrev pub Welcomes : (Bool → Type 0) → T → Upgrade → Change (Peer T)
+  Welcomes IsTolerant stream upgrade old new steps r =
+      ((new ≡ old) × (steps ≡ []))
+      ⊎ ((tolerant : Bool) × IsTolerant tolerant × (socket : Socket T)
+      × Shaken remaining contents upgrade (chosen tolerant upgrade.offered) stream socket
+      × Admits contents socket m upgrade.route (is_some (chosen tolerant upgrade.offered)) old new steps r)
 
   -- one is welcomed, by the upgrade that its own head asks for, or nothing changes
   abbrev pub WelcomesOne : List (List ℕ) → Change (Peer T)
   WelcomesOne origins old new steps r =
-      ((new ≡ old) × (steps ≡ [])) ⊎ ((stream : T) × (upgrade : Upgrade) × AsksFor origins remaining stream upgrade × Welcomes stream upgrade old new steps r)
+      ((new ≡ old) × (steps ≡ [])) ⊎ ((stream : T) × (upgrade : Upgrade) × AsksFor origins remaining stream upgrade × Welcomes (λ _. ⊤) stream upgrade old new steps r)
 
   -- some are welcomed, one after the other, up to the first fault
   abbrev pub WelcomesSome : List (List ℕ) → Change (Peer T)

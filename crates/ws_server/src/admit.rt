@@ -20,7 +20,7 @@ use std::io::{Read, Write};
 use tungstenite::{NoMask, WebSocket};
 use ws_peers::{Peers, Route};
 
-/// Why a station is closed that doesn't offer the subprotocol.
+/// Why a station is closed whose handshake has no subprotocol.
 const NO_SUBPROTOCOL: &str = "subprotocol ocpp1.6 is missing";
 
 /// Why a station is closed that is no longer on record.
@@ -32,8 +32,8 @@ impl<T: Read + Write + Served + Drop> Gateway<T> {
     ghost use Rattle.ws_server.specs.Events.{is_route_of_hosted};
 
     /// Admits a connection whose handshake is done. A station connects to the hub, and the outputs are sent; older
-    /// connections of it are replaced. One that the hub turns away and one that doesn't offer the subprotocol `ocpp1.6`
-    /// (OCPP-J 1.6, section 3.1.2) are closed with the code 1008 and a reason. An operator that isn't hosted is the fault
+    /// connections of it are replaced. One that the hub turns away and one whose handshake has no subprotocol (OCPP-J 1.6,
+    /// section 3.1.2) are closed with the code 1008 and a reason. An operator that isn't hosted is the fault
     /// `NoSuchOperator`. After a fault nothing was admitted, and the socket is dropped.
     pub fn admit<S: Store + Drop, V: VendorHandler>(
         &mut self,
@@ -43,13 +43,13 @@ impl<T: Read + Write + Served + Drop> Gateway<T> {
         moment: Moment,
     ) -> Result<(), Fault>
         ensures takes { Takes S.view V.view hub.old hub.new
-            (λ steps. Admits T.contents socket moment arrival.route arrival.offers_ocpp (peers_of self.old) (peers_of self.new) steps result) }
-        ensures hosted { OnOk result (is_served (setting V.view hub.old).is_hosted arrival.route arrival.offers_ocpp ≡ true) }
+            (λ steps. Admits T.contents socket moment arrival.route arrival.has_subprotocol (peers_of self.old) (peers_of self.new) steps result) }
+        ensures hosted { OnOk result (is_served (setting V.view hub.old).is_hosted arrival.route arrival.has_subprotocol ≡ true) }
         ensures not_hosted { IfErr result (λ f. f ≡ Fault.NoSuchOperator → is_route_of_hosted (setting V.view hub.old).is_hosted arrival.route ≡ false) }
         ensures counted { IsCounted (hub_view S.view) hub.old hub.new (result ≡ Err Fault.Store) }
     {
         match &arrival.route {
-            Route::Station(op, station) if arrival.offers_ocpp => {
+            Route::Station(op, station) if arrival.has_subprotocol => {
                 let event = connect_of(op, station, moment)?;
                 self.connect(hub, socket, arrival, &event)
             }
@@ -67,7 +67,7 @@ impl<T: Read + Write + Served + Drop> Gateway<T> {
         }
     }
 
-    /// Closes a station that doesn't offer the subprotocol.
+    /// Closes a station whose handshake has no subprotocol.
     fn shut(&mut self, socket: WebSocket<T, NoMask>, arrival: Arrival) -> Result<(), Fault>
         ensures closed { Closes T.contents socket (codes "subprotocol ocpp1.6 is missing") arrival.route (peers_of self.old) (peers_of self.new) [] result }
         ensures cause { IfErr result (λ f. f ≡ Fault.NoMemory) }

@@ -17,8 +17,8 @@ pub struct Client<T> {
 pub struct Arrival {
     /// Where its path leads.
     pub route: Route,
-    /// Its head offers the subprotocol `ocpp1.6`.
-    pub offers_ocpp: bool,
+    /// Its handshake has a subprotocol, one of the names of OCPP 1.6.
+    pub has_subprotocol: bool,
     /// Where it comes from, for the notes.
     pub address: Option<SocketAddr>,
 }

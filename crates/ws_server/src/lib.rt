@@ -17,4 +17,4 @@ mod welcome;
 pub use arrival::{Arrival, Client};
 pub use gateway::Gateway;
 pub use lobby::Lobby;
-pub use notes::{Happened, Note, Refusal};
+pub use notes::{Happened, Note, Refusal, Repair};

@@ -1,7 +1,7 @@
 //! What became of connections, as a log tells it.
 
 use hub::Fault;
-use ocpp_types::Mem;
+use ocpp_types::{Mem, Text};
 use std::alloc::Global;
 use std::net::SocketAddr;
 use ws_handshake::Answer;
@@ -49,6 +49,15 @@ impl Refusal {
     }
 }
 
+/// A request of a station that was read with repairs: its action, and the fault for which it is refused otherwise.
+#[derive(Clone, Copy, Debug, PartialEq, Eq, Drop)]
+pub struct Repair {
+    pub action: &'static str,
+    pub code: &'static str,
+    /// The member at fault.
+    pub field: &'static str,
+}
+
 /// What became of a connection.
 #[derive(Clone, Copy, Debug, PartialEq, Eq, Drop)]
 pub enum Happened {
@@ -60,6 +69,8 @@ pub enum Happened {
     Refused(Refusal),
     /// An event of it ended in a fault.
     Failed(Fault),
+    /// A request of its station was read with repairs.
+    Repaired(Repair),
     /// It has ended.
     Ended(Cause),
 }
@@ -117,10 +128,24 @@ impl Notes {
         }
     }
 
+    /// Adds that a request of a station was read with repairs.
+    pub(crate) fn add_repair(&mut self, op: &Text, station: &Text, repair: Repair) {
+        if !self.are_kept {
+            return;
+        }
+        if let Ok(route) = station_route(op, station) {
+            self.add(Some(&route), None, Happened::Repaired(repair));
+        }
+    }
+
     /// The notes, which are then no longer kept here.
     pub(crate) fn take(&mut self) -> Vec<Note> {
         std::mem::replace(&mut self.items, Vec::new(self.alloc))
     }
+}
+
+fn station_route(op: &Text, station: &Text) -> Mem<Route> {
+    Ok(Route::Station(op.clone()?, station.clone()?))
 }
 
 fn copy_of(route: Option<&Route>) -> Mem<Option<Route>> {

@@ -2,8 +2,10 @@
 ghost use Rattle.std.specs.Prelude.{◌≡◌, ◌<◌, length};
 
 use crate::gateway::Gateway;
+use crate::notes::Repair;
 use hub_events::{Out, Said};
 use lines::print_out;
+use ocpp_types::Named;
 use ready_streams::Served;
 use std::io::{Read, Write};
 
@@ -13,7 +15,7 @@ impl<T: Read + Write + Served + Drop> Gateway<T> {
     ghost use Rattle.ws_server.specs.Tells.{peers_of, SentWhileOpen, Tells, TellsAll};
 
     /// Sends one output: a text to its station's open connection, if there is one, and all else as a
-    /// line to each open connection of its operator (docs/RULES.md, Connections). A connection ends
+    /// line to each open connection of its operator (docs/RULES.md, Connections). A repair is noted too. A connection ends
     /// where a send isn't Ok or finds no memory.
     pub fn tell(&mut self, out: &Out)
         ensures told { Tells T.contents out.now (peers_of self.old) (peers_of self.new) }
@@ -31,6 +33,19 @@ impl<T: Read + Write + Served + Drop> Gateway<T> {
                 let op = out.op.as_str();
                 self.peers
                     .to_station(near, op, station.as_str(), text.as_str());
+            }
+            Said::Repaired {
+                station,
+                action,
+                fault,
+            } => {
+                let repair = Repair {
+                    action: action.name(),
+                    code: fault.code.name(),
+                    field: fault.field.as_str(),
+                };
+                self.notes.add_repair(&out.op, station, repair);
+                self.tell_line(out);
             }
             Said::Done { .. }
             | Said::Turned { .. }

@@ -3,7 +3,7 @@ ghost use Rattle.std.specs.Prelude.{◌≡◌, ◌≢◌, IfOk, IfErr, Err, None
 ghost use Rattle.std.specs.List.{list_any};
 ghost use Rattle.hub_rows.specs.Reads.{IsCounted};
 ghost use Rattle.hub.specs.Hub.{hub_view, world, setting, is_clean};
-ghost use Rattle.ws_server.specs.Admits.{is_known, is_full};
+ghost use Rattle.ws_server.specs.Admits.{is_known, is_full, is_tolerant, is_tolerant_reader};
 ghost use Rattle.ws_server.specs.Steps.{Takes};
 ghost use Rattle.ws_server.specs.Tells.{peers_of, full_of};
 
@@ -11,7 +11,7 @@ use crate::arrival::{Arrival, Client};
 use crate::gateway::Gateway;
 use crate::notes::{Happened, Refusal};
 use hub::{Fault, Hub};
-use hub_rows::Store;
+use hub_rows::{Reader, Store};
 use ocpp_types::Moment;
 use ready_streams::Served;
 use station_calls::VendorHandler;
@@ -26,7 +26,9 @@ const MAX_CONNECTIONS: usize = 32;
 impl<T: Read + Write + Served + Drop> Gateway<T> {
     ghost use Rattle.ws_server.specs.Admits.{Welcomes};
 
-    /// Makes the handshake that the head of a stream asks for, and admits it. A station that the hub doesn't know and an
+    /// Makes the handshake that the head of a stream asks for, and admits it. The subprotocol of a station is `ocpp1.6`
+    /// (OCPP-J 1.6, section 3.1.2). A station that doesn't offer it, and is read tolerantly, has `OCPP1.6` or `ocpp1.6j`
+    /// if it offers that. A station that the hub doesn't know and an
     /// operator that it doesn't host are answered 404; an operator that has 32 open connections is answered 503, and so is a
     /// station of one that is named full.
     pub fn welcome<S: Store + Drop, V: VendorHandler>(
@@ -37,7 +39,7 @@ impl<T: Read + Write + Served + Drop> Gateway<T> {
         moment: Moment,
     ) -> Result<(), Fault>
         ensures takes { Takes S.view V.view hub.old hub.new
-            (λ steps. Welcomes T.remaining T.contents moment client.stream upgrade (peers_of self.old) (peers_of self.new) steps result) }
+            (λ steps. Welcomes T.remaining T.contents moment (λ tolerant. is_clean S.view hub.new → tolerant ≡ is_tolerant (world S.view hub.old).rows upgrade.route) client.stream upgrade (peers_of self.old) (peers_of self.new) steps result) }
         ensures known { is_clean S.view hub.new → is_known (setting V.view hub.old).is_hosted (world S.view hub.old).rows upgrade.route ≡ false
             → peers_of self.new ≡ peers_of self.old }
         ensures full { is_full (full_of self.old) upgrade.route (peers_of self.old) ≡ true → peers_of self.new ≡ peers_of self.old }
@@ -45,23 +47,24 @@ impl<T: Read + Write + Served + Drop> Gateway<T> {
         ensures counted { IsCounted (hub_view S.view) hub.old hub.new (result ≡ Err Fault.Store) }
     {
         let Client { stream, address } = client;
-        let is_known = match is_known(hub, &upgrade.route) {
-            Ok(is_known) => is_known,
+        let known = match look_up(hub, &upgrade) {
+            Ok(known) => known,
             Err(fault) => {
                 self.notes
                     .add(Some(&upgrade.route), address, Happened::Failed(fault));
                 return Err(fault);
             }
         };
-        if let Some(answer) = self.refusal(&upgrade.route, is_known) {
+        if let Some(answer) = self.refusal(&upgrade.route, known.is_known) {
             self.refuse(stream, address, &upgrade, answer);
             return Ok(());
         }
-        match shake(self.alloc, stream, &upgrade) {
+        let subprotocol = upgrade.offered.chosen(known.is_tolerant);
+        match shake(self.alloc, stream, &upgrade, subprotocol) {
             Ok(socket) => {
                 let arrival = Arrival {
                     route: upgrade.route,
-                    offers_ocpp: upgrade.offers_ocpp,
+                    has_subprotocol: subprotocol.is_some(),
                     address,
                 };
                 self.admit(hub, socket, arrival, moment)
@@ -117,6 +120,64 @@ impl<T: Read + Write + Served + Drop> Gateway<T> {
             let refused = Happened::Refused(refusal);
             self.notes.add(Some(&upgrade.route), address, refused);
         }
+    }
+}
+
+/// What is on record of where a path leads.
+#[derive(Clone, Copy, Drop)]
+struct Known {
+    /// It leads to a station that the hub knows or to an operator that it hosts.
+    is_known: bool,
+    /// The requests of that station are read tolerantly.
+    is_tolerant: bool,
+}
+
+/// What is on record of where an upgrade's path leads.
+fn look_up<S: Store + Drop, V: VendorHandler>(
+    hub: &mut Hub<S, V>,
+    upgrade: &Upgrade,
+) -> Result<Known, Fault>
+    ensures known { is_clean S.view hub.new → IfOk result (λ k. k.is_known ≡ is_known (setting V.view hub.old).is_hosted (world S.view hub.old).rows upgrade.now.route) }
+    ensures tolerant { is_clean S.view hub.new → IfOk result (λ k. k.is_tolerant ≡ is_tolerant (world S.view hub.old).rows upgrade.now.route) }
+    ensures world { is_clean S.view hub.new → world S.view hub.new ≡ world S.view hub.old }
+    ensures hosted { IfErr result (λ f. f ≢ Fault.NoSuchOperator) }
+    ensures counted { IsCounted (hub_view S.view) hub.old hub.new (result ≡ Err Fault.Store) }
+    ensures setting { setting V.view hub.new ≡ setting V.view hub.old }
+{
+    let is_known = is_known(hub, &upgrade.route)?;
+    let is_tolerant = is_tolerant(hub, &upgrade.route)?;
+    Ok(Known {
+        is_known,
+        is_tolerant,
+    })
+}
+
+/// Whether a path leads to a station whose requests are read tolerantly.
+fn is_tolerant<S: Store + Drop, V: VendorHandler>(
+    hub: &mut Hub<S, V>,
+    route: &Route,
+) -> Result<bool, Fault>
+    ensures tolerant { is_clean S.view hub.new → IfOk result (λ t. t ≡ is_tolerant (world S.view hub.old).rows route.now) }
+    ensures world { is_clean S.view hub.new → world S.view hub.new ≡ world S.view hub.old }
+    ensures hosted { IfErr result (λ f. f ≢ Fault.NoSuchOperator) }
+    ensures counted { IsCounted (hub_view S.view) hub.old hub.new (result ≡ Err Fault.Store) }
+    ensures setting { setting V.view hub.new ≡ setting V.view hub.old }
+{
+    match route {
+        Route::Station(op, station) => {
+            let reader = hub.reader(op.as_str(), station.as_str())?;
+            Ok(is_tolerant_reader(reader))
+        }
+        Route::Operator(_) => Ok(false),
+    }
+}
+
+fn is_tolerant_reader(reader: Reader) -> bool
+    ensures { result ≡ is_tolerant_reader reader }
+{
+    match reader {
+        Reader::Strict => false,
+        Reader::Tolerant => true,
     }
 }
 

@@ -13,6 +13,7 @@ mod paths;
 mod readings;
 mod requests;
 mod tables;
+mod tolerant;
 mod values;
 
 use crate::tally::Tally;

@@ -123,7 +123,7 @@ fn station(alloc: Global, name: &str) -> Result<Arrival, Fail> {
     let name = Text::copy_of(alloc, name)?;
     Ok(Arrival {
         route: Route::Station(op, name),
-        offers_ocpp: true,
+        has_subprotocol: true,
         address: None,
     })
 }

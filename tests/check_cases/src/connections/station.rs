@@ -79,6 +79,8 @@ fn session(alloc: Global) -> Result<Script> {
         meter_start: 0,
         readings,
         meter_stop: 1000,
+        sessions: 1,
+        stays: false,
     })
 }
 

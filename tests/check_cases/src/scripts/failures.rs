@@ -12,6 +12,7 @@ use store_mem::MemStore;
 /// The scripts that are tried.
 const SCRIPTS: &[&str] = &[
     "stations/boot_and_heartbeat",
+    "stations/stations_are_dropped",
     "transactions/start_repeated",
     "uses/use_of_a_closed_transaction",
     "history/uses_outlive_what_is_forgotten",

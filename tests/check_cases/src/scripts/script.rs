@@ -26,6 +26,7 @@ const FOLDERS: &[&str] = &[
     "reservations",
     "stations",
     "tags",
+    "tolerant",
     "transactions",
     "uses",
     "vendors",

@@ -6,6 +6,7 @@ use crate::tables::frames::{frame_read, frame_written};
 use crate::tables::paths::path_followed;
 use crate::tables::readings::{readings_grouped, sampled_values};
 use crate::tables::requests::request_read;
+use crate::tables::tolerant::tolerant_reading;
 use crate::tables::values::{
     characters, moment_printed, number_of_reading, operators_hosted, tag_key, time_read,
 };
@@ -20,7 +21,8 @@ pub fn given(alloc: Global, table: &str, texts: &[String]) -> Result<String> {
         | "commands"
         | "frames_read"
         | "frames_written"
-        | "requests" => given_for_messages(alloc, table, texts),
+        | "requests"
+        | "tolerant_requests" => given_for_messages(alloc, table, texts),
         _ => given_for_values(alloc, table, texts),
     }
 }
@@ -38,6 +40,9 @@ fn given_for_messages(alloc: Global, table: &str, texts: &[String]) -> Result<St
         ("frames_written", [kind, texts @ ..]) => frame_written(alloc, kind.as_str(), texts),
         ("requests", [action, payload]) => {
             request_read(alloc, action.as_str(), payload.as_str())
+        }
+        ("tolerant_requests", [action, moment, payload]) => {
+            tolerant_reading(alloc, action.as_str(), moment.as_str(), payload.as_str())
         }
         _ => bail!("another number of texts"),
     }

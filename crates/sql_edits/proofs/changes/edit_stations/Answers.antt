@@ -2,7 +2,7 @@ use Rattle.std.proofs.Common.{subst, sym}
 use Rattle.hub_rows.specs.Changes.{edit}
 use Rattle.hub_rows.specs.declared.change.StationEdit.{StationEdit}
 use Rattle.hub_rows.specs.declared.change.Edit.TheVariants.{Stations}
-use Rattle.hub_rows.specs.declared.change.StationEdit.TheVariants.{StationAdded, BootSeen, PolicySet, ConnectorSeen, ReportSeen}
+use Rattle.hub_rows.specs.declared.change.StationEdit.TheVariants.{StationAdded, BootSeen, PolicySet, ReaderSet, StationDropped, ConnectorSeen, ReportSeen}
 use Rattle.sql_rows.specs.Kept.{Makes}
 use Rattle.sql_edits.proofs.changes.edit_stations.Goals as goal
 
@@ -23,6 +23,18 @@ returns-in-PolicySet g c =
     let it = c.in-PolicySet in
     let made = λ (e : StationEdit). Makes g.S.Store (edit c.args.op.now (Stations e)) c.args.tx.now c.set_policy.new.tx c.set_policy.result in
     record { makes = subst made (sym it.is) (subst (λ s. made (PolicySet s it.policy it.interval)) c.as_str-in-PolicySet.ensures c.set_policy.ensures.makes) }
+
+pub returns-in-ReaderSet : goal.returns-in-ReaderSet
+returns-in-ReaderSet g c =
+    let it = c.in-ReaderSet in
+    let made = λ (e : StationEdit). Makes g.S.Store (edit c.args.op.now (Stations e)) c.args.tx.now c.put_reader.new.tx c.put_reader.result in
+    record { makes = subst made (sym it.is) (subst (λ s. made (ReaderSet s it.reader)) c.as_str-in-ReaderSet.ensures c.put_reader.ensures.makes) }
+
+pub returns-in-StationDropped : goal.returns-in-StationDropped
+returns-in-StationDropped g c =
+    let it = c.in-StationDropped in
+    let made = λ (e : StationEdit). Makes g.S.Store (edit c.args.op.now (Stations e)) c.args.tx.now c.drop_station.new.tx c.drop_station.result in
+    record { makes = subst made (sym it.is) (subst (λ s. made (StationDropped s)) c.as_str-in-StationDropped.ensures c.drop_station.ensures.makes) }
 
 pub returns-in-ConnectorSeen : goal.returns-in-ConnectorSeen
 returns-in-ConnectorSeen g c =

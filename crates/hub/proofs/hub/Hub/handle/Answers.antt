@@ -2,7 +2,7 @@ use Rattle.std.proofs.Common.{◌∙◌, ◌++◌, [], ◌∷◌, ap, sym, appen
 use Rattle.pending_calls.proofs.OwnSlots.{slots-sorted}
 use Rattle.hub.specs.Hub.{world, setting}
 use Rattle.hub.specs.View.{view}
-use Rattle.hub.specs.WellFormed.{WellFormed, SlotsHaveStations}
+use Rattle.hub.specs.WellFormed.{WellFormed, ConnectedAreOnRecord}
 use Rattle.hub.specs.World.{Setting, World, outputs_of, world_outputs}
 use Rattle.hub.proofs.Isolation.{run_outputs-own, world_run-own}
 use Rattle.hub.proofs.Others.{leaves_alone}
@@ -36,4 +36,5 @@ pub returns-clause-stations : goal.returns-clause-stations
 returns-clause-stations g c = λ clean have.
     let st : Setting = setting g.V.VendorHandler.view c.args.self.now in
     let w : World = world g.S.Store.view c.args.self.now in
-    subst SlotsHaveStations (sym (c.in_ok-take.ensures.world clean)) (have-step st w c.args.event.now have)
+    let good : WellFormed w = record { rows = g.met.S.Store.well_formed c.args.self.now.book.store (c.in_ok-take.ensures.counted.was_clean clean); slots = slots-sorted c.args.self.now.slots } in
+    subst ConnectedAreOnRecord (sym (c.in_ok-take.ensures.world clean)) (have-step st w c.args.event.now good have)

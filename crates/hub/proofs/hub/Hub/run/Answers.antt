@@ -3,7 +3,7 @@ use Rattle.std.proofs.lemmas.List.Elements.{AllWithin-more, at_read}
 use Rattle.pending_calls.proofs.OwnSlots.{slots-sorted}
 use Rattle.hub.specs.Hub.{world, setting, is_taken}
 use Rattle.hub.specs.View.{view}
-use Rattle.hub.specs.WellFormed.{WellFormed, SlotsHaveStations}
+use Rattle.hub.specs.WellFormed.{WellFormed, ConnectedAreOnRecord}
 use Rattle.hub.specs.World.{Setting, World, outputs_of, run_outputs, world_run, world_step}
 use Rattle.hub.proofs.Isolation.{run_outputs-own, world_run-own}
 use Rattle.hub.proofs.Runs.{outputs_go_on, world_goes_on}
@@ -79,14 +79,18 @@ pub returns-in-Err-clause-stations : goal.returns-in-Err-clause-stations
 returns-in-Err-clause-stations g c = λ clean have.
     let st : Setting = setting g.V.VendorHandler.view c.args.self.now in
     let w : World = world g.S.Store.view c.args.self.now in
+    let inv = c.loop-event.invariant in
     let before = c.in-Err.ensures.counted.was_clean clean in
-    subst SlotsHaveStations (sym (c.in-Err.ensures.err_world clean ∙ c.loop-event.invariant.world before)) (have-run st w (take c.loop-event.event-index c.args.events.now) have)
+    let good : WellFormed w = record { rows = g.met.S.Store.well_formed c.args.self.now.book.store (inv.was_clean before); slots = slots-sorted c.args.self.now.slots } in
+    subst ConnectedAreOnRecord (sym (c.in-Err.ensures.err_world clean ∙ c.loop-event.invariant.world before)) (have-run st w (take c.loop-event.event-index c.args.events.now) good have)
 
 pub returns-clause-stations : goal.returns-clause-stations
 returns-clause-stations g c = λ clean have.
     let st : Setting = setting g.V.VendorHandler.view c.args.self.now in
     let w : World = world g.S.Store.view c.args.self.now in
-    subst SlotsHaveStations (sym (c.loop-event.invariant.world clean)) (have-run st w (take c.loop-event.event-index c.args.events.now) have)
+    let inv = c.loop-event.invariant in
+    let good : WellFormed w = record { rows = g.met.S.Store.well_formed c.args.self.now.book.store (inv.was_clean clean); slots = slots-sorted c.args.self.now.slots } in
+    subst ConnectedAreOnRecord (sym (c.loop-event.invariant.world clean)) (have-run st w (take c.loop-event.event-index c.args.events.now) good have)
 
 -- a stop leaves the rows after the events taken, or after those and the one in progress
 pub returns-in-Err-clause-stopped : goal.returns-in-Err-clause-stopped

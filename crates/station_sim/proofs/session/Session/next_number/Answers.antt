@@ -1,9 +1,7 @@
-use Rattle.std.proofs.Common.{◌+◌, arith}
+use Rattle.std.proofs.Common.{◌+◌}
 use Rattle.station_sim.proofs.Ids.{id_short}
-use Rattle.station_sim.proofs.Keeps.{few_calls}
+use Rattle.station_sim.proofs.Keeps.{may_call}
 use Rattle.station_sim.proofs.session.Session.next_number.Goals as goal
 
 pub returns-clause-short : goal.returns-clause-short
-returns-clause-short c =
-    let few = few_calls c.args.self.now c.requires in
-    id_short (c.args.self.now.calls + 1) (omega (arith, few))
+returns-clause-short c = id_short (c.args.self.now.calls + 1) (may_call c.args.self.now c.requires.more)

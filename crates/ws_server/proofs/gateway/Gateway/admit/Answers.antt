@@ -11,5 +11,5 @@ returns-in-Station-2-clause-takes g c =
     let old = peers_of c.args.self.now in
     let new = peers_of c.shut.new.self in
     let r = c.shut.result in
-    let Change : List Step → Type 0 = λ steps. Admits g.T.Write.contents c.args.socket c.args.moment c.args.arrival.route c.args.arrival.offers_ocpp old new steps r in
-    nothing _ _ _ _ Change (no_subprotocol g.T.Write.contents c.args.socket c.args.moment c.args.arrival.route c.args.arrival.offers_ocpp old new r _ _ c.in-Station-2.is c.if-arrival.false c.shut.ensures.closed) refl (λ clean. refl)
+    let Change : List Step → Type 0 = λ steps. Admits g.T.Write.contents c.args.socket c.args.moment c.args.arrival.route c.args.arrival.has_subprotocol old new steps r in
+    nothing _ _ _ _ Change (no_subprotocol g.T.Write.contents c.args.socket c.args.moment c.args.arrival.route c.args.arrival.has_subprotocol old new r _ _ c.in-Station-2.is c.if-arrival.false c.shut.ensures.closed) refl (λ clean. refl)

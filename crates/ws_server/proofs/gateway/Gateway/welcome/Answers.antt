@@ -1,5 +1,9 @@
-use Rattle.std.proofs.Common.{◌≡◌, List, [], ◌++◌, refl, subst, sym, inr}
-use Rattle.ws_server.specs.Admits.{Welcomes}
+use Rattle.hub.specs.Hub.{is_clean, world}
+use Rattle.std.proofs.Common.{Bool, ap, ◌∙◌, ◌≡◌, List, [], ◌++◌, refl, subst, sym, inr}
+use Rattle.std.specs.Option.{is_some}
+use Rattle.ws_handshake.specs.Shakes.{Shaken}
+use Rattle.ws_handshake.specs.Subprotocols.{chosen}
+use Rattle.ws_server.specs.Admits.{Admits, Welcomes, is_tolerant}
 use Rattle.ws_server.specs.Steps.{Step}
 use Rattle.ws_server.specs.Tells.{peers_of}
 use Rattle.ws_server.proofs.StepLaws.{taken_on, nothing}
@@ -11,8 +15,13 @@ returns-in-Ok-shake-clause-takes g c =
     let new = peers_of c.admit.new.self in
     let r = c.admit.result in
     let None : List Step → Type 0 = λ steps. steps ≡ [] in
-    let Welcomed : List Step → Type 0 = λ steps. Welcomes g.T.Read.remaining g.T.Write.contents c.args.moment c.args.client.stream c.args.upgrade old new steps r in
+    let IsTolerant : Bool → Type 0 = λ tolerant. is_clean g.S.Store.view c.admit.new.hub → tolerant ≡ is_tolerant (world g.S.Store.view c.args.hub.now).rows c.args.upgrade.route in
+    let Welcomed : List Step → Type 0 = λ steps. Welcomes g.T.Read.remaining g.T.Write.contents c.args.moment IsTolerant c.args.client.stream c.args.upgrade old new steps r in
+    let tolerant : Bool = c.in-Ok.known.is_tolerant in
+    let shaken = subst (λ s. Shaken g.T.Read.remaining g.T.Write.contents c.args.upgrade s c.args.client.stream c.in-Ok-shake.socket) c.chosen-subprotocol.ensures c.in-Ok-shake.ensures in
+    let admitted : (steps : List Step) → Admits g.T.Write.contents c.in-Ok-shake.socket c.args.moment c.args.upgrade.route c.is_some.result old new steps r → Admits g.T.Write.contents c.in-Ok-shake.socket c.args.moment c.args.upgrade.route (is_some (chosen tolerant c.args.upgrade.offered)) old new steps r
+    = λ steps change. subst (λ b. Admits g.T.Write.contents c.in-Ok-shake.socket c.args.moment c.args.upgrade.route b old new steps r) (c.is_some.ensures ∙ ap is_some c.chosen-subprotocol.ensures) change in
     taken_on _ _ _ _ _ None _ Welcomed
-    (λ before after none change. subst (λ steps. Welcomed (steps ++ after)) (sym none) (inr (c.in-Ok-shake.socket, c.in-Ok-shake.ensures, change)))
+    (λ before after none change. subst (λ steps. Welcomed (steps ++ after)) (sym none) (inr (c.in-Ok.known.is_tolerant, (λ clean. c.in-Ok.ensures.tolerant (c.admit.ensures.counted.was_clean clean)), c.in-Ok-shake.socket, shaken, admitted after change)))
     c.admit.ensures.counted.was_clean
     (nothing _ _ _ _ None refl c.in-Ok.ensures.setting c.in-Ok.ensures.world) c.admit.ensures.takes

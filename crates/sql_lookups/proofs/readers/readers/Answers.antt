@@ -1,0 +1,5 @@
+use Rattle.sql_lookups.proofs.Asking.{asks_rows}
+use Rattle.sql_lookups.proofs.readers.readers.Goals as goal
+
+pub returns : goal.returns
+returns g c = record { asks = asks_rows c.find_all.ensures.shows c.listed.ensures.ok c.listed.ensures.rows (λ db rows is. is) }
