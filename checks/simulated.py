@@ -164,6 +164,10 @@ def check_sessions(checks):
         found = [text.count(part) for part in ('"BootNotification"', '"Authorize",{"idTag":"CARD7"}', '"StopTransaction",{"idTag":"CARD7"')]
         checks.check("three sessions", (code, found, errors), (0, [1, 3, 3], ""))
         checks.check("the last call", '> [2,"s17","StopTransaction",' in text, True)
+        meters = [int(meter) for meter in re.findall(r'"meterSt(?:art|op)":(\d+)', text)]
+        checks.check("its meter counts on", meters, [0, 1000, 1000, 2000, 2000, 3000])
+        checks.check("its readings", re.findall(r'"value":"(\d+)"', text), ["500", "1000", "1500", "2000", "2500", "3000"])
+        checks.check("its transactions", len(acme.lines("r", "list transactions CP01")) - 1, 3)
         code, text, _ = run_of(checks, *path, "2", "--tag", "CARD8")
         checks.check("an unknown tag", (code, text.count('"Authorize"'), text.count('"StartTransaction"')), (3, 2, 0))
         code, text, _ = run_of(checks, *path, "0")

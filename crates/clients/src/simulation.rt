@@ -115,7 +115,7 @@ fn script(alloc: Global, options: &SimOptions, tag: &str) -> Mem<Script> {
         connector: 1,
         meter_start: 0,
         readings,
-        meter_stop: 1000,
+        energy: 1000,
         sessions: options.sessions,
         stays: options.stays,
     })

@@ -1,8 +1,10 @@
 -- What a session keeps.
-use Rattle.std.proofs.Common.{◌≡◌, ◌≤◌, ◌<◌, ◌+◌, ℕ, ℤ, List, Result, Ok, Err, Option, Some, None, Bool, true, false, codes, length, refl, sym, subst, ap, arith, true≢false}
-use Rattle.std.specs.Prelude.{IsNone, IfSome, nat_lt, nat_le, bytes_eq, is_some, OnOk, OnErr, option_and_then, unwrap_or, ◌&&◌, if◌then◌else◌}
+use Rattle.std.proofs.Common.{◌≡◌, ◌≤◌, ◌<◌, ◌+◌, ℕ, ℤ, pos, negsuc, List, Result, Ok, Err, Option, Some, None, Bool, true, false, codes, length, refl, sym, subst, ap, arith, true≢false}
+use Rattle.std.specs.Prelude.{◌+ℤ◌, min, IsNone, IfSome, nat_lt, nat_le, bytes_eq, is_some, OnOk, OnErr, option_and_then, unwrap_or, ◌&&◌, if◌then◌else◌}
 use Rattle.std.specs.Ordering.{int_eq}
-use Rattle.std.proofs.lemmas.Bool.{leb-false}
+use Rattle.std.specs.Int.{w64, saturate_signed}
+use Rattle.std.proofs.lemmas.Bool.{leb-false, le-leb}
+use Rattle.std.proofs.Math.Nat.{min-le_right}
 use Rattle.ocpp_types.specs.Text.{characters}
 use Rattle.serde_json.specs.Data.{Data}
 use Rattle.serde_json.specs.Find.{get, as_number, as_integer, as_str}
@@ -14,15 +16,15 @@ use Rattle.station_sim.specs.Remote.{start_of, stop_of, ordered_tag, fitting, na
 use Rattle.station_sim.specs.Replies.{version_of}
 use Rattle.station_sim.specs.Results.{after_result, after_error, after_start, next_session, rest_of, interval_after, is_accepted, status_of, tag_status_of, transaction_of, is_int_32, within_32}
 use Rattle.station_sim.specs.Kept.{IsSession, has_number}
-use Rattle.station_sim.specs.Session.{start, call_by, wanted_call, due_call, is_spent, after_call, after_message, after_command, answered, moved, begun, stopped, is_id}
+use Rattle.station_sim.specs.Session.{start, call_by, wanted_call, due_call, is_spent, ends_session, metered, after_call, after_message, after_command, answered, moved, begun, stopped, is_id}
 use Rattle.station_sim.specs.declared.script.BadScript.TheVariants.{Vendor, Model, Tag, Connector, Readings}
 use Rattle.station_sim.specs.declared.script.Script.{Script}
 use Rattle.station_sim.specs.declared.session.Session.{Session}
 use Rattle.station_sim.specs.declared.stage.Stage.{Stage}
 use Rattle.station_sim.specs.declared.stage.Stage.TheVariants.{Boot, Status, Authorize, Start, Charging, Stopping, Refused, Idle, Ended}
 
-pub keeps_start : (script : Script) → bad_field script ≡ None → is_int_64 script.meter_start ≡ true → is_int_64 script.meter_stop ≡ true → IsSession (start script)
-keeps_start script good first last = record { bounds = ap is_some good; start_meter = first; stop_meter = last; number = refl; tag = refl; few = omega arith }
+pub keeps_start : (script : Script) → bad_field script ≡ None → is_int_64 script.meter_start ≡ true → IsSession (start script)
+keeps_start script good first = record { bounds = ap is_some good; start_meter = first; number = refl; tag = refl; few = omega arith }
 
 -- one more call may be made
 pub may_call : (s : Session) → is_spent s ≡ false → s.calls + 1 ≤ 4000000000
@@ -51,11 +53,31 @@ bounded script none =
     let readings = passed (nat_le (length script.readings.items) 1000) None Readings connector.1 in
     record { vendor = vendor.0; model = model.0; tag = tag.0; connector = connector.0; readings = readings.0 }
 
+-- ---- the meter
+
+pub saturated : (z : ℤ) → is_int_64 (saturate_signed w64 z) ≡ true
+saturated (pos n) = le-leb (min n 9223372036854775807) 9223372036854775807 (min-le_right n 9223372036854775807)
+saturated (negsuc n) = ap (λ b. b && true) (le-leb (min n 9223372036854775807) 9223372036854775807 (min-le_right n 9223372036854775807))
+
+bounds_metered : (ends : Bool) (script : Script) → IsNone (bad_field script) → IsNone (bad_field (metered ends script))
+bounds_metered true script none = none
+bounds_metered false script none = none
+
+meter_metered : (ends : Bool) (script : Script) → is_int_64 script.meter_start ≡ true → is_int_64 (metered ends script).meter_start ≡ true
+meter_metered true script meter = saturated (script.meter_start +ℤ script.energy)
+meter_metered false script meter = meter
+
 -- ---- a call
 
 keeps_due : (s : Session) (at : ℕ) (call : Option (Action × Data)) → IsSession s → IfSome call (λ _. s.calls + 1 ≤ 4000000000) → IsSession (after_call s at call)
 keeps_due s at None good may = good
-keeps_due s at (Some call) good may = record { bounds = good.bounds; start_meter = good.start_meter; stop_meter = good.stop_meter; number = good.number; tag = good.tag; few = may }
+keeps_due s at (Some call) good may = record {
+  bounds = bounds_metered (ends_session call.0) s.script good.bounds;
+  start_meter = meter_metered (ends_session call.0) s.script good.start_meter;
+  number = good.number;
+  tag = good.tag;
+  few = may;
+}
 
 if_some : {X : Type 0} {P : Type 0} (o : Option X) → P → IfSome o (λ _. P)
 if_some None p = tt
@@ -116,8 +138,8 @@ fails script left Idle = refl
 fails script left Ended = refl
 
 keeps_moved : (s : Session) (stage : Stage) (interval : ℕ) (b : Bool) → IsSession s → has_number stage ≡ true → IsSession (record (if b then moved stage interval s else s) { in_flight = None })
-keeps_moved s stage interval true good number = record { bounds = good.bounds; start_meter = good.start_meter; stop_meter = good.stop_meter; number = number; tag = good.tag; few = good.few }
-keeps_moved s stage interval false good number = record { bounds = good.bounds; start_meter = good.start_meter; stop_meter = good.stop_meter; number = good.number; tag = good.tag; few = good.few }
+keeps_moved s stage interval true good number = record { bounds = good.bounds; start_meter = good.start_meter; number = number; tag = good.tag; few = good.few }
+keeps_moved s stage interval false good number = record { bounds = good.bounds; start_meter = good.start_meter; number = good.number; tag = good.tag; few = good.few }
 
 keeps_if : (s : Session) (stage : Stage) (interval : ℕ) (b : Bool) → IsSession s → has_number stage ≡ true → IsSession (if b then answered stage interval s else s)
 keeps_if s stage interval true good number = keeps_moved s stage interval s.moves good number
@@ -139,7 +161,7 @@ start_fits false payload = tt
 
 keeps_begun : (s : Session) (o : Option (List ℕ)) → IsSession s → IfSome o (λ tag. nat_le (characters tag) 20 ≡ true) → IsSession (begun o s)
 keeps_begun s None good tag = good
-keeps_begun s (Some t) good tag = record { bounds = good.bounds; start_meter = good.start_meter; stop_meter = good.stop_meter; number = refl; tag = tag; few = good.few }
+keeps_begun s (Some t) good tag = record { bounds = good.bounds; start_meter = good.start_meter; number = refl; tag = tag; few = good.few }
 
 same_if : (b : Bool) (z : ℤ) → is_int_32 z ≡ true → IfSome (if b then Some z else None) (λ z. is_int_32 z ≡ true)
 same_if true z e = e
@@ -166,7 +188,7 @@ stop_fits s (Some asked) number = same_fits asked (open_at s s.stage) (open_fits
 
 keeps_stopped : (s : Session) (o : Option ℤ) → IsSession s → IfSome o (λ z. is_int_32 z ≡ true) → IsSession (stopped o s)
 keeps_stopped s None good fits = good
-keeps_stopped s (Some z) good fits = record { bounds = good.bounds; start_meter = good.start_meter; stop_meter = good.stop_meter; number = fits; tag = good.tag; few = good.few }
+keeps_stopped s (Some z) good fits = record { bounds = good.bounds; start_meter = good.start_meter; number = fits; tag = good.tag; few = good.few }
 
 one_of : (b : Bool) (x y : Session) → IsSession x → IsSession y → IsSession (if b then x else y)
 one_of true x y one other = one
@@ -175,7 +197,7 @@ one_of false x y one other = other
 keeps_command : (s : Session) (action : List ℕ) (payload : Data) → IsSession s → IsSession (after_command action payload s)
 keeps_command s action payload good =
     one_of (bytes_eq action (codes "SendLocalList")) (record s { version = unwrap_or (version_of payload) s.version }) _
-    (record { bounds = good.bounds; start_meter = good.start_meter; stop_meter = good.stop_meter; number = good.number; tag = good.tag; few = good.few })
+    (record { bounds = good.bounds; start_meter = good.start_meter; number = good.number; tag = good.tag; few = good.few })
     (one_of (bytes_eq action (codes "RemoteStartTransaction")) (begun (start_of s payload) s) _
     (keeps_begun s (start_of s payload) good (start_fits (is_idle s.stage && names s.script.connector (get (codes "connectorId") payload)) payload))
     (one_of (bytes_eq action (codes "RemoteStopTransaction")) (stopped (stop_of s payload) s) s

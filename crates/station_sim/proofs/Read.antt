@@ -1,7 +1,7 @@
 -- The central system reads what the station calls.
 use Rattle.std.proofs.Common.{◌≡◌, ℕ, ℤ, pos, negsuc, List, [], ◌∷◌, Result, Ok, Err, Option, Some, None, Bool, true, false, codes, refl, sym, subst, ap, ◌∙◌, true≢false, arith}
 use Rattle.std.proofs.lemmas.Bool.{le-leb}
-use Rattle.std.specs.Prelude.{◌-◌, IsOk, IfOk, nat_le, int_le, not, ◌&&◌, slice_get, if◌then◌else◌, unsigned_abs}
+use Rattle.std.specs.Prelude.{◌-◌, ◌+ℤ◌, IsOk, IfOk, nat_le, int_le, not, ◌&&◌, slice_get, if◌then◌else◌, unsigned_abs}
 use Rattle.std.specs.Option.{option_or}
 use Rattle.serde_json.specs.Data.{Data, number, unsigned, string}
 use Rattle.serde_json.specs.Find.{of_integer, as_integer}
@@ -17,7 +17,7 @@ use Rattle.ocpp_payload.specs.Request as request
 use Rattle.ocpp_payload.specs.declared.action.Action.{Action}
 use Rattle.ocpp_payload.specs.declared.fault.FieldFault.{FieldFault}
 use Rattle.station_sim.specs.Bounds.{is_int_64, is_name, is_connector}
-use Rattle.station_sim.specs.Calls.{call_of, charging_call, last_call, tag_of, heartbeat, boot_payload, authorize_payload, start_payload, meter_value, sampled_value, reading_payload, stop_payload, refused_payload}
+use Rattle.station_sim.specs.Calls.{meter_after, call_of, charging_call, last_call, tag_of, heartbeat, boot_payload, authorize_payload, start_payload, meter_value, sampled_value, reading_payload, stop_payload, refused_payload}
 use Rattle.station_sim.specs.Results.{is_int_32}
 use Rattle.station_sim.specs.Kept.{IsSession, has_number, has_short_tag}
 use Rattle.station_sim.specs.Session.{IsRead, call_by, due_call, wanted_call, heartbeat_at, is_spent, is_end}
@@ -25,7 +25,7 @@ use Rattle.station_sim.specs.declared.script.Script.{Script}
 use Rattle.station_sim.specs.declared.session.Session.{Session}
 use Rattle.station_sim.specs.declared.stage.Stage.{Stage}
 use Rattle.station_sim.specs.declared.stage.Stage.TheVariants.{Boot, Status, Authorize, Start, Charging, Stopping, Refused, Idle, Ended}
-use Rattle.station_sim.proofs.Keeps.{Bounded, bounded}
+use Rattle.station_sim.proofs.Keeps.{Bounded, bounded, saturated}
 
 -- ---- one member after another
 
@@ -111,21 +111,21 @@ reading_read s transaction reading t ms b fits e =
     (in_turn (optional int_32 (codes "transactionId") d) (Some transaction) _ (ap (λ r. r >>= (λ x. Ok (Some x))) (int_32_read transaction _ fits))
     (in_turn (required (some_of (object_of readings.meter_value)) (codes "meterValue") d) (value.0 ∷ []) _ (ap (λ r. r >>= (λ x. Ok [] >>= (λ xs. Ok (x ∷ xs)))) value.1) refl))
 
-local_read : (s : Script) (tag : List ℕ) (transaction : ℤ) (t : List ℕ) (ms : ℤ) → nat_le (characters tag) 20 ≡ true → is_int_64 s.meter_stop ≡ true → is_int_32 transaction ≡ true → time_of t ≡ Some ms
+local_read : (s : Script) (tag : List ℕ) (transaction : ℤ) (t : List ℕ) (ms : ℤ) → nat_le (characters tag) 20 ≡ true → is_int_32 transaction ≡ true → time_of t ≡ Some ms
     → IsOk (request.stop_transaction (stop_payload s tag (codes "Local") transaction t))
-local_read s tag transaction t ms short meter fits e =
+local_read s tag transaction t ms short fits e =
     let d = stop_payload s tag (codes "Local") transaction t in
     in_turn (optional (text 20) (codes "idTag") d) (Some tag) _ (ap (λ r. r >>= (λ x. Ok (Some x))) (text_read 20 _ tag short))
-    (in_turn (required int_64 (codes "meterStop") d) s.meter_stop _ (int_64_read s.meter_stop _ meter)
+    (in_turn (required int_64 (codes "meterStop") d) (meter_after s s.energy) _ (int_64_read (meter_after s s.energy) _ (saturated (s.meter_start +ℤ s.energy)))
     (in_turn (required time (codes "timestamp") d) ms _ (time_read _ t ms e)
     (in_turn (required int_32 (codes "transactionId") d) transaction _ (int_32_read transaction _ fits) refl)))
 
-remote_read : (s : Script) (tag : List ℕ) (transaction : ℤ) (t : List ℕ) (ms : ℤ) → nat_le (characters tag) 20 ≡ true → is_int_64 s.meter_stop ≡ true → is_int_32 transaction ≡ true → time_of t ≡ Some ms
+remote_read : (s : Script) (tag : List ℕ) (transaction : ℤ) (t : List ℕ) (ms : ℤ) → nat_le (characters tag) 20 ≡ true → is_int_32 transaction ≡ true → time_of t ≡ Some ms
     → IsOk (request.stop_transaction (stop_payload s tag (codes "Remote") transaction t))
-remote_read s tag transaction t ms short meter fits e =
+remote_read s tag transaction t ms short fits e =
     let d = stop_payload s tag (codes "Remote") transaction t in
     in_turn (optional (text 20) (codes "idTag") d) (Some tag) _ (ap (λ r. r >>= (λ x. Ok (Some x))) (text_read 20 _ tag short))
-    (in_turn (required int_64 (codes "meterStop") d) s.meter_stop _ (int_64_read s.meter_stop _ meter)
+    (in_turn (required int_64 (codes "meterStop") d) (meter_after s s.energy) _ (int_64_read (meter_after s s.energy) _ (saturated (s.meter_start +ℤ s.energy)))
     (in_turn (required time (codes "timestamp") d) ms _ (time_read _ t ms e)
     (in_turn (required int_32 (codes "transactionId") d) transaction _ (int_32_read transaction _ fits) refl)))
 
@@ -143,29 +143,29 @@ tag_short : (s : Script) (ordered : Option (List ℕ)) → Bounded s → has_sho
 tag_short s None b short = b.tag
 tag_short s (Some tag) b short = short
 
-last_read : (s : Script) (ordered : Option (List ℕ)) (transaction : ℤ) (t : List ℕ) (ms : ℤ) → Bounded s → is_int_64 s.meter_stop ≡ true → is_int_32 transaction ≡ true → time_of t ≡ Some ms
+last_read : (s : Script) (ordered : Option (List ℕ)) (transaction : ℤ) (t : List ℕ) (ms : ℤ) → Bounded s → is_int_32 transaction ≡ true → time_of t ≡ Some ms
     → IsRead (last_call s ordered transaction t)
-last_read s None transaction t ms b meter fits e = made (request.stop_transaction (stop_payload s s.tag (codes "Local") transaction t)) _ (local_read s s.tag transaction t ms b.tag meter fits e)
-last_read s (Some tag) transaction t ms b meter fits e = tt
+last_read s None transaction t ms b fits e = made (request.stop_transaction (stop_payload s s.tag (codes "Local") transaction t)) _ (local_read s s.tag transaction t ms b.tag fits e)
+last_read s (Some tag) transaction t ms b fits e = tt
 
-charging_read : (s : Script) (ordered : Option (List ℕ)) (transaction : ℤ) (reading : Option ℤ) (t : List ℕ) (ms : ℤ) → Bounded s → is_int_64 s.meter_stop ≡ true → is_int_32 transaction ≡ true → time_of t ≡ Some ms
+charging_read : (s : Script) (ordered : Option (List ℕ)) (transaction : ℤ) (reading : Option ℤ) (t : List ℕ) (ms : ℤ) → Bounded s → is_int_32 transaction ≡ true → time_of t ≡ Some ms
     → IsRead (charging_call s ordered transaction reading t)
-charging_read s ordered transaction (Some reading) t ms b meter fits e = made (request.meter_values (reading_payload s transaction reading t)) _ (reading_read s transaction reading t ms b fits e)
-charging_read s ordered transaction None t ms b meter fits e = last_read s ordered transaction t ms b meter fits e
+charging_read s ordered transaction (Some reading) t ms b fits e = made (request.meter_values (reading_payload s transaction reading t)) _ (reading_read s transaction reading t ms b fits e)
+charging_read s ordered transaction None t ms b fits e = last_read s ordered transaction t ms b fits e
 
 call_read : (s : Script) (ordered : Option (List ℕ)) (stage : Stage) (t : List ℕ) (ms : ℤ) → Bounded s → has_short_tag ordered ≡ true → is_int_64 s.meter_start ≡ true → is_int_64 s.meter_stop ≡ true
     → has_number stage ≡ true → time_of t ≡ Some ms → IsRead (call_of s ordered stage t)
-call_read s ordered Boot t ms b short first last fits e = made (request.boot_notification (boot_payload s)) _ (boot_read s b)
-call_read s ordered Status t ms b short first last fits e = refl
-call_read s ordered Authorize t ms b short first last fits e = made (request.authorize (authorize_payload s)) _ (authorize_read s b)
-call_read s ordered Start t ms b short first last fits e =
+call_read s ordered Boot t ms b short first fits e = made (request.boot_notification (boot_payload s)) _ (boot_read s b)
+call_read s ordered Status t ms b short first fits e = refl
+call_read s ordered Authorize t ms b short first fits e = made (request.authorize (authorize_payload s)) _ (authorize_read s b)
+call_read s ordered Start t ms b short first fits e =
     made (request.start_transaction (start_payload s (tag_of s ordered) t)) _ (start_read s (tag_of s ordered) t ms b (tag_short s ordered b short) first e)
-call_read s ordered (Charging transaction sent) t ms b short first last fits e = charging_read s ordered transaction (slice_get s.readings.items sent) t ms b last fits e
-call_read s ordered (Stopping transaction) t ms b short first last fits e =
-    made (request.stop_transaction (stop_payload s (tag_of s ordered) (codes "Remote") transaction t)) _ (remote_read s (tag_of s ordered) transaction t ms (tag_short s ordered b short) last fits e)
-call_read s ordered (Refused transaction) t ms b short first last fits e = made (request.stop_transaction (refused_payload s transaction t)) _ (refused_read s transaction t ms first fits e)
-call_read s ordered Idle t ms b short first last fits e = tt
-call_read s ordered Ended t ms b short first last fits e = tt
+call_read s ordered (Charging transaction sent) t ms b short first fits e = charging_read s ordered transaction (slice_get s.readings.items sent) t ms b fits e
+call_read s ordered (Stopping transaction) t ms b short first fits e =
+    made (request.stop_transaction (stop_payload s (tag_of s ordered) (codes "Remote") transaction t)) _ (remote_read s (tag_of s ordered) transaction t ms (tag_short s ordered b short) fits e)
+call_read s ordered (Refused transaction) t ms b short first fits e = made (request.stop_transaction (refused_payload s transaction t)) _ (refused_read s transaction t ms first fits e)
+call_read s ordered Idle t ms b short first fits e = tt
+call_read s ordered Ended t ms b short first fits e = tt
 
 beat_read : (b : Bool) → IsRead (if b then Some heartbeat else None)
 beat_read true = refl
@@ -187,7 +187,7 @@ pub due_read : (s : Session) (at : ℕ) (ms : ℤ) → IsSession s → time_of (
 due_read s at ms good e =
     unless_read (is_spent s) (call_by s.in_flight (wanted_call s at)) (by_read s.in_flight (wanted_call s at)
     (or_read (call_of s.script s.ordered s.stage (time_text at)) (heartbeat_at s at)
-    (call_read s.script s.ordered s.stage (time_text at) ms (bounded s.script good.bounds) good.tag good.start_meter good.stop_meter good.number e)
+    (call_read s.script s.ordered s.stage (time_text at) ms (bounded s.script good.bounds) good.tag good.start_meter good.number e)
     (beat_read (not (is_end s.stage) && nat_le s.interval (at - s.called)))))
 
 pub whatever : {X E P : Type 0} (r : Result X E) → P → IfOk r (λ _. P)

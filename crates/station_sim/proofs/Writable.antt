@@ -6,7 +6,7 @@ use Rattle.serde_json.specs.Data.{Data, string, object, Items, no_items, item, n
 use Rattle.serde_json.specs.Find.{as_str, as_array, get}
 use Rattle.serde_json.specs.Written.{has_float, items_have_float}
 use Rattle.ocpp_payload.specs.Plain.{integer_plain}
-use Rattle.station_sim.specs.Calls.{call_of, charging_call, last_call, tag_of, heartbeat, start_payload, reading_payload, stop_payload, refused_payload}
+use Rattle.station_sim.specs.Calls.{meter_after, call_of, charging_call, last_call, tag_of, heartbeat, start_payload, reading_payload, stop_payload, refused_payload}
 use Rattle.station_sim.specs.Remote.{start_of, stop_of}
 use Rattle.station_sim.specs.Replies.{accepted_if, answer_payload, version_data, texts, text_before}
 use Rattle.station_sim.specs.Session.{call_by, due_call, wanted_call, heartbeat_at, is_spent, is_end}
@@ -83,7 +83,7 @@ reading_writable s transaction reading time = record { plain = ap (λ b. b || fa
 
 stop_writable : (s : Script) (tag reason : List ℕ) (transaction : ℤ) (time : List ℕ) → IsWritable (stop_payload s tag reason transaction time)
 stop_writable s tag reason transaction time =
-    record { plain = rw (integer_plain s.meter_stop) (ap (λ b. b || false) (integer_plain transaction)); payload = record { object = refl; depth = omega arith } }
+    record { plain = rw (integer_plain (meter_after s s.energy)) (ap (λ b. b || false) (integer_plain transaction)); payload = record { object = refl; depth = omega arith } }
 
 refused_writable : (s : Script) (transaction : ℤ) (time : List ℕ) → IsWritable (refused_payload s transaction time)
 refused_writable s transaction time =

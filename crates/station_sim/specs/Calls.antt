@@ -1,6 +1,7 @@
 -- The calls of a script.
-use Rattle.std.specs.Prelude.{ℕ, ℤ, List, ◌++◌, codes, decimal, Option, Some, None, slice_get, unwrap_or}
+use Rattle.std.specs.Prelude.{ℕ, ℤ, ◌+ℤ◌, List, ◌++◌, codes, decimal, Option, Some, None, slice_get, unwrap_or}
 use Rattle.std.specs.Fmt.{signed_decimal}
+use Rattle.std.specs.Int.{w64, saturate_signed}
 use Rattle.serde_json.specs.Data.{Data, number, unsigned, string, array, object, no_items, item, no_members, member}
 use Rattle.serde_json.specs.Find.{of_integer}
 use Rattle.ocpp_payload.specs.declared.action.Action.{Action}
@@ -48,6 +49,10 @@ start_payload script tag time =
 abbrev pub heartbeat : Action × Data
 heartbeat = (action.Heartbeat, object no_members)
 
+-- what the meter shows once it has counted so many Wh since the session began
+abbrev pub meter_after : Script → ℤ → ℤ
+meter_after script counted = saturate_signed w64 (script.meter_start +ℤ counted)
+
 -- a reading of the energy meter, in Wh
 abbrev pub sampled_value : ℤ → Data
 sampled_value reading =
@@ -64,7 +69,7 @@ meter_value reading time =
 abbrev pub reading_payload : Script → ℤ → ℤ → List ℕ → Data
 reading_payload script transaction reading time =
     object (member (codes "connectorId") (number (unsigned script.connector))
-    (member (codes "meterValue") (array (item (meter_value reading time) no_items))
+    (member (codes "meterValue") (array (item (meter_value (meter_after script reading) time) no_items))
     (member (codes "transactionId") (integer transaction)
     no_members)))
 
@@ -72,7 +77,7 @@ reading_payload script transaction reading time =
 abbrev pub stop_payload : Script → List ℕ → List ℕ → ℤ → List ℕ → Data
 stop_payload script tag reason transaction time =
     object (member (codes "idTag") (string tag)
-    (member (codes "meterStop") (integer script.meter_stop)
+    (member (codes "meterStop") (integer (meter_after script script.energy))
     (member (codes "reason") (string reason)
     (member (codes "timestamp") (string time)
     (member (codes "transactionId") (integer transaction)

@@ -29,7 +29,6 @@ has_short_tag (Some tag) = nat_le (characters tag) 20
 pub record IsSession (s : Session) : Type 0 where
   pub bounds : IsNone (bad_field s.script)
   pub start_meter : is_int_64 s.script.meter_start ≡ true
-  pub stop_meter : is_int_64 s.script.meter_stop ≡ true
   pub number : has_number s.stage ≡ true
   pub tag : has_short_tag s.ordered ≡ true
   pub few : s.calls ≤ MAX_CALLS

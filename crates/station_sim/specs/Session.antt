@@ -9,7 +9,7 @@ use Rattle.ocpp_payload.specs.declared.action.Action.{Action}
 use Rattle.ocpp_payload.specs.declared.action.Action.TheVariants as action
 use Rattle.ocpp_types.specs.TimeText.{time_text}
 use Rattle.serde_json.specs.Data.{Data}
-use Rattle.station_sim.specs.Calls.{call_id, call_of, heartbeat}
+use Rattle.station_sim.specs.Calls.{call_id, call_of, heartbeat, meter_after}
 use Rattle.station_sim.specs.Remote.{is_idle, start_of, stop_of}
 use Rattle.station_sim.specs.Replies.{version_of}
 use Rattle.station_sim.specs.Results.{after_result, after_error, interval_after}
@@ -77,10 +77,26 @@ abbrev pub moves_on : Action → Bool
 moves_on action.Heartbeat = false
 moves_on a = true
 
+-- whether a call ends a session: a stop does
+abbrev pub ends_session : Action → Bool
+ends_session action.StopTransaction = true
+ends_session a = false
+
+-- the next session begins with what the meter showed as the one before it ended, also where that was refused
+abbrev pub metered : Bool → Script → Script
+metered true script = record script { meter_start = meter_after script script.energy }
+metered false script = script
+
 -- after the next call at a moment, if there is one
 abbrev pub after_call : Session → ℕ → Option (Action × Data) → Session
 after_call s at None = s
-after_call s at (Some call) = record s { in_flight = Some (call_id (s.calls + 1)); moves = moves_on call.0; calls = s.calls + 1; called = at }
+after_call s at (Some call) = record s {
+  script = metered (ends_session call.0) s.script;
+  in_flight = Some (call_id (s.calls + 1));
+  moves = moves_on call.0;
+  calls = s.calls + 1;
+  called = at;
+}
 
 -- whether an id is that of the call in flight
 abbrev pub is_id : List ℕ → Option (List ℕ) → Bool

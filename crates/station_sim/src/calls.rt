@@ -181,7 +181,7 @@ fn meter_values(
 ) -> Mem<Value>
     ensures { IfOk result (λ v. view v ≡ reading_payload script.now transaction reading time.now) }
 {
-    let value = meter_value(alloc, reading, time)?;
+    let value = meter_value(alloc, script.meter_after(reading), time)?;
     let connector = script.connector;
     Ok(json!(in alloc; {
         "connectorId": connector,
@@ -207,7 +207,7 @@ fn stop(
 ) -> Mem<Value>
     ensures { IfOk result (λ v. view v ≡ stop_payload script.now tag.now reason.now transaction time.now) }
 {
-    let meter = script.meter_stop;
+    let meter = script.meter_after(script.energy);
     Ok(json!(in alloc; {
         "idTag": tag,
         "meterStop": meter,

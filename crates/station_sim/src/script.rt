@@ -1,6 +1,7 @@
 //! The script of a station.
 ghost use Rattle.std.specs.Prelude.{◌≡◌};
 ghost use Rattle.station_sim.specs.Bounds.{is_name, bad_field};
+ghost use Rattle.station_sim.specs.Calls.{meter_after};
 
 use ocpp_types::{Text, count_characters};
 use thiserror::Error;
@@ -16,16 +17,26 @@ pub struct Script {
     pub tag: Text,
     /// 1 to 255.
     pub connector: u8,
-    /// In Wh.
+    /// What the meter shows as the next session begins, in Wh.
     pub meter_start: i64,
-    /// The readings of the meter while it charges, in Wh: at most 1,000.
+    /// What each reading while it charges has more than that, in Wh: at most 1,000.
     pub readings: Vec<i64>,
-    /// In Wh.
-    pub meter_stop: i64,
+    /// What the meter shows more at the end of a session, in Wh.
+    pub energy: i64,
     /// How many sessions of its own it runs, one after the other.
     pub sessions: u32,
     /// It stays after these, and takes part in the sessions that the central system begins and ends.
     pub stays: bool,
+}
+
+impl Script {
+    /// What the meter shows once it has counted so many Wh since the session began, at most `i64::MAX` and at least
+    /// `i64::MIN`.
+    pub(crate) fn meter_after(&self, counted: i64) -> i64
+        ensures { result ≡ meter_after self.now counted }
+    {
+        self.meter_start.saturating_add(counted)
+    }
 }
 
 /// The first field of a script that is out of its bounds.

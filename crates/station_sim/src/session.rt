@@ -4,7 +4,7 @@ ghost use Rattle.ocpp_types.specs.Text.{characters};
 ghost use Rattle.ocpp_types.specs.TimeText.{time_text};
 ghost use Rattle.serde_json.specs.View.{view};
 ghost use Rattle.station_sim.specs.Kept.{IsSession};
-ghost use Rattle.station_sim.specs.Session.{start, is_done, is_waiting, is_spent, heartbeat_at, wanted_call, due_call, next_call, moves_on, after_call, after_message, moved, answered, after_answer, begun, stopped, after_command, left_at, is_id};
+ghost use Rattle.station_sim.specs.Session.{start, is_done, is_waiting, is_spent, heartbeat_at, wanted_call, due_call, next_call, moves_on, ends_session, metered, after_call, after_message, moved, answered, after_answer, begun, stopped, after_command, left_at, is_id};
 ghost use Rattle.station_sim.specs.Calls.{call_id};
 ghost use Rattle.station_sim.specs.Written.{IsWritten};
 
@@ -101,13 +101,24 @@ impl Session {
         };
         let number = self.next_number();
         let moves = moves_on(call.action);
+        let ends = ends_session(call.action);
         let id = call_id(alloc, number)?;
         let text = call_text(alloc, id.as_str(), call)?;
         self.calls = number;
         self.called = at.seconds();
         self.moves = moves;
         self.in_flight = Some(id);
+        self.run_meter(ends);
         Ok(Some(text))
+    }
+
+    /// Where a session ends, the next one begins with what the meter shows.
+    fn run_meter(&mut self, ends: bool)
+        ensures { self.new ≡ record self.old { script = metered ends self.old.script } }
+    {
+        if ends {
+            self.script.meter_start = self.script.meter_after(self.script.energy);
+        }
     }
 
     fn due_call(&self, alloc: Global, at: Moment, time: &str) -> Mem<Option<DueCall>>
@@ -255,6 +266,13 @@ fn moves_on(action: Action) -> bool
     ensures { result ≡ moves_on action }
 {
     !matches!(action, Action::Heartbeat)
+}
+
+/// Whether a call ends a session.
+fn ends_session(action: Action) -> bool
+    ensures { result ≡ ends_session action }
+{
+    matches!(action, Action::StopTransaction)
 }
 
 /// How many sessions are left as a stage begins: with Authorize one of them does.
