@@ -106,7 +106,7 @@ reading_read : (s : Script) (transaction reading : ℤ) (t : List ℕ) (ms : ℤ
     → IsOk (request.meter_values (reading_payload s transaction reading t))
 reading_read s transaction reading t ms b fits e =
     let d = reading_payload s transaction reading t in
-    let value = value_of (readings.meter_value (meter_value reading t)) (meter_read reading t ms e) in
+    let value = value_of (readings.meter_value (meter_value (meter_after s reading) t)) (meter_read (meter_after s reading) t ms e) in
     in_turn (required (connector_from 0) (codes "connectorId") d) s.connector _ (connector_read 0 s.connector _ (up_to_255 s.connector b.connector))
     (in_turn (optional int_32 (codes "transactionId") d) (Some transaction) _ (ap (λ r. r >>= (λ x. Ok (Some x))) (int_32_read transaction _ fits))
     (in_turn (required (some_of (object_of readings.meter_value)) (codes "meterValue") d) (value.0 ∷ []) _ (ap (λ r. r >>= (λ x. Ok [] >>= (λ xs. Ok (x ∷ xs)))) value.1) refl))
@@ -153,7 +153,7 @@ charging_read : (s : Script) (ordered : Option (List ℕ)) (transaction : ℤ) (
 charging_read s ordered transaction (Some reading) t ms b fits e = made (request.meter_values (reading_payload s transaction reading t)) _ (reading_read s transaction reading t ms b fits e)
 charging_read s ordered transaction None t ms b fits e = last_read s ordered transaction t ms b fits e
 
-call_read : (s : Script) (ordered : Option (List ℕ)) (stage : Stage) (t : List ℕ) (ms : ℤ) → Bounded s → has_short_tag ordered ≡ true → is_int_64 s.meter_start ≡ true → is_int_64 s.meter_stop ≡ true
+call_read : (s : Script) (ordered : Option (List ℕ)) (stage : Stage) (t : List ℕ) (ms : ℤ) → Bounded s → has_short_tag ordered ≡ true → is_int_64 s.meter_start ≡ true
     → has_number stage ≡ true → time_of t ≡ Some ms → IsRead (call_of s ordered stage t)
 call_read s ordered Boot t ms b short first fits e = made (request.boot_notification (boot_payload s)) _ (boot_read s b)
 call_read s ordered Status t ms b short first fits e = refl
