@@ -1,3 +1,5 @@
 pub mod Returns
 pub mod Utf8Lines
 pub mod MarkLaws
+pub mod JournalLaws
+pub mod JournalFeeds

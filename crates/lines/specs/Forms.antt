@@ -1,5 +1,5 @@
 -- What the forms of an operator's lines say.
-use Rattle.std.specs.Prelude.{ℕ, List, [], ◌∷◌, codes, Bool, true, false, if◌then◌else◌, Option, Some, None}
+use Rattle.std.specs.Prelude.{option_and_then, ℕ, List, [], ◌∷◌, codes, Bool, true, false, if◌then◌else◌, Option, Some, None}
 use Rattle.hub_events.specs.declared.event.What.{What}
 use Rattle.hub_events.specs.declared.event.What.TheVariants as what
 use Rattle.hub_events.specs.declared.event.Admin.TheVariants as admin
@@ -9,6 +9,8 @@ use Rattle.ocpp_types.specs.Named.{named}
 use Rattle.operator_cmds.specs.Command.{command}
 use Rattle.ocpp_types.specs.Policy.{policies}
 use Rattle.ocpp_types.specs.declared.policy.Policy.{Policy}
+use Rattle.serde_json.specs.Data.{Data}
+use Rattle.serde_json.specs.Find.{as_str}
 use Rattle.serde_json.specs.Read.{read}
 use Rattle.lines.specs.Words.{first_word, only_word, number_of, transaction_number, meter_of, moment_at, parent_of, is_expiry, expiry_of, ◌>>=◌}
 
@@ -29,6 +31,17 @@ abbrev pub frame_form : List ℕ → Option What
 frame_form rest = do
   station ← first_word rest
   Some (what.Frame station.0 station.1)
+
+-- a JSON string
+abbrev pub string_of : Option Data → Option (List ℕ)
+string_of = option_and_then as_str
+
+-- `quoted ST STRING`: a frame, whose text is a JSON string
+abbrev pub quoted_form : List ℕ → Option What
+quoted_form rest = do
+  station ← first_word rest
+  text ← string_of (read station.1)
+  Some (what.Frame station.0 text)
 
 -- `call ST ACTION JSON`
 abbrev pub call_form : List ℕ → Option What
@@ -220,4 +233,4 @@ list_form rest = list_by_word (plain_list rest) rest
 
 -- the forms after `MOMENT OP`
 unfoldable pub what_of : List ℕ → Option What
-what_of = by_word ((codes "connect", connect_form) ∷ (codes "disconnect", disconnect_form) ∷ (codes "frame", frame_form) ∷ (codes "call", call_form) ∷ (codes "station", station_form) ∷ (codes "tag", tag_form) ∷ (codes "transaction", transaction_form) ∷ (codes "forget", forget_form) ∷ (codes "grant", grant_form) ∷ (codes "revoke", revoke_form) ∷ (codes "list", list_form) ∷ [])
+what_of = by_word ((codes "connect", connect_form) ∷ (codes "disconnect", disconnect_form) ∷ (codes "frame", frame_form) ∷ (codes "quoted", quoted_form) ∷ (codes "call", call_form) ∷ (codes "station", station_form) ∷ (codes "tag", tag_form) ∷ (codes "transaction", transaction_form) ∷ (codes "forget", forget_form) ∷ (codes "grant", grant_form) ∷ (codes "revoke", revoke_form) ∷ (codes "list", list_form) ∷ [])

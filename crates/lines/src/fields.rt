@@ -1,5 +1,7 @@
 //! The fields of a listing's line (docs/TABLES.md, Listing lines).
 ghost use Rattle.std.specs.Prelude.{◌≡◌, IfOk, Some, codes, string_bytes};
+ghost use Rattle.serde_json.specs.Data.{string};
+ghost use Rattle.serde_json.specs.Read.{read};
 ghost use Rattle.lines.specs.RowLines.{quoted, text_field, signed_field, moment_field, boot_field, mark};
 
 use hub_rows::Boot;
@@ -11,7 +13,8 @@ use std::fmt;
 
 /// A text of a peer, as JSON.
 pub fn quoted(alloc: Global, text: &str) -> Mem<String>
-    ensures { IfOk result (λ s. string_bytes s ≡ quoted text.now) }
+    ensures text { IfOk result (λ s. string_bytes s ≡ quoted text.now) }
+    ensures read { IfOk result (λ s. read (string_bytes s) ≡ Some (string text.now)) }
 {
     let value = Value::String(String::from_str(alloc, text)?);
     Ok(value.to_string(alloc)?)

@@ -3,7 +3,7 @@ ghost use Rattle.std.specs.Prelude.{◌≡◌, IfOk, option_map};
 ghost use Rattle.serde_json.specs.Read.{read};
 ghost use Rattle.serde_json.specs.View.{view};
 ghost use Rattle.lines.specs.Words.{only_word, parent_of};
-ghost use Rattle.lines.specs.Forms.{what_of, connect_form, disconnect_form, frame_form, call_form, station_form, station_add_form, station_policy_form, station_reader_form, station_drop_form, policy_words, tag_form, tag_put_form, tag_drop_form, transaction_form, transaction_close_form, forget_form, grant_form, revoke_form, mark_of};
+ghost use Rattle.lines.specs.Forms.{what_of, connect_form, disconnect_form, frame_form, quoted_form, call_form, station_form, station_add_form, station_policy_form, station_reader_form, station_drop_form, policy_words, tag_form, tag_put_form, tag_drop_form, transaction_form, transaction_close_form, forget_form, grant_form, revoke_form, mark_of};
 
 use crate::list_forms::list;
 use crate::words::{
@@ -31,6 +31,7 @@ pub fn read_what(alloc: Global, text: &str) -> Mem<Option<What>>
         "connect" => connect(alloc, rest),
         "disconnect" => disconnect(alloc, rest),
         "frame" => frame(alloc, rest),
+        "quoted" => quoted(alloc, rest),
         "call" => call(alloc, rest),
         "station" => station(alloc, rest),
         "tag" => tag(alloc, rest),
@@ -65,6 +66,25 @@ fn frame(alloc: Global, rest: &str) -> Mem<Option<What>>
     ensures { IfOk result (λ w. w ≡ frame_form rest.now) }
 {
     let Some((station, text)) = first_word(rest) else {
+        return Ok(None);
+    };
+    Ok(Some(What::Frame {
+        station: Text::copy_of(alloc, station)?,
+        text: Text::copy_of(alloc, text)?,
+    }))
+}
+
+/// A frame whose text is quoted.
+fn quoted(alloc: Global, rest: &str) -> Mem<Option<What>>
+    ensures { IfOk result (λ w. w ≡ quoted_form rest.now) }
+{
+    let Some((station, json)) = first_word(rest) else {
+        return Ok(None);
+    };
+    let Some(value) = read_json(alloc, json)? else {
+        return Ok(None);
+    };
+    let Some(text) = value.as_str() else {
         return Ok(None);
     };
     Ok(Some(What::Frame {

@@ -5,6 +5,7 @@ mod added_line;
 mod fields;
 mod forms;
 mod input_line;
+mod journal;
 mod list_forms;
 mod mark;
 mod order;
@@ -14,6 +15,7 @@ mod words;
 
 pub use added_line::add_line;
 pub use input_line::{Line, MAX_LINE, read_line};
+pub use journal::journal_line;
 pub use mark::{Bounds, bounds_of, mark_of};
 pub use order::read_order;
 pub use output_line::print_out;

@@ -35,7 +35,7 @@ fn has_line_feed(text: &str) -> bool
     text.split_once('\n').is_some()
 }
 
-fn without_return(text: &str) -> &str
+pub(crate) fn without_return(text: &str) -> &str
     ensures { result.now ≡ strip_last 13 text.now }
 {
     match text.strip_suffix('\r') {
