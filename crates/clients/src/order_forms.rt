@@ -39,7 +39,8 @@ list forgettable ST BEFORE";
 const STATION_FORMS: &str = "\
 connect ST
 disconnect ST
-frame ST TEXT";
+frame ST TEXT
+quoted ST STRING";
 
 /// What lists all forms.
 const ALL: &str = "`central ask help` lists the lines";

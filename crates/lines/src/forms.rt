@@ -87,10 +87,9 @@ fn quoted(alloc: Global, rest: &str) -> Mem<Option<What>>
     let Some(text) = value.as_str() else {
         return Ok(None);
     };
-    Ok(Some(What::Frame {
-        station: Text::copy_of(alloc, station)?,
-        text: Text::copy_of(alloc, text)?,
-    }))
+    let station = Text::copy_of(alloc, station)?;
+    let text = Text::copy_of(alloc, text)?;
+    Ok(Some(What::Frame { station, text }))
 }
 
 fn call(alloc: Global, rest: &str) -> Mem<Option<What>>

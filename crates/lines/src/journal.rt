@@ -1,4 +1,4 @@
-//! Lines of a journal (docs/RULES.md, The journal).
+//! Lines of a journal (docs/RULES.md, Events as lines).
 ghost use Rattle.std.specs.Prelude.{◌≡◌, ℕ, List, IfOk, Some, string_bytes, true};
 ghost use Rattle.hub_events.specs.declared.event.What.TheVariants.{Frame};
 ghost use Rattle.lines.specs.Forms.{what_of};

@@ -9,6 +9,7 @@ mod cases;
 mod commands;
 mod enumerations;
 mod frames;
+mod journal;
 mod paths;
 mod readings;
 mod requests;

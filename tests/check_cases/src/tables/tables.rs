@@ -3,6 +3,7 @@
 use crate::tables::commands::{answer_told, command_accepted, command_sent};
 use crate::tables::enumerations::{class_of_action, name_read};
 use crate::tables::frames::{frame_read, frame_written};
+use crate::tables::journal::line_in_journal;
 use crate::tables::paths::path_followed;
 use crate::tables::readings::{readings_grouped, sampled_values};
 use crate::tables::requests::request_read;
@@ -55,6 +56,7 @@ fn given_for_values(alloc: Global, table: &str, texts: &[String]) -> Result<Stri
         ("enumerations", [enumeration, name]) => {
             name_read(alloc, enumeration.as_str(), name.as_str())
         }
+        ("journal_lines", [line]) => line_in_journal(alloc, line.as_str()),
         ("moments", [seconds]) => moment_printed(alloc, seconds.as_str()),
         ("numbers_of_readings", [unit, text]) => {
             number_of_reading(alloc, unit.as_str(), text.as_str())
