@@ -78,7 +78,7 @@ fn session(alloc: Global) -> Result<Script> {
         connector: 1,
         meter_start: 0,
         readings,
-        meter_stop: 1000,
+        energy: 1000,
         sessions: 1,
         stays: false,
     })
