@@ -2,6 +2,7 @@
 """Wrong bodies that the prover must refuse, beside those in crates/hub/must-fail, which `rt ci` tries.
 
     python3 checks/wrong_bodies.py CRATE..   tries those in checks/wrong_bodies/CRATE
+    python3 checks/wrong_bodies.py CRATE/BODY..   tries these alone, which is no stamp for their crates
     python3 checks/wrong_bodies.py --due     tries those of each crate that has changed since they were refused
     python3 checks/wrong_bodies.py --check   says which crates are due, and which bodies can't be applied
 
@@ -216,9 +217,9 @@ def refused_of(crate, bodies, left, said):
     return [body for body in bodies if left[body] in found]
 
 
-def tries(crate, jobs):
-    """Tries the wrong bodies of a crate, and gives those that weren't refused for their meaning."""
-    left, blocked, failed = {body: function_of(body) for body in bodies_of(crate)}, [], []
+def tries(crate, bodies, jobs):
+    """Tries wrong bodies of a crate, and gives those that weren't refused for their meaning."""
+    left, blocked, failed = {body: function_of(body) for body in bodies}, [], []
     with tempfile.TemporaryDirectory(prefix="wrong-bodies-") as room:
         copy = Copy(crate, room, jobs)
         while left:
@@ -239,6 +240,18 @@ def tries(crate, jobs):
     return failed
 
 
+def try_alone(words, jobs):
+    """Tries the bodies of these names."""
+    chosen = [BODIES / f"{word}.edit" for word in words]
+    if missing := [body for body in chosen if not body.is_file()]:
+        sys.exit(f"no such wrong body: {', '.join(body.parent.name + '/' + body.stem for body in missing)}")
+    failed = []
+    for crate in dict.fromkeys(body.parent.name for body in chosen):
+        failed += tries(crate, [body for body in chosen if body.parent.name == crate], jobs)
+    print(f"{len(chosen) - len(failed)} passed, {len(failed)} failed", *(f"{body.parent.name}/{body.name}" for body in failed))
+    return 1 if failed else 0
+
+
 def tail(said):
     lines = [line for line in said.splitlines() if ": error: " in line or line.startswith(("fn ", "logic", "rt:")) and not line.endswith(": proved")]
     return "\n".join(f"    {line[:200]}" for line in lines[:12])
@@ -251,6 +264,8 @@ def main(words):
     words = [word for word in words if word != "--jobs"]
     if not words:
         sys.exit(__doc__)
+    if all("/" in word for word in words):
+        return try_alone(words, jobs)
     names = due() if words == ["--due"] else words
     for name in names:
         if name not in crates():
@@ -258,7 +273,7 @@ def main(words):
     failed = []
     for name in names:
         before = stamp_of(name)
-        left = tries(name, jobs)
+        left = tries(name, bodies_of(name), jobs)
         failed += [f"{name}/{body.name}" for body in left]
         is_kept = not left and before == stamp_of(name)
         write({**{crate: stamp for crate, stamp in stamps().items() if crate != name}, **({name: before} if is_kept else {})})
