@@ -19,3 +19,4 @@ pub use journal::journal_line;
 pub use mark::{Bounds, bounds_of, mark_of};
 pub use order::read_order;
 pub use output_line::print_out;
+pub use words::first_word;
