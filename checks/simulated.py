@@ -89,6 +89,10 @@ def station(checks, *words):
 def command(acme, number, text):
     """The answer of a station to that command of an operator, which is its call of that number."""
     taken = acme.ask(f"call {text}")
+    while taken.startswith("ACME refused"):
+        # the station is connected, and its boot isn't answered yet
+        time.sleep(0.1)
+        taken = acme.ask(f"call {text}")
     while not (line := acme.next()).startswith("ACME CP") or f" done {number} " not in line:
         pass
     return taken, line.split(" ", 4)[4]
@@ -208,9 +212,13 @@ def check_fleets(checks):
         checks.check("a fleet of 1", (code, text.count('"SIM1"'), text.count("\n")), (0, 3, 14))
         with station(checks, *path, "2", "--stay") as run:
             checks.check("a fleet that stays", run.line_with("2 stations: 2 connected, 0 sessions done, 0 refused, 0 lost"), True)
-            for number, text in enumerate(('RemoteStartTransaction {"idTag":"SIM1"}', 'RemoteStopTransaction {"transactionId":5}'), 1):
-                checks.check(text, command(acme, number, f"CP2 {text}")[1], 'Answer {"status":"Accepted"}')
-                time.sleep(0.5)
+            started = command(acme, 1, 'CP2 RemoteStartTransaction {"idTag":"SIM1"}')[1]
+            checks.check("a remote start of one of them", started, 'Answer {"status":"Accepted"}')
+            while not (row := [row.split(" ") for row in acme.lines("r", "list open") if row.startswith("ACME row")]):
+                time.sleep(0.1)
+            time.sleep(0.5)
+            text = f'CP2 RemoteStopTransaction {{"transactionId":{row[0][4]}}}'
+            checks.check("its stop", command(acme, 2, text)[1], 'Answer {"status":"Accepted"}')
             checks.check("its session", run.line_with("2 stations: 2 connected, 1 sessions done, 0 refused, 0 lost"), True)
 
 
