@@ -85,13 +85,6 @@ impl<S: Store + Drop, V: VendorHandler> Hub<S, V> {
         self.book.store
     }
 
-    /// Its store, lent.
-    pub fn store(&self) -> &S
-        ensures { result.now ≡ store_of self.now }
-    {
-        &self.book.store
-    }
-
     /// The hosted operators.
     #[tactic(auto, unfolding(crate::specs::Hub::setting, crate::specs::Hub::setting_of))]
     pub fn hosted(&self) -> &[Text]
