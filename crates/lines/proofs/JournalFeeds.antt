@@ -24,7 +24,7 @@ use Rattle.lines.proofs.JournalLaws.{or_false, and_true, not_true}
 
 -- ---- parts of a line
 
-joined : (xs ys : List ℕ) → list_any is_feed xs ≡ false → list_any is_feed ys ≡ false → list_any is_feed (xs ++ ys) ≡ false
+pub joined : (xs ys : List ℕ) → list_any is_feed xs ≡ false → list_any is_feed ys ≡ false → list_any is_feed (xs ++ ys) ≡ false
 joined xs ys one other = list_any-append is_feed xs ys ∙ ap (λ b. b || list_any is_feed ys) one ∙ other
 
 of_gaps : (w : List ℕ) → list_any is_gap w ≡ false → list_any is_feed w ≡ false
@@ -48,7 +48,7 @@ of_plain name e = of_gaps name (not_true (list_any is_gap name) (and_true (nat_l
 digit_no_feed : (c : ℕ) (ds : List ℕ) → AllDigits 10 (c ∷ ds) → is_feed c ≡ false
 digit_no_feed c ds d = let one = d.0 in grind (arith, one)
 
-of_digits : (ds : List ℕ) → AllDigits 10 ds → list_any is_feed ds ≡ false
+pub of_digits : (ds : List ℕ) → AllDigits 10 ds → list_any is_feed ds ≡ false
 of_digits [] d = refl
 of_digits (c ∷ ds) d = rw (digit_no_feed c ds d) (of_digits ds d.1)
 

@@ -68,7 +68,7 @@ word_then w rest n is some =
     let back : drop (n + 1) (w ++ (32 ∷ rest)) ≡ rest = ap (λ k. drop (k + 1) (w ++ (32 ∷ rest))) is ∙ drop-append-add w (32 ∷ rest) 1 in
     grind (arith, is, some, size, front, back)
 
-word_first : (w rest : List ℕ) → list_any is_space w ≡ false → 0 < length w → first_word (w ++ (32 ∷ rest)) ≡ Some (w, rest)
+pub word_first : (w rest : List ℕ) → list_any is_space w ≡ false → 0 < length w → first_word (w ++ (32 ∷ rest)) ≡ Some (w, rest)
 word_first w rest none some = word_then w rest (position_or_len is_space (w ++ (32 ∷ rest))) (to_the_space w rest none) some
 
 word_only : (w : List ℕ) → list_any is_space w ≡ false → 0 < length w → only_word w ≡ Some w
@@ -168,7 +168,7 @@ order_what (Forget station until) op m order is says = order_said op m order (Fo
 digit_no_space : (c : ℕ) (ds : List ℕ) → AllDigits 10 (c ∷ ds) → (is_ascii_digit c ≡ true) × (is_space c ≡ false)
 digit_no_space c ds d = let one = d.0 in (grind (arith, one), grind (arith, one))
 
-digits_plain : (ds : List ℕ) → AllDigits 10 ds → (list_all is_ascii_digit ds ≡ true) × (list_any is_space ds ≡ false)
+pub digits_plain : (ds : List ℕ) → AllDigits 10 ds → (list_all is_ascii_digit ds ≡ true) × (list_any is_space ds ≡ false)
 digits_plain [] d = (refl, refl)
 digits_plain (c ∷ ds) d =
     let one = digit_no_space c ds d in

@@ -56,8 +56,10 @@ fn without_return(line: &[u8]) -> &[u8]
     }
 }
 
+/// The event that a text says, of any length, without the end of its line. `None` where it has none of the forms or its
+/// operator isn't in `hosted`.
 #[tactic(auto, unfolding(crate::specs::InputLines::event_of))]
-fn read_event(alloc: Global, hosted: &[Text], text: &str) -> Mem<Option<Event>>
+pub fn read_event(alloc: Global, hosted: &[Text], text: &str) -> Mem<Option<Event>>
     ensures { IfOk result (λ e. e ≡ event_of (is_hosted hosted.now) text.now) }
 {
     let Some((moment, rest)) = first_word(text) else {

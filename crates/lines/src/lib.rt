@@ -14,8 +14,9 @@ mod rows;
 mod words;
 
 pub use added_line::add_line;
-pub use input_line::{Line, MAX_LINE, read_line};
+pub use input_line::{Line, MAX_LINE, read_event, read_line};
 pub use journal::journal_line;
 pub use mark::{Bounds, bounds_of, mark_of};
 pub use order::read_order;
 pub use output_line::print_out;
+pub use words::first_word;
