@@ -1,0 +1,189 @@
+-- Lines of a journal.
+use Rattle.std.proofs.Common.{◌≡◌, ◌≢◌, ◌∙◌, ◌<◌, ◌≤◌, ◌+◌, ◌^◌, ℕ, List, [], ◌∷◌, ◌++◌, length, take, drop, get_or, Option, Some, None, Bool, true, false, codes, refl, sym, subst, ap, arith, nat_eq, inl, inr, true≢false, if◌then◌else◌}
+use Rattle.std.specs.Prelude.{◌==◌, not, String, string_bytes}
+use Rattle.std.specs.Fmt.{decimal}
+use Rattle.std.specs.List.{list_any}
+use Rattle.std.specs.Str.{IsUtf8, bytes_eq}
+use Rattle.std.specs.Str.Lossy.{utf8_valid_len}
+use Rattle.std.proofs.lemmas.Fmt.{decimal_is_IsNumeral, decimal_nonempty, length-decimal-le}
+use Rattle.std.proofs.lemmas.Str.{utf8_valid_len-IsUtf8, IsUtf8-string_bytes}
+use Rattle.std.proofs.lemmas.List.{append_assoc, append-nil, length-append, nil_from_length}
+use Rattle.hub_rows.specs.Failures.{Rose}
+use Rattle.hub_events.specs.declared.event.Event.{Event as HubEvent}
+use Rattle.lines.specs.InputLines.{event_of}
+use Rattle.lines.specs.Journal.{is_feed, Stands, IsReadBack, IsOneLine}
+use Rattle.lines.specs.Words.{is_space, first_word}
+use Rattle.lines.proofs.JournalLaws.{word_first, digits_plain}
+use Rattle.lines.proofs.JournalFeeds.{joined, of_digits}
+use Rattle.ocpp_types.specs.Digits.{number_of_digits}
+use Rattle.journal.specs.Entries.{entry_of, entry_in, mark_in, event_or, count_of, begins_line, taken_line, IsCount, AreCounts}
+use Rattle.journal.specs.Journals.{entries_from, entries_of, is_whole_from, is_whole, Adds, AddsMark}
+use Rattle.journal.specs.declared.entry.Entry.{Entry}
+use Rattle.journal.specs.declared.entry.Entry.TheVariants.{Begins, Event, Taken}
+
+pub valid_text : (bs : List ℕ) → IsUtf8 bs → nat_eq (utf8_valid_len bs) (length bs) ≡ true
+valid_text bs utf8 = let whole = utf8_valid_len-IsUtf8 bs utf8 in grind arith
+
+-- ---- whole lines
+
+whole_end : (begun : Bool) (xs : List ℕ) → is_whole_from begun (xs ++ (10 ∷ [])) ≡ true
+unfolding is_whole_from
+whole_end begun [] = refl
+whole_end begun (x ∷ xs) = whole_end (not (x == 10)) xs
+
+pub whole_line : (old line : List ℕ) → is_whole (old ++ (line ++ (10 ∷ []))) ≡ true
+whole_line old line = ap is_whole (sym (append_assoc old line (10 ∷ []))) ∙ whole_end false (old ++ line)
+
+whole_none : is_whole [] ≡ true
+unfolding is_whole_from
+whole_none = refl
+
+pub whole_nothing : (xs : List ℕ) → xs ≡ [] → is_whole xs ≡ true
+whole_nothing xs none = ap is_whole none ∙ whole_none
+
+pub nothing : (xs : List ℕ) → nat_eq (length xs) 0 ≡ true → xs ≡ []
+nothing xs e = nil_from_length xs (grind (arith, e))
+
+-- a line is added, or none
+pub whole_if : (b : Bool) (old line : List ℕ) → is_whole old ≡ true → is_whole (if b then old ++ (line ++ (10 ∷ [])) else old) ≡ true
+whole_if true old line whole = whole_line old line
+whole_if false old line whole = whole
+
+pub whole_cut : (b : Bool) (old : List ℕ) → is_whole old ≡ true → is_whole (if b then old ++ (255 ∷ 10 ∷ []) else old) ≡ true
+whole_cut b old whole = whole_if b old (255 ∷ []) whole
+
+-- whole lines behind whole lines
+joined_from : (begun : Bool) (xs ys : List ℕ) → is_whole_from begun xs ≡ true → is_whole ys ≡ true → is_whole_from begun (xs ++ ys) ≡ true
+unfolding is_whole_from
+joined_from true [] ys whole other = absurd (true≢false (sym whole))
+joined_from false [] ys whole other = other
+joined_from begun (x ∷ xs) ys whole other = joined_from (not (x == 10)) xs ys whole other
+
+pub whole_both : (b : Bool) (old other : List ℕ) → is_whole old ≡ true → is_whole other ≡ true → is_whole (if b then old ++ other else old) ≡ true
+whole_both true old other whole more = joined_from false old other whole more
+whole_both false old other whole more = whole
+
+-- the entries of whole lines and of those that follow
+both_from : (is_hosted : List ℕ → Bool) (line front back : List ℕ) (begun : Bool) → is_whole_from begun front ≡ true → (begun ≡ false → line ≡ [])
+    → entries_from is_hosted line (front ++ back) ≡ entries_from is_hosted line front ++ entries_of is_hosted back
+unfolding entries_from is_whole_from
+both_from is_hosted line [] back true whole none = absurd (true≢false (sym whole))
+both_from is_hosted line [] back false whole none = ap (λ l. entries_from is_hosted l back) (none refl)
+both_from is_hosted line (x ∷ front) back begun whole none =
+    elim (x == 10) as (λ b. is_whole_from (not b) front ≡ true
+    → (if b then entry_of is_hosted line ∷ entries_from is_hosted [] (front ++ back) else entries_from is_hosted (line ++ (x ∷ [])) (front ++ back))
+    ≡ (if b then entry_of is_hosted line ∷ entries_from is_hosted [] front else entries_from is_hosted (line ++ (x ∷ [])) front) ++ entries_of is_hosted back) [
+      | true ↦ λ w. ap (λ es. entry_of is_hosted line ∷ es) (both_from is_hosted [] front back false w (λ _. refl))
+      | false ↦ λ w. both_from is_hosted (line ++ (x ∷ [])) front back true w (λ e. absurd (true≢false e))
+    ] whole
+
+pub both : (is_hosted : List ℕ → Bool) (front back : List ℕ) → is_whole front ≡ true → entries_of is_hosted (front ++ back) ≡ entries_of is_hosted front ++ entries_of is_hosted back
+both is_hosted front back whole = both_from is_hosted [] front back false whole (λ _. refl)
+
+-- a line without a line feed is one entry
+one_from : (is_hosted : List ℕ → Bool) (begun line : List ℕ) → list_any is_feed line ≡ false → entries_from is_hosted begun (line ++ (10 ∷ [])) ≡ entry_of is_hosted (begun ++ line) ∷ []
+unfolding entries_from
+one_from is_hosted begun [] none = ap (λ l. entry_of is_hosted l ∷ []) (sym (append-nil begun))
+one_from is_hosted begun (x ∷ line) none =
+    elim (x == 10) as (λ b. (b ≡ true → (x == 10) ≡ true) → (b ≡ false → list_any is_feed line ≡ false) → (b ≡ true → false ≡ true)
+    → (if b then entry_of is_hosted begun ∷ entries_from is_hosted [] (line ++ (10 ∷ [])) else entries_from is_hosted (begun ++ (x ∷ [])) (line ++ (10 ∷ [])))
+    ≡ entry_of is_hosted (begun ++ (x ∷ line)) ∷ []) [
+      | true ↦ λ is more never. absurd (true≢false (sym (never refl)))
+      | false ↦ λ is more never. one_from is_hosted (begun ++ (x ∷ [])) line (more refl) ∙ ap (λ l. entry_of is_hosted l ∷ []) (append_assoc begun (x ∷ []) line)
+    ] (λ e. e) (λ e. grind (arith, e, none)) (λ e. grind (arith, e, none))
+
+-- the entries of lines, and of one more
+line_added : (is_hosted : List ℕ → Bool) (old line : List ℕ) (entry : Entry) → is_whole old ≡ true → list_any is_feed line ≡ false → entry_of is_hosted line ≡ entry
+    → entries_of is_hosted (old ++ (line ++ (10 ∷ []))) ≡ entries_of is_hosted old ++ (entry ∷ [])
+line_added is_hosted old line entry whole none is =
+    both is_hosted old (line ++ (10 ∷ [])) whole
+    ∙ ap (λ es. entries_of is_hosted old ++ es) (one_from is_hosted [] line none ∙ ap (λ e. e ∷ []) is)
+
+-- ---- the line of an event
+
+is_text : {Z : Type 0} (s : String Z) → nat_eq (utf8_valid_len (string_bytes s)) (length (string_bytes s)) ≡ true
+is_text s = valid_text (string_bytes s) (IsUtf8-string_bytes s)
+
+entry_is : {Z : Type 0} (is_hosted : List ℕ → Bool) (s : String Z) → entry_of is_hosted (string_bytes s) ≡ entry_in is_hosted (string_bytes s)
+unfolding entry_of
+entry_is is_hosted s = let text = is_text s in rw text refl
+
+pub event_added : {Z : Type 0} (event : HubEvent) (order old : List ℕ) (s : String Z) → is_whole old ≡ true → IsReadBack event order (string_bytes s) → IsOneLine event order (string_bytes s)
+    → Adds event order old (old ++ (string_bytes s ++ (10 ∷ [])))
+event_added event order old s whole read one = λ is_hosted stands.
+    line_added is_hosted old (string_bytes s) (Event event) whole (one is_hosted stands)
+    (entry_is is_hosted s ∙ ap (λ e. event_or e (mark_in (string_bytes s))) (read is_hosted stands))
+
+-- ---- the lines of the marks
+
+pub record ReadsCount (n : ℕ) : Type 0 where
+  pub value : number_of_digits 19 (decimal n) ≡ Some n
+  pub spaceless : list_any is_space (decimal n) ≡ false
+  pub feedless : list_any is_feed (decimal n) ≡ false
+  pub some : 0 < length (decimal n)
+
+count_read : (n : ℕ) → IsCount n → ReadsCount n
+count_read n within =
+    let small : n < 2 ^ 64 = omega (arith, within) in
+    let numeral = decimal_is_IsNumeral n small in
+    let digits = digits_plain (decimal n) numeral.0.1 in
+    let some = decimal_nonempty n small in
+    let few = length-decimal-le 19 n (omega arith) (omega (arith, within)) small in
+    let all = digits.0 in
+    let value = numeral.1 in
+    record { value = grind (arith, all, value, some, few); spaceless = digits.1; feedless = of_digits (decimal n) numeral.0.1; some = some }
+
+taken_feedless : (taken events changes : ℕ) → AreCounts taken events changes → list_any is_feed (taken_line taken events changes) ≡ false
+taken_feedless taken events changes counts =
+    joined (decimal taken) (codes " " ++ (decimal events ++ (codes " " ++ decimal changes))) (count_read taken counts.first).feedless
+    (joined (decimal events) (codes " " ++ decimal changes) (count_read events counts.all).feedless (count_read changes counts.total).feedless)
+
+taken_no_event : (is_hosted : List ℕ → Bool) (taken events changes : ℕ) → event_of is_hosted (taken_line taken events changes) ≡ None
+unfolding event_of
+taken_no_event is_hosted taken events changes =
+    let first = word_first (codes "taken") (decimal taken ++ (codes " " ++ (decimal events ++ (codes " " ++ decimal changes)))) refl (omega arith) in
+    rw first refl
+
+taken_mark : (taken events changes : ℕ) → AreCounts taken events changes → mark_in (taken_line taken events changes) ≡ Some (Taken taken events changes)
+taken_mark taken events changes counts =
+    let one = count_read taken counts.first in
+    let two = count_read events counts.all in
+    let three = count_read changes counts.total in
+    let first = word_first (codes "taken") (decimal taken ++ (codes " " ++ (decimal events ++ (codes " " ++ decimal changes)))) refl (omega arith) in
+    let second = word_first (decimal taken) (decimal events ++ (codes " " ++ decimal changes)) one.spaceless one.some in
+    let third = word_first (decimal events) (decimal changes) two.spaceless two.some in
+    rw first (rw second (rw third (rw one.value (rw two.value (rw three.value refl)))))
+
+pub taken_added : {Z : Type 0} (taken events changes : ℕ) (old : List ℕ) (s : String Z) → is_whole old ≡ true → string_bytes s ≡ taken_line taken events changes → AreCounts taken events changes
+    → AddsMark (Taken taken events changes) old (old ++ (string_bytes s ++ (10 ∷ [])))
+taken_added taken events changes old s whole is counts = λ is_hosted.
+    line_added is_hosted old (string_bytes s) (Taken taken events changes) whole (ap (list_any is_feed) is ∙ taken_feedless taken events changes counts)
+    (entry_is is_hosted s ∙ ap (entry_in is_hosted) is ∙ ap (λ e. event_or e (mark_in (taken_line taken events changes))) (taken_no_event is_hosted taken events changes)
+    ∙ ap (event_or None) (taken_mark taken events changes counts))
+
+begins_no_event : (is_hosted : List ℕ → Bool) (changes : ℕ) (operators : List ℕ) → event_of is_hosted (begins_line changes operators) ≡ None
+unfolding event_of
+begins_no_event is_hosted changes operators =
+    let first = word_first (codes "begins") (decimal changes ++ (codes " " ++ operators)) refl (omega arith) in
+    rw first refl
+
+begins_mark : (changes : ℕ) (operators : List ℕ) → IsCount changes → mark_in (begins_line changes operators) ≡ Some (Begins changes operators)
+begins_mark changes operators within =
+    let one = count_read changes within in
+    let first = word_first (codes "begins") (decimal changes ++ (codes " " ++ operators)) refl (omega arith) in
+    let second = word_first (decimal changes) operators one.spaceless one.some in
+    rw first (rw second (rw one.value refl))
+
+pub begins_added : {Z : Type 0} (changes : ℕ) (operators old : List ℕ) (s : String Z) → is_whole old ≡ true → string_bytes s ≡ begins_line changes operators → IsCount changes
+    → list_any is_feed operators ≡ false → AddsMark (Begins changes operators) old (old ++ (string_bytes s ++ (10 ∷ [])))
+begins_added changes operators old s whole is within none = λ is_hosted.
+    line_added is_hosted old (string_bytes s) (Begins changes operators) whole
+    (ap (list_any is_feed) is ∙ joined (decimal changes) (codes " " ++ operators) (count_read changes within).feedless none)
+    (entry_is is_hosted s ∙ ap (entry_in is_hosted) is ∙ ap (λ e. event_or e (mark_in (begins_line changes operators))) (begins_no_event is_hosted changes operators)
+    ∙ ap (event_or None) (begins_mark changes operators within))
+
+-- ---- a count of failures
+
+pub rose_more : (a b n : ℕ) → Rose a b → Rose (a + n) (b + n)
+rose_more a b n (inl less) = inl (omega (arith, less))
+rose_more a b n (inr most) = inr (omega (arith, most))

@@ -1,0 +1,69 @@
+-- What a line of a journal says.
+use Rattle.std.specs.Prelude.{ℕ, Bool, List, ◌++◌, ◌<◌, ◌^◌, codes, Option, Some, None, if◌then◌else◌}
+use Rattle.std.specs.Fmt.{decimal}
+use Rattle.std.specs.Str.{bytes_eq}
+use Rattle.hub_events.specs.declared.event.Event.{Event as HubEvent}
+use Rattle.lines.specs.InputLines.{event_of, is_utf8}
+use Rattle.lines.specs.Words.{first_word, ◌>>=◌}
+use Rattle.ocpp_types.specs.Digits.{number_of_digits}
+use Rattle.journal.specs.declared.entry.Entry.{Entry}
+use Rattle.journal.specs.declared.entry.Entry.TheVariants.{Begins, Event, Taken, Bad}
+
+-- a count, in 1 to 19 decimal digits
+abbrev pub count_of : List ℕ → Option ℕ
+count_of text = number_of_digits 19 text
+
+-- `begins CHANGES OPERATORS`
+abbrev pub begins_form : List ℕ → Option Entry
+begins_form rest = do
+  changes ← first_word rest
+  count ← count_of changes.0
+  Some (Begins count changes.1)
+
+-- `taken TAKEN EVENTS CHANGES`
+abbrev pub taken_form : List ℕ → Option Entry
+taken_form rest = do
+  taken ← first_word rest
+  events ← first_word taken.1
+  first ← count_of taken.0
+  all ← count_of events.0
+  changes ← count_of events.1
+  Some (Taken first all changes)
+
+-- the form that the first word names
+abbrev pub form_of : List ℕ → List ℕ → Option Entry
+form_of word rest = if bytes_eq word (codes "begins") then begins_form rest else (if bytes_eq word (codes "taken") then taken_form rest else None)
+
+abbrev pub mark_in : List ℕ → Option Entry
+mark_in text = do
+  word ← first_word text
+  form_of word.0 word.1
+
+-- a line of input, or one of these forms
+abbrev pub event_or : Option HubEvent → Option Entry → Entry
+event_or (Some event) mark = Event event
+event_or None (Some mark) = mark
+event_or None None = Bad
+
+abbrev pub entry_in : (List ℕ → Bool) → List ℕ → Entry
+entry_in is_hosted text = event_or (event_of is_hosted text) (mark_in text)
+
+-- what a line says, by its bytes without the line feed
+unfoldable pub entry_of : (List ℕ → Bool) → List ℕ → Entry
+entry_of is_hosted bytes = if is_utf8 bytes then entry_in is_hosted bytes else Bad
+
+-- the lines of the marks
+abbrev pub begins_line : ℕ → List ℕ → List ℕ
+begins_line changes operators = codes "begins " ++ (decimal changes ++ (codes " " ++ operators))
+
+abbrev pub taken_line : ℕ → ℕ → ℕ → List ℕ
+taken_line taken events changes = codes "taken " ++ (decimal taken ++ (codes " " ++ (decimal events ++ (codes " " ++ decimal changes))))
+
+-- a count that can stand in a mark
+abbrev pub IsCount : ℕ → Type 0
+IsCount n = n < 10 ^ 19
+
+pub record AreCounts (taken events changes : ℕ) : Type 0 where
+  pub first : IsCount taken
+  pub all : IsCount events
+  pub total : IsCount changes

@@ -1,0 +1,35 @@
+-- The bytes of a journal: entries, each of one line.
+use Rattle.std.specs.Prelude.{ℕ, Bool, true, false, not, ◌==◌, List, [], ◌∷◌, ◌++◌, Option, Some, None, ◌≡◌, if◌then◌else◌}
+use Rattle.hub_events.specs.declared.event.Event.{Event as HubEvent}
+use Rattle.lines.specs.Journal.{Stands}
+use Rattle.journal.specs.Entries.{entry_of}
+use Rattle.journal.specs.declared.entry.Entry.{Entry}
+use Rattle.journal.specs.declared.entry.Entry.TheVariants.{Event}
+
+-- the entries of bytes, of which the first belong to a line that has begun; bytes without a line feed after them are none
+unfoldable pub entries_from : (List ℕ → Bool) → List ℕ → List ℕ → List Entry
+entries_from is_hosted line [] = []
+entries_from is_hosted line (byte ∷ rest) =
+    if byte == 10 then entry_of is_hosted line ∷ entries_from is_hosted [] rest
+    else entries_from is_hosted (line ++ (byte ∷ [])) rest
+
+abbrev pub entries_of : (List ℕ → Bool) → List ℕ → List Entry
+entries_of is_hosted bytes = entries_from is_hosted [] bytes
+
+-- the last line is whole, where one may have begun before
+unfoldable pub is_whole_from : Bool → List ℕ → Bool
+is_whole_from begun [] = not begun
+is_whole_from begun (byte ∷ rest) = is_whole_from (not (byte == 10)) rest
+
+-- each line has its line feed
+abbrev pub is_whole : List ℕ → Bool
+is_whole bytes = is_whole_from false bytes
+
+-- an entry follows the others, where the operators of its event are hosted
+abbrev pub Adds : HubEvent → List ℕ → List ℕ → List ℕ → Type 0
+Adds event order old new =
+    (is_hosted : List ℕ → Bool) → Stands is_hosted event order → entries_of is_hosted new ≡ entries_of is_hosted old ++ (Event event ∷ [])
+
+-- a mark follows the others
+abbrev pub AddsMark : Entry → List ℕ → List ℕ → Type 0
+AddsMark mark old new = (is_hosted : List ℕ → Bool) → entries_of is_hosted new ≡ entries_of is_hosted old ++ (mark ∷ [])

@@ -1,0 +1,25 @@
+//! The entries of a journal.
+
+use hub_events::Event;
+use ocpp_types::Text;
+
+/// What a line of a journal says (docs/RULES.md, The journal).
+#[derive(Drop)]
+pub enum Entry {
+    /// A server begins, with so many changes on record and those operators. No station is connected.
+    Begins {
+        changes: u64,
+        operators: Text,
+    },
+    /// An event is handed to the hub.
+    Event(Event),
+    /// Of the events since the last mark, which are so many, the first `taken` were taken. So many changes are on record
+    /// then.
+    Taken {
+        taken: u64,
+        events: u64,
+        changes: u64,
+    },
+    /// It is none of these.
+    Bad,
+}

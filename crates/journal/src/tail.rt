@@ -1,0 +1,126 @@
+//! The end of a journal.
+ghost use Rattle.std.specs.Prelude.{◌≡◌};
+ghost use Rattle.journal.specs.Tails.{taken_by};
+
+use crate::entry::Entry;
+use crate::read::read_entry;
+use ocpp_types::{Mem, NoMemory, Text};
+use std::alloc::{AllocError, Global};
+use std::io;
+use std::io::BufRead;
+use thiserror::Error;
+
+/// What a journal ends with.
+#[derive(Clone, Copy, Debug, PartialEq, Eq, Drop)]
+pub struct Tail {
+    /// How many events have no mark after them.
+    pub events: u64,
+    /// How many changes were on record at the last mark, if there is one.
+    pub marked: Option<u64>,
+    /// The last line has no line feed.
+    pub is_cut: bool,
+    /// There is no byte.
+    pub is_empty: bool,
+}
+
+/// Why the end of a journal can't be found.
+#[derive(Clone, Copy, Debug, PartialEq, Eq, Drop, Error)]
+pub enum TailFault {
+    #[error("NoMemory")]
+    NoMemory,
+    /// The reader answered an error.
+    #[error("Read")]
+    Read,
+}
+
+impl From<NoMemory> for TailFault {
+    fn from(_refused: NoMemory) -> TailFault {
+        TailFault::NoMemory
+    }
+}
+
+impl From<AllocError> for TailFault {
+    fn from(_refused: AllocError) -> TailFault {
+        TailFault::NoMemory
+    }
+}
+
+impl From<io::Error> for TailFault {
+    fn from(_error: io::Error) -> TailFault {
+        TailFault::Read
+    }
+}
+
+impl Tail {
+    /// The end of a journal without a line.
+    pub fn new() -> Tail {
+        Tail {
+            events: 0,
+            marked: None,
+            is_cut: false,
+            is_empty: true,
+        }
+    }
+
+    /// Of the events without a mark those that were taken, from the first on, where so many changes are on record. `None` is
+    /// that the journal doesn't fit the records.
+    pub fn taken(&self, changes: u64) -> Option<u64> {
+        taken_by(self.events, self.marked?, changes)
+    }
+}
+
+/// Of so many events without a mark those that were taken, where so many changes were on record at the last mark, and so many
+/// are.
+pub fn taken_by(events: u64, marked: u64, changes: u64) -> Option<u64>
+    ensures { result ≡ taken_by events marked changes }
+{
+    if changes == marked {
+        return Some(0);
+    }
+    if changes.checked_sub(1) == Some(marked) && events > 0 {
+        return Some(events);
+    }
+    None
+}
+
+/// What a journal ends with, by a reader of all of it.
+pub fn tail_of<R: BufRead>(alloc: Global, reader: &mut R) -> Result<Tail, TailFault> {
+    let mut hosted = Vec::new(alloc);
+    let mut tail = Tail::new();
+    let mut line = Vec::new(alloc);
+    for _ in 0..u64::MAX {
+        line.clear();
+        reader.read_until(b'\n', &mut line)?;
+        let [text @ .., b'\n'] = line.as_slice() else {
+            break;
+        };
+        tail.is_empty = false;
+        match read_entry(alloc, hosted.as_slice(), text)? {
+            Entry::Event(_) => tail.events = tail.events.saturating_add(1),
+            Entry::Taken { changes, .. } => {
+                tail.marked = Some(changes);
+                tail.events = 0;
+            }
+            Entry::Begins { changes, operators } => {
+                hosted = names_of(alloc, operators.as_str())?;
+                tail.marked = Some(changes);
+                tail.events = 0;
+            }
+            Entry::Bad => {}
+        }
+    }
+    if !line.is_empty() {
+        tail.is_empty = false;
+        tail.is_cut = true;
+    }
+    Ok(tail)
+}
+
+/// The names in a list whose items are divided by commas.
+pub fn names_of(alloc: Global, list: &str) -> Mem<Vec<Text>> {
+    let mut names = Vec::new(alloc);
+    for name in list.split(',') {
+        names.push(Text::copy_of(alloc, name)?)?;
+    }
+    Ok(names)
+}
