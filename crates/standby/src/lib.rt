@@ -1,0 +1,9 @@
+//! A standby: a hub that follows the journal of another.
+#![tactic(auto)]
+
+mod fault;
+mod following;
+mod group;
+
+pub use fault::FollowFault;
+pub use following::{Counts, Ended, follow};
