@@ -154,7 +154,7 @@ impl Link {
         self.refused_in.set(None);
         match self.unsent.try_borrow_mut() {
             Ok(mut unsent) => {
-                unsent.add(&mut &self.stream, buf, self.room.get())?;
+                unsent.add(&mut &self.stream, buf, self.room.get(), turn.holds())?;
                 Ok(buf.len())
             }
             Err(_) => Err(Error::from(ErrorKind::WriteZero)),

@@ -10,7 +10,7 @@ use std::rc::Rc;
 
 /// The stream of a connection. A read asks the system only where it has reported bytes, and a peek
 /// only where it has reported since the last one. What is written waits in it, and is given to the system at the end
-/// of the turn, or when much waits.
+/// of the turn, or when much waits, unless the streams hold it (`Streams::hold`).
 #[derive(Drop)]
 pub struct ReadyStream {
     link: Rc<Link>,

@@ -169,6 +169,11 @@ impl Streams {
         self.places.as_slice()
     }
 
+    /// From now on the system is given nothing before the end of a turn, however much waits.
+    pub fn hold(&self) {
+        self.turn.hold();
+    }
+
     /// It is that second now, by a clock that never goes back. It is 0 before the first call.
     pub fn set_second(&mut self, second: u64) {
         self.turn.set_second(second);

@@ -19,6 +19,8 @@ pub struct Turn {
     further: Cell<usize>,
     /// The streams that send a long message take turns.
     long: Cell<Round>,
+    /// What is written waits for the end of the turn, however much it is.
+    holds: Cell<bool>,
     /// The places of the streams that were read or written. It has room for all.
     used: RefCell<Vec<usize>>,
 }
@@ -31,6 +33,7 @@ impl Turn {
             number: Cell::new(1),
             further: Cell::new(FURTHER_BYTES),
             long: Cell::new(Round::new()),
+            holds: Cell::new(false),
             used: RefCell::new(Vec::new(alloc)),
         }
     }
@@ -57,6 +60,15 @@ impl Turn {
         let is_admitted = long.ask(token, is_late);
         self.long.set(long);
         is_admitted
+    }
+
+    /// From now on what is written waits for the end of the turn, however much it is.
+    pub fn hold(&self) {
+        self.holds.set(true);
+    }
+
+    pub fn holds(&self) -> bool {
+        self.holds.get()
     }
 
     pub fn set_second(&self, second: u64) {

@@ -59,12 +59,18 @@ impl Unsent {
         self.is_blocked = false;
     }
 
-    /// Adds bytes, where no more than `room` wait then. Where many wait they are given to the system first. Errors:
-    /// `WriteZero` where there is no room, `OutOfMemory`, and `BrokenPipe` after a write that failed.
-    pub fn add<W: Write>(&mut self, stream: &mut W, bytes: &[u8], room: usize) -> io::Result<()>
+    /// Adds bytes, where no more than `room` wait then. Where many wait they are given to the system first, unless it
+    /// `holds` them. Errors: `WriteZero` where there is no room, `OutOfMemory`, and `BrokenPipe` after a write that failed.
+    pub fn add<W: Write>(
+        &mut self,
+        stream: &mut W,
+        bytes: &[u8],
+        room: usize,
+        holds: bool,
+    ) -> io::Result<()>
         ensures { Adds (W.contents stream.old) (W.contents stream.new) bytes.now room self.old self.new result }
     {
-        self.make_room(stream, bytes.len());
+        self.make_room(stream, bytes.len(), holds);
         if self.has_failed {
             return Err(Error::from(ErrorKind::BrokenPipe));
         }
@@ -74,11 +80,11 @@ impl Unsent {
         }
     }
 
-    /// Gives the system what waits, where much would wait with so many bytes more.
-    fn make_room<W: Write>(&mut self, stream: &mut W, bytes: usize)
+    /// Gives the system what waits, where much would wait with so many bytes more, unless it `holds` them.
+    fn make_room<W: Write>(&mut self, stream: &mut W, bytes: usize, holds: bool)
         ensures { Gives (W.contents stream.old) (W.contents stream.new) self.old self.new }
     {
-        if self.count.saturating_add(bytes) > BLOCK_SIZE {
+        if !holds && self.count.saturating_add(bytes) > BLOCK_SIZE {
             self.give(stream);
         }
     }

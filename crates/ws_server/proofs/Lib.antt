@@ -1,7 +1,8 @@
-pub mod StepLaws
-pub mod PartLaws
-pub mod HandshakeLaws
-pub mod LobbyLaws
 pub mod AdmitLaws
+pub mod HandshakeLaws
+pub mod IdleLaws
+pub mod LobbyLaws
+pub mod PartLaws
 pub mod ProbeLaws
 pub mod SayLaws
+pub mod StepLaws

@@ -95,9 +95,11 @@ impl<T: Read + Write + Served + Drop> Gateway<T> {
         ensures counted { IsCounted (hub_view S.view) hub.old hub.new (result ≡ Err Fault.Store) }
     {
         self.peers.reserve()?;
+        self.begin_line(event, "");
         let outs = match hub.handle(event) {
             Ok(outs) => outs,
             Err(fault) => {
+                self.refuse_line();
                 self.notes.add(
                     Some(&arrival.route),
                     arrival.address,
@@ -106,6 +108,7 @@ impl<T: Read + Write + Served + Drop> Gateway<T> {
                 return Err(fault);
             }
         };
+        self.take_line(event, &outs);
         let place = self.peers.count();
         let is_turned_away = turns_away(&outs);
         note_connect(&mut self.notes, &self.peers, &arrival, is_turned_away);

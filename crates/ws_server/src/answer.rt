@@ -6,7 +6,7 @@ ghost use Rattle.ws_peers.specs.Lists.{At};
 ghost use Rattle.ws_server.specs.Steps.{Takes};
 ghost use Rattle.ws_server.specs.Tells.{SentWhileOpen, peers_of};
 
-use crate::events::{event_of, word_of};
+use crate::events::{event_of, order_text, word_of};
 use crate::gateway::Gateway;
 use hub::{Event, Fault, Hub};
 use hub_rows::Store;
@@ -42,9 +42,9 @@ impl<T: Read + Write + Served + Drop> Gateway<T> {
         match word_of(route, text) {
             Some(word) => {
                 let bounds = bounds_of(self.alloc, word)?;
-                self.answer_between(hub, n, &bounds, &event)
+                self.answer_between(hub, n, &bounds, &event, text)
             }
-            None => self.answer(hub, n, &event),
+            None => self.answer(hub, n, &event, text),
         }
     }
 
@@ -55,6 +55,7 @@ impl<T: Read + Write + Served + Drop> Gateway<T> {
         hub: &mut Hub<S, V>,
         n: usize,
         event: &Option<Event>,
+        text: &str,
     ) -> Result<(), Fault>
         requires { n < length (peers_of self.old) }
         ensures takes { Takes S.view V.view hub.old hub.new
@@ -63,7 +64,7 @@ impl<T: Read + Write + Served + Drop> Gateway<T> {
         ensures count { length (peers_of self.new) ≡ length (peers_of self.old) }
     {
         match event {
-            Some(event) => self.hand(hub, n, event),
+            Some(event) => self.hand(hub, n, event, text),
             None => {
                 self.say(n, "bad line");
                 Ok(())
@@ -78,6 +79,7 @@ impl<T: Read + Write + Served + Drop> Gateway<T> {
         n: usize,
         bounds: &Bounds,
         event: &Option<Event>,
+        text: &str,
     ) -> Result<(), Fault>
         requires { n < length (peers_of self.old) }
         ensures takes { Takes S.view V.view hub.old hub.new
@@ -90,7 +92,15 @@ impl<T: Read + Write + Served + Drop> Gateway<T> {
             self.refuse_between(n, bounds.begin.as_str(), bounds.end.as_str());
             return Ok(());
         };
-        let outs = hub.handle(event)?;
+        self.begin_line(event, order_text(text));
+        let outs = match hub.handle(event) {
+            Ok(outs) => outs,
+            Err(fault) => {
+                self.refuse_line();
+                return Err(fault);
+            }
+        };
+        self.take_line(event, &outs);
         self.taken = self.taken.wrapping_add(1);
         self.say(n, bounds.begin.as_str());
         self.tell_all(n, &outs);

@@ -25,7 +25,7 @@ pub fn word_of<'a>(route: &Route, text: &'a str) -> Option<&'a str>
 }
 
 /// A text of an operator without its word.
-fn order_text(text: &str) -> &str
+pub fn order_text(text: &str) -> &str
     ensures { result.now ≡ order_text text.now }
 {
     match mark_of(text) {

@@ -2,10 +2,12 @@
 ghost use Rattle.std.specs.Prelude.{◌≡◌, ◌<◌, ◌≤◌, [], length, slice_index_or, option_map, Some, None};
 
 use crate::notes::{Note, Notes};
+use journal::Journal;
 use ocpp_types::Text;
 use ready_streams::Served;
 use std::alloc::Global;
 use std::io::{Read, Write};
+use std::rc::Rc;
 use ws_peers::{Peer, Peers, Route};
 
 /// The connected peers of one hub, by place.
@@ -20,6 +22,8 @@ pub struct Gateway<T> {
     pub(crate) full: Vec<Text>,
     /// How many events the hub has taken.
     pub(crate) taken: u64,
+    /// Where the lines of events go, if they are kept.
+    pub(crate) journal: Option<Rc<Journal>>,
 }
 
 impl<T: Read + Write + Served + Drop> Gateway<T> {
@@ -39,7 +43,15 @@ impl<T: Read + Write + Served + Drop> Gateway<T> {
             notes: Notes::new(alloc),
             full: Vec::new(alloc),
             taken: 0,
+            journal: None,
         }
+    }
+
+    /// From now on the lines of events go to a journal.
+    pub fn set_journal(&mut self, journal: Rc<Journal>)
+        ensures { peers_of self.new ≡ peers_of self.old }
+    {
+        self.journal = Some(journal);
     }
 
     /// From now on it keeps notes of what becomes of connections.

@@ -5,6 +5,7 @@
 mod admit;
 mod answer;
 mod arrival;
+mod event_lines;
 mod events;
 mod gateway;
 mod lobby;

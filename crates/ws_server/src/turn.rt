@@ -23,19 +23,29 @@ use ws_peers::{Peers, Stage};
 impl<T: Read + Write + Served + Drop> Gateway<T> {
     ghost use Rattle.ws_server.specs.Turns.{Hands, Serves, Parts, Each, SweepsAndTicks, PartsAndTicks, Turns};
 
-    /// Hands an event to the hub, and sends its outputs. After a fault nothing has changed.
+    /// Hands an event to the hub, and sends its outputs. After a fault nothing has changed. `order` is the text of an order,
+    /// without its word.
     pub(crate) fn hand<S: Store + Drop, V: VendorHandler>(
         &mut self,
         hub: &mut Hub<S, V>,
         near: usize,
         event: &Event,
+        order: &str,
     ) -> Result<(), Fault>
         ensures takes { Takes S.view V.view hub.old hub.new
             (λ steps. Hands T.contents (setting V.view hub.old).is_hosted event.now (peers_of self.old) (peers_of self.new) steps result) }
         ensures counted { IsCounted (hub_view S.view) hub.old hub.new (result ≡ Err Fault.Store) }
         ensures count { length (peers_of self.new) ≡ length (peers_of self.old) }
     {
-        let outs = hub.handle(event)?;
+        self.begin_line(event, order);
+        let outs = match hub.handle(event) {
+            Ok(outs) => outs,
+            Err(fault) => {
+                self.refuse_line();
+                return Err(fault);
+            }
+        };
+        self.take_line(event, &outs);
         self.taken = self.taken.wrapping_add(1);
         self.tell_all(near, &outs);
         Ok(())
@@ -85,7 +95,7 @@ impl<T: Read + Write + Served + Drop> Gateway<T> {
         let Some(event) = parting(self.peers.peer(n), moment)? else {
             return Ok(());
         };
-        match self.hand(hub, n, &event) {
+        match self.hand(hub, n, &event, "") {
             Ok(()) => {
                 self.peers.finish(n);
                 Ok(())
@@ -211,7 +221,7 @@ impl<T: Read + Write + Served + Drop> Gateway<T> {
         ensures counted { IsCounted (hub_view S.view) hub.old hub.new (result ≡ Err Fault.Store) }
     {
         self.peers.sweep();
-        self.hand(hub, 0, &Event::Tick { moment })
+        self.hand(hub, 0, &Event::Tick { moment }, "")
     }
 }
 

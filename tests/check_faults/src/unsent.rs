@@ -74,7 +74,7 @@ fn what_waits_is_given_in_order_as_the_stream_has_room(rt: HostRuntime) -> Resul
     let mut rest = all.as_slice();
     for turn in 0..400 {
         let (piece, later) = rest.split_at(rest.len().min(turn * 500));
-        unsent.add(&mut stream, piece, usize::MAX)?;
+        unsent.add(&mut stream, piece, usize::MAX, false)?;
         rest = later;
         stream.room = 7_000;
         unsent.unblock();
@@ -93,8 +93,8 @@ fn bytes_for_which_there_is_no_room_are_refused(rt: HostRuntime) -> Result<(), F
     let bytes = bytes_of(alloc, 100_000)?;
     let mut unsent = Unsent::new(alloc);
     let mut stream = stream_with(alloc, 0);
-    unsent.add(&mut stream, bytes.as_slice(), 150_000)?;
-    let refused = unsent.add(&mut stream, bytes.as_slice(), 150_000);
+    unsent.add(&mut stream, bytes.as_slice(), 150_000, false)?;
+    let refused = unsent.add(&mut stream, bytes.as_slice(), 150_000, false);
     assert!(rt; kind_of(refused) == Some(ErrorKind::WriteZero));
     assert_eq!(rt; unsent.len(), 100_000);
     stream.room = usize::MAX;
@@ -105,14 +105,28 @@ fn bytes_for_which_there_is_no_room_are_refused(rt: HostRuntime) -> Result<(), F
 }
 
 #[test]
+fn what_is_held_is_given_when_it_is_to_be(rt: HostRuntime) -> Result<(), Fail> {
+    let alloc = rt.alloc();
+    let bytes = bytes_of(alloc, 100_000)?;
+    let mut unsent = Unsent::new(alloc);
+    let mut stream = stream_with(alloc, usize::MAX);
+    unsent.add(&mut stream, bytes.as_slice(), 300_000, true)?;
+    unsent.add(&mut stream, bytes.as_slice(), 300_000, true)?;
+    assert!(rt; stream.taken.is_empty() && unsent.len() == 200_000);
+    unsent.give(&mut stream);
+    assert!(rt; stream.taken.len() == 200_000 && unsent.len() == 0);
+    Ok(())
+}
+
+#[test]
 fn after_a_failed_write_nothing_waits(rt: HostRuntime) -> Result<(), Fail> {
     let alloc = rt.alloc();
     let mut unsent = Unsent::new(alloc);
     let mut stream = FaultyWriter::new(alloc, 3, 1, Failure::Full);
-    unsent.add(&mut stream, b"waits", 10)?;
+    unsent.add(&mut stream, b"waits", 10, false)?;
     unsent.give(&mut stream);
     assert!(rt; stream.written.as_slice() == b"wai".as_slice() && unsent.len() == 0);
-    let refused = unsent.add(&mut stream, b"later", 10);
+    let refused = unsent.add(&mut stream, b"later", 10, false);
     assert!(rt; kind_of(refused) == Some(ErrorKind::BrokenPipe));
     Ok(())
 }
