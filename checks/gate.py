@@ -42,6 +42,8 @@ OF_PROGRAM = [
     ["python3", "checks/hurt.py", PROGRAM],
     # what is on record after kills
     ["python3", "checks/kills.py", PROGRAM, "20"],
+    # what a server writes to its journal, and what a standby makes of it
+    ["python3", "checks/standby.py", PROGRAM, "10"],
     # how the server tells what it does, what it bounds, and how it ends
     ["python3", "checks/serving.py", PROGRAM],
     # the program's statuses and texts, and sessions over sockets

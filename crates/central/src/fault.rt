@@ -1,10 +1,12 @@
 //! Why a run stops.
 
 use crate::hosted::BadOperators;
+use crate::journal_file::JournalProblem;
 use cached::CacheFault;
 use clients::ClientFault;
 use ocpp_types::{NoMemory, Text};
 use replay::ReplayFault;
+use standby::FollowFault;
 use std::alloc::{AllocError, AllocFailed};
 use std::io;
 use std::net::SocketAddr;
@@ -23,6 +25,15 @@ pub enum RunFault {
     /// The database failed while it was served, and is shut.
     #[error("Store: the database failed")]
     Store,
+    /// The journal at a path can't be kept, or can't be followed.
+    #[error("Journal: {0}")]
+    Journal(JournalProblem, Text),
+    /// A journal can't be followed any further.
+    #[error("Follow: {0}")]
+    Follow(FollowFault),
+    /// A journal is that of a server with other operators.
+    #[error("Follow: Operators")]
+    OtherOperators(Text),
     /// A replay ended before its input.
     #[error("{0}")]
     Replay(ReplayFault),
@@ -62,8 +73,18 @@ impl RunFault {
             RunFault::Client(fault) => fault.write_detail(rt),
             RunFault::Listener(address, error) => eprintln!(rt; "{address}: {error}"),
             RunFault::Console(error) => eprintln!(rt; "standard input or output: {error}"),
-            RunFault::Database(_, file) | RunFault::Mark(_, file) => eprintln!(rt; "{file}"),
-            RunFault::Store | RunFault::Replay(_) | RunFault::NoMemory | RunFault::Clock => Ok(()),
+            RunFault::Database(_, file) | RunFault::Mark(_, file) | RunFault::Journal(_, file) => {
+                eprintln!(rt; "{file}")
+            }
+            RunFault::OtherOperators(names) => {
+                let names = names.as_str().escape_debug();
+                eprintln!(rt; "the journal is of {names}")
+            }
+            RunFault::Store
+            | RunFault::Follow(_)
+            | RunFault::Replay(_)
+            | RunFault::NoMemory
+            | RunFault::Clock => Ok(()),
         }
     }
 }
@@ -80,6 +101,15 @@ impl From<ClientFault> for RunFault {
         match fault {
             ClientFault::NoMemory => RunFault::NoMemory,
             other => RunFault::Client(other),
+        }
+    }
+}
+
+impl From<FollowFault> for RunFault {
+    fn from(fault: FollowFault) -> RunFault {
+        match fault {
+            FollowFault::NoMemory => RunFault::NoMemory,
+            other => RunFault::Follow(other),
         }
     }
 }

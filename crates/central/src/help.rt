@@ -80,3 +80,17 @@ Exit statuses:
   3  an order was refused
 
 More: docs/OPERATIONS.md (Growth), docs/RULES.md (Forgetting)\n";
+
+/// What follows the help of `follow`.
+pub const FOLLOW: &str = "\
+Example:
+  central follow --db standby.db --operators ACME,BETA --journal - < journal
+
+`central serve --follow -` follows a journal in the same way, and serves at its end.
+
+Exit statuses:
+  0  the journal was followed to its end
+  1  the command line can't be read
+  2  a fault, which standard error names
+
+More: docs/OPERATIONS.md (A standby)\n";

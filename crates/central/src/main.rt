@@ -1,14 +1,17 @@
 //! The program: replays lines, serves connections, and simulates stations.
 #![tactic(auto)]
 
+mod arguments;
 mod bad_lines;
 mod causes;
 mod command;
 mod fault;
 mod file_fault;
+mod following;
 mod help;
 mod hosted;
-mod journal;
+mod journal_file;
+mod kept_journal;
 mod measured;
 mod metrics;
 mod metrics_page;
@@ -19,16 +22,19 @@ mod records;
 mod repair_log;
 mod replaying;
 mod server;
+mod server_log;
 mod service;
 mod serving;
 mod sim_command;
 mod status;
 mod stderr;
+mod stop_file;
 
 use clap::error::ErrorKind;
 use clients::{FORMS, ask, forget, simulate};
 use command::Plan;
 use fault::RunFault;
+use following::follow_alone;
 use replaying::replay_lines;
 use serving::serve;
 use station_calls::{Echo, VendorHandler};
@@ -81,6 +87,7 @@ fn carry_out(rt: &HostRuntime, plan: Plan) -> Result<u8, RunFault> {
         Plan::Sim(options) => all_taken = simulate(rt, &options)?,
         Plan::Ask(options) => all_taken = ask(rt, &options)?,
         Plan::Forget(options) => all_taken = forget(rt, &options)?,
+        Plan::Follow(options) => follow_alone(rt, &options)?,
     }
     Ok(status::of_lines(all_taken))
 }

@@ -1,7 +1,7 @@
 //! The metrics as a page of text (Prometheus, Exposition formats, Text-based format, version 0.0.4).
 
+use crate::arguments::VERSION;
 use crate::causes::NAMES;
-use crate::command::VERSION;
 use crate::metrics::{Counts, FAULT_NAMES, Metrics};
 use ocpp_types::Mem;
 use std::alloc::Global;

@@ -3,21 +3,25 @@
 use crate::command::ServeOptions;
 use crate::fault::RunFault;
 use crate::hosted::hub_of;
-use crate::journal::Journal;
+use crate::journal_file::{JournalOptions, begin_journal};
+use crate::kept_journal::KeptJournal;
 use crate::measured::{connected_of, now_of};
 use crate::metrics::{Counts, Metrics};
 use crate::metrics_page::page_of;
+use crate::server_log::ServerLog;
 use crate::service::Service;
+use crate::stop_file::StopFile;
 use clients::now;
 use hub::{Fault, Hub};
 use hub_rows::Store;
+use journal::Journal;
 use ocpp_types::{Mem, Moment, Text};
 use ready_streams::{ReadyStream, Streams};
 use station_calls::VendorHandler;
 use std::alloc::Global;
 use std::fmt::Display;
-use std::fs;
 use std::net::SocketAddr;
+use std::rc::Rc;
 use std::time::{Duration, Instant};
 use ws_peers::Route;
 use ws_server::{Gateway, Lobby};
@@ -32,9 +36,6 @@ const PAUSE: u64 = 10_000_000;
 /// since what a turn does first takes as long as there are connections to read. Those that are left are served in the next
 /// one, after what is reported meanwhile.
 const SERVES: u64 = 1_000_000;
-
-/// The nanoseconds between two looks for the file that ends the server.
-const LOOKS: u64 = 50_000_000;
 
 /// The nanoseconds that peers have at most, as the server ends, to take what waits for them.
 const LAST_WAIT: u64 = 2_000_000_000;
@@ -77,18 +78,16 @@ pub struct Server<S, V> {
     /// The seconds since then, in the last turn.
     second: u64,
     service: Service,
-    journal: Journal,
+    log: ServerLog,
     metrics: Metrics,
     /// The metrics as they were printed last, and in which second.
     page: Option<(u64, String)>,
     /// The most connections of stations that an operator has.
     most_stations: u64,
+    journal: KeptJournal,
     /// The path of the file of the records.
     db: Text,
-    /// The path of the file that ends it.
-    stop_file: Option<Text>,
-    /// The nanoseconds since the start from which on that is looked for again.
-    next_look: u64,
+    stop_file: StopFile,
     /// Accepting a connection failed in this second. It isn't tried again in it.
     failed_accept: bool,
     /// The last turn ended in a fault.
@@ -110,7 +109,7 @@ impl<S: Store + Drop, V: VendorHandler> Server<S, V> {
         mut streams: Streams,
         options: ServeOptions,
         vendors: Vec<V>,
-        journal: Journal,
+        log: ServerLog,
     ) -> Result<Server<S, V>, RunFault> {
         let alloc = rt.alloc();
         let moment = now(rt).ok_or(RunFault::Clock)?;
@@ -132,13 +131,13 @@ impl<S: Store + Drop, V: VendorHandler> Server<S, V> {
             now: 0,
             second: 0,
             service,
-            journal,
+            log,
             metrics,
             page: None,
             most_stations: u64::from(options.most_stations),
+            journal: KeptJournal::none(),
             db: options.db,
-            stop_file: options.stop_file,
-            next_look: 0,
+            stop_file: StopFile::new(options.stop_file),
             failed_accept: false,
             has_faulted: false,
             hurt: None,
@@ -147,9 +146,24 @@ impl<S: Store + Drop, V: VendorHandler> Server<S, V> {
         })
     }
 
+    /// Keeps a journal from now on, in which the server begins with those operators. What is taken is in its file before peers
+    /// are told of it.
+    pub fn keep_journal(
+        &mut self,
+        rt: &HostRuntime,
+        options: &JournalOptions,
+        journal: Rc<Journal>,
+    ) -> Result<(), RunFault> {
+        begin_journal(rt, options, self.hub.hosted(), &journal)?;
+        self.gateway.set_journal(Rc::clone(&journal)?);
+        self.streams.hold();
+        self.journal.keep(journal, options.path.clone()?);
+        Ok(())
+    }
+
     /// Writes the line with which its log begins.
     pub fn tell_start(&mut self, text: &str) {
-        self.journal.write_line(self.moment, text);
+        self.log.write_line(self.moment, text);
     }
 
     /// Makes that many turns, without waiting, or goes on until it is ended. It ends where the database is shut, as it is
@@ -163,10 +177,13 @@ impl<S: Store + Drop, V: VendorHandler> Server<S, V> {
             self.write_log();
             let took = self.read_clock(rt).saturating_sub(began);
             self.metrics.turn.add(took, self.second);
+            if let Some(fault) = self.journal.fault(self.alloc)? {
+                return Err(fault);
+            }
             if self.is_store_shut {
                 return Err(RunFault::Store);
             }
-            if self.is_ended(rt) {
+            if self.stop_file.is_there(rt, self.now) {
                 return self.end(rt);
             }
         }
@@ -181,18 +198,6 @@ impl<S: Store + Drop, V: VendorHandler> Server<S, V> {
         self.now
     }
 
-    /// Whether the file is found that ends the server. It is looked for once in 50 ms at most.
-    fn is_ended(&mut self, rt: &HostRuntime) -> bool {
-        let Some(path) = &self.stop_file else {
-            return false;
-        };
-        if self.now < self.next_look {
-            return false;
-        }
-        self.next_look = self.now.saturating_add(LOOKS);
-        matches!(fs::exists(rt, path.as_str()), Ok(true))
-    }
-
     /// Ends: what was read is answered, and nothing more is read. Connections are closed with the code 1001. Their peers
     /// have two seconds to take what waits for them.
     fn end(&mut self, rt: &HostRuntime) -> Result<(), RunFault> {
@@ -200,11 +205,9 @@ impl<S: Store + Drop, V: VendorHandler> Server<S, V> {
         self.gateway.end_all();
         self.streams.end_turn();
         self.wait_for_peers(rt)?;
-        if let Some(path) = &self.stop_file {
-            let _gone = fs::remove_file(rt, path.as_str());
-        }
+        self.stop_file.remove(rt);
         let text = format!(in self.alloc; "central ends: {count} connections closed")?;
-        self.journal.write_line(self.moment, text.as_str());
+        self.log.write_line(self.moment, text.as_str());
         Ok(())
     }
 
@@ -275,7 +278,7 @@ impl<S: Store + Drop, V: VendorHandler> Server<S, V> {
                 self.reserve = set_aside(self.alloc).ok();
             }
             self.lobby.set_hurt(is_recent(self.hurt, second));
-            self.journal.begin_second(moment);
+            self.log.begin_second(moment);
             self.count_stations();
             self.probe();
         }
@@ -292,7 +295,7 @@ impl<S: Store + Drop, V: VendorHandler> Server<S, V> {
     }
 
     /// One turn: accepts connections, polls those that wait, and serves peers whose streams may be read. Where the database
-    /// is shut, all connections are closed. What was written is then given to the system.
+    /// is shut, all connections are closed. What was written is then given to the system, once the journal has what was taken.
     fn turn(&mut self, rt: &HostRuntime) {
         if let Err(fault) = self.accept() {
             self.failed_accept = true;
@@ -318,7 +321,9 @@ impl<S: Store + Drop, V: VendorHandler> Server<S, V> {
         if self.is_store_shut {
             self.gateway.fail_all();
         }
-        self.streams.end_turn();
+        if self.journal.write() {
+            self.streams.end_turn();
+        }
     }
 
     /// Tells the fault of a turn, if it ended in one. That of a store that is shut is told as the server ends.
@@ -343,7 +348,7 @@ impl<S: Store + Drop, V: VendorHandler> Server<S, V> {
         if found_no_memory {
             self.reserve = None;
         }
-        self.journal.write_fault(fault)
+        self.log.write_fault(fault)
     }
 
     /// Answers those that ask for the metrics, which are printed once in a second at most.
@@ -363,7 +368,7 @@ impl<S: Store + Drop, V: VendorHandler> Server<S, V> {
         now.since_start = self.now;
         now.waiting = self.lobby.count() as u64;
         now.unsent = self.streams.count_unsent() as u64;
-        now.left_out = self.journal.left_out();
+        now.left_out = self.log.left_out();
         page_of(self.alloc, &self.metrics, connected.as_slice(), &now)
     }
 
@@ -412,10 +417,10 @@ impl<S: Store + Drop, V: VendorHandler> Server<S, V> {
     fn write_log(&mut self) {
         let refused = self.lobby.take_notes();
         self.metrics.note(refused.as_slice());
-        self.journal.write_notes(self.moment, refused.as_slice());
+        self.log.write_notes(self.moment, refused.as_slice());
         let notes = self.gateway.take_notes();
         self.metrics.note(notes.as_slice());
-        self.journal.write_notes(self.moment, notes.as_slice());
+        self.log.write_notes(self.moment, notes.as_slice());
         if !notes.is_empty() {
             self.name_full();
         }

@@ -2,13 +2,15 @@
 
 use crate::command::ServeOptions;
 use crate::fault::RunFault;
-use crate::journal::{Journal, opening_text, start_text};
+use crate::following::follow_journal;
 use crate::records::{ANSWERS, open, size_of};
 use crate::server::Server;
+use crate::server_log::{ServerLog, opening_text, start_text};
 use crate::stderr::takes_line;
 use cached::Cached;
 use clients::now;
 use hub_rows::{Store, is_hosted, is_operator_name};
+use journal::{Journal, Journaled, Writer};
 use ocpp_types::{Mem, Text};
 use ready_streams::Streams;
 use sqlite::Alter;
@@ -16,6 +18,7 @@ use station_calls::VendorHandler;
 use std::alloc::Global;
 use std::fs;
 use std::net::SocketAddr;
+use std::rc::Rc;
 use std::time::{Duration, Instant};
 use store_sql::SqlStore;
 
@@ -61,7 +64,7 @@ fn tell_opening(rt: &HostRuntime, options: &ServeOptions) -> Result<(), RunFault
     }
     let text = opening_text(rt.alloc(), options.db.as_str(), size)?;
     let moment = now(rt).ok_or(RunFault::Clock)?;
-    Journal::new(rt, options.log).write_line(moment, text.as_str());
+    ServerLog::new(rt, options.log).write_line(moment, text.as_str());
     Ok(())
 }
 
@@ -76,44 +79,96 @@ fn serve_database<A: Alter + Drop, V: VendorHandler>(
 ) -> Result<(), RunFault> {
     let strangers = strangers_in(rt.alloc(), &mut store, options.operators.as_slice())?;
     warn_of_strangers(rt, strangers.as_slice());
+    let journal = journal_over(rt.alloc(), store.changes())?;
     let store = store.with_longest(options.longest);
-    serve_cached(rt, store, streams, options, vendors, opening)
+    let opened = Opened {
+        streams,
+        opening,
+        journal,
+    };
+    serve_journaled(rt, store, opened, options, vendors)
+}
+
+/// What a server begins with, beside its store and its options.
+#[derive(Drop)]
+struct Opened {
+    streams: Streams,
+    /// How long the opening of its file took.
+    opening: Duration,
+    journal: Rc<Journal>,
+}
+
+/// A journal without a file, where so many changes are on record.
+pub fn journal_over(alloc: Global, changes: u64) -> Result<Rc<Journal>, RunFault> {
+    Ok(Rc::new(alloc, Journal::new(Writer::new(alloc, changes)))?)
+}
+
+/// Serves by the records of a store, whose changes are counted.
+fn serve_journaled<S: Store + Drop, V: VendorHandler>(
+    rt: &HostRuntime,
+    store: S,
+    opened: Opened,
+    options: ServeOptions,
+    vendors: Vec<V>,
+) -> Result<(), RunFault> {
+    let journal = Rc::clone(&opened.journal)?;
+    serve_cached(rt, Journaled::new(store, journal), opened, options, vendors)
 }
 
 /// Serves by the records of a store, behind a cache.
 fn serve_cached<S: Store + Drop, V: VendorHandler>(
     rt: &HostRuntime,
     store: S,
-    streams: Streams,
+    opened: Opened,
     options: ServeOptions,
     vendors: Vec<V>,
-    opening: Duration,
 ) -> Result<(), RunFault> {
     let store = Cached::new(rt.alloc(), store, ANSWERS)?;
-    serve_over(rt, store, streams, options, vendors, opening)
+    serve_followed(rt, store, opened, options, vendors)
+}
+
+/// Follows a journal to its end, if it is to, and then serves.
+fn serve_followed<S: Store + Drop, V: VendorHandler>(
+    rt: &HostRuntime,
+    store: S,
+    opened: Opened,
+    options: ServeOptions,
+    vendors: Vec<V>,
+) -> Result<(), RunFault> {
+    let store = match &options.follow {
+        Some(path) => {
+            let operators = options.operators.as_slice();
+            follow_journal(rt, store, &opened.journal, path.as_str(), operators)?
+        }
+        None => store,
+    };
+    serve_over(rt, store, opened, options, vendors)
 }
 
 /// Serves by the records of a store, whose opening took so long.
 fn serve_over<S: Store + Drop, V: VendorHandler>(
     rt: &HostRuntime,
     mut store: S,
-    streams: Streams,
-    options: ServeOptions,
+    opened: Opened,
+    mut options: ServeOptions,
     vendors: Vec<V>,
-    opening: Duration,
 ) -> Result<(), RunFault> {
     let counts = count_stations(rt.alloc(), &mut store, options.operators.as_slice())?;
     let stations = counts
         .iter()
         .fold(0, |all: usize, count| all.saturating_add(*count));
-    let start = start_text(rt.alloc(), &options, opening, stations)?;
+    let start = start_text(rt.alloc(), &options, opened.opening, stations)?;
     let turns = options.turns;
     let address = options.address;
-    let journal = Journal::new(rt, options.log);
+    let log = ServerLog::new(rt, options.log);
     if stations > 0 {
         warn_of_names(rt, options.operators.as_slice(), counts.as_slice());
     }
-    let mut server = Server::new(rt, store, streams, options, vendors, journal)?;
+    let kept = options.journal.take();
+    let mut server = Server::new(rt, store, opened.streams, options, vendors, log)?;
+    if let Some(kept) = kept {
+        server.keep_journal(rt, &kept, opened.journal)?;
+    }
     warn_of(rt, address);
     server.tell_start(start.as_str());
     server.run(rt, turns)

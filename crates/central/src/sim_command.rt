@@ -1,6 +1,7 @@
 //! The words of `central sim`.
 
-use crate::command::{central, port_arg, port_of};
+use crate::arguments::{central, port_arg};
+use crate::command::port_of;
 use crate::help;
 use clap::error::ErrorKind;
 use clap::{Arg, ArgAction, ArgMatches, Command, Error, value_parser};

@@ -1,7 +1,8 @@
 //! The log of a server, on standard error: a line for what became of each connection.
 
+use crate::arguments::VERSION;
 use crate::causes::place_of;
-use crate::command::{ServeOptions, VERSION};
+use crate::command::ServeOptions;
 use crate::repair_log::Repairs;
 use crate::stderr::takes_line;
 use log::sink::Console;
@@ -68,13 +69,16 @@ const MOST_UNUSUAL: u32 = 20;
 /// The most lines in a second that tell that stations come and go.
 const MOST_USUAL: u32 = 1000;
 
+/// What each line of the log names as its part of the program.
+const TARGET: &str = "central::journal";
+
 /// How many causes of lines there are.
 const CAUSES: usize = 32;
 
 /// The log of a server. It never waits: a line that standard error doesn't take at once is left out, as are those of one
 /// cause that are too many in a second. The next second tells how many were left out.
 #[derive(Drop)]
-pub struct Journal {
+pub struct ServerLog {
     rt: HostRuntime,
     log: Logged<HostRuntime, Console<HostRuntime>>,
     /// By cause: how many lines there were in this second.
@@ -87,10 +91,10 @@ pub struct Journal {
     repairs: Repairs,
 }
 
-impl Journal {
+impl ServerLog {
     /// A log that has lines of that level.
-    pub fn new(rt: &HostRuntime, level: LevelFilter) -> Journal {
-        Journal {
+    pub fn new(rt: &HostRuntime, level: LevelFilter) -> ServerLog {
+        ServerLog {
             rt: *rt,
             log: Logged::new(*rt, level, Console(*rt)),
             counts: [0; CAUSES],
@@ -113,7 +117,7 @@ impl Journal {
             return;
         }
         if let Ok(time) = print_time(self.rt.alloc(), moment) {
-            warn!(&self.log; "{time} {untold} lines left out");
+            warn!(&self.log; target: TARGET, "{time} {untold} lines left out");
             self.told = self.left_out;
         }
     }
@@ -122,7 +126,7 @@ impl Journal {
     pub fn write_line(&mut self, moment: Moment, text: &str) {
         let time = print_time(self.rt.alloc(), moment);
         match time {
-            Ok(time) if takes_line(0) => info!(&self.log; "{time} {text}"),
+            Ok(time) if takes_line(0) => info!(&self.log; target: TARGET, "{time} {text}"),
             Ok(_) | Err(_) => self.leave_out(),
         }
     }
@@ -205,22 +209,24 @@ fn is_usual(happened: Happened) -> bool {
 fn write_note<L: Log>(log: &L, time: &str, note: &Note) {
     let who = Who { note };
     match note.happened {
-        Happened::Failed(fault) => error!(log; "{time} {who} fault {fault}"),
-        Happened::Refused(refusal) => warn!(log; "{time} {who} refused: {}", reason(refusal)),
+        Happened::Failed(fault) => error!(log; target: TARGET, "{time} {who} fault {fault}"),
+        Happened::Refused(refusal) =>
+            warn!(log; target: TARGET, "{time} {who} refused: {}", reason(refusal)),
         Happened::Repaired(repair) => {
             let Repair {
                 action,
                 code,
                 field,
             } = repair;
-            warn!(log; "{time} {who} repaired: {action} {code} {field}")
+            warn!(log; target: TARGET, "{time} {who} repaired: {action} {code} {field}")
         }
-        Happened::Connected => info!(log; "{time} {who} connected"),
-        Happened::Replaced => info!(log; "{time} {who} replaced by another connection"),
+        Happened::Connected => info!(log; target: TARGET, "{time} {who} connected"),
+        Happened::Replaced =>
+            info!(log; target: TARGET, "{time} {who} replaced by another connection"),
         Happened::Ended(cause) if is_usual_end(cause) => {
-            info!(log; "{time} {who} ended: {}", end(cause))
+            info!(log; target: TARGET, "{time} {who} ended: {}", end(cause))
         }
-        Happened::Ended(cause) => warn!(log; "{time} {who} ended: {}", end(cause)),
+        Happened::Ended(cause) => warn!(log; target: TARGET, "{time} {who} ended: {}", end(cause)),
     }
 }
 
