@@ -204,7 +204,7 @@ class Lines:
         server = self.serve()
         desk = Peer(kills.PORT, "/operator/ACME")
         desk.order("1", "station add CP01 Accepted 300")
-        desk.ask("tag put T1 - 0 -")
+        desk.ask("tag put TAG1 - 0 -")
         station = Peer(kills.PORT, "/ocpp/ACME/CP01")
         station.ask(BOOT)
         station.ask('[2,"3",\n"Heartbeat",{}]')
@@ -222,7 +222,7 @@ class Lines:
             "begins 0 ACME,BETA",
             "M ACME station add CP01 Accepted 300",
             "taken 1 1 1",
-            "M ACME tag put T1 - 0 -",
+            "M ACME tag put TAG1 - 0 -",
             "taken 1 1 2",
             "M ACME connect CP01",
             "taken 1 1 2",
