@@ -87,6 +87,7 @@ fn serve_command<'a>(alloc: Global) -> Result<Command<'a>, AllocError> {
             "Appends each event that is taken to this file, before anybody is told of it",
         ))?
         .arg(journal_sync_arg(alloc))?
+        .arg(journal_size_arg(alloc))?
         .arg(follow_arg(alloc))?
         .arg(log_arg(alloc))
 }
@@ -106,6 +107,17 @@ fn journal_sync_arg<'a>(alloc: Global) -> Arg<'a> {
         .long("journal-sync")
         .help("Syncs the journal, so that it outlasts a power cut as the records do")
         .action(ArgAction::SetTrue)
+}
+
+/// With how many bytes a journal goes on in the next file.
+fn journal_size_arg<'a>(alloc: Global) -> Arg<'a> {
+    Arg::new(alloc, "journal-size")
+        .long("journal-size")
+        .value_name("BYTES")
+        .help(
+            "Begins the next file of the journal where it has so many bytes; the one before keeps the moment behind its name",
+        )
+        .value_parser(value_parser!(u32).range(1..))
 }
 
 /// The journal that is followed first.

@@ -185,6 +185,7 @@ fn journal_options(
     Ok(Some(JournalOptions {
         path,
         syncs: found.get_flag("journal-sync"),
+        size: found.get_one::<u32>("journal-size").map(u64::from),
     }))
 }
 

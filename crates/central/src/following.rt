@@ -2,7 +2,7 @@
 
 use crate::command::FollowOptions;
 use crate::fault::RunFault;
-use crate::hosted::hub_of;
+use crate::hosted::{copies_of, hub_of};
 use crate::journal_file::{JournalProblem, list_of, problem};
 use crate::records::{ANSWERS, open};
 use crate::serving::journal_over;
@@ -12,7 +12,7 @@ use hub_rows::Store;
 use journal::{Journal, Journaled};
 use ocpp_types::{Mem, Text};
 use sqlite::Alter;
-use standby::{Counts, Ended, follow};
+use standby::{Counts, Ended, find_begin, follow};
 use station_calls::Echo;
 use std::alloc::Global;
 use std::cell::Cell;
@@ -139,12 +139,8 @@ fn follow_all<S: Store + Drop, R: BufRead>(
     operators: &[Text],
 ) -> Result<S, RunFault> {
     let alloc = rt.alloc();
+    let mut ended = find_begin(alloc, operators, reader)?;
     for _ in 0..u64::MAX {
-        let mut vendors = Vec::new(alloc);
-        vendors.push(Echo { alloc })?;
-        let mut hub = hub_of(alloc, store, copies_of(alloc, operators)?, vendors)?;
-        let ended = follow(alloc, &mut hub, reader, on_record)?;
-        store = hub.into_store();
         match ended {
             Ended::End { waiting, is_cut } => {
                 tell(rt, on_record.journal.changes());
@@ -158,6 +154,11 @@ fn follow_all<S: Store + Drop, R: BufRead>(
                 check_begin(alloc, on_record, changes, &names, operators)?;
             }
         }
+        let mut vendors = Vec::new(alloc);
+        vendors.push(Echo { alloc })?;
+        let mut hub = hub_of(alloc, store, copies_of(alloc, operators)?, vendors)?;
+        ended = follow(alloc, &mut hub, reader, on_record)?;
+        store = hub.into_store();
     }
     Ok(store)
 }
@@ -189,13 +190,4 @@ fn warn_of(rt: &HostRuntime, waiting: usize, is_cut: bool) {
     if is_cut && takes_line(0) {
         let _ = eprintln!(rt; "warning: the last line of the journal is cut");
     }
-}
-
-/// Copies of names.
-fn copies_of(alloc: Global, names: &[Text]) -> Mem<Vec<Text>> {
-    let mut copies = Vec::new(alloc);
-    for name in names {
-        copies.push(name.clone()?)?;
-    }
-    Ok(copies)
 }

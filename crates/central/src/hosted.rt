@@ -65,3 +65,12 @@ pub fn fault_of(names: &[Text]) -> Mem<Option<BadOperators>> {
     }
     Ok(None)
 }
+
+/// Copies of names.
+pub fn copies_of(alloc: Global, names: &[Text]) -> Mem<Vec<Text>> {
+    let mut copies = Vec::new(alloc);
+    for name in names {
+        copies.push(name.clone()?)?;
+    }
+    Ok(copies)
+}

@@ -33,6 +33,8 @@ pub struct JournalOptions {
     pub path: Text,
     /// What is written is synced.
     pub syncs: bool,
+    /// With how many bytes the next file is begun. Without them none is.
+    pub size: Option<u64>,
 }
 
 /// Has a server with those operators begin in the journal at a path, which is made if there is none.
@@ -64,8 +66,8 @@ pub fn problem(alloc: Global, why: JournalProblem, path: &str) -> Mem<RunFault> 
     Ok(RunFault::Journal(why, Text::copy_of(alloc, path)?))
 }
 
-/// Opens a journal, which no other process may have open.
-fn open_file(rt: &HostRuntime, path: &str) -> Result<File, RunFault> {
+/// Opens a journal, which is made if there is none, and which no other process may have open.
+pub fn open_file(rt: &HostRuntime, path: &str) -> Result<File, RunFault> {
     let opened = OpenOptions::new()
         .append(true)
         .create(true)

@@ -3,16 +3,15 @@
 use crate::bad_lines::BadLines;
 use crate::command::ReplayOptions;
 use crate::fault::RunFault;
-use crate::hosted::{fault_of, hub_of};
+use crate::hosted::{copies_of, fault_of, hub_of};
 use crate::recent::{Heard, Recent};
 use crate::records::{ANSWERS, open};
 use cached::Cached;
 use hub_rows::Store;
-use ocpp_types::{Mem, Text};
+use ocpp_types::Text;
 use replay::{replay, replay_in_memory};
 use sqlite::Alter;
 use station_calls::VendorHandler;
-use std::alloc::Global;
 use std::cell::RefCell;
 use std::io;
 use std::io::{Read, Write};
@@ -55,15 +54,6 @@ pub fn replay_lines<V: VendorHandler>(
 struct Input<'a, R, W> {
     reader: &'a mut R,
     writer: &'a mut W,
-}
-
-/// Copies of names.
-fn copies_of(alloc: Global, names: &[Text]) -> Mem<Vec<Text>> {
-    let mut copies = Vec::new(alloc);
-    for name in names {
-        copies.push(name.clone()?)?;
-    }
-    Ok(copies)
 }
 
 /// Replays the lines over the records of a database.

@@ -157,7 +157,8 @@ impl<S: Store + Drop, V: VendorHandler> Server<S, V> {
         begin_journal(rt, options, self.hub.hosted(), &journal)?;
         self.gateway.set_journal(Rc::clone(&journal)?);
         self.streams.hold();
-        self.journal.keep(journal, options.path.clone()?);
+        let operators = self.hub.hosted();
+        self.journal.keep(self.alloc, journal, options, operators)?;
         Ok(())
     }
 
@@ -177,9 +178,7 @@ impl<S: Store + Drop, V: VendorHandler> Server<S, V> {
             self.write_log();
             let took = self.read_clock(rt).saturating_sub(began);
             self.metrics.turn.add(took, self.second);
-            if let Some(fault) = self.journal.fault(self.alloc)? {
-                return Err(fault);
-            }
+            self.journal.go_on(rt, self.now, self.moment)?;
             if self.is_store_shut {
                 return Err(RunFault::Store);
             }

@@ -8,3 +8,4 @@ pub mod TwoSystems
 pub mod Tells
 pub mod Others
 pub mod Stations
+pub mod IdleLaws

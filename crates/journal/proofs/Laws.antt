@@ -16,10 +16,10 @@ use Rattle.lines.specs.Words.{is_space, first_word}
 use Rattle.lines.proofs.JournalLaws.{word_first, digits_plain}
 use Rattle.lines.proofs.JournalFeeds.{joined, of_digits}
 use Rattle.ocpp_types.specs.Digits.{number_of_digits}
-use Rattle.journal.specs.Entries.{entry_of, entry_in, mark_in, event_or, count_of, begins_line, taken_line, IsCount, AreCounts}
+use Rattle.journal.specs.Entries.{entry_of, entry_in, mark_in, event_or, count_of, begins_line, continues_line, taken_line, IsCount, AreCounts}
 use Rattle.journal.specs.Journals.{entries_from, entries_of, is_whole_from, is_whole, Adds, AddsMark}
 use Rattle.journal.specs.declared.entry.Entry.{Entry}
-use Rattle.journal.specs.declared.entry.Entry.TheVariants.{Begins, Event, Taken}
+use Rattle.journal.specs.declared.entry.Entry.TheVariants.{Begins, Continues, Event, Taken}
 
 pub valid_text : (bs : List ℕ) → IsUtf8 bs → nat_eq (utf8_valid_len bs) (length bs) ≡ true
 valid_text bs utf8 = let whole = utf8_valid_len-IsUtf8 bs utf8 in grind arith
@@ -181,6 +181,30 @@ begins_added changes operators old s whole is within none = λ is_hosted.
     (ap (list_any is_feed) is ∙ joined (decimal changes) (codes " " ++ operators) (count_read changes within).feedless none)
     (entry_is is_hosted s ∙ ap (entry_in is_hosted) is ∙ ap (λ e. event_or e (mark_in (begins_line changes operators))) (begins_no_event is_hosted changes operators)
     ∙ ap (event_or None) (begins_mark changes operators within))
+
+continues_no_event : (is_hosted : List ℕ → Bool) (file changes : ℕ) (operators : List ℕ) → event_of is_hosted (continues_line file changes operators) ≡ None
+unfolding event_of
+continues_no_event is_hosted file changes operators =
+    let first = word_first (codes "continues") (decimal file ++ (codes " " ++ (decimal changes ++ (codes " " ++ operators)))) refl (omega arith) in
+    rw first refl
+
+continues_mark : (file changes : ℕ) (operators : List ℕ) → IsCount file → IsCount changes → mark_in (continues_line file changes operators) ≡ Some (Continues file changes operators)
+continues_mark file changes operators number within =
+    let one = count_read file number in
+    let two = count_read changes within in
+    let first = word_first (codes "continues") (decimal file ++ (codes " " ++ (decimal changes ++ (codes " " ++ operators)))) refl (omega arith) in
+    let second = word_first (decimal file) (decimal changes ++ (codes " " ++ operators)) one.spaceless one.some in
+    let third = word_first (decimal changes) operators two.spaceless two.some in
+    rw first (rw second (rw third (rw one.value (rw two.value refl))))
+
+pub continues_added : {Z : Type 0} (file changes : ℕ) (operators old : List ℕ) (s : String Z) → is_whole old ≡ true → string_bytes s ≡ continues_line file changes operators
+    → IsCount file → IsCount changes → list_any is_feed operators ≡ false → AddsMark (Continues file changes operators) old (old ++ (string_bytes s ++ (10 ∷ [])))
+continues_added file changes operators old s whole is number within none = λ is_hosted.
+    line_added is_hosted old (string_bytes s) (Continues file changes operators) whole
+    (ap (list_any is_feed) is ∙ joined (decimal file) (codes " " ++ (decimal changes ++ (codes " " ++ operators))) (count_read file number).feedless
+    (joined (decimal changes) (codes " " ++ operators) (count_read changes within).feedless none))
+    (entry_is is_hosted s ∙ ap (entry_in is_hosted) is ∙ ap (λ e. event_or e (mark_in (continues_line file changes operators))) (continues_no_event is_hosted file changes operators)
+    ∙ ap (event_or None) (continues_mark file changes operators number within))
 
 -- ---- a count of failures
 

@@ -7,7 +7,7 @@ use Rattle.lines.specs.InputLines.{event_of, is_utf8}
 use Rattle.lines.specs.Words.{first_word, ◌>>=◌}
 use Rattle.ocpp_types.specs.Digits.{number_of_digits}
 use Rattle.journal.specs.declared.entry.Entry.{Entry}
-use Rattle.journal.specs.declared.entry.Entry.TheVariants.{Begins, Event, Taken, Bad}
+use Rattle.journal.specs.declared.entry.Entry.TheVariants.{Begins, Continues, Event, Taken, Bad}
 
 -- a count, in 1 to 19 decimal digits
 abbrev pub count_of : List ℕ → Option ℕ
@@ -19,6 +19,15 @@ begins_form rest = do
   changes ← first_word rest
   count ← count_of changes.0
   Some (Begins count changes.1)
+
+-- `continues FILE CHANGES OPERATORS`
+abbrev pub continues_form : List ℕ → Option Entry
+continues_form rest = do
+  file ← first_word rest
+  changes ← first_word file.1
+  number ← count_of file.0
+  count ← count_of changes.0
+  Some (Continues number count changes.1)
 
 -- `taken TAKEN EVENTS CHANGES`
 abbrev pub taken_form : List ℕ → Option Entry
@@ -32,7 +41,9 @@ taken_form rest = do
 
 -- the form that the first word names
 abbrev pub form_of : List ℕ → List ℕ → Option Entry
-form_of word rest = if bytes_eq word (codes "begins") then begins_form rest else (if bytes_eq word (codes "taken") then taken_form rest else None)
+form_of word rest =
+    if bytes_eq word (codes "begins") then begins_form rest
+    else (if bytes_eq word (codes "continues") then continues_form rest else (if bytes_eq word (codes "taken") then taken_form rest else None))
 
 abbrev pub mark_in : List ℕ → Option Entry
 mark_in text = do
@@ -55,6 +66,9 @@ entry_of is_hosted bytes = if is_utf8 bytes then entry_in is_hosted bytes else B
 -- the lines of the marks
 abbrev pub begins_line : ℕ → List ℕ → List ℕ
 begins_line changes operators = codes "begins " ++ (decimal changes ++ (codes " " ++ operators))
+
+abbrev pub continues_line : ℕ → ℕ → List ℕ → List ℕ
+continues_line file changes operators = codes "continues " ++ (decimal file ++ (codes " " ++ (decimal changes ++ (codes " " ++ operators))))
 
 abbrev pub taken_line : ℕ → ℕ → ℕ → List ℕ
 taken_line taken events changes = codes "taken " ++ (decimal taken ++ (codes " " ++ (decimal events ++ (codes " " ++ decimal changes))))

@@ -11,6 +11,13 @@ pub enum Entry {
         changes: u64,
         operators: Text,
     },
+    /// The next file of the same server begins, the one of that number after the file in which the server began. So many
+    /// changes are on record.
+    Continues {
+        file: u64,
+        changes: u64,
+        operators: Text,
+    },
     /// An event is handed to the hub.
     Event(Event),
     /// Of the events since the last mark, which are so many, the first `taken` were taken. So many changes are on record

@@ -43,6 +43,14 @@ impl Journal {
         }
     }
 
+    /// As `Writer::continue_in`.
+    pub fn continue_in(&self, file: File, operators: &str) -> Result<(), JournalFault> {
+        match self.writer.try_borrow_mut() {
+            Ok(mut writer) => writer.continue_in(file, operators),
+            Err(_) => Err(JournalFault),
+        }
+    }
+
     /// As `Writer::begin`.
     pub fn begin(&self, event: &Event, order: &str) {
         if let Ok(mut writer) = self.writer.try_borrow_mut() {

@@ -3,11 +3,11 @@ ghost use Rattle.std.specs.Prelude.{◌≡◌, ◌++◌, ◌∷◌, ℕ, List, B
 ghost use Rattle.std.specs.List.{list_any};
 ghost use Rattle.std.specs.Io.KnownBytes.{Appends};
 ghost use Rattle.lines.specs.Journal.{is_feed};
-ghost use Rattle.journal.specs.declared.entry.Entry.TheVariants.{Begins, Taken};
+ghost use Rattle.journal.specs.declared.entry.Entry.TheVariants.{Begins, Continues, Taken};
 ghost use Rattle.journal.specs.Entries.{AreCounts, IsCount};
 ghost use Rattle.journal.specs.Journals.{is_whole, entries_of, Adds, AddsMark};
 
-use crate::marks::{begins_line, taken_line};
+use crate::marks::{begins_line, continues_line, taken_line};
 use hub_events::Event;
 use lines::journal_line;
 use ocpp_types::Mem;
@@ -23,7 +23,7 @@ pub struct Pending {
     ghost whole: { is_whole bytes.items ≡ true },
 }
 
-#[tactic(auto, using(crate::proofs::Laws::whole_nothing, crate::proofs::Laws::nothing, crate::proofs::Laws::whole_if, crate::proofs::Laws::whole_cut, crate::proofs::Laws::whole_both, crate::proofs::Laws::event_added, crate::proofs::Laws::taken_added, crate::proofs::Laws::begins_added, crate::proofs::Laws::both))]
+#[tactic(auto, using(crate::proofs::Laws::whole_nothing, crate::proofs::Laws::nothing, crate::proofs::Laws::whole_if, crate::proofs::Laws::whole_cut, crate::proofs::Laws::whole_both, crate::proofs::Laws::event_added, crate::proofs::Laws::taken_added, crate::proofs::Laws::begins_added, crate::proofs::Laws::continues_added, crate::proofs::Laws::both))]
 impl Pending {
     /// No line.
     pub fn new(alloc: Global) -> Pending
@@ -75,6 +75,15 @@ impl Pending {
         ensures kept { OnErr result (self.new.bytes.items ≡ self.old.bytes.items) }
     {
         let line = begins_line(self.alloc, changes, operators)?;
+        self.add_line(line)
+    }
+
+    /// Adds the mark that the next file of a server begins, with so many changes on record and those operators.
+    pub fn add_continues(&mut self, file: u64, changes: u64, operators: &str) -> Mem<()>
+        ensures added { IsCount file → IsCount changes → list_any is_feed operators.now ≡ false → OnOk result (AddsMark (Continues file changes operators.now) self.old.bytes.items self.new.bytes.items) }
+        ensures kept { OnErr result (self.new.bytes.items ≡ self.old.bytes.items) }
+    {
+        let line = continues_line(self.alloc, file, changes, operators)?;
         self.add_line(line)
     }
 

@@ -1,7 +1,7 @@
 //! Reading the lines of a journal (docs/RULES.md, The journal).
 ghost use Rattle.std.specs.Prelude.{◌≡◌, IfOk};
 ghost use Rattle.hub_rows.specs.Operators.{is_hosted};
-ghost use Rattle.journal.specs.Entries.{begins_form, taken_form, form_of, mark_in, entry_in, entry_of, count_of};
+ghost use Rattle.journal.specs.Entries.{begins_form, continues_form, taken_form, form_of, mark_in, entry_in, entry_of, count_of};
 
 use crate::entry::Entry;
 use lines::{first_word, read_event};
@@ -43,6 +43,7 @@ fn mark_in(alloc: Global, text: &str) -> Mem<Option<Entry>>
     };
     match word {
         "begins" => begins(alloc, rest),
+        "continues" => continues(alloc, rest),
         "taken" => Ok(taken(rest)),
         _ => Ok(None),
     }
@@ -59,6 +60,26 @@ fn begins(alloc: Global, rest: &str) -> Mem<Option<Entry>>
     };
     let operators = Text::copy_of(alloc, operators)?;
     Ok(Some(Entry::Begins { changes, operators }))
+}
+
+fn continues(alloc: Global, rest: &str) -> Mem<Option<Entry>>
+    ensures { IfOk result (λ e. e ≡ continues_form rest.now) }
+{
+    let Some((file, rest)) = first_word(rest) else {
+        return Ok(None);
+    };
+    let Some((changes, operators)) = first_word(rest) else {
+        return Ok(None);
+    };
+    let (Some(file), Some(changes)) = (count_of(file), count_of(changes)) else {
+        return Ok(None);
+    };
+    let operators = Text::copy_of(alloc, operators)?;
+    Ok(Some(Entry::Continues {
+        file,
+        changes,
+        operators,
+    }))
 }
 
 fn taken(rest: &str) -> Option<Entry>

@@ -1,6 +1,6 @@
 //! The end of a journal.
 ghost use Rattle.std.specs.Prelude.{◌≡◌};
-ghost use Rattle.journal.specs.Tails.{taken_by};
+ghost use Rattle.journal.specs.Tails.{taken_at, taken_by};
 
 use crate::entry::Entry;
 use crate::read::read_entry;
@@ -64,7 +64,9 @@ impl Tail {
 
     /// Of the events without a mark those that were taken, from the first on, where so many changes are on record. `None` is
     /// that the journal doesn't fit the records.
-    pub fn taken(&self, changes: u64) -> Option<u64> {
+    pub fn taken(&self, changes: u64) -> Option<u64>
+        ensures { result ≡ taken_at self.now changes }
+    {
         taken_by(self.events, self.marked?, changes)
     }
 }
@@ -101,7 +103,12 @@ pub fn tail_of<R: BufRead>(alloc: Global, reader: &mut R) -> Result<Tail, TailFa
                 tail.marked = Some(changes);
                 tail.events = 0;
             }
-            Entry::Begins { changes, operators } => {
+            Entry::Begins { changes, operators }
+            | Entry::Continues {
+                changes,
+                operators,
+                ..
+            } => {
                 hosted = names_of(alloc, operators.as_str())?;
                 tail.marked = Some(changes);
                 tail.events = 0;

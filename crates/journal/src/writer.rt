@@ -37,6 +37,8 @@ pub struct Writer {
     events: u64,
     /// How many changes are on record.
     changes: u64,
+    /// How many files the server has begun after its first.
+    files: u64,
     /// The last of these events has changed records.
     has_changed: bool,
     /// The file or the memory for a line failed.
@@ -54,6 +56,7 @@ impl Writer {
             is_written: false,
             events: 0,
             changes,
+            files: 0,
             has_changed: false,
             has_failed: false,
         }
@@ -83,6 +86,18 @@ impl Writer {
             self.ready.add_taken(taken, tail.events, self.changes)?;
         }
         self.ready.add_begins(self.changes, operators)?;
+        self.write()
+    }
+
+    /// The lines go to the next file from now on, at the end of a turn. It is the server's, with those operators. Error: it
+    /// can't be written.
+    pub fn continue_in(&mut self, file: File, operators: &str) -> Result<(), JournalFault> {
+        self.file = Some(file);
+        self.files = self.files.saturating_add(1);
+        let added = self
+            .ready
+            .add_continues(self.files, self.changes, operators);
+        self.has_failed = self.has_failed || added.is_err();
         self.write()
     }
 

@@ -1,5 +1,5 @@
 pub mod Cut
-pub mod Mended
+pub mod Repaired
 pub mod Numbers
 pub mod SecondReading
 pub mod Zeros

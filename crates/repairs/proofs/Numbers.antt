@@ -1,4 +1,4 @@
--- Each number of a mended value is a number of JSON, as those of the value are.
+-- Each number of a repaired value is a number of JSON, as those of the value are.
 use Rattle.std.proofs.Common.{◌≡◌, refl, ℕ, List, [], ◌∷◌, codes, map, Bool, true, false, cond, Option, Some, None, nat_eq}
 use Rattle.std.specs.Prelude.{⊤}
 use Rattle.std.specs.Cmp.Lexicographic.{pointwise}
@@ -18,7 +18,7 @@ use Rattle.repairs.specs.Integers.{nothing_left, is_number, number_or, is_digits
 use Rattle.repairs.specs.Names.{names, named, named_or, is_blank, named_if_any}
 use Rattle.repairs.specs.Readings.{named_members, sampled_value_table, has_unnamed, sampled_value, sampled_values, meter_value_table, is_meter_value, if_read, meter_value, meter_values}
 use Rattle.repairs.specs.Requests.{repairs}
-use Rattle.repairs.specs.Tables.{Repair, Table, repair_at, some_member, mended_members, by_table, some_item, mended_items}
+use Rattle.repairs.specs.Tables.{Repair, Table, repair_at, some_member, repaired_members, by_table, some_item, repaired_items}
 use Rattle.repairs.specs.Texts.{whole, without_zeros, of_text, value_text, time}
 
 -- the value has numbers, if there is one
@@ -126,10 +126,10 @@ some_member_numbers : (name : List ℕ) (o : Option Json) (ms : Members) → IfF
 some_member_numbers name None ms h k = k
 some_member_numbers name (Some j) ms h k = (h, k)
 
-mended_members_numbers : (table : Table) → RowsKeep table → (ms : Members) → MembersHaveNumbers ms → MembersHaveNumbers (mended_members table ms)
-mended_members_numbers table rows no_members h = tt
-mended_members_numbers table rows (member name j ms) h =
-    some_member_numbers name (repair_at table name j) (mended_members table ms) (repair_at_numbers table rows name j h.0) (mended_members_numbers table rows ms h.1)
+repaired_members_numbers : (table : Table) → RowsKeep table → (ms : Members) → MembersHaveNumbers ms → MembersHaveNumbers (repaired_members table ms)
+repaired_members_numbers table rows no_members h = tt
+repaired_members_numbers table rows (member name j ms) h =
+    some_member_numbers name (repair_at table name j) (repaired_members table ms) (repair_at_numbers table rows name j h.0) (repaired_members_numbers table rows ms h.1)
 
 by_table_numbers : (table : Table) → RowsKeep table → (j : Json) → HasNumbers j → HasNumbers (by_table table j)
 by_table_numbers table rows null h = h
@@ -137,15 +137,15 @@ by_table_numbers table rows (boolean b) h = h
 by_table_numbers table rows (number s) h = h
 by_table_numbers table rows (string s) h = h
 by_table_numbers table rows (array js) h = h
-by_table_numbers table rows (object ms) h = mended_members_numbers table rows ms h
+by_table_numbers table rows (object ms) h = repaired_members_numbers table rows ms h
 
 some_item_numbers : (o : Option Json) (js : Items) → IfFound o → ItemsHaveNumbers js → ItemsHaveNumbers (some_item o js)
 some_item_numbers None js h k = k
 some_item_numbers (Some j) js h k = (h, k)
 
-mended_items_numbers : (repair : Repair) → ((j : Json) → HasNumbers j → IfFound (repair j)) → (js : Items) → ItemsHaveNumbers js → ItemsHaveNumbers (mended_items repair js)
-mended_items_numbers repair keeps no_items h = tt
-mended_items_numbers repair keeps (item j js) h = some_item_numbers (repair j) (mended_items repair js) (keeps j h.0) (mended_items_numbers repair keeps js h.1)
+repaired_items_numbers : (repair : Repair) → ((j : Json) → HasNumbers j → IfFound (repair j)) → (js : Items) → ItemsHaveNumbers js → ItemsHaveNumbers (repaired_items repair js)
+repaired_items_numbers repair keeps no_items h = tt
+repaired_items_numbers repair keeps (item j js) h = some_item_numbers (repair j) (repaired_items repair js) (keeps j h.0) (repaired_items_numbers repair keeps js h.1)
 
 -- ---- readings of a meter
 
@@ -166,14 +166,14 @@ sampled_value_numbers (boolean b) h = h
 sampled_value_numbers (number s) h = h
 sampled_value_numbers (string s) h = h
 sampled_value_numbers (array js) h = h
-sampled_value_numbers (object ms) h = unless-found (has_unnamed ms) (Some (object (mended_members sampled_value_table ms))) (mended_members_numbers sampled_value_table sampled_value_rows ms h)
+sampled_value_numbers (object ms) h = unless-found (has_unnamed ms) (Some (object (repaired_members sampled_value_table ms))) (repaired_members_numbers sampled_value_table sampled_value_rows ms h)
 
 sampled_values_numbers : (j : Json) → HasNumbers j → HasNumbers (sampled_values j)
 sampled_values_numbers null h = h
 sampled_values_numbers (boolean b) h = h
 sampled_values_numbers (number s) h = h
 sampled_values_numbers (string s) h = h
-sampled_values_numbers (array js) h = mended_items_numbers sampled_value sampled_value_numbers js h
+sampled_values_numbers (array js) h = repaired_items_numbers sampled_value sampled_value_numbers js h
 sampled_values_numbers (object ms) h = h
 
 meter_value_rows : (now : List ℕ) → RowsKeep (meter_value_table now)
@@ -193,7 +193,7 @@ meter_values_numbers now null h = h
 meter_values_numbers now (boolean b) h = tt
 meter_values_numbers now (number s) h = tt
 meter_values_numbers now (string s) h = tt
-meter_values_numbers now (array js) h = mended_items_numbers (meter_value now) (meter_value_numbers now) js h
+meter_values_numbers now (array js) h = repaired_items_numbers (meter_value now) (meter_value_numbers now) js h
 meter_values_numbers now (object ms) h = tt
 
 -- ---- requests

@@ -15,7 +15,7 @@ use Rattle.ocpp_types.specs.UnitOfMeasure.{units_of_measure}
 use Rattle.ocpp_types.specs.ValueFormat.{value_formats}
 use Rattle.ocpp_payload.specs.Readings as strict
 use Rattle.repairs.specs.Names.{names, named_if_any, is_unnamed}
-use Rattle.repairs.specs.Tables.{Repair, always, Table, by_table, mended_items, mended_members}
+use Rattle.repairs.specs.Tables.{Repair, always, Table, by_table, repaired_items, repaired_members}
 use Rattle.repairs.specs.Texts.{time, value_text}
 
 -- the members of a sampled value that are names, each with its names
@@ -43,7 +43,7 @@ has_unnamed (member name j ms) = is_unnamed_at named_members name j || has_unnam
 
 -- a sampled value, by its members; one that says what is no name is left out, since it can't be told what was measured
 abbrev pub sampled_object : Members → Option Json
-sampled_object ms = if has_unnamed ms then None else Some (object (mended_members sampled_value_table ms))
+sampled_object ms = if has_unnamed ms then None else Some (object (repaired_members sampled_value_table ms))
 
 -- what is no object is kept
 abbrev pub sampled_value : Repair
@@ -59,7 +59,7 @@ sampled_values null = null
 sampled_values (boolean b) = boolean b
 sampled_values (number s) = number s
 sampled_values (string s) = string s
-sampled_values (array js) = array (mended_items sampled_value js)
+sampled_values (array js) = array (repaired_items sampled_value js)
 sampled_values (object ms) = object ms
 
 abbrev pub meter_value_table : List ℕ → Table
@@ -83,5 +83,5 @@ meter_values now null = Some null
 meter_values now (boolean b) = None
 meter_values now (number s) = None
 meter_values now (string s) = None
-meter_values now (array js) = Some (array (mended_items (meter_value now) js))
+meter_values now (array js) = Some (array (repaired_items (meter_value now) js))
 meter_values now (object ms) = None

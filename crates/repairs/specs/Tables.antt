@@ -22,23 +22,23 @@ abbrev pub some_member : List ℕ → Option Json → Members → Members
 some_member name None ms = ms
 some_member name (Some j) ms = member name j ms
 
-abbrev pub mended_members : Table → Members → Members
-mended_members table no_members = no_members
-mended_members table (member name j ms) = some_member name (repair_at table name j) (mended_members table ms)
+abbrev pub repaired_members : Table → Members → Members
+repaired_members table no_members = no_members
+repaired_members table (member name j ms) = some_member name (repair_at table name j) (repaired_members table ms)
 
--- an object with its members mended; what is no object is kept
+-- an object with its members repaired; what is no object is kept
 abbrev pub by_table : Table → Json → Json
 by_table table null = null
 by_table table (boolean b) = boolean b
 by_table table (number s) = number s
 by_table table (string s) = string s
 by_table table (array js) = array js
-by_table table (object ms) = object (mended_members table ms)
+by_table table (object ms) = object (repaired_members table ms)
 
 abbrev pub some_item : Option Json → Items → Items
 some_item None js = js
 some_item (Some j) js = item j js
 
-abbrev pub mended_items : Repair → Items → Items
-mended_items repair no_items = no_items
-mended_items repair (item j js) = some_item (repair j) (mended_items repair js)
+abbrev pub repaired_items : Repair → Items → Items
+repaired_items repair no_items = no_items
+repaired_items repair (item j js) = some_item (repair j) (repaired_items repair js)

@@ -16,14 +16,14 @@ use Rattle.repairs.specs.Tables.{by_table}
 use Rattle.repairs.specs.declared.reading.Reading.{Reading}
 use Rattle.repairs.specs.declared.reading.Reading.TheVariants.{AsSent, Repaired, Refused}
 
--- the payload of a frame `[2, id, action, payload]`, mended; `now` is the text of the moment
+-- the repaired payload of a frame `[2, id, action, payload]`; `now` is the text of the moment
 abbrev pub repaired : Action → List ℕ → List ℕ → Option Json
 repaired action now text = option_map (by_table (repairs action now)) (option_and_then (at 3) (document text))
 
 abbrev pub repaired_text : Action → ℕ → List ℕ → Option (List ℕ)
 repaired_text action moment text = option_map (λ j. print (json_tokens j)) (repaired action (time_text moment) text)
 
--- what the strict reader makes of the mended payload
+-- what the strict reader makes of the repaired payload
 abbrev pub request_in : Action → FieldFault → Option Data → Result Request FieldFault
 request_in action fault None = Err fault
 request_in action fault (Some d) = request action d
@@ -43,7 +43,7 @@ after_strict action moment text (Err fault) = after_second fault (second_reading
 abbrev pub reading : Action → ℕ → List ℕ → Data → Reading
 reading action moment text d = after_strict action moment text (request action d)
 
--- a repaired request is one that the strict reader takes of the mended payload, written down, and not of the one that was sent
+-- a repaired request is one that the strict reader takes of the repaired payload, written down, and not of the one that was sent
 abbrev pub IsWritten : Action → ℕ → List ℕ → Data → Reading → Type 0
 IsWritten action moment text d (AsSent q) = ⊤
 IsWritten action moment text d (Repaired q fault) =

@@ -7,8 +7,8 @@ use ocpp_payload::{FieldFault, Request};
 pub enum Reading {
     /// The strict reader takes it.
     AsSent(Request),
-    /// The strict reader refuses it with that fault, and takes it mended.
+    /// The strict reader refuses it with that fault, and takes it repaired.
     Repaired { request: Request, fault: FieldFault },
-    /// The strict reader refuses it, mended too. The fault is the one that is left.
+    /// The strict reader refuses it, repaired too. The fault is the one that is left.
     Refused(FieldFault),
 }

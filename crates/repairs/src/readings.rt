@@ -9,7 +9,7 @@ ghost use Rattle.repairs.specs.Tables.{repair_at};
 ghost use Rattle.repairs.specs.Readings.{named_members, is_unnamed_at, has_unnamed, sampled_object, sampled_value_table, sampled_values, is_meter_value, if_read, meter_value, meter_values};
 
 use crate::names::{is_unnamed, named_if_any};
-use crate::tables::{ItemRepair, MemberRepairs, by_table, mended_items, mended_members};
+use crate::tables::{ItemRepair, MemberRepairs, by_table, repaired_items, repaired_members};
 use crate::texts::{time, value_text};
 use crate::written::data_of;
 use json::Value;
@@ -104,24 +104,24 @@ fn sampled_object<'a>(
     members: Vec<(&'a str, Value<'a>)>,
 ) -> Mem<Option<Value<'a>>>
     requires { MembersHaveNumbers (members_view members.items) }
-    ensures { IfOk result (λ mended. option_map (λ v. value_view v) mended
+    ensures { IfOk result (λ repaired. option_map (λ v. value_view v) repaired
         ≡ sampled_object (members_view members.entry.items)) }
 {
     if has_unnamed(members.as_slice()) {
         return Ok(None);
     }
-    let mended = mended_members(alloc, &SampledValueMembers, now, members)?;
-    Ok(Some(Value::Object(mended)))
+    let repaired = repaired_members(alloc, &SampledValueMembers, now, members)?;
+    Ok(Some(Value::Object(repaired)))
 }
 
 fn sampled_values<'a>(alloc: Global, now: &'a str, value: Value<'a>) -> Mem<Value<'a>>
     requires { HasNumbers (value_view value) }
-    ensures { IfOk result (λ mended. value_view mended ≡ sampled_values (value_view value.entry)) }
+    ensures { IfOk result (λ repaired. value_view repaired ≡ sampled_values (value_view value.entry)) }
 {
     match value {
         Value::Array(items) => {
-            let mended = mended_items(alloc, &SampledValues, now, items)?;
-            Ok(Value::Array(mended))
+            let repaired = repaired_items(alloc, &SampledValues, now, items)?;
+            Ok(Value::Array(repaired))
         }
         other => Ok(other),
     }
@@ -142,12 +142,12 @@ impl MemberRepairs for MeterValueMembers {
         name: &str,
         value: Value<'a>,
     ) -> Mem<Option<Value<'a>>> {
-        let mended = match name {
+        let repaired = match name {
             "timestamp" => time(now, value),
             "sampledValue" => sampled_values(alloc, now, value)?,
             _ => value,
         };
-        Ok(Some(mended))
+        Ok(Some(repaired))
     }
 }
 
@@ -160,8 +160,8 @@ impl ItemRepair for MeterValues {
     ghost repair_by = { λ _ now. meter_value now };
 
     fn repair<'a>(&self, alloc: Global, now: &'a str, value: Value<'a>) -> Mem<Option<Value<'a>>> {
-        let mended = by_table(alloc, &MeterValueMembers, now, value)?;
-        if_read(alloc, mended)
+        let repaired = by_table(alloc, &MeterValueMembers, now, value)?;
+        if_read(alloc, repaired)
     }
 }
 
@@ -199,14 +199,14 @@ pub(crate) fn meter_values<'a>(
     value: Value<'a>,
 ) -> Mem<Option<Value<'a>>>
     requires { HasNumbers (value_view value) }
-    ensures { IfOk result (λ mended. option_map (λ v. value_view v) mended
+    ensures { IfOk result (λ repaired. option_map (λ v. value_view v) repaired
         ≡ meter_values now.now (value_view value.entry)) }
 {
     match value {
         Value::Null => Ok(Some(Value::Null)),
         Value::Array(items) => {
-            let mended = mended_items(alloc, &MeterValues, now, items)?;
-            Ok(Some(Value::Array(mended)))
+            let repaired = repaired_items(alloc, &MeterValues, now, items)?;
+            Ok(Some(Value::Array(repaired)))
         }
         _ => Ok(None),
     }

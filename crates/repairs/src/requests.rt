@@ -78,7 +78,7 @@ fn of_meter_values<'a>(
     value: Value<'a>,
 ) -> Mem<Option<Value<'a>>>
     requires { HasNumbers (value_view value) }
-    ensures { IfOk result (λ mended. option_map (λ v. value_view v) mended
+    ensures { IfOk result (λ repaired. option_map (λ v. value_view v) repaired
         ≡ repair_at (meter_values_table now.now) name.now (value_view value.entry)) }
 {
     match name {
@@ -121,7 +121,7 @@ fn of_stop_transaction<'a>(
     value: Value<'a>,
 ) -> Mem<Option<Value<'a>>>
     requires { HasNumbers (value_view value) }
-    ensures { IfOk result (λ mended. option_map (λ v. value_view v) mended
+    ensures { IfOk result (λ repaired. option_map (λ v. value_view v) repaired
         ≡ repair_at (stop_transaction_table now.now) name.now (value_view value.entry)) }
 {
     match name {

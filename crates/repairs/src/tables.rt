@@ -1,10 +1,10 @@
-//! Objects that are mended by a table, and lists that are mended item by item.
+//! Objects that are repaired by a table, and lists that are repaired item by item.
 ghost use Rattle.std.specs.Prelude.{◌≡◌, ◌++◌, List, ℕ, IfOk, OnOk, option_map};
 ghost use Rattle.std.specs.Option.{option_to_list};
 ghost use Rattle.json.specs.Json.{Json};
 ghost use Rattle.json.specs.Tree.{HasNumbers, ItemsHaveNumbers, MembersHaveNumbers};
 ghost use Rattle.json.specs.Value.{value_view, items_view, members_view};
-ghost use Rattle.repairs.specs.Tables.{Repair, Table, repair_at, mended_members, by_table, mended_items};
+ghost use Rattle.repairs.specs.Tables.{Repair, Table, repair_at, repaired_members, by_table, repaired_items};
 
 use json::Value;
 use ocpp_types::Mem;
@@ -24,7 +24,7 @@ pub(crate) trait MemberRepairs {
         value: Value<'a>,
     ) -> Mem<Option<Value<'a>>>
         requires { HasNumbers (value_view value) }
-        ensures { IfOk result (λ mended. option_map (λ v. value_view v) mended
+        ensures { IfOk result (λ repaired. option_map (λ v. value_view v) repaired
             ≡ repair_at (table self.now now.now) name.now (value_view value.entry)) };
 }
 
@@ -36,11 +36,11 @@ pub(crate) trait ItemRepair {
     /// What is read in place of an item. `None` leaves it out.
     fn repair<'a>(&self, alloc: Global, now: &'a str, value: Value<'a>) -> Mem<Option<Value<'a>>>
         requires { HasNumbers (value_view value) }
-        ensures { IfOk result (λ mended. option_map (λ v. value_view v) mended
+        ensures { IfOk result (λ repaired. option_map (λ v. value_view v) repaired
             ≡ repair_by self.now now.now (value_view value.entry)) };
 }
 
-/// An object with its members mended. What is no object is kept.
+/// An object with its members repaired. What is no object is kept.
 pub(crate) fn by_table<'a, R: MemberRepairs>(
     alloc: Global,
     repairs: &R,
@@ -48,35 +48,35 @@ pub(crate) fn by_table<'a, R: MemberRepairs>(
     value: Value<'a>,
 ) -> Mem<Value<'a>>
     requires { HasNumbers (value_view value) }
-    ensures { IfOk result (λ mended. value_view mended
+    ensures { IfOk result (λ repaired. value_view repaired
         ≡ by_table (R.table repairs.now now.now) (value_view value.entry)) }
 {
     match value {
         Value::Object(members) => {
-            let mended = mended_members(alloc, repairs, now, members)?;
-            Ok(Value::Object(mended))
+            let repaired = repaired_members(alloc, repairs, now, members)?;
+            Ok(Value::Object(repaired))
         }
         other => Ok(other),
     }
 }
 
-/// The members in order, each as it is mended.
-pub(crate) fn mended_members<'a, R: MemberRepairs>(
+/// The members in order, each as it is repaired.
+pub(crate) fn repaired_members<'a, R: MemberRepairs>(
     alloc: Global,
     repairs: &R,
     now: &'a str,
     members: Vec<(&'a str, Value<'a>)>,
 ) -> Mem<Vec<(&'a str, Value<'a>)>>
     requires { MembersHaveNumbers (members_view members.items) }
-    ensures { IfOk result (λ mended. members_view mended.items
-        ≡ mended_members (R.table repairs.now now.now) (members_view members.entry.items)) }
+    ensures { IfOk result (λ repaired. members_view repaired.items
+        ≡ repaired_members (R.table repairs.now now.now) (members_view members.entry.items)) }
 {
-    let mut mended = Vec::new(alloc);
+    let mut repaired = Vec::new(alloc);
     for (name, value) in members {
         let value = repairs.repair(alloc, now, name, value)?;
-        add_member(&mut mended, name, value)?;
+        add_member(&mut repaired, name, value)?;
     }
-    Ok(mended)
+    Ok(repaired)
 }
 
 fn add_member<'a>(
@@ -93,23 +93,23 @@ fn add_member<'a>(
     Ok(())
 }
 
-/// The items in order, each as it is mended.
-pub(crate) fn mended_items<'a, R: ItemRepair>(
+/// The items in order, each as it is repaired.
+pub(crate) fn repaired_items<'a, R: ItemRepair>(
     alloc: Global,
     repair: &R,
     now: &'a str,
     items: Vec<Value<'a>>,
 ) -> Mem<Vec<Value<'a>>>
     requires { ItemsHaveNumbers (items_view items.items) }
-    ensures { IfOk result (λ mended. items_view mended.items
-        ≡ mended_items (R.repair_by repair.now now.now) (items_view items.entry.items)) }
+    ensures { IfOk result (λ repaired. items_view repaired.items
+        ≡ repaired_items (R.repair_by repair.now now.now) (items_view items.entry.items)) }
 {
-    let mut mended = Vec::new(alloc);
+    let mut repaired = Vec::new(alloc);
     for item in items {
         let item = repair.repair(alloc, now, item)?;
-        add_item(&mut mended, item)?;
+        add_item(&mut repaired, item)?;
     }
-    Ok(mended)
+    Ok(repaired)
 }
 
 fn add_item<'a>(items: &mut Vec<Value<'a>>, item: Option<Value<'a>>) -> Mem<()>

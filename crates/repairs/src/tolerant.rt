@@ -21,7 +21,7 @@ use std::alloc::Global;
 
 /// Reads the payload of a call of a station. `text` is the whole text of the call's frame,
 /// `[2, id, action, payload]`, and `payload` is its payload (OCPP-J 1.6, section 4.2.1). What the
-/// strict reader takes is read as sent. What it refuses is mended and read once more, and a time
+/// strict reader takes is read as sent. What it refuses is repaired and read once more, and a time
 /// that can't be read is read as the moment.
 pub fn read_tolerant(
     alloc: Global,
@@ -37,12 +37,12 @@ pub fn read_tolerant(
 {
     match read_request(alloc, action, payload)? {
         Ok(request) => Ok(Reading::AsSent(request)),
-        Err(fault) => read_mended(alloc, action, moment, text, fault),
+        Err(fault) => read_repaired(alloc, action, moment, text, fault),
     }
 }
 
-/// Reads the payload as it is mended. `fault` is that of the payload as it was sent.
-fn read_mended(
+/// Reads the payload as it is repaired. `fault` is that of the payload as it was sent.
+fn read_repaired(
     alloc: Global,
     action: Action,
     moment: Moment,
@@ -53,7 +53,7 @@ fn read_mended(
         ≡ after_second fault (second_reading action moment text.now fault)) }
 {
     let now = print_time(alloc, moment)?;
-    let Some(payload) = mended_payload(alloc, action, now.as_str(), text)? else {
+    let Some(payload) = repaired_payload(alloc, action, now.as_str(), text)? else {
         return Ok(Reading::Refused(fault));
     };
     match read_request(alloc, action, &payload)? {
@@ -62,9 +62,9 @@ fn read_mended(
     }
 }
 
-/// The payload of the frame as it is mended. `None`: the text is no such frame, or `serde_json`
-/// refuses what is mended.
-fn mended_payload(
+/// The payload of the frame as it is repaired. `None`: the text is no such frame, or `serde_json`
+/// refuses what is repaired.
+fn repaired_payload(
     alloc: Global,
     action: Action,
     now: &str,
@@ -76,8 +76,8 @@ fn mended_payload(
     let mut scratch = Scratch::new(alloc);
     match payload_of(alloc, text, &mut scratch)? {
         Some(payload) => {
-            let mended = by_table(alloc, &action, now, payload)?;
-            data_of(alloc, &mended)
+            let changed = by_table(alloc, &action, now, payload)?;
+            data_of(alloc, &changed)
         }
         None => Ok(None),
     }

@@ -1,4 +1,4 @@
-//! A mended value as `serde_json` reads it.
+//! A repaired value as `serde_json` reads it.
 ghost use Rattle.std.specs.Prelude.{◌≡◌, IfOk, option_map, string_bytes};
 ghost use Rattle.json.specs.Print.{print};
 ghost use Rattle.json.specs.Tree.{HasNumbers, json_tokens};

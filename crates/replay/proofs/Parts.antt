@@ -6,7 +6,8 @@ use Rattle.std.proofs.lemmas.List.Splits.{slice_split_at, slice_split_none}
 use Rattle.std.proofs.lemmas.List.Elements.{All-append}
 use Rattle.std.proofs.lemmas.List.{drop-drop}
 use Rattle.std.proofs.Math.Seq.{drop-append-add}
-use Rattle.replay.specs.Held.{Reads, is_feed, HasNoFeed, IsHeld, lines_of}
+use Rattle.lines.specs.Journal.{is_feed}
+use Rattle.replay.specs.Held.{Reads, HasNoFeed, IsHeld, lines_of}
 use Rattle.replay.specs.Lines.{lines_from, HandsOut}
 
 -- what stands after the first line feed from start on

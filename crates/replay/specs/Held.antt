@@ -1,12 +1,10 @@
 -- A line of an input, and how much of it is held.
 use Rattle.lines.specs.declared.input_line.TheConstants.{MAX_LINE}
+use Rattle.lines.specs.Journal.{is_feed}
 use Rattle.std.specs.Prelude.{◌≡◌, ℕ, ◌+◌, ◌<◌, Bool, true, false, List, Option, Some, None, ◌==◌, All, length}
 use Rattle.std.specs.Borrow.{Bor}
 use Rattle.std.specs.Io.KnownBytes.{Consumes}
 use Rattle.std.specs.List.{slice_split}
-
-abbrev pub is_feed : ℕ → Bool
-is_feed b = b == 10
 
 -- the lines of an input: the bytes before each line feed, and those after the last
 abbrev pub lines_of : List ℕ → List (List ℕ)

@@ -1,12 +1,12 @@
 -- How far a journal is followed, entry by entry.
 use Rattle.std.proofs.Common.{◌≡◌, ◌∙◌, ◌++◌, ◌∷◌, ℕ, List, [], take, Option, Some, None, Bool, Result, Ok, Err, refl, sym, subst, ap, true≢false}
-use Rattle.std.specs.Prelude.{IfSome, IsErr}
+use Rattle.std.specs.Prelude.{IfOk, IfSome, IsErr, is_some}
 use Rattle.std.proofs.lemmas.List.{append_assoc, append-nil}
 use Rattle.hub_events.specs.declared.event.Event.{Event as HubEvent}
 use Rattle.hub.specs.World.{Setting, World, world_run}
 use Rattle.journal.specs.Journals.{entries_of}
 use Rattle.journal.specs.declared.entry.Entry.{Entry}
-use Rattle.journal.specs.declared.entry.Entry.TheVariants.{Begins, Event, Taken, Bad}
+use Rattle.journal.specs.declared.entry.Entry.TheVariants.{Begins, Continues, Event, Taken, Bad}
 use Rattle.standby.specs.Follows.{taken_of, IsNext, Reads, IsReached}
 use Rattle.standby.specs.Progress.{Progress, Followed, IsFollowedUpTo, AfterEntry}
 use Rattle.standby.specs.declared.fault.FollowFault.{FollowFault}
@@ -32,20 +32,34 @@ waits Clean st w v waiting (Some input) (Some rest) (Some left) hosts e same f n
     λ clean. event_left st w v waiting _ (entries_of st.is_hosted rest) (entries_of st.is_hosted left) e
     (subst (λ (h : List ℕ → Bool). entries_of h rest ≡ Event e ∷ entries_of h left) same next) (f clean)
 
--- a line that is no entry is passed over
-bad_left : (st : Setting) (w v : World) (waiting all : List HubEvent) (left rest : List Entry) → left ≡ Bad ∷ rest
-    → Progress st w v waiting all left → Progress st w v waiting all rest
-unfolding taken_of
-bad_left st w v waiting all left rest next p = record { done = p.done; is = p.is; all_of = sym (ap (λ es. p.done ++ taken_of waiting es) next) ∙ p.all_of }
+-- an entry that hands nothing over is passed over
+abbrev pub IsPassed : List HubEvent → Entry → Type 0
+IsPassed waiting entry = (rest : List Entry) → taken_of waiting (entry ∷ rest) ≡ taken_of waiting rest
 
-pub skips : (Clean : Type 0) (st : Setting) (w v : World) (waiting : List HubEvent) (old now new : Option (List ℕ)) (hosts : List ℕ → Bool) → hosts ≡ st.is_hosted
-    → Followed Clean st w v waiting old now → Reads hosts now (Some Bad) new → Followed Clean st w v waiting old new
-skips Clean st w v waiting None now new hosts same f next = tt
-skips Clean st w v waiting (Some input) None new hosts same f next = absurd f
-skips Clean st w v waiting (Some input) (Some rest) None hosts same f next = absurd next
-skips Clean st w v waiting (Some input) (Some rest) (Some left) hosts same f next =
-    λ clean. bad_left st w v waiting _ (entries_of st.is_hosted rest) (entries_of st.is_hosted left)
-    (subst (λ (h : List ℕ → Bool). entries_of h rest ≡ Bad ∷ entries_of h left) same next) (f clean)
+pub bad_passes : (waiting : List HubEvent) → IsPassed waiting Bad
+unfolding taken_of
+bad_passes waiting = λ rest. refl
+
+pub continues_passes : (waiting : List HubEvent) (file changes : ℕ) (operators : List ℕ) → IsPassed waiting (Continues file changes operators)
+unfolding taken_of
+continues_passes waiting file changes operators = λ rest. refl
+
+passed_left : (st : Setting) (w v : World) (waiting all : List HubEvent) (left rest : List Entry) (entry : Entry) → IsPassed waiting entry → left ≡ entry ∷ rest
+    → Progress st w v waiting all left → Progress st w v waiting all rest
+passed_left st w v waiting all left rest entry passes next p = record {
+  done = p.done;
+  is = p.is;
+  all_of = ap (λ es. p.done ++ es) (sym (passes rest)) ∙ sym (ap (λ es. p.done ++ taken_of waiting es) next) ∙ p.all_of;
+}
+
+pub skips : (Clean : Type 0) (st : Setting) (w v : World) (waiting : List HubEvent) (old now new : Option (List ℕ)) (hosts : List ℕ → Bool) (entry : Entry) → hosts ≡ st.is_hosted
+    → IsPassed waiting entry → Followed Clean st w v waiting old now → Reads hosts now (Some entry) new → Followed Clean st w v waiting old new
+skips Clean st w v waiting None now new hosts entry same passes f next = tt
+skips Clean st w v waiting (Some input) None new hosts entry same passes f next = absurd f
+skips Clean st w v waiting (Some input) (Some rest) None hosts entry same passes f next = absurd next
+skips Clean st w v waiting (Some input) (Some rest) (Some left) hosts entry same passes f next =
+    λ clean. passed_left st w v waiting _ (entries_of st.is_hosted rest) (entries_of st.is_hosted left) entry passes
+    (subst (λ (h : List ℕ → Bool). entries_of h rest ≡ entry ∷ entries_of h left) same next) (f clean)
 
 -- the first of those that wait were taken
 group_left : (st : Setting) (w v u : World) (waiting all : List HubEvent) (left rest : List Entry) (first events changes : ℕ) → left ≡ Taken first events changes ∷ rest
@@ -125,3 +139,10 @@ pub after_err : (Clean : Type 0) (st : Setting) (w v : World) (waiting : List Hu
     → IsErr r → IsFollowedUpTo Clean st w v old → AfterEntry Clean st w v waiting old now r
 after_err Clean st w v waiting old now (Ok x) is p = absurd (true≢false (sym is))
 after_err Clean st w v waiting old now (Err fault) is p = p
+
+-- more may come, or the records are others than the journal says
+pub after_mark : (Clean : Type 0) (st : Setting) (w v : World) (waiting : List HubEvent) (old now : Option (List ℕ)) (r : Result (Option Ended) FollowFault)
+    → IfOk r (λ ended. ended ≡ None) → Followed Clean st w v waiting old now → AfterEntry Clean st w v waiting old now r
+after_mark Clean st w v waiting old now (Ok None) more f = f
+after_mark Clean st w v waiting old now (Ok (Some ended)) more f = absurd (true≢false (ap is_some more))
+after_mark Clean st w v waiting old now (Err fault) more f = λ clean. stops Clean st w v waiting old now f clean

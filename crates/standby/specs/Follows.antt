@@ -4,15 +4,16 @@ use Rattle.hub_events.specs.declared.event.Event.{Event as HubEvent}
 use Rattle.hub.specs.World.{Setting, World, world_run}
 use Rattle.journal.specs.Journals.{entries_of}
 use Rattle.journal.specs.declared.entry.Entry.{Entry}
-use Rattle.journal.specs.declared.entry.Entry.TheVariants.{Begins, Event, Taken, Bad}
+use Rattle.journal.specs.declared.entry.Entry.TheVariants.{Begins, Continues, Event, Taken, Bad}
 
--- the events that were taken, up to where another server begins, where some wait for the mark that says so; a line that is no
--- entry is passed over
+-- the events that were taken, up to where another server begins, where some wait for the mark that says so; the next file
+-- of a server goes on with those that wait, and a line that is no entry is passed over
 unfoldable pub taken_of : List HubEvent → List Entry → List HubEvent
 taken_of waiting [] = []
 taken_of waiting (Event e ∷ rest) = taken_of (waiting ++ (e ∷ [])) rest
 taken_of waiting (Taken first events changes ∷ rest) = take first waiting ++ taken_of [] rest
 taken_of waiting (Begins changes operators ∷ rest) = []
+taken_of waiting (Continues file changes operators ∷ rest) = taken_of waiting rest
 taken_of waiting (Bad ∷ rest) = taken_of waiting rest
 
 -- the next entry of what a reader has left

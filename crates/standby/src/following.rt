@@ -33,8 +33,35 @@ pub enum Ended {
     Begins { changes: u64, operators: Text },
 }
 
-/// Hands the events of a journal to a hub, each once a mark says that it was taken, up to where another server begins
-/// (docs/RULES.md, The journal). Nobody is told what they say.
+/// Finds where the first server of a journal begins. Events and marks before it are a gap: of the connections and calls at
+/// that place nothing is known.
+pub fn find_begin<R: BufRead>(
+    alloc: Global,
+    hosted: &[Text],
+    reader: &mut R,
+) -> Result<Ended, FollowFault> {
+    let mut line = Vec::new(alloc);
+    for _ in 0..u64::MAX {
+        match next_entry(alloc, hosted, reader, &mut line)? {
+            Some(Entry::Bad) => {}
+            Some(Entry::Begins { changes, operators }) => {
+                return Ok(Ended::Begins { changes, operators });
+            }
+            Some(_) => return Err(FollowFault::Gap),
+            None => {
+                return Ok(Ended::End {
+                    waiting: 0,
+                    is_cut: !line.is_empty(),
+                });
+            }
+        }
+    }
+    Err(FollowFault::TooLong)
+}
+
+/// Hands the events of a server's journal to a hub, each once a mark says that it was taken, up to where another server
+/// begins (docs/RULES.md, The journal). Nobody is told what they say. The reader stands where the server begins, and the hub
+/// has no connection.
 ///
 /// Where it is Ok, the hub is left as by those events that the journal says were taken. After a fault it is left as by the
 /// first of them, each whole.
@@ -53,20 +80,24 @@ pub fn follow<S: Store + Drop, V: VendorHandler, R: BufRead, C: Counts>(
         (taken_of [] (entries_of (setting V.view hub.old).is_hosted input)) (world S.view hub.new))) }
 {
     let mut waiting = Vec::new(alloc);
+    let mut files = 0;
     for _ in 0..u64::MAX {
-        if let Some(ended) = follow_entry(alloc, hub, reader, &mut waiting, counts)? {
+        let ended = follow_entry(alloc, hub, reader, &mut waiting, &mut files, counts)?;
+        if let Some(ended) = ended {
             return Ok(ended);
         }
     }
     Err(FollowFault::TooLong)
 }
 
-/// Follows the next entry, where those events wait for a mark. `None` is that more may come.
+/// Follows the next entry, where those events wait for a mark and so many files have begun after the server's first. `None`
+/// is that more may come.
 fn follow_entry<S: Store + Drop, V: VendorHandler, R: BufRead, C: Counts>(
     alloc: Global,
     hub: &mut Hub<S, V>,
     reader: &mut R,
     waiting: &mut Vec<Event>,
+    files: &mut u64,
     counts: &C,
 ) -> Result<Option<Ended>, FollowFault>
     ensures setting { setting V.view hub.new ≡ setting V.view hub.old }
@@ -93,14 +124,34 @@ fn follow_entry<S: Store + Drop, V: VendorHandler, R: BufRead, C: Counts>(
             changes,
         } => {
             take_group(hub, waiting, taken, events)?;
-            if counts.has(changes) {
-                Ok(None)
-            } else {
-                Err(FollowFault::Changes)
-            }
+            compare(counts, changes)
+        }
+        Entry::Continues { file, changes, .. } => {
+            *files = next_file(*files, file)?;
+            compare(counts, changes)
         }
         Entry::Begins { changes, operators } => Ok(Some(Ended::Begins { changes, operators })),
         Entry::Bad => Ok(None),
+    }
+}
+
+/// More may come, where so many changes are on record.
+fn compare<C: Counts>(counts: &C, changes: u64) -> Result<Option<Ended>, FollowFault>
+    ensures { IfOk result (λ ended. ended ≡ None) }
+{
+    if counts.has(changes) {
+        Ok(None)
+    } else {
+        Err(FollowFault::Changes)
+    }
+}
+
+/// The number of the file that follows so many, which is to be that one.
+fn next_file(files: u64, file: u64) -> Result<u64, FollowFault> {
+    if files.checked_add(1) == Some(file) {
+        Ok(file)
+    } else {
+        Err(FollowFault::Gap)
     }
 }
 

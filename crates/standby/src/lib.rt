@@ -6,4 +6,4 @@ mod following;
 mod group;
 
 pub use fault::FollowFault;
-pub use following::{Counts, Ended, follow};
+pub use following::{Counts, Ended, find_begin, follow};

@@ -1,6 +1,5 @@
 pub mod AdmitLaws
 pub mod HandshakeLaws
-pub mod IdleLaws
 pub mod LobbyLaws
 pub mod PartLaws
 pub mod ProbeLaws

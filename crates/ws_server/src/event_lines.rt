@@ -1,8 +1,7 @@
 //! The lines of events in a journal.
-ghost use Rattle.std.specs.Prelude.{◌≡◌, true};
-ghost use Rattle.hub.specs.World.{Setting, World, world_outputs, world_step};
 
 use crate::gateway::Gateway;
+use hub::is_idle;
 use hub_events::{Event, Out};
 use ready_streams::Served;
 use std::io::{Read, Write};
@@ -29,16 +28,5 @@ impl<T: Read + Write + Served + Drop> Gateway<T> {
         if let Some(journal) = &self.journal {
             journal.refuse();
         }
-    }
-}
-
-/// Whether an event is a tick at which no call has ended. It has changed nothing.
-#[tactic(auto, using(crate::proofs::IdleLaws::idle_event))]
-fn is_idle(event: &Event, outs: &[Out]) -> bool
-    ensures { result ≡ true → (setting : Setting) → (w : World) → outs.now ≡ world_outputs setting w event.now → world_step setting w event.now ≡ w }
-{
-    match event {
-        Event::Tick { .. } => outs.is_empty(),
-        Event::At { .. } => false,
     }
 }

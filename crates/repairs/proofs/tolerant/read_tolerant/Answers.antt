@@ -12,4 +12,4 @@ returns-in-Err-clause-written c =
     let text = c.args.text.now in
     let sent = view c.args.payload.now in
     let written = after_second-written action moment text sent c.in-Err.fault (sym c.in_ok-request.ensures ∙ c.in-Err.is) in
-    IfOk-weaker c.read_mended.result _ _ (λ r e. subst (IsWritten action moment text sent) (sym e) written) c.read_mended.ensures
+    IfOk-weaker c.read_repaired.result _ _ (λ r e. subst (IsWritten action moment text sent) (sym e) written) c.read_repaired.ensures

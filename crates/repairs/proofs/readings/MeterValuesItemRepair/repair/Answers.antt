@@ -5,4 +5,4 @@ use Rattle.repairs.proofs.Numbers.{meter_value_table_numbers}
 use Rattle.repairs.proofs.readings.MeterValuesItemRepair.repair.Goals as goal
 
 pub if_read-requires : goal.if_read-requires
-if_read-requires c = subst HasNumbers (sym c.in_ok-mended.ensures) (meter_value_table_numbers c.args.now.now (value_view c.args.value) c.requires)
+if_read-requires c = subst HasNumbers (sym c.in_ok-repaired.ensures) (meter_value_table_numbers c.args.now.now (value_view c.args.value) c.requires)

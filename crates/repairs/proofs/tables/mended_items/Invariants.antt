@@ -1,6 +1,0 @@
-use Rattle.std.proofs.Common.{length}
-use Rattle.repairs.proofs.Mended.{ItemsSoFar}
-use Rattle.repairs.proofs.tables.mended_items.Given as goal
-
-abbrev pub invariant-loop-item : goal.invariant-loop-item
-invariant-loop-item g l = ItemsSoFar (g.R.ItemRepair.repair_by l.repair l.now) l.fn.items.items l.mended.items (length l.yielded)

@@ -1,6 +1,0 @@
-use Rattle.std.proofs.Common.{length}
-use Rattle.repairs.proofs.Mended.{MembersSoFar}
-use Rattle.repairs.proofs.tables.mended_members.Given as goal
-
-abbrev pub invariant-loop-name : goal.invariant-loop-name
-invariant-loop-name g l = MembersSoFar (g.R.MemberRepairs.table l.repairs l.now) l.fn.members.items l.mended.items (length l.yielded)
