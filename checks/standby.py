@@ -9,6 +9,7 @@ journals are refused, a standby that serves at the end of its input, and a journ
 """
 
 import contextlib
+import glob
 import os
 import re
 import resource
@@ -61,11 +62,57 @@ def listings(port):
     return found
 
 
+def files_of(journal):
+    """The files of a journal, in their order. The last is written to."""
+    return [*sorted(glob.glob(f"{glob.escape(journal)}.2*")), journal]
+
+
+def whole(journal):
+    """All bytes of a journal that nobody writes to."""
+    data = b""
+    for name in files_of(journal):
+        with open(name, "rb") as file:
+            data += file.read()
+    return data
+
+
+class Reader:
+    """Reads a journal from a place on, as it grows, from file to file."""
+
+    def __init__(self, journal, place):
+        self.journal = journal
+        for name in files_of(journal):
+            self.file = open(name, "rb")
+            size = os.path.getsize(name)
+            if place < size or name == journal:
+                break
+            self.file.close()
+            place -= size
+        self.file.seek(place)
+
+    def read(self):
+        """What has come."""
+        # once another file has the name, nothing more comes to this one
+        files = [name for name in files_of(self.journal) if os.path.exists(name)]
+        data = self.file.read()
+        places = [place for place, name in enumerate(files) if self.is_open(name)]
+        if data or not places or files[places[0]] == self.journal:
+            return data
+        self.file.close()
+        self.file = open(files[places[0] + 1], "rb")
+        return self.file.read()
+
+    def is_open(self, name):
+        with contextlib.suppress(FileNotFoundError):
+            return os.path.samestat(os.stat(name), os.fstat(self.file.fileno()))
+        return False
+
+
 class Follower:
     """A process that follows a journal from a place on. A thread hands it what comes."""
 
     def __init__(self, program, db, journal, place):
-        self.journal, self.place = journal, place
+        self.reader = Reader(journal, place)
         self.is_over = threading.Event()
         follow = [program, "follow", "--db", db, "--operators", OPERATOR_LIST, "--journal", "-"]
         self.process = subprocess.Popen(follow, stdin=subprocess.PIPE, stderr=subprocess.PIPE)
@@ -76,12 +123,11 @@ class Follower:
         with contextlib.suppress(BrokenPipeError):
             while True:
                 is_last = self.is_over.is_set()
-                with open(self.journal, "rb") as journal:
-                    journal.seek(self.place)
-                    data = journal.read()
-                self.place += len(data)
+                data = self.reader.read()
                 self.process.stdin.write(data)
                 self.process.stdin.flush()
+                if data:
+                    continue
                 if is_last:
                     break
                 time.sleep(0.005)
@@ -89,22 +135,20 @@ class Follower:
             self.process.stdin.close()
 
     def end(self):
-        """Hands it the rest. Its status, what it says, and where the journal ended."""
+        """Hands it the rest. Its status, and what it says."""
         self.is_over.set()
         self.thread.join()
         self.process.wait()
-        return self.process.returncode, self.process.stderr.read().decode(), self.place
+        return self.process.returncode, self.process.stderr.read().decode()
 
     def kill(self):
         self.process.kill()
         self.end()
 
 
-def last_mark(journal, place):
-    """Where the last mark ends that is before a place. What comes after it is followed with the next mark."""
-    with open(journal, "rb") as lines:
-        data = lines.read(place)
-    return max(match.end() for match in re.finditer(rb"^(?:taken|begins) .*\n", data, re.M))
+def last_begin(journal):
+    """Where the last server of a journal begins."""
+    return max(match.start() for match in re.finditer(rb"^begins .*\n", whole(journal), re.M))
 
 
 class Day(Checks):
@@ -114,9 +158,10 @@ class Day(Checks):
         super().__init__(program, folder, seed)
         self.journal = os.path.join(folder, "journal")
         self.standby = os.path.join(folder, "standby.db")
-        # how much of the journal the standby has followed
+        # where the standby begins
         self.place = 0
-        kills.server_words = lambda program, db: words(program, kills.PORT, db, "--journal", self.journal)
+        size = ("--journal-size", "100000")
+        kills.server_words = lambda program, db: words(program, kills.PORT, db, "--journal", self.journal, *size)
 
     def copy(self, source, target):
         for end in ("", "-wal", "-count"):
@@ -140,8 +185,9 @@ class Day(Checks):
             # it begins again where it began before
             self.copy(base, self.standby)
             follower = Follower(self.program, self.standby, self.journal, self.place)
-        status, says, place = follower.end()
-        self.place = last_mark(self.journal, place)
+        status, says = follower.end()
+        # nothing has changed since the last server began
+        self.place = last_begin(self.journal)
         self.check(f"kill {number}: the follower", status == 0, says)
         self.compare(number)
 
@@ -196,6 +242,7 @@ class Lines:
         self.look_at_lines()
         self.look_at_files()
         self.look_at_followers()
+        self.look_at_sizes()
         self.look_at_a_limit()
         self.look_at_a_takeover()
 
@@ -288,6 +335,62 @@ class Lines:
         waiting = (0, told + "warning: 1 events at the end of the journal have no mark, and were told to nobody\n")
         self.check("an event without a mark", self.follow(data + b"1704067200 ACME list tags\n") == waiting)
         self.check("a line that is no entry", self.follow(data + b"\xff\n") == (0, told))
+        self.check("an event before a server begins", self.follow(b"".join(lines[1:])) == gap)
+        self.check("a mark before a server begins", self.follow(b"taken 0 0 0\n" + data) == gap)
+        self.check("the next file", self.follow(data + b"continues 1 3 ACME,BETA\n") == (0, told))
+        self.check("a file left out", self.follow(data + b"continues 2 3 ACME,BETA\n") == gap)
+        self.check("the next file of others", self.follow(data + b"continues 1 4 ACME,BETA\n") == changes)
+        self.check("the next file alone", self.follow(b"continues 1 0 ACME,BETA\n") == gap)
+
+    def look_at_sizes(self):
+        """A journal in files of a size, which is followed as it grows."""
+        db, journal, standby = self.path("sizes.db"), self.path("sizes.journal"), self.path("sizes_standby.db")
+        server = self.serve("--journal-size", "20000", db=db, journal=journal)
+        desk = Peer(kills.PORT, "/operator/ACME")
+        follower = Follower(self.program, standby, journal, 0)
+        # where no file can be made, it is told once, and the one of now grows
+        os.mkdir(f"{journal}.next")
+        for number in range(300):
+            desk.ask(f"tag put A{number:03} - 0 -")
+            time.sleep(0.001)
+        os.rmdir(f"{journal}.next")
+        self.check("no file can be begun", files_of(journal) == [journal], files_of(journal))
+        end = time.monotonic() + 4
+        number = 0
+        while time.monotonic() < end:
+            desk.ask(f"tag put B{number:05} - 0 -")
+            number += 1
+        rows = desk.lines("1", "list tags")
+        server.kill()
+        warned = f"warning: the next file of the journal {journal} can't be begun\n"
+        says = server.communicate()[1].decode()
+        self.check("what the server says", says == warned, says)
+        followed = follower.end()
+        self.check("the follower", followed[0] == 0 and followed[1].endswith(f" {number + 300} changes on record\n"), followed)
+        files = files_of(journal)
+        self.check("some files", len(files) >= 4, files)
+        heads = []
+        for name in files:
+            with open(name) as file:
+                heads.append(file.readline())
+        counted = [f"continues {place} " for place in range(1, len(files))]
+        self.check("their first lines", all(map(str.startswith, heads, ["begins 0 ", *counted])), heads)
+        self.check("the owner alone", {os.stat(name).st_mode & 0o777 for name in files} == {0o600})
+        data = whole(journal).decode()
+        puts = re.findall(r" tag put (\S+)", data)
+        wanted = [*(f"A{place:03}" for place in range(300)), *(f"B{place:05}" for place in range(number))]
+        self.check("each event once", puts == wanted, (len(puts), len(wanted)))
+        process = begun(subprocess.Popen(words(self.program, STANDBY_PORT, standby)), STANDBY_PORT)
+        seen = Peer(STANDBY_PORT, "/operator/ACME").lines("1", "list tags")
+        ended(process)
+        self.check("the standby of files", seen == rows and len(rows) == number + 301, (len(seen), len(rows)))
+        # a stop between two names: the file has its second name, and none has the first
+        os.rename(journal, f"{journal}.29991231T235959Z")
+        server = self.serve("--journal-size", "20000", db=db, journal=journal)
+        server.kill()
+        server.wait()
+        with open(journal) as file:
+            self.check("a stop between two names", file.read() == f"begins {number + 300} ACME,BETA\n")
 
     def look_at_a_limit(self):
         """A journal that can't grow. What is answered is there."""
@@ -369,9 +472,9 @@ def main():
         for number in range(1, count + 1):
             day.one_kill(number)
         steps = sum(load.steps for load in day.loads)
-        size = os.path.getsize(day.journal)
+        size = len(whole(day.journal))
         print(f"{count} kills, {steps} changes acknowledged, {day.made} of {day.in_flight} in flight found made")
-        print(f"a journal of {size} bytes, {size // max(steps, 1)} a change")
+        print(f"a journal of {size} bytes in {len(files_of(day.journal))} files, {size // max(steps, 1)} a change")
     print(f"{day.passed} passed, {day.failed} failed")
     sys.exit(day.failed > 0)
 

@@ -12,7 +12,7 @@ use std::fs::File;
 use std::rc::Rc;
 
 /// The nanoseconds between two looks at the size of the file.
-const LOOKS: u64 = 1_000_000_000;
+const LOOKS: u64 = 100_000_000;
 
 /// The journal that a server keeps, if it keeps one.
 #[derive(Drop)]
@@ -102,7 +102,7 @@ impl KeptJournal {
 
 impl Kept {
     /// Whether the file has as many bytes as it may have, so many nanoseconds since the start. Its size is looked at once in
-    /// a second at most.
+    /// 100 ms at most.
     fn is_full(&mut self, rt: &HostRuntime, now: u64) -> bool {
         let Some(size) = self.size else {
             return false;
