@@ -1,6 +1,6 @@
 """Checks that a refused allocation costs no more than the event that met it. Each allocation of replays, of the opening
-of a file of each earlier schema and of a session at the server is refused once, by refusing_malloc.c under the built
-program. Prints a line for each scenario, then `N passed, M failed`. With --small it refuses fewer.
+of a file of each earlier schema, of a session at the server, of one at a server with a journal and of what follows that is
+refused once, by refusing_malloc.c under the built program. Prints a line for each scenario, then `N passed, M failed`. With --small it refuses fewer.
 
     python3 checks/allocations.py crates/central/out/central [--small]
 
@@ -124,7 +124,7 @@ def spread(first, last, count):
 
 
 def remove(db):
-    for path in (db, f"{db}-wal", f"{db}-shm", f"{db}-count", f"{db}.new"):
+    for path in (db, f"{db}-wal", f"{db}-shm", f"{db}-count", f"{db}.new", f"{db}.journal"):
         Path(path).unlink(missing_ok=True)
 
 
@@ -304,18 +304,25 @@ def check_earlier_schema(checks, earlier):
     told(scenario, count, endings)
 
 
-class Server:
-    """A server over a copy of the recorded file. It listens, or has ended, once it is made."""
+def copied(checks, recorded):
+    """The path of a copy of a file."""
+    db = checks.new_file()
+    for end in ("", "-wal"):
+        if os.path.exists(recorded + end):
+            shutil.copy(recorded + end, db + end)
+    return db
 
-    def __init__(self, checks, recorded, first):
+
+class Server:
+    """A server over a file, with or without a journal. It listens, or has ended, once it is made."""
+
+    def __init__(self, checks, db, first, keeps=False):
         self.allocator = checks.allocator
-        self.db = checks.new_file()
-        for end in ("", "-wal"):
-            if os.path.exists(recorded + end):
-                shutil.copy(recorded + end, self.db + end)
+        self.db = db
         self.allocator.refuse(first, first)
         self.log = tempfile.TemporaryFile("w+")
         words = [checks.program, "serve", "--port", str(PORT), "--db", self.db, "--operators", "ACME,BETA"]
+        words += ["--journal", f"{db}.journal"] if keeps else []
         self.process = subprocess.Popen(
             words, stdout=self.log, stderr=self.log, stdin=subprocess.DEVNULL, env=self.allocator.environment
         )
@@ -339,9 +346,12 @@ class Server:
         with open(f"/proc/self/fd/{self.log.fileno()}") as log:
             return log.read()
 
-    def close(self):
+    def end(self):
         self.process.kill()
         self.process.wait()
+
+    def close(self):
+        self.end()
         self.log.close()
         remove(self.db)
 
@@ -420,9 +430,9 @@ def afterwards(server, session, usual):
     return f"the log has {wrong}" if wrong else None
 
 
-def usual_session(checks, recorded):
+def usual_session(checks, recorded, keeps=False):
     """A session without a refusal: the session, its allocations at the start and in all."""
-    server = Server(checks, recorded, NEVER)
+    server = Server(checks, copied(checks, recorded), NEVER, keeps)
     with contextlib.closing(server):
         started = checks.allocator.count
         usual = Session(server)
@@ -435,7 +445,7 @@ def usual_session(checks, recorded):
 
 def served(checks, recorded, number, usual):
     """How a session with that allocation refused went, and what was wrong, if anything was."""
-    server = Server(checks, recorded, number)
+    server = Server(checks, copied(checks, recorded), number)
     with contextlib.closing(server):
         if not server.lives():
             status, errors = server.process.returncode, server.errors()
@@ -464,6 +474,83 @@ def check_serve(checks):
     told(f"a session, of which {started} at the start", count, endings)
 
 
+def follow(checks, recorded, data, number=NEVER):
+    """Follows a journal over a copy of a file: the status and the errors, the rows, and how many changes are on record."""
+    db = copied(checks, recorded)
+    words = [checks.program, "follow", "--db", db, "--operators", "ACME,BETA", "--journal", "-"]
+    checks.allocator.refuse(number, number)
+    ran = subprocess.run(words, input=data, capture_output=True, timeout=60, env=checks.allocator.environment)
+    rows, _ = records(db)
+    changes = counted(rows)
+    remove(db)
+    return (ran.returncode, ran.stderr.decode()), rows, changes
+
+
+def kept(checks, recorded, number, usual):
+    """How a session with a journal went in which that allocation was refused, what was wrong, and the journal. What was
+    told is in the journal, and its follower has the rows of the server."""
+    db = copied(checks, recorded)
+    server = Server(checks, db, number, keeps=True)
+    try:
+        session = Session(server) if server.lives() else None
+        says = server.errors()
+        how = "served on" if server.lives() else (re.findall("^fault .*", says, re.MULTILINE) or ["no fault"])[-1]
+        fault = afterwards(server, session, usual) if server.lives() else None
+        if not server.lives() and (server.process.returncode, how.split(":")[0]) not in ENDS:
+            fault = f"it ended with {server.process.returncode}: {says}"
+        server.end()
+        # the next server says which of the last events were taken
+        again = Server(checks, db, NEVER, keeps=True)
+        fault = fault or (None if again.lives() else f"it doesn't begin again: {again.errors()}")
+        again.end()
+        again.log.close()
+        data = Path(f"{db}.journal").read_bytes()
+        rows, _ = records(db)
+        counted(rows)
+        ran, found, _ = follow(checks, recorded, data)
+        fault = fault or (f"a follower: {ran}" if ran[0] else None) or ("other rows" if found != rows else None)
+        return how, fault, data
+    finally:
+        server.close()
+
+
+# How a server with a journal may end where an allocation is refused.
+ENDS = ((2, "fault NoMemory"), (2, "fault Journal"))
+
+
+def check_journal(checks):
+    """Sessions at a server with a journal, and followers of one, of which each refuses one allocation."""
+    recorded = checks.new_file()
+    checks.replay(RECORDED, recorded)
+    usual, started, count = usual_session(checks, recorded, keeps=True)
+    start, session = (3, 12) if checks.small else (20, 150)
+    endings = collections.Counter()
+    for number in spread(1, started, start) + spread(started + 1, count, session):
+        how, fault, _ = kept(checks, recorded, number, usual)
+        endings["OTHERWISE" if fault else how] += 1
+        checks.check(f"a session with a journal, allocation {number}", fault, number)
+    told(f"a session with a journal, of which {started} at the start", count, endings)
+    check_follow(checks, recorded, kept(checks, recorded, NEVER, usual)[2])
+
+
+def check_follow(checks, recorded, data):
+    """A follower leaves the rows after some of the first marks of its journal."""
+    places = [match.end() for match in re.finditer(b"^taken .*\n", data, re.MULTILINE)]
+    states = {changes: rows for _, rows, changes in (follow(checks, recorded, data[:place]) for place in (0, *places))}
+    follow(checks, recorded, data)
+    count = checks.allocator.count
+    endings = collections.Counter()
+    for number in numbers_of(checks, 1, count):
+        (status, errors), rows, changes = follow(checks, recorded, data, number)
+        name = errors.splitlines()[-1] if status else "followed"
+        seen = (status, errors, changes)
+        is_end = status == 0 and changes == max(states) or (status, name) == (2, "fault NoMemory")
+        checks.check(f"a follower, allocation {number}", not is_end and "another end", seen)
+        checks.check(f"a follower, allocation {number}", rows != states.get(changes) and "other rows", seen)
+        endings[f"{name}, {changes} changes"] += 1
+    told("a follower", count, endings)
+
+
 def main():
     with tempfile.TemporaryDirectory() as folder:
         checks = Checks(os.path.abspath(sys.argv[1]), folder, "--small" in sys.argv[2:])
@@ -474,6 +561,7 @@ def main():
         for earlier in EARLIER:
             check_earlier_schema(checks, earlier)
         check_serve(checks)
+        check_journal(checks)
     print(f"{checks.passed} passed, {checks.failed} failed")
     sys.exit(1 if checks.failed else 0)
 

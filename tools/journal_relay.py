@@ -192,7 +192,9 @@ def read(stream, options):
             sys.stdout.buffer.flush()
             number += 1
         elif stream.last()[0] >= number:
-            raise Refused(f"message {number} is gone")
+            # it may have come since
+            if not stream.get({"seq": number}):
+                raise Refused(f"message {number} is gone")
         elif was_gone or out.poll(0):
             return 0
         else:
