@@ -4,7 +4,7 @@ use Rattle.hub_events.specs.declared.event.Event.{Event as HubEvent}
 use Rattle.lines.specs.Journal.{Stands}
 use Rattle.journal.specs.Entries.{entry_of}
 use Rattle.journal.specs.declared.entry.Entry.{Entry}
-use Rattle.journal.specs.declared.entry.Entry.TheVariants.{Event}
+use Rattle.journal.specs.declared.entry.Entry.TheVariants.{Bad, Event}
 
 -- the entries of bytes, of which the first belong to a line that has begun; bytes without a line feed after them are none
 unfoldable pub entries_from : (List ℕ → Bool) → List ℕ → List ℕ → List Entry
@@ -33,3 +33,7 @@ Adds event order old new =
 -- a mark follows the others
 abbrev pub AddsMark : Entry → List ℕ → List ℕ → Type 0
 AddsMark mark old new = (is_hosted : List ℕ → Bool) → entries_of is_hosted new ≡ entries_of is_hosted old ++ (mark ∷ [])
+
+-- these bytes end a line of which only a part is in a file; it is no entry then
+abbrev pub EndsCut : List ℕ → Type 0
+EndsCut bytes = (is_hosted : List ℕ → Bool) (file : List ℕ) → entries_of is_hosted (file ++ bytes) ≡ entries_of is_hosted file ++ (Bad ∷ [])

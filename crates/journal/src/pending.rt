@@ -5,7 +5,7 @@ ghost use Rattle.std.specs.Io.KnownBytes.{Appends};
 ghost use Rattle.lines.specs.Journal.{is_feed};
 ghost use Rattle.journal.specs.declared.entry.Entry.TheVariants.{Begins, Continues, Taken};
 ghost use Rattle.journal.specs.Entries.{AreCounts, IsCount};
-ghost use Rattle.journal.specs.Journals.{is_whole, entries_of, Adds, AddsMark};
+ghost use Rattle.journal.specs.Journals.{is_whole, entries_of, Adds, AddsMark, EndsCut};
 
 use crate::marks::{begins_line, continues_line, taken_line};
 use hub_events::Event;
@@ -23,7 +23,7 @@ pub struct Pending {
     ghost whole: { is_whole bytes.items ≡ true },
 }
 
-#[tactic(auto, using(crate::proofs::Laws::whole_nothing, crate::proofs::Laws::nothing, crate::proofs::Laws::whole_if, crate::proofs::Laws::whole_cut, crate::proofs::Laws::whole_both, crate::proofs::Laws::event_added, crate::proofs::Laws::taken_added, crate::proofs::Laws::begins_added, crate::proofs::Laws::continues_added, crate::proofs::Laws::both))]
+#[tactic(auto, using(crate::proofs::Laws::whole_nothing, crate::proofs::Laws::nothing, crate::proofs::Laws::whole_if, crate::proofs::Laws::whole_cut, crate::proofs::Laws::whole_both, crate::proofs::Laws::event_added, crate::proofs::Laws::taken_added, crate::proofs::Laws::begins_added, crate::proofs::Laws::continues_added, crate::proofs::Laws::both, crate::proofs::Cuts::ends_cut))]
 impl Pending {
     /// No line.
     pub fn new(alloc: Global) -> Pending
@@ -90,6 +90,7 @@ impl Pending {
     /// Ends a line of which only a part is in the file, so that it is no entry whatever its bytes are: they aren't UTF-8.
     pub fn add_cut(&mut self) -> Mem<()>
         ensures added { OnOk result (self.new.bytes.items ≡ self.old.bytes.items ++ (255 ∷ 10 ∷ [])) }
+        ensures ends { OnOk result (self.old.bytes.items ≡ [] → EndsCut self.new.bytes.items) }
         ensures kept { OnErr result (self.new.bytes.items ≡ self.old.bytes.items) }
     {
         self.bytes.extend_from_slice(&[255, b'\n'])?;

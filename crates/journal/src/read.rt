@@ -13,7 +13,7 @@ const MAX_DIGITS: usize = 19;
 
 /// What a line of a journal says, by its bytes without the line feed. An event of an operator that isn't in `hosted` makes
 /// it Bad.
-#[tactic(auto, using(crate::proofs::Laws::valid_text), unfolding(crate::specs::Entries::entry_of))]
+#[tactic(auto, using(lines::proofs::Utf8Lines::valid_text), unfolding(crate::specs::Entries::entry_of))]
 pub fn read_entry(alloc: Global, hosted: &[Text], line: &[u8]) -> Mem<Entry>
     ensures { IfOk result (λ e. e ≡ entry_of (is_hosted hosted.now) line.now) }
 {
