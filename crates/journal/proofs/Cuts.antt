@@ -64,6 +64,7 @@ take_all [] = refl
 take_all (x ∷ xs) = ap (λ ys. x ∷ ys) (take_all xs)
 
 shorter : (bs : List ℕ) (n : ℕ) → length bs ≡ suc n → is_text bs ≡ false → (utf8_valid_len bs == length bs) ≡ false
+unfolding utf8_valid_len
 shorter bs n many none =
     let less = short bs n in
     let whole : take (suc n) bs ≡ bs = ap (λ k. take k bs) (sym many) ∙ take_all bs in
