@@ -62,6 +62,12 @@ impl Tail {
         }
     }
 
+    /// A mark says that so many changes are on record.
+    fn mark(&mut self, changes: u64) {
+        self.marked = Some(changes);
+        self.events = 0;
+    }
+
     /// Of the events without a mark those that were taken, from the first on, where so many changes are on record. `None` is
     /// that the journal doesn't fit the records.
     pub fn taken(&self, changes: u64) -> Option<u64>
@@ -99,19 +105,18 @@ pub fn tail_of<R: BufRead>(alloc: Global, reader: &mut R) -> Result<Tail, TailFa
         tail.is_empty = false;
         match read_entry(alloc, hosted.as_slice(), text)? {
             Entry::Event(_) => tail.events = tail.events.saturating_add(1),
-            Entry::Taken { changes, .. } => {
-                tail.marked = Some(changes);
-                tail.events = 0;
+            Entry::Taken { changes, .. } => tail.mark(changes),
+            Entry::Begins { changes, operators } => {
+                hosted = names_of(alloc, operators.as_str())?;
+                tail.mark(changes);
             }
-            Entry::Begins { changes, operators }
-            | Entry::Continues {
+            Entry::Continues {
                 changes,
                 operators,
                 ..
             } => {
                 hosted = names_of(alloc, operators.as_str())?;
-                tail.marked = Some(changes);
-                tail.events = 0;
+                tail.mark(changes);
             }
             Entry::Bad => {}
         }
