@@ -203,7 +203,7 @@ class Nats(Carried):
         other = self.publish(journals["primary"], primary.pid, "--source", "primary")
         other.wait(timeout=20)
         says = other.stderr.read().decode()
-        checks.check("the first server's journal", other.returncode == 1 and ", of standby" in says, (other.returncode, says))
+        checks.check("the first server's journal", other.returncode == 3 and ", of standby" in says, (other.returncode, says))
         Path(f"{folder}/primary.stop").touch()
         primary.wait(timeout=20)
         checks.check("the first server is ended", primary.returncode == 0, primary.returncode)
@@ -212,7 +212,7 @@ class Nats(Carried):
         Peer(STANDBY, "/operator/ACME").ask("tag put LATE - 0 -")
         time.sleep(1)
         codes = [one.poll(), late.poll()]
-        checks.check("one of two publishers", sorted(codes, key=str) == [1, None], codes)
+        checks.check("one of two publishers", sorted(codes, key=str) == [3, None], codes)
         for process in (one, late):
             process.kill()
 

@@ -14,7 +14,7 @@ says that this journal goes on behind the message N of the other; without it tha
 ends where --while PID is gone and no more messages come, and with any other end of its input. `last` prints the number and
 the source of the last message.
 
-Status 0: its input has ended. 1: the stream is another's, or a message is missing. 2: no server can be reached for a
+Status 0: its input has ended. 3: the stream is another's, or a message is missing. 2: no server could be reached for a
 minute. It needs nothing but Python. Neither TLS nor passwords: the servers of NATS are reached on loopback or over a
 private network.
 """
@@ -223,7 +223,7 @@ def main():
     try:
         sys.exit({"publish": publish, "read": read, "last": last}[options.what](stream, options))
     except Refused as refused:
-        sys.exit(say(refused, 1))
+        sys.exit(say(refused, 3))
     except BrokenPipeError:
         sys.exit(0)
 
