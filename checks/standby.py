@@ -244,6 +244,7 @@ class Lines:
         self.look_at_followers()
         self.look_at_sizes()
         self.look_at_a_limit()
+        self.look_at_failures()
         self.look_at_a_takeover()
 
     def look_at_lines(self):
@@ -411,6 +412,25 @@ class Lines:
         seen = server.poll() is None
         server.kill()
         self.check("the journal goes on with room", seen, server.communicate()[1].decode())
+
+    def look_at_failures(self):
+        """A follower whose file can't grow, and one whose input fails. The records are those up to there."""
+        data = whole(self.path("sizes.journal"))
+        db = self.path("full.db")
+        command = [self.program, "follow", "--db", db, "--operators", OPERATOR_LIST, "--journal"]
+        options = {"stderr": subprocess.PIPE, "timeout": 60}
+        process = subprocess.run([*command, "-"], input=data, preexec_fn=limited(600_000), **options)
+        says = process.stderr.decode().splitlines()[-1]
+        self.check("a full disk", (process.returncode, says) == (2, "fault Follow: Store"), process)
+        server = begun(subprocess.Popen(words(self.program, STANDBY_PORT, db)), STANDBY_PORT)
+        rows = Peer(STANDBY_PORT, "/operator/ACME").lines("1", "list tags")
+        ended(server)
+        tags = [row.split(" ")[3].strip('"') for row in rows[:-1]]
+        puts = re.findall(r" tag put (\S+)", data.decode())
+        self.check("what a full disk leaves", tags == sorted(puts[: len(tags)], key=str.lower) and tags, (tags[:2], rows[:2]))
+        process = subprocess.run([*command, self.folder], **options)
+        says = process.stderr.decode().splitlines()[-1]
+        self.check("an input that fails", (process.returncode, says) == (2, "fault Follow: Read"), process)
 
     def look_at_a_takeover(self):
         """A standby that serves once its input ends."""

@@ -1,22 +1,22 @@
 -- Lines of a journal.
-use Rattle.std.proofs.Common.{◌≡◌, ◌≢◌, ◌∙◌, ◌<◌, ◌≤◌, ◌+◌, ◌^◌, ℕ, List, [], ◌∷◌, ◌++◌, length, take, drop, get_or, Option, Some, None, Bool, true, false, codes, refl, sym, subst, ap, arith, nat_eq, inl, inr, true≢false, if◌then◌else◌}
+use Rattle.std.proofs.Common.{◌≡◌, ◌≢◌, ◌∙◌, ◌<◌, ◌+◌, ◌^◌, ℕ, List, [], ◌∷◌, ◌++◌, length, Some, None, Bool, true, false, codes, refl, sym, ap, arith, nat_eq, inl, inr, true≢false, if◌then◌else◌}
 use Rattle.std.specs.Prelude.{◌==◌, not, String, string_bytes}
 use Rattle.std.specs.Fmt.{decimal}
 use Rattle.std.specs.List.{list_any}
 use Rattle.std.specs.Str.Lossy.{utf8_valid_len}
 use Rattle.std.proofs.lemmas.Fmt.{decimal_is_IsNumeral, decimal_nonempty, length-decimal-le}
 use Rattle.std.proofs.lemmas.Str.{IsUtf8-string_bytes}
-use Rattle.std.proofs.lemmas.List.{append_assoc, append-nil, length-append, nil_from_length}
+use Rattle.std.proofs.lemmas.List.{append_assoc, append-nil, nil_from_length}
 use Rattle.hub_rows.specs.Failures.{Rose}
 use Rattle.hub_events.specs.declared.event.Event.{Event as HubEvent}
 use Rattle.lines.specs.InputLines.{event_of}
-use Rattle.lines.specs.Journal.{is_feed, Stands, IsReadBack, IsOneLine}
-use Rattle.lines.specs.Words.{is_space, first_word}
+use Rattle.lines.specs.Journal.{is_feed, IsReadBack, IsOneLine}
+use Rattle.lines.specs.Words.{is_space}
 use Rattle.lines.proofs.JournalLaws.{word_first, digits_plain}
 use Rattle.lines.proofs.JournalFeeds.{joined, of_digits}
 use Rattle.lines.proofs.Utf8Lines.{valid_text}
 use Rattle.ocpp_types.specs.Digits.{number_of_digits}
-use Rattle.journal.specs.Entries.{entry_of, entry_in, mark_in, event_or, count_of, begins_line, continues_line, taken_line, IsCount, AreCounts}
+use Rattle.journal.specs.Entries.{entry_of, entry_in, mark_in, event_or, begins_line, continues_line, taken_line, IsCount, AreCounts}
 use Rattle.journal.specs.Journals.{entries_from, entries_of, is_whole_from, is_whole, Adds, AddsMark}
 use Rattle.journal.specs.declared.entry.Entry.{Entry}
 use Rattle.journal.specs.declared.entry.Entry.TheVariants.{Begins, Continues, Event, Taken}

@@ -1,5 +1,5 @@
 -- The bytes of a journal: entries, each of one line.
-use Rattle.std.specs.Prelude.{ℕ, Bool, true, false, not, ◌==◌, List, [], ◌∷◌, ◌++◌, Option, Some, None, ◌≡◌, if◌then◌else◌}
+use Rattle.std.specs.Prelude.{ℕ, Bool, false, not, ◌==◌, List, [], ◌∷◌, ◌++◌, ◌≡◌, if◌then◌else◌}
 use Rattle.hub_events.specs.declared.event.Event.{Event as HubEvent}
 use Rattle.lines.specs.Journal.{Stands}
 use Rattle.journal.specs.Entries.{entry_of}

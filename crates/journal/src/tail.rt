@@ -62,6 +62,33 @@ impl Tail {
         }
     }
 
+    /// Passes an entry. Gives the operators, where it says who is hosted from there on.
+    fn pass(&mut self, alloc: Global, entry: &Entry) -> Mem<Option<Vec<Text>>> {
+        match entry {
+            Entry::Event(_) => {
+                self.events = self.events.saturating_add(1);
+                Ok(None)
+            }
+            Entry::Taken { changes, .. } => {
+                self.mark(*changes);
+                Ok(None)
+            }
+            Entry::Begins { changes, operators } => {
+                self.mark(*changes);
+                Ok(Some(names_of(alloc, operators.as_str())?))
+            }
+            Entry::Continues {
+                changes,
+                operators,
+                ..
+            } => {
+                self.mark(*changes);
+                Ok(Some(names_of(alloc, operators.as_str())?))
+            }
+            Entry::Bad => Ok(None),
+        }
+    }
+
     /// A mark says that so many changes are on record.
     fn mark(&mut self, changes: u64) {
         self.marked = Some(changes);
@@ -103,22 +130,9 @@ pub fn tail_of<R: BufRead>(alloc: Global, reader: &mut R) -> Result<Tail, TailFa
             break;
         };
         tail.is_empty = false;
-        match read_entry(alloc, hosted.as_slice(), text)? {
-            Entry::Event(_) => tail.events = tail.events.saturating_add(1),
-            Entry::Taken { changes, .. } => tail.mark(changes),
-            Entry::Begins { changes, operators } => {
-                hosted = names_of(alloc, operators.as_str())?;
-                tail.mark(changes);
-            }
-            Entry::Continues {
-                changes,
-                operators,
-                ..
-            } => {
-                hosted = names_of(alloc, operators.as_str())?;
-                tail.mark(changes);
-            }
-            Entry::Bad => {}
+        let entry = read_entry(alloc, hosted.as_slice(), text)?;
+        if let Some(names) = tail.pass(alloc, &entry)? {
+            hosted = names;
         }
     }
     if !line.is_empty() {

@@ -7,7 +7,7 @@ use Rattle.hub.specs.World.{Setting, World, world_run}
 use Rattle.journal.specs.Journals.{entries_of}
 use Rattle.journal.specs.declared.entry.Entry.{Entry}
 use Rattle.journal.specs.declared.entry.Entry.TheVariants.{Begins, Continues, Event, Taken, Bad}
-use Rattle.standby.specs.Follows.{taken_of, IsNext, Reads, IsReached}
+use Rattle.standby.specs.Follows.{taken_of, Reads, IsReached}
 use Rattle.standby.specs.Progress.{Progress, Followed, IsFollowedUpTo, AfterEntry}
 use Rattle.standby.specs.declared.fault.FollowFault.{FollowFault}
 use Rattle.standby.specs.declared.following.Ended.{Ended}

@@ -1,5 +1,5 @@
 -- One entry, by its kind.
-use Rattle.std.proofs.Common.{◌≡◌, ℕ, List, [], Option, Some, None, sym, subst}
+use Rattle.std.proofs.Common.{◌≡◌, List, Option, Some, sym, subst}
 use Rattle.hub_events.specs.declared.event.Event.{Event as HubEvent}
 use Rattle.hub_rows.specs.Operators.{is_hosted}
 use Rattle.hub.specs.Hub.{world, setting, is_clean}
