@@ -272,7 +272,7 @@ def check_replays(checks):
 def schema(db):
     """The number of the schema of a database, and its tables beside those of schema 1."""
     rows = records(db)[0]
-    return rows["hub_meta"][0][1], sorted(table for table in rows if table in MORE[SCHEMA])
+    return dict(rows["hub_meta"])["schema"], sorted(table for table in rows if table in MORE[SCHEMA])
 
 
 def check_earlier_schema(checks, earlier):
