@@ -108,6 +108,8 @@ pub fn decided_plan(alloc: Global, station: &Text, id: &Text, decision: Decision
 }
 
 /// A call that is read with repairs is answered as a rule decided. That it is, and the fault, is told before.
+#[cold]
+#[inline(never)]
 pub fn repaired_plan(
     alloc: Global,
     call: &CallAt<'_>,

@@ -23,6 +23,8 @@ use std::alloc::Global;
 /// `[2, id, action, payload]`, and `payload` is its payload (OCPP-J 1.6, section 4.2.1). What the
 /// strict reader takes is read as sent. What it refuses is repaired and read once more, and a time
 /// that can't be read is read as the moment.
+#[cold]
+#[inline(never)]
 pub fn read_tolerant(
     alloc: Global,
     action: Action,
