@@ -1,5 +1,4 @@
 -- The count of lines is at its end.
-use Rattle.std.proofs.Common.{◌≡◌}
 use Rattle.standby.proofs.Steps.{stops}
 use Rattle.standby.proofs.following.follow.Goals as goal
 

@@ -1,5 +1,5 @@
 -- One entry, by its kind.
-use Rattle.std.proofs.Common.{◌≡◌, List, Option, Some, sym, subst}
+use Rattle.std.proofs.Common.{List, Option, Some, sym, subst}
 use Rattle.hub_events.specs.declared.event.Event.{Event as HubEvent}
 use Rattle.hub_rows.specs.Operators.{is_hosted}
 use Rattle.hub.specs.Hub.{world, setting, is_clean}
@@ -32,7 +32,7 @@ pub returns-in-Taken-clause-after : goal.returns-in-Taken-clause-after
 returns-in-Taken-clause-after g c = λ w input followed.
     let some = subst (λ (o : Option Entry). Reads (is_hosted c.hosted.result.now) (g.R.Read.remaining c.args.reader.now) o (g.R.Read.remaining c.next_entry.new.reader)) c.in-Some.is c.in_ok-entry.ensures in
     let next = subst (λ (e : Entry). Reads (is_hosted c.hosted.result.now) (g.R.Read.remaining c.args.reader.now) (Some e) (g.R.Read.remaining c.next_entry.new.reader)) c.in-Taken.is some in
-    after_mark _ _ _ _ _ _ _ _ c.compare-in-Taken.ensures
+    after_mark _ _ _ _ _ _ _ _ c.compare.ensures
     (subst (λ (events : List HubEvent). Followed (is_clean g.S.Store.view c.take_group.new.hub) (setting g.V.VendorHandler.view c.args.hub.now) w (world g.S.Store.view c.take_group.new.hub) events input (g.R.Read.remaining c.next_entry.new.reader))
     (sym c.in_ok-take_group-in-Taken.ensures.none)
     (takes _ _ _ _ _ _ _ _ _ _ _ _ _ _ c.hosted.ensures followed next c.take_group.ensures.was_clean c.in_ok-take_group-in-Taken.ensures.world))

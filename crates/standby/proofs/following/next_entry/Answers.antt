@@ -1,5 +1,5 @@
 -- The next line, or none.
-use Rattle.std.proofs.Common.{◌≡◌, ◌∙◌, sym}
+use Rattle.std.proofs.Common.{◌∙◌, sym}
 use Rattle.standby.proofs.Laws.{reads_line, reads_none}
 use Rattle.standby.proofs.following.next_entry.Goals as goal
 

@@ -1,5 +1,5 @@
 -- After a fault some of the first events were taken.
-use Rattle.std.proofs.Common.{◌≡◌, ◌∙◌, ap, take, drop}
+use Rattle.std.proofs.Common.{◌∙◌, ap, take, drop}
 use Rattle.std.proofs.lemmas.List.{take-append-drop}
 use Rattle.standby.proofs.group.take_group.Goals as goal
 
