@@ -48,7 +48,7 @@ pub fn begin_journal(
     let path = options.path.as_str();
     let file = open_file(rt, path)?;
     let tail = tail_at(rt, path)?;
-    if !tail.is_empty && tail.marked.is_none() {
+    if !tail.is_new && tail.marked.is_none() {
         return Err(problem(alloc, JournalProblem::Foreign, path)?);
     }
     if tail.marked.is_some() && tail.taken(journal.changes()).is_none() {

@@ -10,7 +10,7 @@ use crate::stderr::takes_line;
 use cached::Cached;
 use clients::now;
 use hub_rows::{Store, is_hosted, is_operator_name};
-use journal::{Journal, Journaled, Writer};
+use journal::{Journal, Journaled};
 use ocpp_types::{Mem, Text};
 use ready_streams::Streams;
 use sqlite::Alter;
@@ -100,7 +100,7 @@ struct Opened {
 
 /// A journal without a file, where so many changes are on record.
 pub fn journal_over(alloc: Global, changes: u64) -> Result<Rc<Journal>, RunFault> {
-    Ok(Rc::new(alloc, Journal::new(Writer::new(alloc, changes)))?)
+    Ok(Rc::new(alloc, Journal::new(alloc, changes))?)
 }
 
 /// Serves by the records of a store, whose changes are counted.

@@ -10,20 +10,20 @@ use Rattle.std.proofs.lemmas.List.{append_assoc, append-nil, nil_from_length}
 use Rattle.hub_rows.specs.Failures.{Rose}
 use Rattle.hub_events.specs.declared.event.Event.{Event as HubEvent}
 use Rattle.lines.specs.InputLines.{event_of}
-use Rattle.lines.specs.Journal.{is_feed, IsReadBack, IsOneLine}
+use Rattle.lines.specs.Journal.{is_feed, Stands, IsReadBack, IsOneLine}
 use Rattle.lines.specs.Words.{is_space}
 use Rattle.lines.proofs.JournalLaws.{word_first, digits_plain}
 use Rattle.lines.proofs.JournalFeeds.{joined, of_digits}
 use Rattle.lines.proofs.Utf8Lines.{valid_text}
 use Rattle.ocpp_types.specs.Digits.{number_of_digits}
 use Rattle.journal.specs.Entries.{entry_of, entry_in, mark_in, event_or, begins_line, continues_line, taken_line, IsCount, AreCounts}
-use Rattle.journal.specs.Journals.{entries_from, entries_of, is_whole_from, is_whole, Adds, AddsMark}
+use Rattle.journal.specs.Journals.{entries_from, entries_of, is_whole_from, is_whole, Adds, AddsLine, AddsMark}
 use Rattle.journal.specs.declared.entry.Entry.{Entry}
 use Rattle.journal.specs.declared.entry.Entry.TheVariants.{Begins, Continues, Event, Taken}
 
 -- ---- whole lines
 
-whole_end : (begun : Bool) (xs : List ℕ) → is_whole_from begun (xs ++ (10 ∷ [])) ≡ true
+pub whole_end : (begun : Bool) (xs : List ℕ) → is_whole_from begun (xs ++ (10 ∷ [])) ≡ true
 unfolding is_whole_from
 whole_end begun [] = refl
 whole_end begun (x ∷ xs) = whole_end (not (x == 10)) xs
@@ -46,8 +46,8 @@ pub whole_if : (b : Bool) (old line : List ℕ) → is_whole old ≡ true → is
 whole_if true old line whole = whole_line old line
 whole_if false old line whole = whole
 
-pub whole_cut : (b : Bool) (old : List ℕ) → is_whole old ≡ true → is_whole (if b then old ++ (255 ∷ 10 ∷ []) else old) ≡ true
-whole_cut b old whole = whole_if b old (255 ∷ []) whole
+pub whole_cut : (b : Bool) (x : ℕ) (old : List ℕ) → is_whole old ≡ true → is_whole (if b then old ++ (x ∷ 10 ∷ []) else old) ≡ true
+whole_cut b x old whole = whole_if b old (x ∷ []) whole
 
 -- whole lines behind whole lines
 joined_from : (begun : Bool) (xs ys : List ℕ) → is_whole_from begun xs ≡ true → is_whole ys ≡ true → is_whole_from begun (xs ++ ys) ≡ true
@@ -78,7 +78,7 @@ pub both : (is_hosted : List ℕ → Bool) (front back : List ℕ) → is_whole 
 both is_hosted front back whole = both_from is_hosted [] front back false whole (λ _. refl)
 
 -- a line without a line feed is one entry
-one_from : (is_hosted : List ℕ → Bool) (begun line : List ℕ) → list_any is_feed line ≡ false → entries_from is_hosted begun (line ++ (10 ∷ [])) ≡ entry_of is_hosted (begun ++ line) ∷ []
+pub one_from : (is_hosted : List ℕ → Bool) (begun line : List ℕ) → list_any is_feed line ≡ false → entries_from is_hosted begun (line ++ (10 ∷ [])) ≡ entry_of is_hosted (begun ++ line) ∷ []
 unfolding entries_from
 one_from is_hosted begun [] none = ap (λ l. entry_of is_hosted l ∷ []) (sym (append-nil begun))
 one_from is_hosted begun (x ∷ line) none =
@@ -105,13 +105,27 @@ entry_is : {Z : Type 0} (is_hosted : List ℕ → Bool) (s : String Z) → entry
 unfolding entry_of
 entry_is is_hosted s = let text = is_text s in rw text refl
 
+event_says : {Z : Type 0} (is_hosted : List ℕ → Bool) (event : HubEvent) (order : List ℕ) (s : String Z) → IsReadBack event order (string_bytes s) → Stands is_hosted event order
+    → entry_of is_hosted (string_bytes s) ≡ Event event
+event_says is_hosted event order s read stands = entry_is is_hosted s ∙ ap (λ e. event_or e (mark_in (string_bytes s))) (read is_hosted stands)
+
+pub event_line : {Z : Type 0} (event : HubEvent) (order old : List ℕ) (s : String Z) → IsReadBack event order (string_bytes s) → IsOneLine event order (string_bytes s)
+    → (is_hosted : List ℕ → Bool) → Stands is_hosted event order → AddsLine is_hosted (Event event) old (old ++ (string_bytes s ++ (10 ∷ [])))
+event_line event order old s read one = λ is_hosted stands.
+    record { line = string_bytes s; is = refl; one = one is_hosted stands; says = event_says is_hosted event order s read stands }
+
 pub event_added : {Z : Type 0} (event : HubEvent) (order old : List ℕ) (s : String Z) → is_whole old ≡ true → IsReadBack event order (string_bytes s) → IsOneLine event order (string_bytes s)
     → Adds event order old (old ++ (string_bytes s ++ (10 ∷ [])))
 event_added event order old s whole read one = λ is_hosted stands.
     line_added is_hosted old (string_bytes s) (Event event) whole (one is_hosted stands)
-    (entry_is is_hosted s ∙ ap (λ e. event_or e (mark_in (string_bytes s))) (read is_hosted stands))
+    (event_says is_hosted event order s read stands)
 
 -- ---- the lines of the marks
+
+mark_added : {Z : Type 0} (is_hosted : List ℕ → Bool) (mark : Entry) (old : List ℕ) (s : String Z) → is_whole old ≡ true
+    → AddsLine is_hosted mark old (old ++ (string_bytes s ++ (10 ∷ []))) → entries_of is_hosted (old ++ (string_bytes s ++ (10 ∷ []))) ≡ entries_of is_hosted old ++ (mark ∷ [])
+mark_added is_hosted mark old s whole adds =
+    ap (entries_of is_hosted) adds.is ∙ line_added is_hosted old adds.line mark whole adds.one adds.says
 
 pub record ReadsCount (n : ℕ) : Type 0 where
   pub value : number_of_digits 19 (decimal n) ≡ Some n
@@ -151,12 +165,19 @@ taken_mark taken events changes counts =
     let third = word_first (decimal events) (decimal changes) two.spaceless two.some in
     rw first (rw second (rw third (rw one.value (rw two.value (rw three.value refl)))))
 
+pub taken_adds : {Z : Type 0} (taken events changes : ℕ) (old : List ℕ) (s : String Z) → string_bytes s ≡ taken_line taken events changes → AreCounts taken events changes
+    → (is_hosted : List ℕ → Bool) → AddsLine is_hosted (Taken taken events changes) old (old ++ (string_bytes s ++ (10 ∷ [])))
+taken_adds taken events changes old s is counts = λ is_hosted. record {
+    line = string_bytes s; is = refl;
+    one = ap (list_any is_feed) is ∙ taken_feedless taken events changes counts;
+    says = entry_is is_hosted s ∙ ap (entry_in is_hosted) is ∙ ap (λ e. event_or e (mark_in (taken_line taken events changes))) (taken_no_event is_hosted taken events changes)
+      ∙ ap (event_or None) (taken_mark taken events changes counts)
+  }
+
 pub taken_added : {Z : Type 0} (taken events changes : ℕ) (old : List ℕ) (s : String Z) → is_whole old ≡ true → string_bytes s ≡ taken_line taken events changes → AreCounts taken events changes
     → AddsMark (Taken taken events changes) old (old ++ (string_bytes s ++ (10 ∷ [])))
 taken_added taken events changes old s whole is counts = λ is_hosted.
-    line_added is_hosted old (string_bytes s) (Taken taken events changes) whole (ap (list_any is_feed) is ∙ taken_feedless taken events changes counts)
-    (entry_is is_hosted s ∙ ap (entry_in is_hosted) is ∙ ap (λ e. event_or e (mark_in (taken_line taken events changes))) (taken_no_event is_hosted taken events changes)
-    ∙ ap (event_or None) (taken_mark taken events changes counts))
+    mark_added is_hosted (Taken taken events changes) old s whole (taken_adds taken events changes old s is counts is_hosted)
 
 begins_no_event : (is_hosted : List ℕ → Bool) (changes : ℕ) (operators : List ℕ) → event_of is_hosted (begins_line changes operators) ≡ None
 unfolding event_of
@@ -171,13 +192,19 @@ begins_mark changes operators within =
     let second = word_first (decimal changes) operators one.spaceless one.some in
     rw first (rw second (rw one.value refl))
 
+pub begins_adds : {Z : Type 0} (changes : ℕ) (operators old : List ℕ) (s : String Z) → string_bytes s ≡ begins_line changes operators → IsCount changes
+    → list_any is_feed operators ≡ false → (is_hosted : List ℕ → Bool) → AddsLine is_hosted (Begins changes operators) old (old ++ (string_bytes s ++ (10 ∷ [])))
+begins_adds changes operators old s is within none = λ is_hosted. record {
+    line = string_bytes s; is = refl;
+    one = ap (list_any is_feed) is ∙ joined (decimal changes) (codes " " ++ operators) (count_read changes within).feedless none;
+    says = entry_is is_hosted s ∙ ap (entry_in is_hosted) is ∙ ap (λ e. event_or e (mark_in (begins_line changes operators))) (begins_no_event is_hosted changes operators)
+      ∙ ap (event_or None) (begins_mark changes operators within)
+  }
+
 pub begins_added : {Z : Type 0} (changes : ℕ) (operators old : List ℕ) (s : String Z) → is_whole old ≡ true → string_bytes s ≡ begins_line changes operators → IsCount changes
     → list_any is_feed operators ≡ false → AddsMark (Begins changes operators) old (old ++ (string_bytes s ++ (10 ∷ [])))
 begins_added changes operators old s whole is within none = λ is_hosted.
-    line_added is_hosted old (string_bytes s) (Begins changes operators) whole
-    (ap (list_any is_feed) is ∙ joined (decimal changes) (codes " " ++ operators) (count_read changes within).feedless none)
-    (entry_is is_hosted s ∙ ap (entry_in is_hosted) is ∙ ap (λ e. event_or e (mark_in (begins_line changes operators))) (begins_no_event is_hosted changes operators)
-    ∙ ap (event_or None) (begins_mark changes operators within))
+    mark_added is_hosted (Begins changes operators) old s whole (begins_adds changes operators old s is within none is_hosted)
 
 continues_no_event : (is_hosted : List ℕ → Bool) (file changes : ℕ) (operators : List ℕ) → event_of is_hosted (continues_line file changes operators) ≡ None
 unfolding event_of
@@ -194,14 +221,21 @@ continues_mark file changes operators number within =
     let third = word_first (decimal changes) operators two.spaceless two.some in
     rw first (rw second (rw third (rw one.value (rw two.value refl))))
 
+pub continues_adds : {Z : Type 0} (file changes : ℕ) (operators old : List ℕ) (s : String Z) → string_bytes s ≡ continues_line file changes operators
+    → IsCount file → IsCount changes → list_any is_feed operators ≡ false → (is_hosted : List ℕ → Bool)
+    → AddsLine is_hosted (Continues file changes operators) old (old ++ (string_bytes s ++ (10 ∷ [])))
+continues_adds file changes operators old s is number within none = λ is_hosted. record {
+    line = string_bytes s; is = refl;
+    one = ap (list_any is_feed) is ∙ joined (decimal file) (codes " " ++ (decimal changes ++ (codes " " ++ operators))) (count_read file number).feedless
+      (joined (decimal changes) (codes " " ++ operators) (count_read changes within).feedless none);
+    says = entry_is is_hosted s ∙ ap (entry_in is_hosted) is ∙ ap (λ e. event_or e (mark_in (continues_line file changes operators))) (continues_no_event is_hosted file changes operators)
+      ∙ ap (event_or None) (continues_mark file changes operators number within)
+  }
+
 pub continues_added : {Z : Type 0} (file changes : ℕ) (operators old : List ℕ) (s : String Z) → is_whole old ≡ true → string_bytes s ≡ continues_line file changes operators
     → IsCount file → IsCount changes → list_any is_feed operators ≡ false → AddsMark (Continues file changes operators) old (old ++ (string_bytes s ++ (10 ∷ [])))
 continues_added file changes operators old s whole is number within none = λ is_hosted.
-    line_added is_hosted old (string_bytes s) (Continues file changes operators) whole
-    (ap (list_any is_feed) is ∙ joined (decimal file) (codes " " ++ (decimal changes ++ (codes " " ++ operators))) (count_read file number).feedless
-    (joined (decimal changes) (codes " " ++ operators) (count_read changes within).feedless none))
-    (entry_is is_hosted s ∙ ap (entry_in is_hosted) is ∙ ap (λ e. event_or e (mark_in (continues_line file changes operators))) (continues_no_event is_hosted file changes operators)
-    ∙ ap (event_or None) (continues_mark file changes operators number within))
+    mark_added is_hosted (Continues file changes operators) old s whole (continues_adds file changes operators old s is number within none is_hosted)
 
 -- ---- a count of failures
 

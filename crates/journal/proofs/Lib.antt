@@ -1,2 +1,5 @@
-pub mod Cuts
-pub mod Laws
+mod Cuts
+mod Laws
+mod Stops
+mod Turns
+mod Writers

@@ -1,7 +1,8 @@
 -- The bytes of a journal: entries, each of one line.
 use Rattle.std.specs.Prelude.{ℕ, Bool, false, not, ◌==◌, List, [], ◌∷◌, ◌++◌, ◌≡◌, if◌then◌else◌}
+use Rattle.std.specs.List.{list_any}
 use Rattle.hub_events.specs.declared.event.Event.{Event as HubEvent}
-use Rattle.lines.specs.Journal.{Stands}
+use Rattle.lines.specs.Journal.{Stands, is_feed}
 use Rattle.journal.specs.Entries.{entry_of}
 use Rattle.journal.specs.declared.entry.Entry.{Entry}
 use Rattle.journal.specs.declared.entry.Entry.TheVariants.{Bad, Event}
@@ -24,6 +25,13 @@ is_whole_from begun (byte ∷ rest) = is_whole_from (not (byte == 10)) rest
 -- each line has its line feed
 abbrev pub is_whole : List ℕ → Bool
 is_whole bytes = is_whole_from false bytes
+
+-- one line more, which is that entry
+pub record AddsLine (is_hosted : List ℕ → Bool) (entry : Entry) (old new : List ℕ) : Type 0 where
+  pub line : List ℕ
+  pub is : new ≡ old ++ (line ++ (10 ∷ []))
+  pub one : list_any is_feed line ≡ false
+  pub says : entry_of is_hosted line ≡ entry
 
 -- an entry follows the others, where the operators of its event are hosted
 abbrev pub Adds : HubEvent → List ℕ → List ℕ → List ℕ → Type 0

@@ -8,6 +8,7 @@ mod marks;
 mod pending;
 mod read;
 mod tail;
+mod turn;
 mod writer;
 
 pub use entry::Entry;
@@ -15,4 +16,4 @@ pub use journal::Journal;
 pub use journaled::Journaled;
 pub use read::read_entry;
 pub use tail::{Tail, TailFault, names_of, tail_of, taken_by};
-pub use writer::{JournalFault, Writer};
+pub use writer::{JournalFault, JournalFile, Writer};

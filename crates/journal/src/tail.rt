@@ -19,8 +19,8 @@ pub struct Tail {
     pub marked: Option<u64>,
     /// The last line has no line feed.
     pub is_cut: bool,
-    /// There is no byte.
-    pub is_empty: bool,
+    /// There is no line, and at most a part of one that begins a file.
+    pub is_new: bool,
 }
 
 /// Why the end of a journal can't be found.
@@ -58,7 +58,7 @@ impl Tail {
             events: 0,
             marked: None,
             is_cut: false,
-            is_empty: true,
+            is_new: true,
         }
     }
 
@@ -129,17 +129,27 @@ pub fn tail_of<R: BufRead>(alloc: Global, reader: &mut R) -> Result<Tail, TailFa
         let [text @ .., b'\n'] = line.as_slice() else {
             break;
         };
-        tail.is_empty = false;
+        tail.is_new = false;
         let entry = read_entry(alloc, hosted.as_slice(), text)?;
         if let Some(names) = tail.pass(alloc, &entry)? {
             hosted = names;
         }
     }
     if !line.is_empty() {
-        tail.is_empty = false;
+        tail.is_new = tail.is_new && begins_file(line.as_slice());
         tail.is_cut = true;
     }
     Ok(tail)
+}
+
+/// Whether a part of a line may be that of a mark with which a file begins.
+fn begins_file(part: &[u8]) -> bool {
+    agree(part, b"begins ") || agree(part, b"continues ")
+}
+
+/// Whether one of them is the front of the other.
+fn agree(part: &[u8], word: &[u8]) -> bool {
+    part.starts_with(word) || word.starts_with(part)
 }
 
 /// The names in a list whose items are divided by commas.

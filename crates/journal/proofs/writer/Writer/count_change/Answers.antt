@@ -1,0 +1,12 @@
+use Rattle.std.proofs.Common.{◌≡◌, ◌∙◌, ◌++◌, ℕ, List, [], OnOk, refl, sym, subst, ap}
+use Rattle.std.proofs.lemmas.Result.{on_ok_weaker}
+use Rattle.journal.specs.Journals.{AddsLine}
+use Rattle.journal.specs.Stops.{Survives}
+use Rattle.journal.specs.States.{AreSmall, Settled, Ahead}
+use Rattle.journal.proofs.writer.Writer.count_change.Goals as goal
+
+
+-- src/writer.rt:113:5
+pub returns-clause-settled : goal.returns-clause-settled
+returns-clause-settled g c = λ small is_hosted recorded since event ahead.
+    record { file = ahead.file; known = ahead.known; settled = c.count_change.ensures small ahead.empty is_hosted ahead.file recorded since event ahead.ahead }
