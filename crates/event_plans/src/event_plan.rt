@@ -17,6 +17,7 @@ use crate::short_plans::{connect_plan, disconnect_plan, edit_plan, forget_plan, 
 use charging::plan_forget;
 use hub_events::{OperatorEvent, What};
 use hub_rows::{Store, StoreFault};
+use ocpp_frame::FrameReader;
 use ocpp_types::{Boxed, Text};
 use operator_cmds::Command;
 use pending_calls::Slots;
@@ -24,10 +25,11 @@ use registry::{StationAt, plan_station_drop};
 use station_calls::{Book, VendorHandler};
 use std::alloc::Global;
 
-/// The plan for an event of an operator. `hosted` are the hosted operators.
+/// The plan for an event of an operator. `hosted` are the hosted operators, and `reader` reads what a station sends.
 #[tactic(auto, using(crate::proofs::Readiness::connect_ready, crate::proofs::Readiness::edit_ready, crate::proofs::Readiness::forget_ready, crate::proofs::Readiness::list_ready))]
 pub fn plan_event<S: Store, V: VendorHandler>(
     alloc: Global,
+    reader: &mut FrameReader,
     book: &mut Book<S, V>,
     slots: &Slots<Boxed<Command>>,
     hosted: &[Text],
@@ -55,7 +57,7 @@ pub fn plan_event<S: Store, V: VendorHandler>(
                 station,
                 moment,
             };
-            plan_text(alloc, book, slots, &at, text)
+            plan_text(alloc, reader, book, slots, &at, text)
         }
         What::Do { station, command } => {
             let at = StationAt {

@@ -14,7 +14,7 @@ use crate::plan::Plan;
 use crate::requests::plan_request;
 use crate::short_plans::error_plan;
 use hub_rows::{Store, StoreFault};
-use ocpp_frame::{Frame, Payload, read_frame};
+use ocpp_frame::{Frame, FrameReader, Payload};
 use ocpp_payload::{ActionClass, action_class};
 use ocpp_types::{Boxed, ErrorCode, Text};
 use operator_cmds::Command;
@@ -27,6 +27,7 @@ use std::alloc::Global;
 #[tactic(auto, using(crate::proofs::Readiness::failure_ready))]
 pub fn plan_text<S: Store, V: VendorHandler>(
     alloc: Global,
+    reader: &mut FrameReader,
     book: &mut Book<S, V>,
     slots: &Slots<Boxed<Command>>,
     at: &StationAt<'_>,
@@ -39,7 +40,7 @@ pub fn plan_text<S: Store, V: VendorHandler>(
     ensures answers { book_answers V.view book.new ≡ book_answers V.view book.old }
     ensures ready { IfOk result (λ p. IsReady (λ st. slot_at at.now.op.now st slots.now) p.effect) }
 {
-    match read_frame(alloc, text.as_str())? {
+    match reader.read(text.as_str())? {
         Frame::Call {
             id,
             action,

@@ -12,6 +12,7 @@ use crate::tick::expire_all;
 use event_plans::plan_event;
 use hub_events::{Event, OperatorEvent, Out};
 use hub_rows::{Reader, Store, are_operators, is_hosted};
+use ocpp_frame::FrameReader;
 use ocpp_types::{Boxed, Text};
 use operator_cmds::Command;
 use pending_calls::Slots;
@@ -26,6 +27,7 @@ use thiserror::Error;
 #[derive(Drop)]
 pub struct Hub<S, V> {
     alloc: Global,
+    reader: FrameReader,
     book: Book<S, V>,
     hosted: Vec<Text>,
     pub(crate) slots: Slots<Boxed<Command>>,
@@ -72,6 +74,7 @@ impl<S: Store + Drop, V: VendorHandler> Hub<S, V> {
         }
         Ok(Hub {
             alloc,
+            reader: FrameReader::new(alloc),
             book: Book::new(store, vendors),
             hosted: operators,
             slots: Slots::new(alloc, 1),
@@ -292,7 +295,14 @@ impl<S: Store + Drop, V: VendorHandler> Hub<S, V> {
         if !is_hosted(hosted, lent.op.as_str()) {
             return Err(Fault::NoSuchOperator);
         }
-        let plan = plan_event(self.alloc, &mut self.book, &self.slots, hosted, lent)?;
+        let plan = plan_event(
+            self.alloc,
+            &mut self.reader,
+            &mut self.book,
+            &self.slots,
+            hosted,
+            lent,
+        )?;
         commit(&mut self.book.store, &mut self.slots, lent, plan, outs)
     }
 }

@@ -1,3 +1,4 @@
 pub mod StoredData
 pub mod Frame
 pub mod Written
+pub mod Refused

@@ -4,9 +4,10 @@
 mod frame;
 mod payload;
 mod read;
+mod value_reader;
 mod write;
 
 pub use frame::Frame;
 pub use payload::Payload;
-pub use read::{MAX_ID, read_frame};
+pub use read::{FrameReader, MAX_ID};
 pub use write::{write_call, write_error, write_result};

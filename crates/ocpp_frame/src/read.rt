@@ -7,25 +7,42 @@ ghost use Rattle.serde_json.specs.declared.value.Value.{Value};
 
 use crate::frame::Frame;
 use crate::payload::Payload;
+use crate::value_reader::{Refused, read_value};
+use json::Scratch;
 use ocpp_types::{Mem, NoMemory, Text, count_characters};
-use serde_json::{Category, Map, Value};
+use serde_json::{Map, Value};
 use std::alloc::Global;
 
 /// The greatest number of characters of a call's id (OCPP-J 1.6, section 4.1.4).
 pub const MAX_ID: usize = 36;
 
-/// The frame that a text is (OCPP-J 1.6, section 4.2; docs/RULES.md, Frames). Every text is
-/// one: what `serde_json` doesn't read, or what isn't formed as a message, is `Ignored`, and a
-/// call with an id that isn't formed as a call is `Broken`.
-pub fn read_frame(alloc: Global, text: &str) -> Mem<Frame>
-    ensures { IfOk result (λ f. f ≡ frame text.now) }
-{
-    match Value::from_str(alloc, text) {
-        Ok(value) => Ok(frame_of(alloc, value)),
-        Err(error) => match error.classify() {
-            Category::Memory => Err(NoMemory),
-            _ => Ok(Frame::Ignored),
-        },
+/// A reader of frames. It keeps the memory that reading needs from one frame to the next.
+#[derive(Drop)]
+pub struct FrameReader {
+    alloc: Global,
+    scratch: Scratch,
+}
+
+impl FrameReader {
+    /// A reader, which takes no memory yet.
+    pub fn new(alloc: Global) -> FrameReader {
+        FrameReader {
+            alloc,
+            scratch: Scratch::new(alloc),
+        }
+    }
+
+    /// The frame that a text is (OCPP-J 1.6, section 4.2; docs/RULES.md, Frames). Every text is
+    /// one: what `serde_json` doesn't read, or what isn't formed as a message, is `Ignored`, and a
+    /// call with an id that isn't formed as a call is `Broken`.
+    pub fn read(&mut self, text: &str) -> Mem<Frame>
+        ensures { IfOk result (λ f. f ≡ frame text.now) }
+    {
+        match read_value(self.alloc, &mut self.scratch, text) {
+            Ok(value) => Ok(frame_of(self.alloc, value)),
+            Err(Refused::NoMemory) => Err(NoMemory),
+            Err(Refused::Invalid) => Ok(Frame::Ignored),
+        }
     }
 }
 

@@ -12,7 +12,7 @@ ghost use Rattle.station_sim.specs.Written.{IsWritten};
 use crate::replies::reply_to;
 use crate::script::{BadScript, Script, bad_field};
 use crate::session::Session;
-use ocpp_frame::read_frame;
+use ocpp_frame::FrameReader;
 use ocpp_types::{Mem, Moment, print_time};
 use std::alloc::Global;
 
@@ -74,7 +74,7 @@ impl Sim {
         ensures ok { OnOk result (session_of self.new ≡ after_message (frame text.now) (session_of self.old)) }
         ensures err { OnErr result (session_of self.new ≡ session_of self.old) }
     {
-        let frame = read_frame(self.alloc, text)?;
+        let frame = FrameReader::new(self.alloc).read(text)?;
         let reply = reply_to(self.alloc, &self.session, &frame)?;
         self.session.hear(self.alloc, &frame)?;
         Ok(reply)
