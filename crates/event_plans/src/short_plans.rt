@@ -4,10 +4,11 @@ ghost use Rattle.event_plans.specs.Plans.{turned_plan, connect_plan, disconnect_
 
 use crate::message_at::CallAt;
 use crate::plan::{Effect, Plan, one};
+use answer_texts::answer_text;
 use hub_events::{Row, Said};
 use hub_rows::{Edit, History, Registration, TransactionEdit};
-use ocpp_frame::{write_error, write_result};
-use ocpp_payload::{Action, Conf, FieldFault, write_conf};
+use ocpp_frame::write_error;
+use ocpp_payload::{Action, Conf, FieldFault};
 use ocpp_types::{Boxed, ErrorCode, Mem, Named, Refusal, Text};
 use registry::{Decision, Reply};
 use std::alloc::Global;
@@ -67,9 +68,7 @@ fn error_text(alloc: Global, id: &Text, code: ErrorCode, description: &str) -> M
 fn conf_text(alloc: Global, id: &Text, conf: &Conf) -> Mem<Text>
     ensures { IfOk result (λ t. t ≡ conf_text id.now conf.now) }
 {
-    let payload = write_conf(alloc, conf)?;
-    let text = write_result(alloc, id.as_str(), payload)?;
-    Ok(Text::from(text))
+    Ok(Text::from(answer_text(alloc, id.as_str(), conf)?))
 }
 
 fn reply_text(alloc: Global, id: &Text, reply: &Reply) -> Mem<Text>

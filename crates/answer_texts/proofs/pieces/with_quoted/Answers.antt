@@ -1,0 +1,12 @@
+use Rattle.std.proofs.Common.{◌≡◌, [], ◌∷◌, ◌++◌, ap, ◌∙◌, arith}
+use Rattle.json.specs.Token.{Token}
+use Rattle.json.specs.Print.{print}
+use Rattle.answer_texts.proofs.Joined.{one_string}
+use Rattle.answer_texts.proofs.pieces.with_quoted.Goals as goal
+
+pub returns : goal.returns
+returns c =
+    let w = c.string.new.self in
+    let tokens : w.tokens ≡ Token.string c.args.string.now ∷ [] = grind arith in
+    let before : w.before ≡ c.args.text.items = grind arith in
+    c.into_inner.ensures.items ∙ rw (before, tokens, one_string c.args.string.now)
