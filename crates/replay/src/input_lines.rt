@@ -7,6 +7,7 @@ ghost use Rattle.replay.specs.declared.fault.ReplayFault.TheVariants as replay_f
 
 use crate::fault::ReplayFault;
 use lines::MAX_LINE;
+use memchr::memchr;
 use std::alloc::{AllocError, Global};
 use std::io::Read;
 
@@ -165,7 +166,7 @@ fn cut(bytes: &[u8]) -> Option<(&[u8], &[u8])>
     ensures { MatchOption result (HasNoFeed bytes.now)
         (λ p. HasNoFeed p.0.now × (bytes.now ≡ p.0.now ++ (10 ∷ p.1.now))) }
 {
-    let end = bytes.iter().position(|b| *b == b'\n')?;
+    let end = memchr(b'\n', bytes)?;
     Some((&bytes[..end], &bytes[end + 1..]))
 }
 
