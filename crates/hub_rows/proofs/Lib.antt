@@ -14,3 +14,4 @@ pub mod NameLaws
 pub mod ForgetLaws
 pub mod NumberLaws
 pub mod LastReadingLaws
+pub mod NameOrder

@@ -41,7 +41,13 @@ pub fn place_of_name<R: NamedRow>(rows: &[R], op: &str, name: &str) -> Result<us
     requires { IsStrictlySortedBy (by_key (pair_key R.op R.name)) rows.now }
     ensures { IsPlace (pair_key R.op R.name) (op.now ∷ name.now ∷ []) rows.now result }
 {
-    rows.binary_search_by(|row| row.op().cmp(op).then(row.name().cmp(name)))
+    rows.binary_search_by(|row| {
+        if row.op() == op {
+            row.name().cmp(name)
+        } else {
+            row.op().cmp(op)
+        }
+    })
 }
 
 /// The row of an operator and a name.
