@@ -1,3 +1,4 @@
 pub mod Items
 pub mod ReadAgain
 pub mod Reading
+pub mod Calls

@@ -1,6 +1,7 @@
 //! The frames of OCPP-J: calls, results and errors, read from text and written to it.
 #![tactic(auto)]
 
+mod call_reader;
 mod frame;
 mod payload;
 mod read;

@@ -1,10 +1,11 @@
 //! Frames from text.
-ghost use Rattle.std.specs.Prelude.{◌≡◌, ◌+◌, ◌<◌, ◌≤◌, ◌⊎◌, List, ◌∷◌, length, IfOk, IfNone, IfSome};
+ghost use Rattle.std.specs.Prelude.{◌≡◌, ◌+◌, ◌<◌, ◌≤◌, ◌⊎◌, List, ◌∷◌, length, Some, IfOk, IfNone, IfSome};
 ghost use Rattle.serde_json.specs.Find.{as_str};
 ghost use Rattle.serde_json.specs.View.{view, items_view};
 ghost use Rattle.ocpp_frame.specs.Frame.{frame, frame_of, frame_of_items, call, call_result, call_error, payload_of, description_of, call_with, error_with};
 ghost use Rattle.serde_json.specs.declared.value.Value.{Value};
 
+use crate::call_reader::read_call;
 use crate::frame::Frame;
 use crate::payload::Payload;
 use crate::value_reader::{Refused, read_value};
@@ -36,6 +37,17 @@ impl FrameReader {
     /// one: what `serde_json` doesn't read, or what isn't formed as a message, is `Ignored`, and a
     /// call with an id that isn't formed as a call is `Broken`.
     pub fn read(&mut self, text: &str) -> Mem<Frame>
+        ensures { IfOk result (λ f. f ≡ frame text.now) }
+    {
+        match read_call(self.alloc, &mut self.scratch, text) {
+            Ok(Some(call)) => Ok(call),
+            Ok(None) => self.read_any(text),
+            Err(refused) => Err(refused),
+        }
+    }
+
+    /// The frame that a text is, by its whole value.
+    fn read_any(&mut self, text: &str) -> Mem<Frame>
         ensures { IfOk result (λ f. f ≡ frame text.now) }
     {
         match read_value(self.alloc, &mut self.scratch, text) {
@@ -85,7 +97,17 @@ fn call(alloc: Global, id: Text, rest: Vec<Value>) -> Frame
 fn call_with(alloc: Global, id: Text, action: Value, payload: Value) -> Frame
     ensures { result ≡ call_with id (as_str (view action)) (payload_of (view payload)) }
 {
-    let (Value::String(action), Some(payload)) = (action, payload_of(alloc, payload)) else {
+    match action {
+        Value::String(action) => call_of(alloc, id, Text::from(action), payload),
+        _ => Frame::Broken { id },
+    }
+}
+
+/// The call of an id with a text as its action, or why it is none, by its payload.
+pub fn call_of(alloc: Global, id: Text, action: Text, payload: Value) -> Frame
+    ensures { result ≡ call_with id (Some action) (payload_of (view payload)) }
+{
+    let Some(payload) = payload_of(alloc, payload) else {
         return Frame::Broken { id };
     };
     if count_characters(id.as_str()) > MAX_ID {
@@ -93,7 +115,7 @@ fn call_with(alloc: Global, id: Text, action: Value, payload: Value) -> Frame
     }
     Frame::Call {
         id,
-        action: Text::from(action),
+        action,
         payload,
     }
 }

@@ -9,11 +9,12 @@ ghost use Rattle.ocpp_frame.specs.declared.value_reader.Refused.TheVariants as r
 
 use fast_float::Numeral;
 use json::{Invalid, Reader, Scratch, Token};
+use ocpp_types::NoMemory;
 use serde_json::{Map, Number, Value};
 use std::alloc::{AllocError, AllocFailed, Global};
 
 /// The greatest depth of arrays and objects that is read, as `serde_json` has it.
-const MAX_DEPTH: usize = 127;
+pub const MAX_DEPTH: usize = 127;
 
 /// Why no value is read.
 #[derive(Clone, Copy, Debug, PartialEq, Eq, Drop)]
@@ -27,6 +28,14 @@ impl From<AllocError> for Refused {
     ghost from_gives = { λ _ r. r ≡ refused.NoMemory };
 
     fn from(_refused: AllocError) -> Refused {
+        Refused::NoMemory
+    }
+}
+
+impl From<NoMemory> for Refused {
+    ghost from_gives = { λ _ r. r ≡ refused.NoMemory };
+
+    fn from(_refused: NoMemory) -> Refused {
         Refused::NoMemory
     }
 }
