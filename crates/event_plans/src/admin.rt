@@ -15,6 +15,7 @@ use std::alloc::Global;
 
 /// The edit that an operator's request asks for, or the refusal of its rule. `hosted` are the
 /// hosted operators.
+#[inline(never)]
 pub fn decide_admin<S: Store>(
     alloc: Global,
     store: &mut S,

@@ -25,6 +25,7 @@ use std::alloc::Global;
 
 /// The plan for the result of a call: it ends, and the records change as its command asked for, if
 /// the station accepted one that changes them.
+#[inline(never)]
 pub fn plan_result<S: Store>(
     alloc: Global,
     store: &mut S,
@@ -45,6 +46,7 @@ pub fn plan_result<S: Store>(
 }
 
 /// The plan for an error in answer to a call: it ends.
+#[inline(never)]
 pub fn plan_error(
     alloc: Global,
     slots: &Slots<Boxed<Command>>,

@@ -22,6 +22,7 @@ use registry::StationAt;
 use std::alloc::Global;
 
 /// The plan for a command: it is accepted with the number of its call, or refused.
+#[inline(never)]
 pub fn plan_command<S: Store>(
     alloc: Global,
     store: &mut S,

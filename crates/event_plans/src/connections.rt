@@ -14,6 +14,7 @@ use std::alloc::Global;
 
 /// The plan that shows which stations are connected, in the order of their names, and how many calls
 /// are in flight and waiting at each.
+#[inline(never)]
 pub fn plan_connections(alloc: Global, slots: &Slots<Boxed<Command>>, op: &str) -> Mem<Plan>
     ensures { IfOk result (λ p. p ≡ list_plan (Ok (connections (own_slots op.now (all_slots slots.now))))) }
 {

@@ -16,6 +16,7 @@ use registry::StationAt;
 use std::alloc::Global;
 
 /// The plan for a listing: its rows, in the order of their keys, and then that it is taken.
+#[inline(never)]
 pub fn plan_list<S: Store>(
     alloc: Global,
     store: &mut S,
