@@ -1,13 +1,13 @@
 //! Tables of frames.
 
 use anyhow::{Result, bail};
-use ocpp_frame::{Frame, read_frame, write_call, write_error, write_result};
+use ocpp_frame::{Frame, FrameReader, write_call, write_error, write_result};
 use serde_json::Value;
 use std::alloc::Global;
 
 /// The frame that a text is: its kind and its parts, `|` between them.
 pub fn frame_read(alloc: Global, text: &str) -> Result<String> {
-    let frame = read_frame(alloc, text)?;
+    let frame = FrameReader::new(alloc).read(text)?;
     frame_shown(alloc, &frame)
 }
 
