@@ -1,3 +1,2 @@
-pub mod ConfLaws
 pub mod Fitting
 pub mod Readiness

@@ -65,6 +65,7 @@ fn error_text(alloc: Global, id: &Text, code: ErrorCode, description: &str) -> M
     Ok(Text::from(text))
 }
 
+#[tactic(auto, unfolding(crate::specs::Plans::conf_text))]
 fn conf_text(alloc: Global, id: &Text, conf: &Conf) -> Mem<Text>
     ensures { IfOk result (λ t. t ≡ conf_text id.now conf.now) }
 {
