@@ -1,5 +1,5 @@
 -- Lines of a journal.
-use Rattle.std.proofs.Common.{◌≡◌, ◌≢◌, ◌∙◌, ◌<◌, ◌+◌, ◌^◌, ℕ, List, [], ◌∷◌, ◌++◌, length, Some, None, Bool, true, false, codes, refl, sym, ap, arith, nat_eq, inl, inr, true≢false, if◌then◌else◌}
+use Rattle.std.proofs.Common.{◌≡◌, ◌∙◌, ◌<◌, ◌+◌, ◌^◌, ℕ, List, [], ◌∷◌, ◌++◌, length, Some, None, Bool, true, false, codes, refl, sym, ap, arith, nat_eq, inl, inr, true≢false, if◌then◌else◌}
 use Rattle.std.specs.Prelude.{◌==◌, not, String, string_bytes}
 use Rattle.std.specs.Fmt.{decimal}
 use Rattle.std.specs.List.{list_any}
@@ -168,11 +168,12 @@ taken_mark taken events changes counts =
 pub taken_adds : {Z : Type 0} (taken events changes : ℕ) (old : List ℕ) (s : String Z) → string_bytes s ≡ taken_line taken events changes → AreCounts taken events changes
     → (is_hosted : List ℕ → Bool) → AddsLine is_hosted (Taken taken events changes) old (old ++ (string_bytes s ++ (10 ∷ [])))
 taken_adds taken events changes old s is counts = λ is_hosted. record {
-    line = string_bytes s; is = refl;
-    one = ap (list_any is_feed) is ∙ taken_feedless taken events changes counts;
-    says = entry_is is_hosted s ∙ ap (entry_in is_hosted) is ∙ ap (λ e. event_or e (mark_in (taken_line taken events changes))) (taken_no_event is_hosted taken events changes)
-      ∙ ap (event_or None) (taken_mark taken events changes counts)
-  }
+  line = string_bytes s;
+  is = refl;
+  one = ap (list_any is_feed) is ∙ taken_feedless taken events changes counts;
+  says = entry_is is_hosted s ∙ ap (entry_in is_hosted) is ∙ ap (λ e. event_or e (mark_in (taken_line taken events changes))) (taken_no_event is_hosted taken events changes)
+      ∙ ap (event_or None) (taken_mark taken events changes counts);
+}
 
 pub taken_added : {Z : Type 0} (taken events changes : ℕ) (old : List ℕ) (s : String Z) → is_whole old ≡ true → string_bytes s ≡ taken_line taken events changes → AreCounts taken events changes
     → AddsMark (Taken taken events changes) old (old ++ (string_bytes s ++ (10 ∷ [])))
@@ -195,11 +196,12 @@ begins_mark changes operators within =
 pub begins_adds : {Z : Type 0} (changes : ℕ) (operators old : List ℕ) (s : String Z) → string_bytes s ≡ begins_line changes operators → IsCount changes
     → list_any is_feed operators ≡ false → (is_hosted : List ℕ → Bool) → AddsLine is_hosted (Begins changes operators) old (old ++ (string_bytes s ++ (10 ∷ [])))
 begins_adds changes operators old s is within none = λ is_hosted. record {
-    line = string_bytes s; is = refl;
-    one = ap (list_any is_feed) is ∙ joined (decimal changes) (codes " " ++ operators) (count_read changes within).feedless none;
-    says = entry_is is_hosted s ∙ ap (entry_in is_hosted) is ∙ ap (λ e. event_or e (mark_in (begins_line changes operators))) (begins_no_event is_hosted changes operators)
-      ∙ ap (event_or None) (begins_mark changes operators within)
-  }
+  line = string_bytes s;
+  is = refl;
+  one = ap (list_any is_feed) is ∙ joined (decimal changes) (codes " " ++ operators) (count_read changes within).feedless none;
+  says = entry_is is_hosted s ∙ ap (entry_in is_hosted) is ∙ ap (λ e. event_or e (mark_in (begins_line changes operators))) (begins_no_event is_hosted changes operators)
+      ∙ ap (event_or None) (begins_mark changes operators within);
+}
 
 pub begins_added : {Z : Type 0} (changes : ℕ) (operators old : List ℕ) (s : String Z) → is_whole old ≡ true → string_bytes s ≡ begins_line changes operators → IsCount changes
     → list_any is_feed operators ≡ false → AddsMark (Begins changes operators) old (old ++ (string_bytes s ++ (10 ∷ [])))
@@ -225,12 +227,13 @@ pub continues_adds : {Z : Type 0} (file changes : ℕ) (operators old : List ℕ
     → IsCount file → IsCount changes → list_any is_feed operators ≡ false → (is_hosted : List ℕ → Bool)
     → AddsLine is_hosted (Continues file changes operators) old (old ++ (string_bytes s ++ (10 ∷ [])))
 continues_adds file changes operators old s is number within none = λ is_hosted. record {
-    line = string_bytes s; is = refl;
-    one = ap (list_any is_feed) is ∙ joined (decimal file) (codes " " ++ (decimal changes ++ (codes " " ++ operators))) (count_read file number).feedless
+  line = string_bytes s;
+  is = refl;
+  one = ap (list_any is_feed) is ∙ joined (decimal file) (codes " " ++ (decimal changes ++ (codes " " ++ operators))) (count_read file number).feedless
       (joined (decimal changes) (codes " " ++ operators) (count_read changes within).feedless none);
-    says = entry_is is_hosted s ∙ ap (entry_in is_hosted) is ∙ ap (λ e. event_or e (mark_in (continues_line file changes operators))) (continues_no_event is_hosted file changes operators)
-      ∙ ap (event_or None) (continues_mark file changes operators number within)
-  }
+  says = entry_is is_hosted s ∙ ap (entry_in is_hosted) is ∙ ap (λ e. event_or e (mark_in (continues_line file changes operators))) (continues_no_event is_hosted file changes operators)
+      ∙ ap (event_or None) (continues_mark file changes operators number within);
+}
 
 pub continues_added : {Z : Type 0} (file changes : ℕ) (operators old : List ℕ) (s : String Z) → is_whole old ≡ true → string_bytes s ≡ continues_line file changes operators
     → IsCount file → IsCount changes → list_any is_feed operators ≡ false → AddsMark (Continues file changes operators) old (old ++ (string_bytes s ++ (10 ∷ [])))

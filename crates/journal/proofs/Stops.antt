@@ -1,24 +1,19 @@
 -- What a stop leaves of lines, and what they say.
-use Rattle.std.proofs.Common.{◌≡◌, ◌≢◌, ◌∙◌, ◌<◌, ◌≤◌, ◌+◌, ◌-◌, ℕ, suc, zero, List, [], ◌∷◌, ◌++◌, length, take, Some, None, Bool, true, false, refl, sym, ap, subst, arith, inl, inr, true≢false, if◌then◌else◌}
-use Rattle.std.specs.Prelude.{◌==◌, ◌^◌, not, ◌⊎◌, ◌||◌, ◌&&◌, nat_lt, Option, Result, Ok, Err, OnOk}
+use Rattle.std.proofs.Common.{◌≡◌, ◌∙◌, ◌<◌, ◌≤◌, ◌+◌, ◌-◌, ℕ, suc, zero, List, [], ◌∷◌, ◌++◌, length, take, Some, None, Bool, true, false, refl, sym, ap, subst, arith, inl, inr, true≢false, if◌then◌else◌}
+use Rattle.std.specs.Prelude.{◌==◌, ◌⊎◌, ◌||◌, ◌&&◌, nat_lt, Option}
 use Rattle.std.specs.List.{list_any}
-use Rattle.std.specs.Result.{is_err}
-use Rattle.std.specs.Io.KnownBytes.{Appends}
-use Rattle.std.proofs.lemmas.List.{append_assoc, append-nil, take-append-le, take_all, length-append, nil_from_length, take_at, append_cancel_right}
+use Rattle.std.proofs.lemmas.List.{append_assoc, append-nil, take-append-le, take_all, length-append}
 use Rattle.std.proofs.lemmas.Option.{none-some}
 use Rattle.std.proofs.Math.Seq.{take-append-add}
 use Rattle.journal.proofs.Laws.{whole_end, both, one_from}
 use Rattle.hub_events.specs.declared.event.Event.{Event as HubEvent}
 use Rattle.lines.specs.Journal.{is_feed}
-use Rattle.journal.specs.Entries.{entry_of, IsCount, AreCounts}
-use Rattle.journal.specs.Journals.{entries_from, entries_of, is_whole_from, is_whole, AddsLine, EndsCut}
-use Rattle.journal.specs.Stops.{Found, found_after, marked_at, found_from, found_of, told_with, told_by, told_at, Tells, Survives}
-use Rattle.journal.specs.Tails.{taken_by, taken_from, taken_at}
+use Rattle.journal.specs.Entries.{entry_of, IsCount}
+use Rattle.journal.specs.Journals.{entries_from, entries_of, is_whole, AddsLine}
+use Rattle.journal.specs.Stops.{Found, found_after, found_from, found_of, told_with, told_by, told_at, Tells, Survives}
+use Rattle.journal.specs.Tails.{taken_by, taken_from}
 use Rattle.journal.specs.declared.entry.Entry.{Entry}
-use Rattle.journal.specs.declared.entry.Entry.TheVariants.{Begins, Continues, Event, Taken, Bad}
-use Rattle.journal.specs.declared.tail.Tail.{Tail}
-use Rattle.journal.specs.declared.turn.Turn.{Turn}
-use Rattle.journal.specs.States.{AreSmall, found_in, HasLines, HasChanged, MarksAt, Settled, Ahead, Opened, IsEndOf, IsEnded}
+use Rattle.journal.specs.declared.entry.Entry.TheVariants.{Event, Bad}
 
 -- one entry more
 pub found_more : (found : Found) (entries : List Entry) (entry : Entry) → found_from found (entries ++ (entry ∷ [])) ≡ found_after (found_from found entries) entry
@@ -101,11 +96,11 @@ line_survives is_hosted entry file old new changes recorded since adds whole was
     (elim (at_least n (length old)) as (λ _. Tells changes recorded since (entries_of is_hosted (file ++ take n (old ++ (adds.line ++ (10 ∷ [])))))) [
       | inl few ↦ subst (λ xs. Tells changes recorded since (entries_of is_hosted (file ++ xs))) (sym (take-append-le n old (adds.line ++ (10 ∷ [])) few)) (was n)
       | inr many ↦
-        subst (λ xs. Tells changes recorded since (entries_of is_hosted (file ++ xs)))
-        (sym (ap (λ k. take k (old ++ (adds.line ++ (10 ∷ [])))) (split_at n (length old) many) ∙ take-append-add old (adds.line ++ (10 ∷ [])) (n - length old)))
-        (behind is_hosted entry file old adds.line (n - length old) (Tells changes recorded since) adds.one
-        (subst (λ xs. Tells changes recorded since (entries_of is_hosted (file ++ xs))) (take_all (length old) old (omega arith)) (was (length old)))
-        (subst (Tells changes recorded since) (sym (ap (λ xs. entries_of is_hosted (file ++ xs)) (sym adds.is) ∙ line_entries is_hosted entry file old new adds whole)) tells))
+          subst (λ xs. Tells changes recorded since (entries_of is_hosted (file ++ xs)))
+          (sym (ap (λ k. take k (old ++ (adds.line ++ (10 ∷ [])))) (split_at n (length old) many) ∙ take-append-add old (adds.line ++ (10 ∷ [])) (n - length old)))
+          (behind is_hosted entry file old adds.line (n - length old) (Tells changes recorded since) adds.one
+          (subst (λ xs. Tells changes recorded since (entries_of is_hosted (file ++ xs))) (take_all (length old) old (omega arith)) (was (length old)))
+          (subst (Tells changes recorded since) (sym (ap (λ xs. entries_of is_hosted (file ++ xs)) (sym adds.is) ∙ line_entries is_hosted entry file old new adds whole)) tells))
     ])
 
 -- ---- bytes behind bytes
@@ -127,9 +122,9 @@ survives_both is_hosted file first second changes recorded since one two = λ n.
     elim (at_least n (length first)) as (λ _. Tells changes recorded since (entries_of is_hosted (file ++ take n (first ++ second)))) [
       | inl few ↦ subst (λ xs. Tells changes recorded since (entries_of is_hosted (file ++ xs))) (sym (take-append-le n first second few)) (one n)
       | inr many ↦
-        subst (λ xs. Tells changes recorded since (entries_of is_hosted xs))
-        (append_assoc file first (take (n - length first) second) ∙ ap (λ xs. file ++ xs) (sym (ap (λ k. take k (first ++ second)) (split_at n (length first) many) ∙ take-append-add first second (n - length first))))
-        (two (n - length first))
+          subst (λ xs. Tells changes recorded since (entries_of is_hosted xs))
+          (append_assoc file first (take (n - length first) second) ∙ ap (λ xs. file ++ xs) (sym (ap (λ k. take k (first ++ second)) (split_at n (length first) many) ∙ take-append-add first second (n - length first))))
+          (two (n - length first))
     ]
 
 -- ---- what is told
@@ -173,7 +168,7 @@ told_changed found marked mark some =
     ∙ ap (λ xs. Some (found.taken ++ xs)) (take_all (length found.waiting) found.waiting (omega arith))
 
 same_some : {X : Type 0} (x y : X) → Some x ≡ Some y → x ≡ y
-same_some x y e = ap (λ o. elim o [ | Some z ↦ z | None ↦ x ]) e
+same_some x y e = ap (λ o. elim o [ Some z ↦ z | None ↦ x ]) e
 
 -- what is told is what the marks say, and those are all that a journal says
 pub told_is : (changes : ℕ) (recorded since : List HubEvent) (entries : List Entry) → (found_of entries).marked ≡ Some changes → Tells changes recorded since entries
@@ -184,10 +179,11 @@ told_is changes recorded since entries mark tells =
 pub event_told : (changes : ℕ) (recorded since : List HubEvent) (event : HubEvent) (found after : Found) → found.marked ≡ Some changes → after ≡ found_after found (Event event)
     → (some : List HubEvent) × (more : List HubEvent) × (found.taken ≡ recorded ++ some) × (some ++ more ≡ since) → Told changes recorded since after
 event_told changes recorded since event found after mark is was = subst (Told changes recorded since) (sym is) (record {
-    some = was.0; more = was.1;
-    is = told_marked (found_after found (Event event)) changes mark ∙ ap Some was.2;
-    all = was.3
-  })
+  some = was.0;
+  more = was.1;
+  is = told_marked (found_after found (Event event)) changes mark ∙ ap Some was.2;
+  all = was.3;
+})
 
 -- more events since then
 pub longer : (changes : ℕ) (recorded since more : List HubEvent) (entries : List Entry) → Tells changes recorded since entries → Tells changes recorded (since ++ more) entries
@@ -231,14 +227,16 @@ count_taken (Some marked) events changes first taken within =
 pub cut_told : (is_hosted : List ℕ → Bool) (file cut : List ℕ) (changes : ℕ) (recorded : List HubEvent) → entries_of is_hosted (file ++ (255 ∷ 10 ∷ [])) ≡ entries_of is_hosted file ++ (Bad ∷ []) → cut ≡ 255 ∷ 10 ∷ []
     → told_at (entries_of is_hosted file) changes ≡ Some recorded
     → Survives is_hosted file cut changes recorded [] × (is_whole (file ++ cut) ≡ true) × (found_of (entries_of is_hosted (file ++ cut)) ≡ found_of (entries_of is_hosted file))
-cut_told is_hosted file cut changes recorded ends is told =
-    ( λ n. subst (λ xs. Tells changes recorded [] (entries_of is_hosted (file ++ take n xs))) (sym is)
-        (record { some = []; more = []; is = ap (λ f. told_by f f.marked changes) (part n) ∙ told ∙ ap Some (sym (append-nil recorded)); all = refl })
-    , ap (λ xs. is_whole (file ++ xs)) is ∙ ap is_whole (sym (append_assoc file (255 ∷ []) (10 ∷ []))) ∙ whole_end false (file ++ (255 ∷ []))
-    , ap (λ xs. found_of (entries_of is_hosted (file ++ xs))) is ∙ all)
+cut_told is_hosted file cut changes recorded ends is told = (
+  λ n. subst (λ xs. Tells changes recorded [] (entries_of is_hosted (file ++ take n xs))) (sym is)
+      (record { some = []; more = []; is = ap (λ f. told_by f f.marked changes) (part n) ∙ told ∙ ap Some (sym (append-nil recorded)); all = refl }),
+  ap (λ xs. is_whole (file ++ xs)) is ∙ ap is_whole (sym (append_assoc file (255 ∷ []) (10 ∷ []))) ∙ whole_end false (file ++ (255 ∷ [])),
+  ap (λ xs. found_of (entries_of is_hosted (file ++ xs))) is ∙ all,
+)
   where
     all : found_of (entries_of is_hosted (file ++ (255 ∷ 10 ∷ []))) ≡ found_of (entries_of is_hosted file)
     all = ap found_of ends ∙ found_more (record { taken = []; waiting = []; marked = None }) (entries_of is_hosted file) Bad
+
     part : (n : ℕ) → found_of (entries_of is_hosted (file ++ take n (255 ∷ 10 ∷ []))) ≡ found_of (entries_of is_hosted file)
     part zero = ap (λ xs. found_of (entries_of is_hosted xs)) (append-nil file)
     part (suc zero) = ap found_of (part_none is_hosted [] file (255 ∷ []) refl)

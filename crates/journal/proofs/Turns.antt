@@ -1,24 +1,15 @@
 -- The steps of a turn.
-use Rattle.std.proofs.Common.{◌≡◌, ◌≢◌, ◌∙◌, ◌<◌, ◌≤◌, ◌+◌, ◌-◌, ℕ, suc, zero, List, [], ◌∷◌, ◌++◌, length, take, Some, None, Bool, true, false, refl, sym, ap, subst, arith, inl, inr, true≢false, if◌then◌else◌}
-use Rattle.std.specs.Prelude.{◌==◌, ◌^◌, not, ◌⊎◌, ◌||◌, ◌&&◌, nat_lt, Option, Result, Ok, Err, OnOk}
-use Rattle.std.specs.List.{list_any}
-use Rattle.std.specs.Result.{is_err}
-use Rattle.std.specs.Io.KnownBytes.{Appends}
-use Rattle.std.proofs.lemmas.List.{append_assoc, append-nil, take-append-le, take_all, length-append, nil_from_length, take_at, append_cancel_right}
-use Rattle.std.proofs.lemmas.Option.{none-some}
-use Rattle.std.proofs.Math.Seq.{take-append-add}
-use Rattle.journal.proofs.Stops.{Told, found_more, part_none, line_whole, line_entries, line_found, line_survives, told_of, told_marked, told_changed, told_is, event_told, longer, take_nothing, survives_written, survives_both, told_nothing, told_first, count_taken, cut_told}
+use Rattle.std.proofs.Common.{◌≡◌, ◌∙◌, ◌<◌, ◌+◌, ◌-◌, ℕ, List, [], ◌∷◌, ◌++◌, length, take, Some, Bool, true, false, refl, sym, ap, subst, arith}
+use Rattle.std.proofs.lemmas.List.{append_assoc, append-nil, take_all, length-append, nil_from_length, take_at, append_cancel_right}
+use Rattle.journal.proofs.Stops.{Told, line_whole, line_entries, line_found, line_survives, told_of, told_marked, told_changed, told_is, event_told, longer, take_nothing, survives_written, told_nothing, told_first}
 use Rattle.hub_events.specs.declared.event.Event.{Event as HubEvent}
-use Rattle.lines.specs.Journal.{is_feed}
-use Rattle.journal.specs.Entries.{entry_of, IsCount, AreCounts}
-use Rattle.journal.specs.Journals.{entries_from, entries_of, is_whole_from, is_whole, AddsLine, EndsCut}
-use Rattle.journal.specs.Stops.{Found, found_after, marked_at, found_from, found_of, told_with, told_by, told_at, Tells, Survives}
-use Rattle.journal.specs.Tails.{taken_by, taken_from, taken_at}
+use Rattle.journal.specs.Journals.{entries_from, entries_of, is_whole_from, is_whole, AddsLine}
+use Rattle.journal.specs.Stops.{Found, found_after, marked_at, found_from, found_of, told_at, Tells, Survives}
+use Rattle.journal.specs.Tails.{taken_from}
 use Rattle.journal.specs.declared.entry.Entry.{Entry}
-use Rattle.journal.specs.declared.entry.Entry.TheVariants.{Begins, Continues, Event, Taken, Bad}
-use Rattle.journal.specs.declared.tail.Tail.{Tail}
+use Rattle.journal.specs.declared.entry.Entry.TheVariants.{Event, Taken}
 use Rattle.journal.specs.declared.turn.Turn.{Turn}
-use Rattle.journal.specs.States.{AreSmall, found_in, HasLines, HasChanged, MarksAt, Settled, Ahead, Opened, IsEndOf, IsEnded}
+use Rattle.journal.specs.States.{found_in, HasLines, MarksAt, Settled, Ahead, Opened}
 
 -- the events without a mark are those of a count
 front_of : (n : ℕ) (xs : List HubEvent) → length xs ≡ n → take n xs ≡ xs
@@ -27,10 +18,11 @@ front_of n xs is = take_all n xs (omega (arith, is))
 marked_from : (changes first : ℕ) (recorded since : List HubEvent) (found after : Found) → after ≡ marked_at found first changes → found.taken ++ take first found.waiting ≡ recorded ++ since
     → Told changes recorded since after
 marked_from changes first recorded since found after is all = subst (Told changes recorded since) (sym is) (record {
-    some = since; more = [];
-    is = told_marked (marked_at found first changes) changes refl ∙ ap Some all;
-    all = append-nil since
-  })
+  some = since;
+  more = [];
+  is = told_marked (marked_at found first changes) changes refl ∙ ap Some all;
+  all = append-nil since;
+})
 
 has_marked : (is_hosted : List ℕ → Bool) (file : List ℕ) (old new : Turn) (first : ℕ) (entry : Entry) (recorded since lines : List HubEvent)
     → HasLines is_hosted file old recorded since lines → AddsLine is_hosted entry old.ready.bytes.items new.ready.bytes.items
@@ -42,15 +34,15 @@ has_marked is_hosted file old new first entry recorded since lines stands adds m
     let told = marked_from old.changes first recorded since (found_in is_hosted file old) (found_in is_hosted file new) after all in
     let tells = told_of old.changes recorded since (entries_of is_hosted (file ++ new.ready.bytes.items)) (found_in is_hosted file new) refl told in
     let survives = line_survives is_hosted entry file old.ready.bytes.items new.ready.bytes.items old.changes recorded since adds stands.whole stands.survives
-      (subst (Tells old.changes recorded since) (line_entries is_hosted entry file old.ready.bytes.items new.ready.bytes.items adds stands.whole) tells) in
+    (subst (Tells old.changes recorded since) (line_entries is_hosted entry file old.ready.bytes.items new.ready.bytes.items adds stands.whole) tells) in
     record {
       has = record {
         whole = line_whole is_hosted entry file old.ready.bytes.items new.ready.bytes.items adds;
         survives = subst (λ c. Survives is_hosted file new.ready.bytes.items c recorded since) (sym changes) survives;
         events = ap (λ f. length f.waiting) after ∙ sym events;
-        all = ap (λ f. f.taken ++ f.waiting) after ∙ append-nil ((found_in is_hosted file old).taken ++ take first (found_in is_hosted file old).waiting) ∙ all
+        all = ap (λ f. f.taken ++ f.waiting) after ∙ append-nil ((found_in is_hosted file old).taken ++ take first (found_in is_hosted file old).waiting) ∙ all;
       };
-      marks = subst (λ b. MarksAt b is_hosted file new since) (sym unchanged) (ap (λ f. f.marked) after ∙ ap Some (sym changes))
+      marks = subst (λ b. MarksAt b is_hosted file new since) (sym unchanged) (ap (λ f. f.marked) after ∙ ap Some (sym changes));
     }
 
 -- a mark of all events
@@ -86,13 +78,16 @@ has_event is_hosted file old new event recorded since settled unchanged adds cha
     let told = event_told old.changes recorded since event (found_in is_hosted file old) (found_in is_hosted file new) mark after (told_is old.changes recorded since (entries_of is_hosted (file ++ old.ready.bytes.items)) mark now) in
     let tells = told_of old.changes recorded since (entries_of is_hosted (file ++ new.ready.bytes.items)) (found_in is_hosted file new) refl told in
     let survives = line_survives is_hosted (Event event) file old.ready.bytes.items new.ready.bytes.items old.changes recorded since adds whole settled.has.survives
-      (subst (Tells old.changes recorded since) (line_entries is_hosted (Event event) file old.ready.bytes.items new.ready.bytes.items adds whole) tells) in
-    (record {
-      whole = line_whole is_hosted (Event event) file old.ready.bytes.items new.ready.bytes.items adds;
-      survives = subst (λ c. Survives is_hosted file new.ready.bytes.items c recorded since) (sym changes) survives;
-      events = ap (λ f. length f.waiting) after ∙ length-append (found_in is_hosted file old).waiting (event ∷ []) ∙ ap (λ n. n + 1) settled.has.events ∙ sym events;
-      all = ap (λ f. f.taken ++ f.waiting) after ∙ sym (append_assoc (found_in is_hosted file old).taken (found_in is_hosted file old).waiting (event ∷ [])) ∙ ap (λ xs. xs ++ (event ∷ [])) settled.has.all
-    }, after, mark)
+    (subst (Tells old.changes recorded since) (line_entries is_hosted (Event event) file old.ready.bytes.items new.ready.bytes.items adds whole) tells) in (
+      record {
+        whole = line_whole is_hosted (Event event) file old.ready.bytes.items new.ready.bytes.items adds;
+        survives = subst (λ c. Survives is_hosted file new.ready.bytes.items c recorded since) (sym changes) survives;
+        events = ap (λ f. length f.waiting) after ∙ length-append (found_in is_hosted file old).waiting (event ∷ []) ∙ ap (λ n. n + 1) settled.has.events ∙ sym events;
+        all = ap (λ f. f.taken ++ f.waiting) after ∙ sym (append_assoc (found_in is_hosted file old).taken (found_in is_hosted file old).waiting (event ∷ [])) ∙ ap (λ xs. xs ++ (event ∷ [])) settled.has.all;
+      },
+      after,
+      mark,
+    )
 
 -- an event that has changed nothing is taken
 pub settled_event : (is_hosted : List ℕ → Bool) (file : List ℕ) (old new : Turn) (event : HubEvent) (recorded since : List HubEvent)
@@ -105,9 +100,9 @@ settled_event is_hosted file old new event recorded since settled unchanged adds
         whole = both.0.whole;
         survives = λ n. longer new.changes recorded since (event ∷ []) (entries_of is_hosted (file ++ take n new.ready.bytes.items)) (both.0.survives n);
         events = both.0.events;
-        all = both.0.all ∙ append_assoc recorded since (event ∷ [])
+        all = both.0.all ∙ append_assoc recorded since (event ∷ []);
       };
-      marks = subst (λ b. MarksAt b is_hosted file new (since ++ (event ∷ []))) (sym same) (ap (λ f. f.marked) both.1 ∙ both.2 ∙ ap Some (sym changes))
+      marks = subst (λ b. MarksAt b is_hosted file new (since ++ (event ∷ []))) (sym same) (ap (λ f. f.marked) both.1 ∙ both.2 ∙ ap Some (sym changes));
     }
 
 -- the line of an event that is about to change records
@@ -121,7 +116,7 @@ ahead_event is_hosted file old new event recorded since settled unchanged adds c
       before = (found_in is_hosted file old).waiting;
       last = ap (λ f. f.waiting) both.1;
       mark = ap (λ f. f.marked) both.1 ∙ both.2 ∙ ap Some (sym changes);
-      unchanged = same
+      unchanged = same;
     }
 
 -- it has changed records
@@ -134,20 +129,23 @@ ahead_changed is_hosted file old new event recorded since ahead empty kept chang
     let mark : (found_in is_hosted file new).marked ≡ Some old.changes = ap (λ f. f.marked) same ∙ ahead.mark in
     let told = told_changed (found_in is_hosted file old) old.changes ahead.mark many ∙ ap Some ahead.has.all in
     let tells : Tells (old.changes + 1) ((recorded ++ since) ++ (event ∷ [])) [] (entries_of is_hosted (file ++ old.ready.bytes.items)) =
-      record { some = []; more = []; is = told ∙ ap Some (sym (append-nil ((recorded ++ since) ++ (event ∷ [])))); all = refl } in
+    record { some = []; more = []; is = told ∙ ap Some (sym (append-nil ((recorded ++ since) ++ (event ∷ [])))); all = refl } in
     record {
       has = record {
         whole = ap (λ xs. is_whole (file ++ xs)) kept ∙ ahead.has.whole;
         survives = λ n. subst (λ c. Tells c ((recorded ++ since) ++ (event ∷ [])) [] (entries_of is_hosted (file ++ take n new.ready.bytes.items))) (sym changes)
-          (subst (λ xs. Tells (old.changes + 1) ((recorded ++ since) ++ (event ∷ [])) [] (entries_of is_hosted (file ++ xs))) (empty ∙ sym (take_nothing n) ∙ ap (take n) (sym (kept ∙ empty))) tells);
+            (subst (λ xs. Tells (old.changes + 1) ((recorded ++ since) ++ (event ∷ [])) [] (entries_of is_hosted (file ++ xs))) (empty ∙ sym (take_nothing n) ∙ ap (take n) (sym (kept ∙ empty))) tells);
         events = ap (λ f. length f.waiting) same ∙ ahead.has.events ∙ sym events;
-        all = ap (λ f. f.taken ++ f.waiting) same ∙ ahead.has.all ∙ sym (append-nil ((recorded ++ since) ++ (event ∷ [])))
+        all = ap (λ f. f.taken ++ f.waiting) same ∙ ahead.has.all ∙ sym (append-nil ((recorded ++ since) ++ (event ∷ [])));
       };
       marks = subst (λ b. MarksAt b is_hosted file new []) (sym changed) (record {
-        marked = old.changes; mark = mark; one = changes;
+        marked = old.changes;
+        mark = mark;
+        one = changes;
         some = let e = events in let k = ahead.has.events in omega (arith, e, k, many);
-        written = kept ∙ empty; last = refl
-      })
+        written = kept ∙ empty;
+        last = refl;
+      });
     }
 
 -- it ended in a fault, and has changed nothing: the mark leaves it out
@@ -157,11 +155,11 @@ pub ahead_refused : (is_hosted : List ℕ → Bool) (file : List ℕ) (old new :
 ahead_refused is_hosted file old new first event recorded since ahead less adds changes events unchanged =
     has_marked is_hosted file old new first (Taken first old.events old.changes) recorded since ((recorded ++ since) ++ (event ∷ [])) ahead.has adds (λ _. refl)
     (let found = found_in is_hosted file old in
-     let long = length-append ahead.before (event ∷ []) in
-     let counted : length ahead.before ≡ first = let w = ap length ahead.last in let k = ahead.has.events in omega (arith, long, w, k, less) in
-     let most : take first found.waiting ≡ ahead.before = ap (take first) ahead.last ∙ take_at ahead.before (event ∷ []) first counted in
-     ap (λ xs. found.taken ++ xs) most
-     ∙ append_cancel_right (found.taken ++ ahead.before) (recorded ++ since) (event ∷ []) (append_assoc found.taken ahead.before (event ∷ []) ∙ ap (λ xs. found.taken ++ xs) (sym ahead.last) ∙ ahead.has.all))
+    let long = length-append ahead.before (event ∷ []) in
+    let counted : length ahead.before ≡ first = let w = ap length ahead.last in let k = ahead.has.events in omega (arith, long, w, k, less) in
+    let most : take first found.waiting ≡ ahead.before = ap (take first) ahead.last ∙ take_at ahead.before (event ∷ []) first counted in
+    ap (λ xs. found.taken ++ xs) most
+    ∙ append_cancel_right (found.taken ++ ahead.before) (recorded ++ since) (event ∷ []) (append_assoc found.taken ahead.before (event ∷ []) ∙ ap (λ xs. found.taken ++ xs) (sym ahead.last) ∙ ahead.has.all))
     changes events unchanged
 
 has_written : (is_hosted : List ℕ → Bool) (file : List ℕ) (old new : Turn) (recorded since lines : List HubEvent) → HasLines is_hosted file old recorded since lines
@@ -169,14 +167,16 @@ has_written : (is_hosted : List ℕ → Bool) (file : List ℕ) (old new : Turn)
     → HasLines is_hosted (file ++ old.ready.bytes.items) new recorded since lines × (found_in is_hosted (file ++ old.ready.bytes.items) new ≡ found_in is_hosted file old)
 has_written is_hosted file old new recorded since lines stands empty changes events =
     let bytes : (file ++ old.ready.bytes.items) ++ new.ready.bytes.items ≡ file ++ old.ready.bytes.items = ap (λ xs. (file ++ old.ready.bytes.items) ++ xs) empty ∙ append-nil (file ++ old.ready.bytes.items) in
-    let same : found_in is_hosted (file ++ old.ready.bytes.items) new ≡ found_in is_hosted file old = ap (λ xs. found_of (entries_of is_hosted xs)) bytes in
-    (record {
-      whole = ap is_whole bytes ∙ stands.whole;
-      survives = subst (λ xs. Survives is_hosted (file ++ old.ready.bytes.items) xs new.changes recorded since) (sym empty)
-        (subst (λ c. Survives is_hosted (file ++ old.ready.bytes.items) [] c recorded since) (sym changes) (survives_written is_hosted file old.ready.bytes.items old.changes recorded since stands.survives));
-      events = ap (λ f. length f.waiting) same ∙ stands.events ∙ sym events;
-      all = ap (λ f. f.taken ++ f.waiting) same ∙ stands.all
-    }, same)
+    let same : found_in is_hosted (file ++ old.ready.bytes.items) new ≡ found_in is_hosted file old = ap (λ xs. found_of (entries_of is_hosted xs)) bytes in (
+      record {
+        whole = ap is_whole bytes ∙ stands.whole;
+        survives = subst (λ xs. Survives is_hosted (file ++ old.ready.bytes.items) xs new.changes recorded since) (sym empty)
+            (subst (λ c. Survives is_hosted (file ++ old.ready.bytes.items) [] c recorded since) (sym changes) (survives_written is_hosted file old.ready.bytes.items old.changes recorded since stands.survives));
+        events = ap (λ f. length f.waiting) same ∙ stands.events ∙ sym events;
+        all = ap (λ f. f.taken ++ f.waiting) same ∙ stands.all;
+      },
+      same,
+    )
 
 pub settled_written : (is_hosted : List ℕ → Bool) (file : List ℕ) (old new : Turn) (recorded since : List HubEvent) → Settled is_hosted file old recorded since
     → new.ready.bytes.items ≡ [] → new.changes ≡ old.changes → new.events ≡ old.events → new.has_changed ≡ old.has_changed → Settled is_hosted (file ++ old.ready.bytes.items) new recorded since
@@ -186,8 +186,13 @@ settled_written is_hosted file old new recorded since settled empty changes even
   where
     marks_written : (b : Bool) → found_in is_hosted (file ++ old.ready.bytes.items) new ≡ found_in is_hosted file old → MarksAt b is_hosted file old since → MarksAt b is_hosted (file ++ old.ready.bytes.items) new since
     marks_written true found was = record {
-      marked = was.marked; mark = ap (λ f. f.marked) found ∙ was.mark; one = changes ∙ was.one;
-      some = let e = events in let k = was.some in omega (arith, e, k); written = empty; last = was.last }
+      marked = was.marked;
+      mark = ap (λ f. f.marked) found ∙ was.mark;
+      one = changes ∙ was.one;
+      some = let e = events in let k = was.some in omega (arith, e, k);
+      written = empty;
+      last = was.last;
+    }
     marks_written false found was = ap (λ f. f.marked) found ∙ was ∙ ap Some (sym changes)
 
 pub ahead_written : (is_hosted : List ℕ → Bool) (file : List ℕ) (old new : Turn) (event : HubEvent) (recorded since : List HubEvent) → Ahead is_hosted file old recorded since event
@@ -213,9 +218,9 @@ has_told is_hosted file turn recorded whole empty events told =
     record {
       whole = ap is_whole bytes ∙ whole;
       survives = λ n. subst (λ xs. Tells turn.changes recorded [] (entries_of is_hosted xs)) (sym (ap (λ xs. file ++ take n xs) empty ∙ ap (λ xs. file ++ xs) (take_nothing n) ∙ append-nil file))
-        (record { some = []; more = []; is = told ∙ ap Some (sym (append-nil recorded)); all = refl });
+          (record { some = []; more = []; is = told ∙ ap Some (sym (append-nil recorded)); all = refl });
       events = ap (λ xs. length (found_of (entries_of is_hosted xs)).waiting) bytes ∙ events;
-      all = ap (λ xs. (found_of (entries_of is_hosted xs)).taken ++ (found_of (entries_of is_hosted xs)).waiting) bytes
+      all = ap (λ xs. (found_of (entries_of is_hosted xs)).taken ++ (found_of (entries_of is_hosted xs)).waiting) bytes;
     }
 
 pub opened_none : (is_hosted : List ℕ → Bool) (file : List ℕ) (turn : Turn) (recorded : List HubEvent) → is_whole file ≡ true → turn.ready.bytes.items ≡ []
@@ -225,8 +230,8 @@ opened_none is_hosted file turn recorded whole empty events none told =
     let nothing : found.waiting ≡ [] = nil_from_length found.waiting (events ∙ none) in
     let has = has_told is_hosted file turn recorded whole empty events told in
     record {
-      has = subst (HasLines is_hosted file turn recorded []) (ap (λ xs. found.taken ++ xs) nothing ∙ append-nil found.taken ∙ told_nothing found found.marked turn.changes recorded nothing told) stands;
-      none = none
+      has = subst (HasLines is_hosted file turn recorded []) (ap (λ xs. found.taken ++ xs) nothing ∙ append-nil found.taken ∙ told_nothing found found.marked turn.changes recorded nothing told) has;
+      none = none;
     }
 
 pub opened_some : (is_hosted : List ℕ → Bool) (file : List ℕ) (old new : Turn) (first : ℕ) (recorded : List HubEvent) → is_whole file ≡ true → old.ready.bytes.items ≡ []
@@ -239,8 +244,8 @@ opened_some is_hosted file old new first recorded whole empty events told taken 
     let same : found_in is_hosted file old ≡ found = ap (λ xs. found_of (entries_of is_hosted xs)) (ap (λ xs. file ++ xs) empty ∙ append-nil file) in
     let all = told_first found found.marked old.changes first recorded (ap (λ n. taken_from found.marked n old.changes) events ∙ taken) told in
     let settled = has_marked is_hosted file old new first (Taken first old.events old.changes) recorded [] (found.taken ++ found.waiting)
-      (has_told is_hosted file old recorded whole empty events told) adds (λ _. refl)
-      (ap (λ f. f.taken ++ take first f.waiting) same ∙ all ∙ sym (append-nil recorded)) changes none unchanged in
+    (has_told is_hosted file old recorded whole empty events told) adds (λ _. refl)
+    (ap (λ f. f.taken ++ take first f.waiting) same ∙ all ∙ sym (append-nil recorded)) changes none unchanged in
     record { has = subst (HasLines is_hosted file new recorded []) (append-nil recorded) settled.has; none = none }
 
 -- where each event has a mark, the last one has changed nothing since

@@ -1,25 +1,19 @@
 -- The code of a turn and of a writer.
-use Rattle.std.proofs.Common.{◌≡◌, ◌≢◌, ◌∙◌, ◌<◌, ◌≤◌, ◌+◌, ◌-◌, ℕ, suc, zero, List, [], ◌∷◌, ◌++◌, length, take, Some, None, Bool, true, false, refl, sym, ap, subst, arith, inl, inr, true≢false, if◌then◌else◌}
-use Rattle.std.specs.Prelude.{◌==◌, ◌^◌, not, ◌⊎◌, ◌||◌, ◌&&◌, nat_lt, Option, Result, Ok, Err, OnOk}
-use Rattle.std.specs.List.{list_any}
+use Rattle.std.proofs.Common.{◌≡◌, ◌∙◌, ◌-◌, ℕ, List, [], ◌∷◌, ◌++◌, Some, None, Bool, false, refl, sym, ap, subst, arith, true≢false}
+use Rattle.std.specs.Prelude.{not, Option, Result, Ok, Err, OnOk}
 use Rattle.std.specs.Result.{is_err}
 use Rattle.std.specs.Io.KnownBytes.{Appends}
-use Rattle.std.proofs.lemmas.List.{append_assoc, append-nil, take-append-le, take_all, length-append, nil_from_length, take_at, append_cancel_right}
-use Rattle.std.proofs.lemmas.Option.{none-some}
-use Rattle.std.proofs.Math.Seq.{take-append-add}
-use Rattle.journal.proofs.Stops.{Told, found_more, part_none, line_whole, line_entries, line_found, line_survives, told_of, told_marked, told_changed, told_is, event_told, longer, take_nothing, survives_written, survives_both, told_nothing, told_first, count_taken, cut_told}
-use Rattle.journal.proofs.Turns.{settled_marked, opened_marked, settled_event, ahead_event, ahead_changed, ahead_refused, settled_written, ahead_written, settled_told, has_told, opened_none, opened_some, settled_unchanged, opened_empty}
+use Rattle.std.proofs.lemmas.List.{append-nil}
+use Rattle.journal.proofs.Stops.{take_nothing, cut_told}
+use Rattle.journal.proofs.Turns.{settled_told}
 use Rattle.hub_events.specs.declared.event.Event.{Event as HubEvent}
-use Rattle.lines.specs.Journal.{is_feed}
-use Rattle.journal.specs.Entries.{entry_of, IsCount, AreCounts}
-use Rattle.journal.specs.Journals.{entries_from, entries_of, is_whole_from, is_whole, AddsLine, EndsCut}
-use Rattle.journal.specs.Stops.{Found, found_after, marked_at, found_from, found_of, told_with, told_by, told_at, Tells, Survives}
-use Rattle.journal.specs.Tails.{taken_by, taken_from, taken_at}
+use Rattle.journal.specs.Entries.{IsCount, AreCounts}
+use Rattle.journal.specs.Journals.{entries_of, is_whole, AddsLine, EndsCut}
+use Rattle.journal.specs.Stops.{found_of, told_by, told_at, Tells}
 use Rattle.journal.specs.declared.entry.Entry.{Entry}
-use Rattle.journal.specs.declared.entry.Entry.TheVariants.{Begins, Continues, Event, Taken, Bad}
 use Rattle.journal.specs.declared.tail.Tail.{Tail}
 use Rattle.journal.specs.declared.turn.Turn.{Turn}
-use Rattle.journal.specs.States.{AreSmall, found_in, HasLines, HasChanged, MarksAt, Settled, Ahead, Opened, IsEndOf, IsEnded}
+use Rattle.journal.specs.States.{AreSmall, found_in, Settled, IsEndOf, IsEnded}
 
 pub on_ok_two : {T E P Q R : Type 0} (r : Result T E) → (P → Q → R) → OnOk r P → OnOk r Q → OnOk r R
 on_ok_two (Ok x) f p q = f p q
@@ -60,13 +54,13 @@ told_written is_hosted file turn recorded since settled empty none =
 pub not_cut : (is_hosted : List ℕ → Bool) (old : Option (List ℕ)) (tail : Tail) (bytes : List ℕ) (recorded : List HubEvent) (changes : ℕ) → old ≡ Some bytes → tail.is_cut ≡ false → IsEndOf is_hosted bytes tail
     → told_at (entries_of is_hosted bytes) changes ≡ Some recorded → IsEnded is_hosted bytes old changes recorded
 not_cut is_hosted old tail bytes recorded changes is uncut end told = record {
-    added = [];
-    is = is ∙ ap Some (sym (append-nil bytes));
-    survives = λ n. subst (λ xs. Tells changes recorded [] (entries_of is_hosted xs)) (sym (ap (λ xs. bytes ++ xs) (take_nothing n) ∙ append-nil bytes))
+  added = [];
+  is = is ∙ ap Some (sym (append-nil bytes));
+  survives = λ n. subst (λ xs. Tells changes recorded [] (entries_of is_hosted xs)) (sym (ap (λ xs. bytes ++ xs) (take_nothing n) ∙ append-nil bytes))
       (record { some = []; more = []; is = told ∙ ap Some (sym (append-nil recorded)); all = refl });
-    whole = ap is_whole (append-nil bytes) ∙ end.whole ∙ ap not uncut;
-    found = ap (λ xs. found_of (entries_of is_hosted xs)) (append-nil bytes)
-  }
+  whole = ap is_whole (append-nil bytes) ∙ end.whole ∙ ap not uncut;
+  found = ap (λ xs. found_of (entries_of is_hosted xs)) (append-nil bytes);
+}
 
 pub was_cut : (is_hosted : List ℕ → Bool) (old new : Option (List ℕ)) (bytes cut : List ℕ) (recorded : List HubEvent) (changes : ℕ) → old ≡ Some bytes → Appends old new cut → EndsCut cut → cut ≡ 255 ∷ 10 ∷ []
     → told_at (entries_of is_hosted bytes) changes ≡ Some recorded → IsEnded is_hosted bytes new changes recorded

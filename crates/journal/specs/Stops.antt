@@ -1,7 +1,7 @@
 -- What a stop leaves of a journal.
-use Rattle.std.specs.Prelude.{◌≡◌, ℕ, ◌+◌, ◌<◌, ◌==◌, Bool, true, false, List, [], ◌∷◌, ◌++◌, length, take, Option, Some, None, if◌then◌else◌}
+use Rattle.std.specs.Prelude.{◌≡◌, ℕ, ◌==◌, Bool, List, [], ◌∷◌, ◌++◌, length, take, Option, Some, None, if◌then◌else◌}
 use Rattle.hub_events.specs.declared.event.Event.{Event as HubEvent}
-use Rattle.journal.specs.Journals.{is_whole, entries_of}
+use Rattle.journal.specs.Journals.{entries_of}
 use Rattle.journal.specs.Tails.{taken_by}
 use Rattle.journal.specs.declared.entry.Entry.{Entry}
 use Rattle.journal.specs.declared.entry.Entry.TheVariants.{Begins, Continues, Event, Taken, Bad}

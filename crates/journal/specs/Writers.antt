@@ -1,5 +1,5 @@
 -- A writer of a journal, over a file whose bytes are known.
-use Rattle.std.specs.Prelude.{◌≡◌, ℕ, Bool, true, false, List, [], ◌∷◌, ◌++◌, Option, Some}
+use Rattle.std.specs.Prelude.{◌≡◌, ℕ, Bool, true, false, List, [], ◌++◌, Option, Some}
 use Rattle.hub_events.specs.declared.event.Event.{Event as HubEvent}
 use Rattle.journal.specs.Journals.{entries_of, AddsLine}
 use Rattle.journal.specs.Stops.{found_of, Survives}

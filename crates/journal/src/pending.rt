@@ -3,7 +3,8 @@ ghost use Rattle.std.specs.Prelude.{◌≡◌, ◌++◌, ◌∷◌, ℕ, List, B
 ghost use Rattle.std.specs.List.{list_any};
 ghost use Rattle.std.specs.Io.KnownBytes.{Appends};
 ghost use Rattle.lines.specs.Journal.{is_feed, Stands};
-ghost use Rattle.journal.specs.declared.entry.Entry.TheVariants.{Begins, Continues, Event, Taken};
+ghost use Rattle.journal.specs.declared.entry.Entry.TheVariants as said;
+ghost use Rattle.journal.specs.declared.entry.Entry.TheVariants.{Begins, Continues, Taken};
 ghost use Rattle.journal.specs.Entries.{AreCounts, IsCount};
 ghost use Rattle.journal.specs.Journals.{is_whole, entries_of, Adds, AddsLine, AddsMark, EndsCut};
 
@@ -54,7 +55,7 @@ impl Pending {
     /// Adds the line of an event. `order` is the text of an order, without its word.
     pub fn add_event(&mut self, event: &Event, order: &str) -> Mem<()>
         ensures added { OnOk result (Adds event.now order.now self.old.bytes.items self.new.bytes.items) }
-        ensures line { OnOk result ((is_hosted : List ℕ → Bool) → Stands is_hosted event.now order.now → AddsLine is_hosted (Event event.now) self.old.bytes.items self.new.bytes.items) }
+        ensures line { OnOk result ((is_hosted : List ℕ → Bool) → Stands is_hosted event.now order.now → AddsLine is_hosted (said.Event event.now) self.old.bytes.items self.new.bytes.items) }
         ensures kept { OnErr result (self.new.bytes.items ≡ self.old.bytes.items) }
     {
         let line = journal_line(self.alloc, event, order)?;

@@ -137,7 +137,11 @@ impl Turn {
     }
 
     /// Writes all lines to a file, and syncs it where `syncs`.
-    pub fn write_to<W: JournalFile>(&mut self, file: &mut W, syncs: bool) -> Result<(), JournalFault>
+    pub fn write_to<W: JournalFile>(
+        &mut self,
+        file: &mut W,
+        syncs: bool,
+    ) -> Result<(), JournalFault>
         ensures written { OnOk result (Appends (W.contents file.old) (W.contents file.new) self.old.ready.bytes.items) }
         ensures after { OnOk result ((self.new.ready.bytes.items ≡ []) × (self.new.events ≡ self.old.events) × (self.new.changes ≡ self.old.changes) × (self.new.has_changed ≡ self.old.has_changed)) }
     {

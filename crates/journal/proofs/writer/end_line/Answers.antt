@@ -1,6 +1,4 @@
-use Rattle.std.proofs.Common.{◌≡◌, ◌∙◌, ◌+◌, ◌^◌, ◌<◌, min, ◌++◌, ◌∷◌, ℕ, List, [], length, Some, OnOk, refl, sym, subst, ap, arith, false}
-use Rattle.std.proofs.lemmas.List.{append_assoc}
-use Rattle.std.proofs.lemmas.Result.{on_ok_weaker}
+use Rattle.std.proofs.Common.{◌∙◌, ◌++◌, ◌∷◌, [], ap}
 use Rattle.journal.proofs.Writers.{not_cut, was_cut}
 use Rattle.journal.proofs.writer.end_line.Goals as goal
 

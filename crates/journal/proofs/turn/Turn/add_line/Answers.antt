@@ -1,6 +1,4 @@
-use Rattle.std.proofs.Common.{◌≡◌, ◌^◌, min, ◌+◌, ◌-◌, ◌<◌, ◌++◌, ℕ, List, [], OnOk, arith, refl}
-use Rattle.std.proofs.lemmas.Result.{on_ok_weaker}
-use Rattle.journal.specs.States.{AreSmall, Settled, Ahead, Opened}
+use Rattle.std.proofs.Common.{◌≡◌, ◌^◌, min, ◌+◌, ◌<◌, ℕ, arith, refl}
 use Rattle.journal.proofs.Turns.{settled_event, ahead_event}
 use Rattle.journal.proofs.Writers.{adds_behind}
 use Rattle.journal.proofs.turn.Turn.add_line.Goals as goal

@@ -1,6 +1,5 @@
-use Rattle.std.proofs.Common.{◌≡◌, ◌+◌, ◌-◌, ◌<◌, ◌++◌, ℕ, List, [], OnOk, arith, refl}
+use Rattle.std.proofs.Common.{refl}
 use Rattle.std.proofs.lemmas.Result.{on_ok_weaker}
-use Rattle.journal.specs.States.{AreSmall, Settled, Ahead, Opened}
 use Rattle.journal.proofs.Turns.{opened_marked}
 use Rattle.journal.proofs.turn.Turn.begin_file.Goals as goal
 

@@ -1,4 +1,4 @@
-use Rattle.std.proofs.Common.{◌≡◌, ◌∙◌, ◌++◌, ℕ, List, [], OnOk, refl, sym, subst, ap, false}
+use Rattle.std.proofs.Common.{◌∙◌, sym, ap, false}
 use Rattle.journal.specs.Tails.{taken_from}
 use Rattle.journal.proofs.Stops.{count_taken}
 use Rattle.journal.proofs.Turns.{opened_some}

@@ -1,11 +1,6 @@
-use Rattle.std.proofs.Common.{◌≡◌, ◌∙◌, ◌++◌, ℕ, List, [], OnOk, refl, sym, subst, ap}
-use Rattle.std.proofs.lemmas.Result.{on_ok_weaker}
-use Rattle.journal.specs.Journals.{AddsLine}
-use Rattle.journal.specs.Stops.{Survives}
-use Rattle.journal.specs.States.{AreSmall, Settled, Ahead}
+use Rattle.std.proofs.Common.{refl, sym}
 use Rattle.journal.proofs.Writers.{ok_of}
 use Rattle.journal.proofs.writer.Writer.begin.Goals as goal
-
 
 -- src/writer.rt:76:5
 pub returns-else-is_err : goal.returns-else-is_err

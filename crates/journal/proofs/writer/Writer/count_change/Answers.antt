@@ -1,10 +1,4 @@
-use Rattle.std.proofs.Common.{◌≡◌, ◌∙◌, ◌++◌, ℕ, List, [], OnOk, refl, sym, subst, ap}
-use Rattle.std.proofs.lemmas.Result.{on_ok_weaker}
-use Rattle.journal.specs.Journals.{AddsLine}
-use Rattle.journal.specs.Stops.{Survives}
-use Rattle.journal.specs.States.{AreSmall, Settled, Ahead}
 use Rattle.journal.proofs.writer.Writer.count_change.Goals as goal
-
 
 -- src/writer.rt:113:5
 pub returns-clause-settled : goal.returns-clause-settled
