@@ -9,6 +9,8 @@ mod faulty;
 #[cfg(test)]
 mod handlers;
 #[cfg(test)]
+mod journals;
+#[cfg(test)]
 mod last_numbers;
 #[cfg(test)]
 mod replays;
