@@ -3,17 +3,17 @@ use Rattle.std.proofs.Common.{◌≡◌, ℕ, List, [], ◌∷◌, ◌++◌, ref
 use Rattle.std.proofs.lemmas.List.{append_assoc}
 use Rattle.json.specs.Token.{Token}
 use Rattle.std.proofs.Common.{codes, Option, Some, None, option_map}
-use Rattle.json.specs.Print.{escape, escape_byte}
+use Rattle.json.specs.Print.{escape_byte}
 use Rattle.ocpp_types.specs.TimeText.{time_text}
-use Rattle.serde_json.specs.Data.{Data, string, object, Members, member, no_members}
-use Rattle.serde_json.specs.Written.{compact_text, members_text}
+use Rattle.serde_json.specs.Data.{string}
+use Rattle.serde_json.specs.Written.{compact_text}
 use Rattle.ocpp_types.specs.declared.authorization_status.AuthorizationStatus.{AuthorizationStatus}
 use Rattle.ocpp_types.specs.declared.data_transfer_status.DataTransferStatus.{DataTransferStatus}
 use Rattle.ocpp_types.specs.AuthorizationStatus.{authorization_status_name}
 use Rattle.ocpp_types.specs.DataTransferStatus.{data_transfer_status_name}
 use Rattle.ocpp_payload.specs.Conf.{time_data, id_tag_info_data, data_transfer_conf}
 use Rattle.answer_texts.specs.Pieces.{before_next}
-use Rattle.json.specs.Print.{print, print_from, quoted, token_text}
+use Rattle.json.specs.Print.{print, print_from, quoted}
 
 pub no_more : (s : List ℕ) → s ++ [] ≡ s
 no_more [] = refl

@@ -1,10 +1,9 @@
-use Rattle.std.proofs.Common.{◌≡◌, ◌++◌, ◌∷◌, [], decimal, refl, ap, ◌∙◌}
+use Rattle.std.proofs.Common.{◌++◌, ap, ◌∙◌}
 use Rattle.std.proofs.lemmas.Result.{IfOk-weaker}
-use Rattle.json.specs.Print.{escape_byte, quoted}
-use Rattle.ocpp_types.specs.TimeText.{time_text}
-use Rattle.answer_texts.proofs.Joined.{three, five, six, seven, info_text, transfer_text}
+use Rattle.json.specs.Print.{escape_byte}
+use Rattle.answer_texts.proofs.Joined.{six, info_text}
 use Rattle.answer_texts.proofs.answer.with_id_tag_info.Goals as goal
 
 pub returns : goal.returns
 unfolding escape_byte
-returns c = IfOk-weaker c.with_bytes-3.result _ _ (λ t e. e ∙ rw (c.in_ok-text-5.ensures, c.in_ok-text-4.ensures, c.in_ok-text-3.ensures, c.in_ok-text-2.ensures, c.in_ok-text.ensures, c.name.ensures.value) (six c.args.text.items _ _ _ _ _ _ ∙ ap (λ more. c.args.text.items ++ more) (info_text c.args.info.now.expiry_date c.args.info.now.parent_id_tag c.args.info.now.status))) c.with_bytes-3.ensures
+returns c = IfOk-weaker c.with_text-3.result _ _ (λ t e. e ∙ rw (c.in_ok-text-5.ensures, c.in_ok-text-4.ensures, c.in_ok-text-3.ensures, c.in_ok-text-2.ensures, c.in_ok-text.ensures, c.name.ensures.value) (six c.args.text.bytes.items _ _ _ _ _ _ ∙ ap (λ more. c.args.text.bytes.items ++ more) (info_text c.args.info.now.expiry_date c.args.info.now.parent_id_tag c.args.info.now.status))) c.with_text-3.ensures
