@@ -57,6 +57,7 @@ fn with_id_tag_info(text: Draft, alloc: Global, info: &IdTagInfo) -> Mem<Draft>
 }
 
 /// With the member `expiryDate` and its comma, unless there is none.
+#[tactic(auto, unfolding(json::specs::Print::escape_byte))]
 fn with_expiry(text: Draft, alloc: Global, expiry: Option<Moment>) -> Mem<Draft>
     ensures { IfOk result (λ t. t.bytes.items ≡ text.bytes.items ++ before_next (codes "expiryDate") (option_map time_data expiry)) }
 {
@@ -121,6 +122,7 @@ fn with_data_transfer(text: Draft, status: DataTransferStatus, content: &Option<
 }
 
 /// With the member `data` and its comma, unless there is none.
+#[tactic(auto, unfolding(json::specs::Print::escape_byte))]
 fn with_content(text: Draft, content: &Option<Text>) -> Mem<Draft>
     ensures { IfOk result (λ t. t.bytes.items ≡ text.bytes.items ++ before_next (codes "data") (option_map string content.now)) }
 {

@@ -36,6 +36,7 @@ impl Draft {
 }
 
 /// With a piece as it stands.
+#[tactic(auto, using(crate::proofs::Utf8::added))]
 pub fn with_text(text: Draft, piece: &str) -> Mem<Draft>
     ensures { IfOk result (λ t. t.bytes.items ≡ text.bytes.items ++ piece.now) }
 {
@@ -45,6 +46,7 @@ pub fn with_text(text: Draft, piece: &str) -> Mem<Draft>
 }
 
 /// With a string.
+#[tactic(auto, using(crate::proofs::Utf8::added))]
 pub fn with_quoted(text: Draft, string: &str) -> Mem<Draft>
     ensures { IfOk result (λ t. t.bytes.items ≡ text.bytes.items ++ quoted string.now) }
 {
@@ -56,6 +58,7 @@ pub fn with_quoted(text: Draft, string: &str) -> Mem<Draft>
 }
 
 /// With a number.
+#[tactic(auto, using(crate::proofs::Utf8::added))]
 pub fn with_number(text: Draft, number: u32) -> Mem<Draft>
     ensures { IfOk result (λ t. t.bytes.items ≡ text.bytes.items ++ decimal number) }
 {
