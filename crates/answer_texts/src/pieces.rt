@@ -12,14 +12,14 @@ const ROOM: usize = 128;
 
 /// A text that is being written: the bytes of a `String`, which are tested once, at the end.
 #[derive(Drop)]
-pub struct Draft {
+pub(crate) struct Draft {
     bytes: Vec<u8>,
     ghost utf8: { ∥ IsUtf8 bytes.items ∥₁ },
 }
 
 impl Draft {
     /// Nothing yet.
-    pub fn new(alloc: Global) -> Mem<Draft>
+    pub(crate) fn new(alloc: Global) -> Mem<Draft>
         ensures { IfOk result (λ t. t.bytes.items ≡ []) }
     {
         let bytes = Vec::with_capacity(alloc, ROOM)?;
@@ -27,7 +27,7 @@ impl Draft {
     }
 
     /// The text that was written.
-    pub fn into_string(self) -> String
+    pub(crate) fn into_string(self) -> String
         ensures { string_bytes result ≡ self.bytes.items }
     {
         let Draft { bytes } = self;
@@ -37,7 +37,7 @@ impl Draft {
 
 /// With a piece as it stands.
 #[tactic(auto, using(crate::proofs::Utf8::added))]
-pub fn with_text(text: Draft, piece: &str) -> Mem<Draft>
+pub(crate) fn with_text(text: Draft, piece: &str) -> Mem<Draft>
     ensures { IfOk result (λ t. t.bytes.items ≡ text.bytes.items ++ piece.now) }
 {
     let Draft { mut bytes } = text;
@@ -47,7 +47,7 @@ pub fn with_text(text: Draft, piece: &str) -> Mem<Draft>
 
 /// With a string.
 #[tactic(auto, using(crate::proofs::Utf8::added))]
-pub fn with_quoted(text: Draft, string: &str) -> Mem<Draft>
+pub(crate) fn with_quoted(text: Draft, string: &str) -> Mem<Draft>
     ensures { IfOk result (λ t. t.bytes.items ≡ text.bytes.items ++ quoted string.now) }
 {
     let Draft { bytes } = text;
@@ -59,7 +59,7 @@ pub fn with_quoted(text: Draft, string: &str) -> Mem<Draft>
 
 /// With a number.
 #[tactic(auto, using(crate::proofs::Utf8::added))]
-pub fn with_number(text: Draft, number: u32) -> Mem<Draft>
+pub(crate) fn with_number(text: Draft, number: u32) -> Mem<Draft>
     ensures { IfOk result (λ t. t.bytes.items ≡ text.bytes.items ++ decimal number) }
 {
     let Draft { bytes } = text;
@@ -70,7 +70,7 @@ pub fn with_number(text: Draft, number: u32) -> Mem<Draft>
 }
 
 /// With a moment, as a string.
-pub fn with_time(text: Draft, alloc: Global, moment: Moment) -> Mem<Draft>
+pub(crate) fn with_time(text: Draft, alloc: Global, moment: Moment) -> Mem<Draft>
     ensures { IfOk result (λ t. t.bytes.items ≡ text.bytes.items ++ quoted (time_text moment)) }
 {
     let time = print_time(alloc, moment)?;
