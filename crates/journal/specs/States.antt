@@ -30,7 +30,7 @@ abbrev pub MarksAt : Bool → (List ℕ → Bool) → List ℕ → Turn → List
 MarksAt true is_hosted file turn since = HasChanged is_hosted file turn since
 MarksAt false is_hosted file turn since = (found_in is_hosted file turn).marked ≡ Some turn.changes
 
--- between two events: those that were taken have a line, up to the last that changed records and since then
+-- between two events: those that were taken each have a line, the recorded ones up to the last that changed records, and those since then
 pub record Settled (is_hosted : List ℕ → Bool) (file : List ℕ) (turn : Turn) (recorded since : List HubEvent) : Type 0 where
   pub has : HasLines is_hosted file turn recorded since (recorded ++ since)
   pub marks : MarksAt turn.has_changed is_hosted file turn since
@@ -48,12 +48,12 @@ pub record Opened (is_hosted : List ℕ → Bool) (file : List ℕ) (turn : Turn
   pub has : HasLines is_hosted file turn recorded [] recorded
   pub none : turn.events ≡ 0
 
--- what counts can stand in a mark
+-- its counts can stand in a mark
 pub record AreSmall (turn : Turn) : Type 0 where
   pub events : IsCount turn.events
   pub changes : IsCount turn.changes
 
--- behind each file and after the same events
+-- it stays settled, whatever the file has and whichever events were taken
 abbrev pub KeepsSettled : Turn → Turn → Type 0
 KeepsSettled old new =
     (is_hosted : List ℕ → Bool) (file : List ℕ) (recorded since : List HubEvent) → Settled is_hosted file old recorded since → Settled is_hosted file new recorded since

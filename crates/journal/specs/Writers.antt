@@ -7,7 +7,7 @@ use Rattle.journal.specs.States.{Settled, Ahead}
 use Rattle.journal.specs.declared.entry.Entry.TheVariants.{Event}
 use Rattle.journal.specs.declared.writer.Writer.{Writer}
 
--- between two events: all that were taken have a line or are on record, and a stop leaves no more than is on record
+-- between two events, behind a file whose bytes are known
 pub record IsSettled {W : Type 0} (contents : W → Option (List ℕ)) (is_hosted : List ℕ → Bool) (writer : Writer W) (recorded since : List HubEvent) : Type 0 where
   pub file : List ℕ
   pub known : contents writer.file ≡ Some file
