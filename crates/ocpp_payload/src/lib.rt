@@ -5,7 +5,6 @@ mod action;
 mod boot_writer;
 mod class_of_action;
 mod conf;
-mod conf_writer;
 mod fault;
 mod fields;
 mod kind;
@@ -22,7 +21,6 @@ pub use action::Action;
 pub use boot_writer::write_boot;
 pub use class_of_action::{ActionClass, action_class};
 pub use conf::Conf;
-pub use conf_writer::write_conf;
 pub use fault::{FieldFault, ReadError};
 pub use fields::{optional, required, with_default};
 pub use kind::{

@@ -2,9 +2,9 @@
 ghost use Rattle.std.specs.Prelude.{◌≡◌, IfOk, OnOk, option_map};
 ghost use Rattle.serde_json.specs.Data.{string};
 ghost use Rattle.serde_json.specs.View.{view, members_view};
-ghost use Rattle.ocpp_payload.specs.Conf.{put_some, time_data};
+ghost use Rattle.ocpp_payload.specs.Conf.{put_some};
 
-use ocpp_types::{Mem, Moment, Text, print_time};
+use ocpp_types::{Mem, Text};
 use serde_json::{Map, Value, put};
 use std::alloc::Global;
 
@@ -37,16 +37,6 @@ pub fn some_text(alloc: Global, text: &Option<Text>) -> Mem<Option<Value>>
 {
     match text {
         Some(text) => Ok(Some(text_value(alloc, text.as_str())?)),
-        None => Ok(None),
-    }
-}
-
-/// A moment that may be missing.
-pub fn some_time(alloc: Global, moment: Option<Moment>) -> Mem<Option<Value>>
-    ensures { IfOk result (λ v. option_map (λ v. view v) v ≡ option_map time_data moment) }
-{
-    match moment {
-        Some(moment) => Ok(Some(Value::String(print_time(alloc, moment)?))),
         None => Ok(None),
     }
 }
