@@ -5,11 +5,10 @@ ghost use Rattle.std.specs.Io.KnownBytes.{Keeps, Appends};
 ghost use Rattle.hub_events.specs.declared.event.Event.{Event as HubEvent};
 ghost use Rattle.lines.specs.Journal.{Stands, is_feed};
 ghost use Rattle.journal.specs.Entries.{IsCount};
-ghost use Rattle.journal.specs.States.{AreSmall};
-ghost use Rattle.journal.specs.Writers.{IsSettled, IsHandling, IsAhead, Wrote, IsTold, EndsTold};
 ghost use Rattle.journal.specs.Journals.{entries_of};
 ghost use Rattle.journal.specs.Stops.{told_at};
-ghost use Rattle.journal.specs.States.{IsEndOf, IsEnded};
+ghost use Rattle.journal.specs.States.{AreSmall, IsEndOf, IsEnded};
+ghost use Rattle.journal.specs.Writers.{IsSettled, IsHandling, IsAhead, Wrote, IsTold, EndsTold};
 
 use crate::pending::Pending;
 use crate::tail::Tail;
