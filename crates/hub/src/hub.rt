@@ -85,7 +85,8 @@ impl<S: Store + Drop, V: VendorHandler> Hub<S, V> {
     pub fn into_store(self) -> S
         ensures { result ≡ store_of self }
     {
-        self.book.store
+        let book = self.book;
+        book.store
     }
 
     /// The hosted operators.

@@ -107,7 +107,10 @@ impl Day {
             let Some(told) = told else {
                 return Err(Fail::from("the journal doesn't fit the records"));
             };
-            assert!(rt; self.recorded <= told.len() && told.len() <= self.taken.len(), "{end}");
+            assert!(rt;
+                self.recorded <= told.len() && told.len() <= self.taken.len(),
+                "{end}"
+            );
             for (event, line) in told.iter().zip(self.taken.iter()) {
                 assert_eq!(rt; event.as_slice(), line.as_bytes());
             }
@@ -182,7 +185,10 @@ fn told(alloc: Global, journal: &[u8], changes: u64) -> Result<Option<Vec<Vec<u8
     let hosted = hosted(alloc)?;
     let mut told = Vec::new(alloc);
     let mut waiting = Vec::new(alloc);
-    let end = journal.iter().rposition(|byte| *byte == b'\n').map_or(0, |at| at + 1);
+    let end = journal
+        .iter()
+        .rposition(|byte| *byte == b'\n')
+        .map_or(0, |at| at + 1);
     for line in journal[..end].split(|byte| *byte == b'\n') {
         match read_entry(alloc, hosted.as_slice(), line)? {
             Entry::Event(_) => {
@@ -210,11 +216,7 @@ fn told(alloc: Global, journal: &[u8], changes: u64) -> Result<Option<Vec<Vec<u8
 }
 
 /// The first of them were taken, and the others not.
-fn move_first(
-    waiting: &mut Vec<Vec<u8>>,
-    first: u64,
-    told: &mut Vec<Vec<u8>>,
-) -> Result<(), Fail> {
+fn move_first(waiting: &mut Vec<Vec<u8>>, first: u64, told: &mut Vec<Vec<u8>>) -> Result<(), Fail> {
     for event in waiting.drain(..).take(first as usize) {
         told.push(event)?;
     }
