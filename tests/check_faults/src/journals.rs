@@ -100,7 +100,7 @@ impl Day {
     }
 
     /// Each part of what was written since the last look says what it has to.
-    fn look(&mut self, rt: HostRuntime) -> Result<(), Fail> {
+    fn look(&mut self) -> Result<(), Fail> {
         let bytes = self.bytes.try_borrow()?;
         for end in self.seen..=bytes.len() {
             let told = told(self.alloc, &bytes[..end], self.writer.changes())?;
@@ -112,21 +112,23 @@ impl Day {
                 "{end}"
             );
             for (event, line) in told.iter().zip(self.taken.iter()) {
-                assert_eq!(rt; event.as_slice(), line.as_bytes());
+                if event.as_slice() != line.as_bytes() {
+                    return Err(Fail::from("another event is told"));
+                }
             }
         }
         self.seen = bytes.len();
         Ok(())
     }
 
-    fn hand(&mut self, rt: HostRuntime, line: &'static str, fate: Fate) -> Result<(), Fail> {
+    fn hand(&mut self, line: &'static str, fate: Fate) -> Result<(), Fail> {
         let Some(event) = read_event(self.alloc, hosted(self.alloc)?.as_slice(), line)? else {
             return Err(Fail::from("no event"));
         };
         let order = line.splitn(3, ' ').nth(2).unwrap_or("");
         self.writer.begin(&event, order);
         match fate {
-            Fate::Changes | Fate::FailsAhead => self.go_ahead(rt, line, fate)?,
+            Fate::Changes | Fate::FailsAhead => self.go_ahead(line, fate)?,
             Fate::Fails => self.writer.refuse(),
             Fate::IsIdle => self.writer.leave_out(),
             Fate::ChangesNothing | Fate::EndsTurn | Fate::EndsFile => {
@@ -134,17 +136,17 @@ impl Day {
                 self.taken.push(line)?;
             }
         }
-        self.look(rt)?;
+        self.look()?;
         match fate {
-            Fate::EndsTurn => self.end_turn(rt),
-            Fate::EndsFile => self.end_file(rt),
+            Fate::EndsTurn => self.end_turn(),
+            Fate::EndsFile => self.end_file(),
             _ => Ok(()),
         }
     }
 
-    fn go_ahead(&mut self, rt: HostRuntime, line: &'static str, fate: Fate) -> Result<(), Fail> {
+    fn go_ahead(&mut self, line: &'static str, fate: Fate) -> Result<(), Fail> {
         self.writer.write_ahead()?;
-        self.look(rt)?;
+        self.look()?;
         if fate == Fate::FailsAhead {
             self.writer.refuse();
             return Ok(());
@@ -152,31 +154,35 @@ impl Day {
         self.writer.count_change();
         self.taken.push(line)?;
         self.recorded = self.taken.len();
-        self.look(rt)?;
-        assert!(rt; self.writer.write_ahead().is_err(), "a second change");
+        self.look()?;
+        if self.writer.write_ahead().is_ok() {
+            return Err(Fail::from("a second change"));
+        }
         self.writer.take();
         Ok(())
     }
 
-    fn end_turn(&mut self, rt: HostRuntime) -> Result<(), Fail> {
+    fn end_turn(&mut self) -> Result<(), Fail> {
         self.writer.end_turn()?;
-        self.look(rt)?;
+        self.look()?;
         let bytes = self.bytes.try_borrow()?;
         let told = told(self.alloc, bytes.as_slice(), self.writer.changes())?;
-        assert_eq!(rt; told.map(|told| told.len()), Some(self.taken.len()));
+        if told.map(|told| told.len()) != Some(self.taken.len()) {
+            return Err(Fail::from("an event is not told"));
+        }
         Ok(())
     }
 
     /// The next file begins. Of the events before it each has a mark.
-    fn end_file(&mut self, rt: HostRuntime) -> Result<(), Fail> {
-        self.end_turn(rt)?;
+    fn end_file(&mut self) -> Result<(), Fail> {
+        self.end_turn()?;
         let bytes = Rc::new(self.alloc, RefCell::new(Vec::new(self.alloc)))?;
         self.writer.continue_in(Sheet(Rc::clone(&bytes)?), "ACME")?;
         self.bytes = bytes;
         self.taken.clear();
         self.recorded = 0;
         self.seen = 0;
-        self.look(rt)
+        self.look()
     }
 }
 
@@ -226,9 +232,9 @@ fn move_first(waiting: &mut Vec<Vec<u8>>, first: u64, told: &mut Vec<Vec<u8>>) -
 #[test]
 fn a_stop_at_each_byte_leaves_what_is_on_record(rt: HostRuntime) -> Result<(), Fail> {
     let mut day = Day::begin(rt.alloc())?;
-    day.look(rt)?;
+    day.look()?;
     for (line, fate) in DAY {
-        day.hand(rt, line, fate)?;
+        day.hand(line, fate)?;
     }
     Ok(())
 }
