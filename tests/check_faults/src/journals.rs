@@ -107,10 +107,9 @@ impl Day {
             let Some(told) = told else {
                 return Err(Fail::from("the journal doesn't fit the records"));
             };
-            assert!(rt;
-                self.recorded <= told.len() && told.len() <= self.taken.len(),
-                "{end}"
-            );
+            if told.len() < self.recorded || self.taken.len() < told.len() {
+                return Err(Fail::from("another number of events is told"));
+            }
             for (event, line) in told.iter().zip(self.taken.iter()) {
                 if event.as_slice() != line.as_bytes() {
                     return Err(Fail::from("another event is told"));
