@@ -304,15 +304,16 @@ class Lines:
             file.write("beginning")
         self.refused("a part of no mark", f"{head}it is no journal\n{foreign}\n", journal=foreign)
         begun = self.path("begun")
-        for part in ("b", "begins 3 AC", "continues 1 3"):
-            with open(begun, "w") as file:
-                file.write(part)
+        for part in ("b", "begins 3 AC", "continues 1 3", "begi\udcff", "con\udcff\nbegin\udcff\nbeg"):
+            left = part.encode("utf-8", "surrogateescape")
+            with open(begun, "wb") as file:
+                file.write(left)
             server = self.serve(journal=begun)
             server.kill()
             server.wait()
             with open(begun, "rb") as journal:
                 data = journal.read()
-            self.check(f"a first line that is cut: {part}", data == part.encode() + b"\xff\nbegins 3 ACME,BETA\n", data)
+            self.check(f"a first line that is cut: {part}", data == left + b"\xff\nbegins 3 ACME,BETA\n", data)
         nowhere = self.path("nowhere/journal")
         self.refused("no folder", f"{head}the file can't be opened\n{nowhere}\n", journal=nowhere)
         for cut, events, taken in (("\n1704067200 ACME li", 1, None), ("\n1704067200 ACME list tags\ntak", 1, 0)):

@@ -19,7 +19,7 @@ pub struct Tail {
     pub marked: Option<u64>,
     /// The last line has no line feed.
     pub is_cut: bool,
-    /// There is no line, and at most a part of one that begins a file.
+    /// There is no line, or parts alone of one that begins a file.
     pub is_new: bool,
 }
 
@@ -93,6 +93,7 @@ impl Tail {
     fn mark(&mut self, changes: u64) {
         self.marked = Some(changes);
         self.events = 0;
+        self.is_new = false;
     }
 
     /// Of the events without a mark those that were taken, from the first on, where so many changes are on record. `None` is
@@ -129,7 +130,7 @@ pub fn tail_of<R: BufRead>(alloc: Global, reader: &mut R) -> Result<Tail, TailFa
         let [text @ .., b'\n'] = line.as_slice() else {
             break;
         };
-        tail.is_new = false;
+        tail.is_new = tail.is_new && begins_file(text);
         let entry = read_entry(alloc, hosted.as_slice(), text)?;
         if let Some(names) = tail.pass(alloc, &entry)? {
             hosted = names;
@@ -142,9 +143,13 @@ pub fn tail_of<R: BufRead>(alloc: Global, reader: &mut R) -> Result<Tail, TailFa
     Ok(tail)
 }
 
-/// Whether a part of a line may be that of a mark with which a file begins.
+/// Whether a part of a line, which may have been ended since, may be that of a mark with which a file begins.
 fn begins_file(part: &[u8]) -> bool {
-    agree(part, b"begins ") || agree(part, b"continues ")
+    let part = match part {
+        [part @ .., 255] => part,
+        _ => part,
+    };
+    !part.is_empty() && (agree(part, b"begins ") || agree(part, b"continues "))
 }
 
 /// Whether one of them is the front of the other.
