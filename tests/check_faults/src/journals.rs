@@ -28,17 +28,17 @@ enum Fate {
 const DAY: [(&str, Fate); 14] = [
     ("1 ACME connect CP01", Fate::ChangesNothing),
     ("2 ACME connect CP02", Fate::EndsTurn),
-    ("3 ACME tag put T1 - 0 -", Fate::Changes),
-    ("3 ACME tag put T2 - 0 -", Fate::Changes),
+    ("3 ACME tag put TAG1 - 0 -", Fate::Changes),
+    ("3 ACME tag put TAG2 - 0 -", Fate::Changes),
     ("4 ACME list tags", Fate::ChangesNothing),
-    ("4 ACME tag put T3 - 0 -", Fate::FailsAhead),
+    ("4 ACME tag put TAG3 - 0 -", Fate::FailsAhead),
     ("5 * tick", Fate::IsIdle),
     ("5 ACME list tags", Fate::EndsTurn),
-    ("6 ACME tag put T4 - 0 -", Fate::Changes),
+    ("6 ACME tag put TAG4 - 0 -", Fate::Changes),
     ("7 ACME frame CP01 [2,\"1\",\"Heartbeat\",{}]", Fate::Fails),
     ("7 ACME disconnect CP02", Fate::EndsFile),
     ("8 ACME connect CP02", Fate::ChangesNothing),
-    ("9 ACME tag drop T1", Fate::Changes),
+    ("9 ACME tag drop TAG1", Fate::Changes),
     ("9 ACME disconnect CP01", Fate::EndsTurn),
 ];
 
@@ -242,8 +242,8 @@ fn a_stop_at_each_byte_leaves_what_is_on_record(rt: HostRuntime) -> Result<(), F
 fn a_cut_line_is_ended_as_a_server_begins(rt: HostRuntime) -> Result<(), Fail> {
     let alloc = rt.alloc();
     for (left, changes) in [
-        ("begins 40 ACME\n3 ACME tag put T1 - 0 -\n4 ACME li", 41),
-        ("begins 40 ACME\n3 ACME tag put T1 - 0 -\n4 ACME li", 40),
+        ("begins 40 ACME\n3 ACME tag put TAG1 - 0 -\n4 ACME li", 41),
+        ("begins 40 ACME\n3 ACME tag put TAG1 - 0 -\n4 ACME li", 40),
         ("begin", 40),
     ] {
         let mut reader = left.as_bytes();
