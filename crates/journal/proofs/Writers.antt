@@ -1,10 +1,10 @@
 -- The code of a turn and of a writer.
-use Rattle.std.proofs.Common.{◌≡◌, ◌∙◌, ◌-◌, ℕ, List, [], ◌∷◌, ◌++◌, Some, None, Bool, false, refl, sym, ap, subst, arith, true≢false}
+use Rattle.std.proofs.Common.{◌≡◌, ◌∙◌, ◌-◌, ℕ, List, [], ◌∷◌, ◌++◌, Some, None, Bool, true, false, refl, sym, ap, subst, arith, true≢false}
 use Rattle.std.specs.Prelude.{not, Option, Result, Ok, Err, OnOk}
 use Rattle.std.specs.Result.{is_err}
 use Rattle.std.specs.Io.KnownBytes.{Appends}
 use Rattle.std.proofs.lemmas.List.{append-nil}
-use Rattle.journal.proofs.Stops.{take_nothing, cut_told}
+use Rattle.journal.proofs.Stops.{take_nothing, cut_told, line_entries}
 use Rattle.journal.proofs.Turns.{settled_told}
 use Rattle.hub_events.specs.declared.event.Event.{Event as HubEvent}
 use Rattle.journal.specs.Entries.{IsCount, AreCounts}
@@ -14,6 +14,7 @@ use Rattle.journal.specs.declared.entry.Entry.{Entry}
 use Rattle.journal.specs.declared.tail.Tail.{Tail}
 use Rattle.journal.specs.declared.turn.Turn.{Turn}
 use Rattle.journal.specs.States.{AreSmall, found_in, Settled, IsEndOf, IsEnded}
+use Rattle.journal.specs.Writers.{EndsWith}
 
 pub on_ok_two : {T E P Q R : Type 0} (r : Result T E) → (P → Q → R) → OnOk r P → OnOk r Q → OnOk r R
 on_ok_two (Ok x) f p q = f p q
@@ -72,3 +73,9 @@ was_cut is_hosted old new bytes cut recorded changes is appends ends same told =
 pub told_ended : (is_hosted : List ℕ → Bool) (bytes : List ℕ) (recorded : List HubEvent) (new : Option (List ℕ)) (changes : ℕ) (ended : IsEnded is_hosted bytes new changes recorded)
     → told_at (entries_of is_hosted bytes) changes ≡ Some recorded → told_at (entries_of is_hosted (bytes ++ ended.added)) changes ≡ Some recorded
 told_ended is_hosted bytes recorded new changes ended told = ap (λ f. told_by f f.marked changes) ended.found ∙ told
+
+-- the last line of a file
+pub ends_with : (is_hosted : List ℕ → Bool) (entry : Entry) (file old new : List ℕ) (now : Option (List ℕ)) → AddsLine is_hosted entry old new → is_whole (file ++ old) ≡ true → now ≡ Some (file ++ new)
+    → EndsWith is_hosted entry now
+ends_with is_hosted entry file old new now adds whole is =
+    record { bytes = file ++ new; known = is; before = entries_of is_hosted (file ++ old); last = line_entries is_hosted entry file old new adds whole }

@@ -1,9 +1,10 @@
 -- A writer of a journal, over a file whose bytes are known.
-use Rattle.std.specs.Prelude.{◌≡◌, ℕ, Bool, true, false, List, [], ◌++◌, Option, Some}
+use Rattle.std.specs.Prelude.{◌≡◌, ℕ, Bool, true, false, List, [], ◌∷◌, ◌++◌, Option, Some}
 use Rattle.hub_events.specs.declared.event.Event.{Event as HubEvent}
 use Rattle.journal.specs.Journals.{entries_of, AddsLine}
 use Rattle.journal.specs.Stops.{found_of, Survives}
 use Rattle.journal.specs.States.{Settled, Ahead}
+use Rattle.journal.specs.declared.entry.Entry.{Entry}
 use Rattle.journal.specs.declared.entry.Entry.TheVariants.{Event}
 use Rattle.journal.specs.declared.writer.Writer.{Writer}
 
@@ -49,3 +50,10 @@ pub record EndsTold (is_hosted : List ℕ → Bool) (old : Option (List ℕ)) (c
   pub wrote : Wrote is_hosted old (Some end) changes recorded since
   pub told : (found_of (entries_of is_hosted end)).taken ≡ recorded ++ since
   pub none : (found_of (entries_of is_hosted end)).waiting ≡ []
+
+-- the last entry of a file
+pub record EndsWith (is_hosted : List ℕ → Bool) (entry : Entry) (file : Option (List ℕ)) : Type 0 where
+  pub bytes : List ℕ
+  pub known : file ≡ Some bytes
+  pub before : List Entry
+  pub last : entries_of is_hosted bytes ≡ before ++ (entry ∷ [])

@@ -4,6 +4,7 @@ ghost use Rattle.std.specs.List.{list_any};
 ghost use Rattle.std.specs.Io.KnownBytes.{Appends};
 ghost use Rattle.hub_events.specs.declared.event.Event.{Event as HubEvent};
 ghost use Rattle.lines.specs.Journal.{is_feed};
+ghost use Rattle.journal.specs.declared.entry.Entry.TheVariants as said;
 ghost use Rattle.journal.specs.declared.entry.Entry.TheVariants.{Event, Taken};
 ghost use Rattle.journal.specs.Entries.{AreCounts, IsCount};
 ghost use Rattle.journal.specs.Journals.{AddsLine};
@@ -123,6 +124,8 @@ impl Turn {
     /// A server begins, with those operators.
     pub fn begin_server(&mut self, operators: &str) -> Mem<()>
         ensures begins { IsCount self.old.changes → list_any is_feed operators.now ≡ false → self.old.has_changed ≡ false → OnOk result (Begins self.old self.new) }
+        ensures line { IsCount self.old.changes → list_any is_feed operators.now ≡ false → OnOk result ((is_hosted : List ℕ → Bool)
+            → AddsLine is_hosted (said.Begins self.old.changes operators.now) self.old.ready.bytes.items self.new.ready.bytes.items) }
         ensures kept { self.new.changes ≡ self.old.changes }
     {
         self.ready.add_begins(self.changes, operators)
@@ -131,6 +134,8 @@ impl Turn {
     /// The next file of the server begins, the one of that number after its first.
     pub fn begin_file(&mut self, file: u64, operators: &str) -> Mem<()>
         ensures begins { IsCount file → IsCount self.old.changes → list_any is_feed operators.now ≡ false → self.old.has_changed ≡ false → OnOk result (Begins self.old self.new) }
+        ensures line { IsCount file → IsCount self.old.changes → list_any is_feed operators.now ≡ false → OnOk result ((is_hosted : List ℕ → Bool)
+            → AddsLine is_hosted (said.Continues file self.old.changes operators.now) self.old.ready.bytes.items self.new.ready.bytes.items) }
         ensures kept { self.new.changes ≡ self.old.changes }
     {
         self.ready.add_continues(file, self.changes, operators)

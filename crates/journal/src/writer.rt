@@ -4,11 +4,12 @@ ghost use Rattle.std.specs.List.{list_any};
 ghost use Rattle.std.specs.Io.KnownBytes.{Keeps, Appends};
 ghost use Rattle.hub_events.specs.declared.event.Event.{Event as HubEvent};
 ghost use Rattle.lines.specs.Journal.{Stands, is_feed};
+ghost use Rattle.journal.specs.declared.entry.Entry.TheVariants as said;
 ghost use Rattle.journal.specs.Entries.{IsCount};
 ghost use Rattle.journal.specs.Journals.{entries_of};
 ghost use Rattle.journal.specs.Stops.{told_at};
 ghost use Rattle.journal.specs.States.{AreSmall, IsEndOf, IsEnded};
-ghost use Rattle.journal.specs.Writers.{IsSettled, IsHandling, IsAhead, Wrote, IsTold, EndsTold};
+ghost use Rattle.journal.specs.Writers.{IsSettled, IsHandling, IsAhead, Wrote, IsTold, EndsTold, EndsWith};
 
 use crate::pending::Pending;
 use crate::tail::Tail;
@@ -91,7 +92,8 @@ impl<W: JournalFile + Drop> Writer<W> {
     ) -> Result<Writer<W>, JournalFault>
         ensures { IsCount tail.now.events → IsCount changes → list_any is_feed operators.now ≡ false → IfOk result (λ writer. (is_hosted : List ℕ → Bool) (bytes : List ℕ) (recorded : List HubEvent)
             → W.contents file ≡ Some bytes → IsEndOf is_hosted bytes tail.now → told_at (entries_of is_hosted bytes) changes ≡ Some recorded
-            → Wrote is_hosted (Some bytes) (W.contents writer.file) changes recorded [] × IsSettled W.contents is_hosted writer recorded []) }
+            → Wrote is_hosted (Some bytes) (W.contents writer.file) changes recorded [] × IsSettled W.contents is_hosted writer recorded []
+            × EndsWith is_hosted (said.Begins changes operators.now) (W.contents writer.file)) }
     {
         end_line(alloc, &mut file, tail)?;
         let mut turn = Turn::behind(alloc, tail, changes)?;
@@ -115,7 +117,8 @@ impl<W: JournalFile + Drop> Writer<W> {
         ensures { AreSmall self.old.turn → IsCount (self.old.files + 1) → list_any is_feed operators.now ≡ false → OnOk result ((is_hosted : List ℕ → Bool) (recorded since : List HubEvent)
             → IsSettled W.contents is_hosted self.old recorded since → W.contents file ≡ Some []
             → EndsTold is_hosted (W.contents self.old.file) self.old.turn.changes recorded since
-            × Wrote is_hosted (Some []) (W.contents self.new.file) self.old.turn.changes [] [] × IsSettled W.contents is_hosted self.new [] []) }
+            × Wrote is_hosted (Some []) (W.contents self.new.file) self.old.turn.changes [] [] × IsSettled W.contents is_hosted self.new [] []
+            × EndsWith is_hosted (said.Continues (self.old.files + 1) self.old.turn.changes operators.now) (W.contents self.new.file)) }
     {
         let next = self.files.saturating_add(1);
         self.end_turn()?;

@@ -2,9 +2,11 @@ use Rattle.std.proofs.Common.{◌∙◌, ◌++◌, [], length, Some, refl, sym, 
 use Rattle.std.proofs.lemmas.List.{append_assoc}
 use Rattle.journal.specs.Entries.{IsCount}
 use Rattle.journal.specs.Stops.{Survives}
+use Rattle.journal.specs.Writers.{EndsWith}
+use Rattle.journal.specs.declared.entry.Entry.TheVariants.{Begins}
 use Rattle.journal.proofs.Stops.{survives_both}
 use Rattle.journal.proofs.Turns.{settled_written}
-use Rattle.journal.proofs.Writers.{appended, told_ended}
+use Rattle.journal.proofs.Writers.{appended, told_ended, ends_with}
 use Rattle.journal.proofs.writer.Writer.begin_server.Goals as goal
 
 pub returns : goal.returns
@@ -27,4 +29,7 @@ returns g c = λ events changes feedless is_hosted bytes recorded is end told.
             (subst (λ n. Survives is_hosted file ready n recorded []) (c.in_ok-begin_server.ensures.kept ∙ same) settled.has.survives);
       },
       record { file = _; known = now; settled = settled_written is_hosted file c.begin_server.new.self c.write.new.self.turn recorded [] settled after.0 after.2 after.1 after.3 },
+      subst (λ n. EndsWith is_hosted (Begins n c.args.operators.now) (g.W.Write.contents c.write.new.self.file)) same
+          (ends_with is_hosted _ file c.in_ok-turn.turn.ready.bytes.items ready (g.W.Write.contents c.write.new.self.file)
+          (c.in_ok-begin_server.ensures.line (subst IsCount (sym same) changes) feedless is_hosted) opened.has.whole now),
     )
