@@ -304,7 +304,7 @@ class Lines:
             file.write("beginning")
         self.refused("a part of no mark", f"{head}it is no journal\n{foreign}\n", journal=foreign)
         begun = self.path("begun")
-        for part in ("b", "begins 3 AC", "continues 1 3", "begi\udcff", "con\udcff\nbegin\udcff\nbeg"):
+        for part in ("b", "begins 3 AC", "continues 1 3", "begi\udcff", "begi\udcff\udcff\n", "con\udcff\nbegin\udcff\nbeg"):
             left = part.encode("utf-8", "surrogateescape")
             with open(begun, "wb") as file:
                 file.write(left)
@@ -313,7 +313,8 @@ class Lines:
             server.wait()
             with open(begun, "rb") as journal:
                 data = journal.read()
-            self.check(f"a first line that is cut: {part}", data == left + b"\xff\nbegins 3 ACME,BETA\n", data)
+            end = b"begins 3 ACME,BETA\n" if left.endswith(b"\n") else b"\xff\nbegins 3 ACME,BETA\n"
+            self.check(f"a first line that is cut: {part!r}", data == left + end, data)
         nowhere = self.path("nowhere/journal")
         self.refused("no folder", f"{head}the file can't be opened\n{nowhere}\n", journal=nowhere)
         for cut, events, taken in (("\n1704067200 ACME li", 1, None), ("\n1704067200 ACME list tags\ntak", 1, 0)):

@@ -145,10 +145,7 @@ pub fn tail_of<R: BufRead>(alloc: Global, reader: &mut R) -> Result<Tail, TailFa
 
 /// Whether a part of a line, which may have been ended since, may be that of a mark with which a file begins.
 fn begins_file(part: &[u8]) -> bool {
-    let part = match part {
-        [part @ .., 255] => part,
-        _ => part,
-    };
+    let part = part.split(|byte| *byte == 255).next().unwrap_or(part);
     !part.is_empty() && (agree(part, b"begins ") || agree(part, b"continues "))
 }
 
