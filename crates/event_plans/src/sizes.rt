@@ -10,16 +10,16 @@ use registry::Decision;
 
 const _: () = prove!(size_of::<Frame>() <= 128);
 
-const _: () = prove!(size_of::<Request>() <= 128);
+const _: () = prove!(size_of::<Request>() <= 160);
 
-const _: () = prove!(size_of::<Command>() <= 128);
+const _: () = prove!(size_of::<Command>() <= 160);
 
 const _: () = prove!(size_of::<Conf>() <= 128);
 
 const _: () = prove!(size_of::<Decision>() <= 128);
 
-const _: () = prove!(size_of::<Edit>() <= 176);
+const _: () = prove!(size_of::<Edit>() <= 240);
 
-const _: () = prove!(size_of::<Effect>() <= 128);
+const _: () = prove!(size_of::<Effect>() <= 160);
 
-const _: () = prove!(size_of::<Plan>() <= 128);
+const _: () = prove!(size_of::<Plan>() <= 192);

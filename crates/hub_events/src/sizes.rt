@@ -4,10 +4,10 @@
 use crate::event::{Event, What};
 use crate::out::{Out, Said};
 
-const _: () = prove!(size_of::<Event>() <= 128);
+const _: () = prove!(size_of::<Event>() <= 160);
 
 const _: () = prove!(size_of::<What>() <= 128);
 
-const _: () = prove!(size_of::<Said>() <= 128);
+const _: () = prove!(size_of::<Said>() <= 144);
 
-const _: () = prove!(size_of::<Out>() <= 128);
+const _: () = prove!(size_of::<Out>() <= 176);

@@ -23,3 +23,4 @@ pub mod Digits
 pub mod Micro
 pub mod ValueFormat
 pub mod TagKey
+pub mod Kept

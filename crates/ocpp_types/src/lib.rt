@@ -27,6 +27,7 @@ mod reading_context;
 mod reading_number;
 mod reason;
 mod refusal;
+mod short_text;
 mod state;
 mod tag_key;
 mod text;

@@ -6,15 +6,33 @@ ghost use Rattle.std.specs.Cmp.Lexicographic.{pointwise, slice_cmp, nat_list_eq_
 ghost use Rattle.ocpp_types.specs.Text.{characters};
 
 use crate::memory::Mem;
+use crate::short_text::ShortText;
 use std::alloc::{AllocError, Global};
 use std::cmp::Ordering;
 use std::fmt;
 use std::marker::Model;
 
-/// A text. A contract sees it as its bytes, and two texts are ordered by their bytes.
+/// Where the bytes of a text are.
 #[derive(Debug, Drop)]
+enum Kept {
+    /// In the value itself.
+    Short(ShortText),
+    /// In memory of their own.
+    Long(String),
+}
+
+/// A text. A contract sees it as its bytes, and two texts are ordered by their bytes. A text of up to 30 bytes, as most
+/// names are, takes no memory of its own, and nor does a copy of it.
+#[derive(Debug)]
 pub struct Text {
-    text: String,
+    kept: Kept,
+}
+
+/// It is written out, so that a call stands for it wherever a text is let go.
+impl Drop for Text {
+    fn drop(self) {
+        let Text { kept: _kept } = self;
+    }
 }
 
 /// How many characters (Unicode scalar values) the text has: the unit of all lengths of OCPP.
@@ -25,11 +43,12 @@ pub fn count_characters(text: &str) -> usize
 }
 
 impl Model for Text {
-    ghost use Rattle.std.specs.Prelude.{List, ℕ, string_bytes};
+    ghost use Rattle.std.specs.Prelude.{List, ℕ};
+    ghost use Rattle.ocpp_types.specs.Kept.{kept_bytes};
 
     ghost Value = { List ℕ };
 
-    ghost view = { λ t. string_bytes t.text };
+    ghost view = { λ t. kept_bytes t.kept };
 }
 
 impl Text {
@@ -37,23 +56,22 @@ impl Text {
     pub fn copy_of(alloc: Global, text: &str) -> Mem<Text>
         ensures { IfOk result (λ t. t ≡ text.now) }
     {
-        Ok(Text {
-            text: String::from_str(alloc, text)?,
-        })
+        let kept = match ShortText::copy_of(text) {
+            Some(short) => Kept::Short(short),
+            None => Kept::Long(String::from_str(alloc, text)?),
+        };
+        Ok(Text { kept })
     }
 
     /// The text, lent.
+    #[inline]
     pub fn as_str(&self) -> &str
         ensures { result.now ≡ self.now }
     {
-        self.text.as_str()
-    }
-
-    /// The text as a `String`, which takes no memory.
-    pub fn into_string(self) -> String
-        ensures { string_bytes result ≡ self }
-    {
-        self.text
+        match &self.kept {
+            Kept::Short(short) => short.as_str(),
+            Kept::Long(long) => long.as_str(),
+        }
     }
 }
 
@@ -64,7 +82,9 @@ impl From<String> for Text {
     fn from(text: String) -> Text
         ensures { result ≡ string_bytes text }
     {
-        Text { text }
+        Text {
+            kept: Kept::Long(text),
+        }
     }
 }
 
@@ -72,9 +92,11 @@ impl Clone for Text {
     ghost is_clone = { λ text copy. copy ≡ text };
 
     fn clone(&self) -> Result<Text, AllocError> {
-        Ok(Text {
-            text: self.text.clone()?,
-        })
+        let kept = match &self.kept {
+            Kept::Short(short) => Kept::Short(short.copy()),
+            Kept::Long(long) => Kept::Long(long.clone()?),
+        };
+        Ok(Text { kept })
     }
 }
 
