@@ -49,6 +49,11 @@ put-passed cmp r (y ∷ front) back all = ap (λ o. match_ordering o (r ∷ y �
 
 -- ---- a binary search
 
+pub equal-of : (o : Ordering) → is_eq o ≡ true → o ≡ Equal
+equal-of Less e = absurd (cc)
+equal-of Equal e = refl
+equal-of Greater e = absurd (cc)
+
 turned : (k l : List (List ℕ)) (o : Ordering) → key_cmp k l ≡ o → key_cmp l k ≡ ordering_reverse o
 turned k l o e = keys_total.antisymm l k ∙ ap ordering_reverse e
 

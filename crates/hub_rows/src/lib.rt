@@ -29,7 +29,9 @@ pub use forgotten::{goes_with, has_number, tx_goes};
 pub use grant_row::GrantRow;
 pub use info::{GrantedTag, Info};
 pub use list_row::{ListRow, LocalList, LocalTag};
-pub use named_row::{NamedRow, place_of_name, remove_row, row_of};
+pub use named_row::{
+    NamedRow, name_digest, place_near, place_of_name, remove_row, row_near, row_of,
+};
 pub use operators::{MAX_OPERATOR, are_operators, is_hosted, is_operator_name};
 pub use ordered::{Keyed, put_ready, put_row};
 pub use reader_row::{Reader, ReaderRow};

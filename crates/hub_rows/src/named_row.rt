@@ -1,11 +1,13 @@
 //! Rows of an operator and one name: where these are the key, found and removed.
-ghost use Rattle.std.specs.Prelude.{◌≡◌, ℕ, List, [], ◌∷◌, option_map};
+ghost use Rattle.std.specs.Prelude.{◌≡◌, ℕ, List, [], ◌∷◌, ◌<◌, ◌&&◌, length, true, option_map, IsTrue};
+ghost use Rattle.std.specs.List.{HoldsAt};
 ghost use Rattle.std.specs.List.Sorted.{IsStrictlySortedBy};
 ghost use Rattle.std.specs.Str.{bytes_eq};
 ghost use Rattle.hub_rows.specs.Keyed.{by_key, found, without, pair_key};
 ghost use Rattle.hub_rows.specs.Places.{IsPlace};
 
 use ocpp_types::Boxed;
+use std::hash::{BuildHasher, BuildHasherDefault, FoldHasher};
 
 /// A row whose key is its operator and one name, or begins with them.
 pub trait NamedRow: Drop {
@@ -36,6 +38,12 @@ impl<R: NamedRow> NamedRow for Boxed<R> {
     }
 }
 
+/// A number that is made of an operator and a name. Others may have the same.
+pub fn name_digest(op: &str, name: &str) -> u64 {
+    let hasher: BuildHasherDefault<FoldHasher> = BuildHasherDefault::new();
+    hasher.hash_one((op, name))
+}
+
 /// The index of a row, or else the index that it would go to, by a binary search.
 pub fn place_of_name<R: NamedRow>(rows: &[R], op: &str, name: &str) -> Result<usize, usize>
     requires { IsStrictlySortedBy (by_key (pair_key R.op R.name)) rows.now }
@@ -50,12 +58,55 @@ pub fn place_of_name<R: NamedRow>(rows: &[R], op: &str, name: &str) -> Result<us
     })
 }
 
+/// The same as `place_of_name`. The row is looked for at the index `near` first, so that no search is made where it is
+/// there.
+pub fn place_near<R: NamedRow>(
+    rows: &[R],
+    near: usize,
+    op: &str,
+    name: &str,
+) -> Result<usize, usize>
+    requires { IsStrictlySortedBy (by_key (pair_key R.op R.name)) rows.now }
+    ensures { IsPlace (pair_key R.op R.name) (op.now ∷ name.now ∷ []) rows.now result }
+{
+    if is_at(rows, near, op, name) {
+        return Ok(near);
+    }
+    place_of_name(rows, op, name)
+}
+
+/// Whether the row of an operator and a name is at an index.
+fn is_at<R: NamedRow>(rows: &[R], at: usize, op: &str, name: &str) -> bool
+    ensures { IsTrue result → (at < length rows.now)
+        × HoldsAt (λ r. (bytes_eq (R.op r) op.now && bytes_eq (R.name r) name.now) ≡ true) rows.now at }
+{
+    at < rows.len() && is_of(&rows[at], op, name)
+}
+
+/// Whether a row is that of an operator and a name.
+fn is_of<R: NamedRow>(row: &R, op: &str, name: &str) -> bool
+    ensures { result ≡ (bytes_eq (R.op row.now) op.now && bytes_eq (R.name row.now) name.now) }
+{
+    row.op() == op && row.name() == name
+}
+
 /// The row of an operator and a name.
 pub fn row_of<'a, R: NamedRow>(rows: &'a [R], op: &str, name: &str) -> Option<&'a R>
     requires { IsStrictlySortedBy (by_key (pair_key R.op R.name)) rows.now }
     ensures { option_map (λ r. r.now) result ≡ found R.op op.now (λ r. bytes_eq (R.name r) name.now) rows.now }
 {
     match place_of_name(rows, op, name) {
+        Ok(place) => Some(&rows[place]),
+        Err(_) => None,
+    }
+}
+
+/// The same as `row_of`. The row is looked for at the index `near` first.
+pub fn row_near<'a, R: NamedRow>(rows: &'a [R], near: usize, op: &str, name: &str) -> Option<&'a R>
+    requires { IsStrictlySortedBy (by_key (pair_key R.op R.name)) rows.now }
+    ensures { option_map (λ r. r.now) result ≡ found R.op op.now (λ r. bytes_eq (R.name r) name.now) rows.now }
+{
+    match place_near(rows, near, op, name) {
         Ok(place) => Some(&rows[place]),
         Err(_) => None,
     }

@@ -93,6 +93,21 @@ pub trait Store {
         ensures found { (view self.new).clean
             → IfOk result (λ r. r ≡ registration_at op.now station.now (view self.old).rows) };
 
+    /// The same as `station`. The row of the station may be that of the index `near` among all, in the order of their keys,
+    /// which a store may look at first.
+    fn station_near(
+        &mut self,
+        op: &str,
+        station: &str,
+        _near: usize,
+    ) -> Result<Option<Registration>, StoreFault>
+        ensures reads { OnlyReads view self.old self.new result }
+        ensures found { (view self.new).clean
+            → IfOk result (λ r. r ≡ registration_at op.now station.now (view self.old).rows) }
+    {
+        self.station(op, station)
+    }
+
     /// The id tag of a key of an operator, as it counts: blocked by itself or by its parent.
     fn own_tag(&mut self, op: &str, key: &TagKey) -> Result<Option<Info>, StoreFault>
         ensures reads { OnlyReads view self.old self.new result }
