@@ -4,6 +4,7 @@
 
 mod call;
 mod ended;
+mod hints;
 mod own_rows;
 mod slot;
 mod slots;

@@ -1,5 +1,5 @@
 //! The calls of all stations.
-ghost use Rattle.std.specs.Prelude.{◌≡◌, ◌≤◌, ◌+◌, [], length, take, option_map, count_by, IsOk, IfOk, OnOk, OnErr};
+ghost use Rattle.std.specs.Prelude.{◌≡◌, ◌≤◌, ◌+◌, [], length, take, option_map, is_some, count_by, IsOk, IfOk, OnOk, OnErr};
 ghost use Rattle.std.specs.List.Sorted.{IsStrictlySortedBy};
 ghost use Rattle.std.proofs.Props.{props};
 ghost use Rattle.hub_rows.specs.Keyed.{by_key, put};
@@ -9,9 +9,10 @@ ghost use Rattle.pending_calls.specs.SlotList.{slot_key, changed_at, first_chang
 
 use crate::call::{Message, Moved, NewCall};
 use crate::ended::Ended;
+use crate::hints::Hints;
 use crate::own_rows::own_rows;
 use crate::slot::{ANSWER_SECONDS, Slot};
-use hub_rows::{place_of_name, row_of};
+use hub_rows::{name_digest, place_near, place_of_name, row_of};
 use ocpp_types::{Boxed, Mem, Moment, Refusal, Text};
 use std::alloc::Global;
 
@@ -34,6 +35,8 @@ pub struct Slots<C> {
     /// The number of a station's first call.
     first_number: u32,
     list: Vec<Boxed<Slot<C>>>,
+    /// Where slots were found last.
+    hints: Hints,
     /// Up to this second no call is overdue.
     quiet_until: u64,
     /// How many of the first slots were searched for a call that is overdue at the second
@@ -58,6 +61,7 @@ impl<C: Drop> Slots<C> {
             alloc,
             first_number: number,
             list: Vec::new(alloc),
+            hints: Hints::new(alloc),
             quiet_until: u64::MAX,
             searched: 0,
             searched_at: 0,
@@ -76,9 +80,21 @@ impl<C: Drop> Slots<C> {
     pub fn is_connected(&self, op: &str, station: &str) -> bool
         ensures { result ≡ (slot_at op.now station.now self.now).is_connected }
     {
-        match row_of(&self.list, op, station) {
-            Some(slot) => slot.as_ref().is_connected(),
-            None => false,
+        self.place_if_connected(op, station).is_some()
+    }
+
+    /// The index of a station's slot among all, if it is connected. It takes no memory.
+    pub fn place_if_connected(&self, op: &str, station: &str) -> Option<usize>
+        ensures { is_some result ≡ (slot_at op.now station.now self.now).is_connected }
+    {
+        let digest = name_digest(op, station);
+        match place_near(&self.list, self.hints.place(digest), op, station) {
+            Ok(place) => {
+                self.hints.keep(digest, place);
+                let is_connected = self.list[place].as_ref().is_connected();
+                is_connected.then_some(place)
+            }
+            Err(_) => None,
         }
     }
 
@@ -154,6 +170,7 @@ impl<C: Drop> Slots<C> {
                 let mut slot = Slot::new(self.alloc, self.first_number, op, station);
                 let ended = slot.connect(self.alloc);
                 let slot = Boxed::new(self.alloc, slot)?;
+                self.hints.make_room(self.alloc, self.list.len());
                 self.searched = 0;
                 self.list.insert(place, slot)?;
                 Ok(ended)
