@@ -58,6 +58,15 @@ impl Lists {
         }
     }
 
+    /// From now on what is kept by stations is looked for at that index first.
+    pub fn look_near(&mut self, near: usize)
+        ensures { rows_in self.new ≡ rows_in self.old }
+    {
+        self.transactions.look_near(near);
+        self.readings.look_near(near);
+        self.tx_owners.look_near(near);
+    }
+
     /// What of a station's history may go before a moment.
     pub fn forgettable(&self, op: &str, station: &str, until: Moment) -> Mem<History>
         ensures { IfOk result (λ f. f ≡ forgettable_in op.now station.now until (rows_in self.now)) }

@@ -9,10 +9,11 @@ use crate::copies::{copies, own_copies};
 use crate::granted::{granted, granted_tag};
 use crate::groups::rows_of_group;
 use crate::lists::Lists;
+use crate::named_groups::ANYWHERE;
 use crate::readers::reader_of;
 use crate::reservations::reserved_until;
 use crate::station_copies::{copies_of_station, local_list_of};
-use crate::stations::registration_of;
+use crate::stations::{place_of_station, registration_of};
 use hub_rows::{
     Change, ConnectorRow, GrantRow, GrantedTag, History, Info, LocalList, Reader, ReaderRow,
     ReadingRow, Registration, ReportRow, ReservationId, ReservationRow, StartKey, StationRow,
@@ -45,7 +46,18 @@ impl Store for MemStore {
     ghost well_formed = { λ s _. s.good };
 
     fn station(&mut self, op: &str, station: &str) -> Result<Option<Registration>, StoreFault> {
-        Ok(registration_of(&self.lists.stations, op, station))
+        self.station_near(op, station, ANYWHERE)
+    }
+
+    fn station_near(
+        &mut self,
+        op: &str,
+        station: &str,
+        near: usize,
+    ) -> Result<Option<Registration>, StoreFault> {
+        let near = place_of_station(&self.lists.stations, near, op, station);
+        self.lists.look_near(near);
+        Ok(registration_of(&self.lists.stations, near, op, station))
     }
 
     fn own_tag(&mut self, op: &str, key: &TagKey) -> Result<Option<Info>, StoreFault> {

@@ -7,9 +7,12 @@ ghost use Rattle.hub_rows.specs.Keyed.{by_key, put};
 ghost use Rattle.store_mem.specs.NamedGroups.{rows_at, all_rows, AreGrouped, AreInPlace, HasRoomAt};
 
 use crate::groups::make_room_in;
-use hub_rows::{Keyed, NamedRow, place_of_name, put_ready};
+use hub_rows::{Keyed, NamedRow, place_near, place_of_name, put_ready};
 use ocpp_types::{Mem, Text};
 use std::alloc::Global;
+
+/// No index: nothing is known of where a group is.
+pub const ANYWHERE: usize = usize::MAX;
 
 /// The rows of an operator under one name.
 #[derive(Drop)]
@@ -33,21 +36,27 @@ impl<R: Drop> NamedRow for NamedGroup<R> {
     }
 }
 
-/// The rows of an operator under a name.
-pub fn rows_at<'a, R: Drop>(groups: &'a [NamedGroup<R>], op: &str, name: &str) -> &'a [R]
+/// The rows of an operator under a name, whose group may be at the index `near`.
+pub fn rows_at<'a, R: Drop>(
+    groups: &'a [NamedGroup<R>],
+    near: usize,
+    op: &str,
+    name: &str,
+) -> &'a [R]
     requires { AreInPlace groups.now }
     ensures { result.now ≡ rows_at op.now name.now groups.now }
 {
-    match place_of_name(groups, op, name) {
+    match place_near(groups, near, op, name) {
         Ok(place) => groups[place].rows.as_slice(),
         Err(_) => &[],
     }
 }
 
-/// Makes room for one more row under a name, whose group may be made for it.
+/// Makes room for one more row under a name, whose group may be made for it. It may be at the index `near`.
 pub fn make_room_at<R: Drop>(
     alloc: Global,
     groups: &mut Vec<NamedGroup<R>>,
+    near: usize,
     op: &str,
     name: &str,
 ) -> Mem<()>
@@ -58,7 +67,7 @@ pub fn make_room_at<R: Drop>(
         → AreGrouped o n number groups.new.items × (all_rows groups.new.items ≡ all_rows groups.old.items) }
     ensures room { OnOk result (HasRoomAt op.now name.now groups.new.items) }
 {
-    match place_of_name(groups.as_slice(), op, name) {
+    match place_near(groups.as_slice(), near, op, name) {
         Ok(place) => make_room_in(&mut groups[place].rows),
         Err(place) => {
             let group = NamedGroup {
@@ -72,8 +81,9 @@ pub fn make_room_at<R: Drop>(
     }
 }
 
-/// Puts a row at its place among those under its name. There is room for it, so that it can't fail.
-pub fn put_at<R: Keyed>(groups: &mut Vec<NamedGroup<R>>, op: &str, name: &str, row: R)
+/// Puts a row at its place among those under its name, whose group may be at the index `near`. There is room for it, so
+/// that it can't fail.
+pub fn put_at<R: Keyed>(groups: &mut Vec<NamedGroup<R>>, near: usize, op: &str, name: &str, row: R)
     requires in_place { AreInPlace groups.old.items }
     requires room { HasRoomAt op.now name.now groups.old.items }
     requires sorted { IsStrictlySortedBy (by_key R.key) (rows_at op.now name.now groups.old.items) }
@@ -81,7 +91,7 @@ pub fn put_at<R: Keyed>(groups: &mut Vec<NamedGroup<R>>, op: &str, name: &str, r
     ensures rows { (b n : List ℕ) → rows_at b n groups.new.items
         ≡ (if bytes_eq op.now b && bytes_eq name.now n then put (by_key R.key) row (rows_at b n groups.old.items) else rows_at b n groups.old.items) }
 {
-    match place_of_name(groups.as_slice(), op, name) {
+    match place_near(groups.as_slice(), near, op, name) {
         Ok(place) => put_ready(&mut groups[place].rows, row),
         Err(_) => unreachable!(),
     }

@@ -12,7 +12,7 @@ ghost use Rattle.store_mem.specs.NamedGroups.{all_rows, AreGrouped, rows_at, Are
 ghost use Rattle.store_mem.specs.Open.{open_key, open_of, has_at, has_other, is_excepted, is_open_tx, tx_of, txs_of, AreOpens};
 
 use crate::copies::copy;
-use crate::named_groups::{NamedGroup, drop_if_empty, make_room_at, put_at};
+use crate::named_groups::{ANYWHERE, NamedGroup, drop_if_empty, make_room_at, put_at};
 use crate::station_rows::row_of_number;
 use hub_rows::{Keyed, TxKey, TxRow, place_of_name};
 use ocpp_types::{Listed, Mem, TagKey, Text};
@@ -92,7 +92,7 @@ fn tx_of(groups: &[NamedGroup<TxRow>], op: &str, row: &OpenRow) -> Mem<Option<Tx
     requires { AreGrouped (λ r. r.op) (λ r. r.station) (λ r. r.number) groups.now }
     ensures { IfOk result (λ r. r ≡ tx_of op.now (all_rows groups.now) row.now) }
 {
-    match row_of_number(groups, op, row.station.as_str(), row.number) {
+    match row_of_number(groups, ANYWHERE, op, row.station.as_str(), row.number) {
         Some(tx) => Ok(Some(copy(tx)?)),
         None => Ok(None),
     }
@@ -109,9 +109,10 @@ fn is_left_out(row: &OpenRow, except: &Option<TxKey>) -> bool
     }
 }
 
-/// The key of a transaction's tag.
+/// The key of a transaction's tag. The group of its station may be at the index `near`.
 fn tag_of<'a>(
     groups: &'a [NamedGroup<TxRow>],
+    near: usize,
     op: &str,
     station: &str,
     number: u32,
@@ -120,7 +121,7 @@ fn tag_of<'a>(
     ensures { option_map (λ k. k.now) result
         ≡ option_map (λ r. r.start.id.key) (found (λ r. r.op) op.now (is_tx station.now number) (all_rows groups.now)) }
 {
-    row_of_number(groups, op, station, number).map(|row| &row.start.id.key)
+    row_of_number(groups, near, op, station, number).map(|row| &row.start.id.key)
 }
 
 /// Makes room for a transaction among those by which the tag of a key is in use, if it counts.
@@ -137,7 +138,7 @@ pub fn make_room_if(
     ensures room { OnOk result (counts ≡ true → HasRoomAt op.now key.now opens.new.items) }
 {
     if counts {
-        make_room_at(alloc, opens, op, key)
+        make_room_at(alloc, opens, ANYWHERE, op, key)
     } else {
         Ok(())
     }
@@ -160,14 +161,16 @@ pub fn put_counted(
         ≡ (if bytes_eq op.now b && (counts && bytes_eq key.now n) then put (by_key open_key) row (rows_at b n opens.old.items) else rows_at b n opens.old.items) }
 {
     if counts {
-        put_at(opens, op, key, row);
+        put_at(opens, ANYWHERE, op, key, row);
     }
 }
 
-/// Removes a transaction, which then is stopped, from those by which its tag is in use.
+/// Removes a transaction, which then is stopped, from those by which its tag is in use. The group of its station may be at
+/// the index `near`.
 pub fn close_tag(
     opens: &mut Vec<NamedGroup<OpenRow>>,
     groups: &[NamedGroup<TxRow>],
+    near: usize,
     op: &str,
     station: &str,
     number: u32,
@@ -177,7 +180,7 @@ pub fn close_tag(
     requires opens { AreOpens counts (λ r. r.start.id.key) opens.old.items (all_rows groups.now) }
     ensures { (stop : Stop) → AreOpens counts (λ r. r.start.id.key) opens.new.items (changed (λ r. r.op) op.now (is_tx station.now number) (with_stop stop) (all_rows groups.now)) }
 {
-    if let Some(key) = tag_of(groups, op, station, number) {
+    if let Some(key) = tag_of(groups, near, op, station, number) {
         close(opens, op, key.as_str(), station, number);
     }
 }

@@ -20,6 +20,8 @@ pub struct Readings {
     alloc: Global,
     /// All of them, by their stations.
     pub rows: Vec<NamedGroup<ReadingRow>>,
+    /// The index at which a station's group is looked for first.
+    near: usize,
     ghost by_station: { AreGrouped (λ r. r.op) (λ r. r.station) (λ r. r.number) rows.items } by { Prim.hlevel props },
 }
 
@@ -31,7 +33,15 @@ impl Readings {
         Readings {
             alloc,
             rows: Vec::new(alloc),
+            near: 0,
         }
+    }
+
+    /// From now on a station's group is looked for at that index first.
+    pub fn look_near(&mut self, near: usize)
+        ensures { all_rows self.new.rows.items ≡ all_rows self.old.rows.items }
+    {
+        self.near = near;
     }
 
     /// Adds readings after those of their station, numbered from the first number on.
@@ -47,6 +57,7 @@ impl Readings {
         append_rows(
             self.alloc,
             &mut self.rows,
+            self.near,
             op.as_str(),
             station.as_str(),
             rows,
@@ -62,14 +73,18 @@ impl Readings {
     ) -> Mem<Listed<ReadingRow>>
         ensures { IfOk result (λ rows. rows ≡ readings_in op.now station.now transaction (all_rows self.now.rows.items)) }
     {
-        sent_with(self.alloc, rows_of(&self.rows, op, station), transaction)
+        sent_with(
+            self.alloc,
+            rows_of(&self.rows, self.near, op, station),
+            transaction,
+        )
     }
 
     /// All readings of a station, lent.
     pub fn rows_of(&self, op: &str, station: &str) -> &[ReadingRow]
         ensures { result.now ≡ readings_in op.now station.now None (all_rows self.now.rows.items) }
     {
-        rows_of(&self.rows, op, station)
+        rows_of(&self.rows, self.near, op, station)
     }
 
     /// Drops the readings of a station that have these numbers, which can't fail.
@@ -83,7 +98,7 @@ impl Readings {
     pub fn last_number(&self, op: &str, station: &str) -> u32
         ensures { result ≡ last_reading_in op.now station.now (all_rows self.now.rows.items) }
     {
-        last_number(rows_of(&self.rows, op, station))
+        last_number(rows_of(&self.rows, self.near, op, station))
     }
 }
 

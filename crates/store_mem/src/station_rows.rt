@@ -10,7 +10,7 @@ ghost use Rattle.store_mem.specs.NamedGroups.{all_rows, AreOf, AreGrouped, HasRo
 
 use crate::named_groups::{NamedGroup, rows_at};
 use crate::numbers::{greatest, is_none_of};
-use hub_rows::{ReadingRow, TxOwnerRow, TxRow, place_of_name};
+use hub_rows::{ReadingRow, TxOwnerRow, TxRow, place_near, place_of_name};
 use ocpp_types::{Mem, Text};
 use std::alloc::{AllocError, Global};
 
@@ -95,13 +95,18 @@ impl NumberedRow for TxOwnerRow {
     }
 }
 
-/// The rows of a station.
-pub fn rows_of<'a, R: NumberedRow>(groups: &'a [NamedGroup<R>], op: &str, station: &str) -> &'a [R]
+/// The rows of a station, whose group may be at the index `near`.
+pub fn rows_of<'a, R: NumberedRow>(
+    groups: &'a [NamedGroup<R>],
+    near: usize,
+    op: &str,
+    station: &str,
+) -> &'a [R]
     requires { AreGrouped R.op R.station R.number groups.now }
     ensures rows { result.now ≡ those R.op op.now (λ r. bytes_eq (R.station r) station.now) (all_rows groups.now) }
     ensures sorted { IsStrictlySortedBy (by_key (number_key R.number)) result.now }
 {
-    rows_at(groups, op, station)
+    rows_at(groups, near, op, station)
 }
 
 /// The index of the row of a number among those of a station, or else its place.
@@ -112,9 +117,10 @@ pub fn place_of_number<R: NumberedRow>(rows: &[R], number: u32) -> Result<usize,
     rows.binary_search_by(|row| row.number().cmp(&number))
 }
 
-/// The row of a number of a station.
+/// The row of a number of a station, whose group may be at the index `near`.
 pub fn row_of_number<'a, R: NumberedRow>(
     groups: &'a [NamedGroup<R>],
+    near: usize,
     op: &str,
     station: &str,
     number: u32,
@@ -123,7 +129,7 @@ pub fn row_of_number<'a, R: NumberedRow>(
     ensures { option_map (λ r. r.now) result
         ≡ found R.op op.now (λ r. bytes_eq (R.station r) station.now && R.number r == number) (all_rows groups.now) }
 {
-    row_in(rows_of(groups, op, station), number)
+    row_in(rows_of(groups, near, op, station), number)
 }
 
 /// The row of a number among those of a station.
@@ -137,9 +143,10 @@ pub fn row_in<R: NumberedRow>(rows: &[R], number: u32) -> Option<&R>
     }
 }
 
-/// The rows of a station from a number on, by a binary search.
+/// The rows of a station from a number on, by a binary search. Its group may be at the index `near`.
 pub fn rows_from<'a, R: NumberedRow>(
     groups: &'a [NamedGroup<R>],
+    near: usize,
     op: &str,
     station: &str,
     first: u32,
@@ -148,7 +155,7 @@ pub fn rows_from<'a, R: NumberedRow>(
     ensures { result.now
         ≡ those R.op op.now (λ r. bytes_eq (R.station r) station.now && nat_le first (R.number r)) (all_rows groups.now) }
 {
-    let rows = rows_of(groups, op, station);
+    let rows = rows_of(groups, near, op, station);
     &rows[place_from(rows, first)..]
 }
 
@@ -174,10 +181,11 @@ pub fn last_number<R: NumberedRow>(rows: &[R]) -> u32
     }
 }
 
-/// Adds rows of a station after those that it has.
+/// Adds rows of a station after those that it has. Its group may be at the index `near`.
 pub fn append_rows<R: NumberedRow>(
     alloc: Global,
     groups: &mut Vec<NamedGroup<R>>,
+    near: usize,
     op: &str,
     station: &str,
     rows: Vec<R>,
@@ -189,7 +197,7 @@ pub fn append_rows<R: NumberedRow>(
     ensures ok { OnOk result (all_rows groups.new.items ≡ put_all (by_key (numbered_key R.op R.station R.number)) rows.items (all_rows groups.old.items)) }
     ensures err { OnErr result (all_rows groups.new.items ≡ all_rows groups.old.items) }
 {
-    match place_of_name(groups.as_slice(), op, station) {
+    match place_near(groups.as_slice(), near, op, station) {
         Ok(place) => extend_group(&mut groups[place], rows)?,
         Err(place) => {
             let group = NamedGroup {
@@ -239,15 +247,16 @@ fn drop_in_group<R: NumberedRow>(group: &mut NamedGroup<R>, numbers: &[u32])
     rows.retain(|row| is_none_of(numbers, last, row.number()));
 }
 
-/// Puts a row behind those of its station. There is room for it, so that it can't fail.
-pub fn put_last<R: NumberedRow>(groups: &mut Vec<NamedGroup<R>>, row: R)
+/// Puts a row behind those of its station, whose group may be at the index `near`. There is room for it, so that it
+/// can't fail.
+pub fn put_last<R: NumberedRow>(groups: &mut Vec<NamedGroup<R>>, near: usize, row: R)
     requires groups { AreGrouped R.op R.station R.number groups.old.items }
     requires room { HasRoomAt (R.op row) (R.station row) groups.old.items }
     requires behind { greatest (map R.number (those R.op (R.op row) (λ x. bytes_eq (R.station x) (R.station row)) (all_rows groups.old.items))) < R.number row }
     ensures groups { AreGrouped R.op R.station R.number groups.new.items }
     ensures rows { all_rows groups.new.items ≡ put (by_key (numbered_key R.op R.station R.number)) row (all_rows groups.old.items) }
 {
-    match place_of_name(groups.as_slice(), row.op(), row.station()) {
+    match place_near(groups.as_slice(), near, row.op(), row.station()) {
         Ok(place) => groups[place].rows.push_reserved(row),
         Err(_) => unreachable!(),
     }

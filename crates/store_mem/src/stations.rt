@@ -6,15 +6,29 @@ ghost use Rattle.hub_rows.specs.Keyed.{by_key, changed};
 ghost use Rattle.hub_rows.specs.Rows.{station_key, registration_in};
 ghost use Rattle.store_mem.specs.Stations.{station_after};
 
-use hub_rows::{Boot, Registration, StationRow, place_of_name, row_of};
+use hub_rows::{Boot, Registration, StationRow, place_near, place_of_name, row_near};
 use ocpp_types::{Policy, State, Text};
 
-/// How a station is registered.
-pub fn registration_of(stations: &[StationRow], op: &str, station: &str) -> Option<Registration>
+/// The index of a station, which may be `near`, or else that to which it would go.
+pub fn place_of_station(stations: &[StationRow], near: usize, op: &str, station: &str) -> usize
+    requires { IsStrictlySortedBy (by_key station_key) stations.now }
+{
+    match place_near(stations, near, op, station) {
+        Ok(place) | Err(place) => place,
+    }
+}
+
+/// How a station is registered, whose row may be at the index `near`.
+pub fn registration_of(
+    stations: &[StationRow],
+    near: usize,
+    op: &str,
+    station: &str,
+) -> Option<Registration>
     requires { IsStrictlySortedBy (by_key station_key) stations.now }
     ensures { result ≡ registration_in op.now station.now stations.now }
 {
-    row_of(stations, op, station).map(|row| row.registration())
+    row_near(stations, near, op, station).map(|row| row.registration())
 }
 
 /// What changes of a station that is there.

@@ -19,6 +19,8 @@ pub struct TxOwners {
     alloc: Global,
     /// All of them, by the stations of the transactions.
     pub rows: Vec<NamedGroup<TxOwnerRow>>,
+    /// The index at which a station's group is looked for first.
+    near: usize,
     ghost by_station: { AreGrouped (λ r. r.op) (λ r. r.station) (λ r. r.number) rows.items } by { Prim.hlevel props },
 }
 
@@ -30,14 +32,22 @@ impl TxOwners {
         TxOwners {
             alloc,
             rows: Vec::new(alloc),
+            near: 0,
         }
+    }
+
+    /// From now on a station's group is looked for at that index first.
+    pub fn look_near(&mut self, near: usize)
+        ensures { all_rows self.new.rows.items ≡ all_rows self.old.rows.items }
+    {
+        self.near = near;
     }
 
     /// The owner of a transaction's tag, if another operator granted it.
     pub fn owner(&self, op: &str, station: &str, number: u32) -> Option<&Text>
         ensures { option_map (λ o. o.now) result ≡ owner_in op.now station.now number (all_rows self.now.rows.items) }
     {
-        row_of_number(&self.rows, op, station, number).map(|row| &row.owner)
+        row_of_number(&self.rows, self.near, op, station, number).map(|row| &row.owner)
     }
 
     /// Makes room for a row, if there is one.
@@ -48,7 +58,7 @@ impl TxOwners {
         match row {
             Some(row) => {
                 let (op, station) = (row.op.as_str(), row.station.as_str());
-                make_room_at(self.alloc, &mut self.rows, op, station)
+                make_room_at(self.alloc, &mut self.rows, self.near, op, station)
             }
             None => Ok(()),
         }
@@ -68,7 +78,7 @@ impl TxOwners {
         ensures { all_rows self.new.rows.items ≡ with_row row (all_rows self.old.rows.items) }
     {
         if let Some(row) = row {
-            put_last(&mut self.rows, row);
+            put_last(&mut self.rows, self.near, row);
         }
     }
 }

@@ -8,7 +8,7 @@ ghost use Rattle.store_mem.specs.NamedGroups.{all_rows, AreGrouped};
 
 use crate::named_groups::NamedGroup;
 use crate::station_rows::place_of_number;
-use hub_rows::{Start, Stop, TxRow, place_of_name};
+use hub_rows::{Start, Stop, TxRow, place_near};
 use ocpp_types::{Mem, Text};
 
 /// The record of a transaction that begins.
@@ -24,9 +24,10 @@ pub fn started(op: &Text, station: &Text, number: u32, start: &Start) -> Mem<TxR
     })
 }
 
-/// Stops a transaction, if it is there.
+/// Stops a transaction, if it is there. The group of its station may be at the index `near`.
 pub fn stop_tx(
     groups: &mut Vec<NamedGroup<TxRow>>,
+    near: usize,
     op: &str,
     station: &str,
     number: u32,
@@ -37,7 +38,7 @@ pub fn stop_tx(
     ensures rows { all_rows groups.new.items
         ≡ changed (λ r. r.op) op.now (is_tx station.now number) (with_stop stop) (all_rows groups.old.items) }
 {
-    if let Ok(place) = place_of_name(groups.as_slice(), op, station) {
+    if let Ok(place) = place_near(groups.as_slice(), near, op, station) {
         stop_in_group(&mut groups[place], number, stop);
     }
 }
