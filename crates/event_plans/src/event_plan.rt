@@ -5,12 +5,12 @@ ghost use Rattle.hub_rows.specs.Operators.{is_hosted};
 ghost use Rattle.pending_calls.specs.Slots.{slot_at};
 ghost use Rattle.station_calls.specs.Book.{book_view, book_rows, book_answers, IsCleanBook};
 ghost use Rattle.event_plans.specs.Effects.{IsReady};
-ghost use Rattle.event_plans.specs.Table.{facts_of, plan};
+ghost use Rattle.event_plans.specs.Table.{facts_of, plan, text_plan};
 
 use crate::admin::decide_admin;
 use crate::commands::plan_command;
 use crate::connections::plan_connections;
-use crate::frames::plan_text;
+use crate::frames::plan_frame;
 use crate::list::plan_list;
 use crate::plan::Plan;
 use crate::short_plans::{connect_plan, disconnect_plan, edit_plan, forget_plan, turned_plan};
@@ -26,8 +26,60 @@ use station_calls::{Book, VendorHandler};
 use std::alloc::Global;
 
 /// The plan for an event of an operator. `hosted` are the hosted operators, and `reader` reads what a station sends.
-#[tactic(auto, using(crate::proofs::Readiness::connect_ready, crate::proofs::Readiness::edit_ready, crate::proofs::Readiness::forget_ready, crate::proofs::Readiness::list_ready))]
 pub fn plan_event<S: Store, V: VendorHandler>(
+    alloc: Global,
+    reader: &mut FrameReader,
+    book: &mut Book<S, V>,
+    slots: &Slots<Boxed<Command>>,
+    hosted: &[Text],
+    event: &OperatorEvent<'_>,
+) -> Result<Plan, StoreFault>
+    ensures reads { OnlyReads (book_view S.view) book.old book.new result }
+    ensures plan { IsCleanBook S.view book.new → IfOk result (λ p. p ≡ plan (is_hosted hosted.now) (book_answers V.view book.old) event.now.what.now event.now.moment
+        (facts_of event.now.op.now (book_rows S.view book.old) slots.now)) }
+    ensures answers { book_answers V.view book.new ≡ book_answers V.view book.old }
+    ensures ready { IfOk result (λ p. IsReady (λ st. slot_at event.now.op.now st slots.now) p.effect) }
+{
+    let OperatorEvent { op, moment, what } = *event;
+    match what {
+        What::Frame { station, text } => {
+            let at = StationAt {
+                op,
+                station,
+                moment,
+            };
+            plan_text(alloc, reader, book, slots, &at, text)
+        }
+        _ => plan_any(alloc, reader, book, slots, hosted, event),
+    }
+}
+
+/// The plan for a text of a station: one that isn't connected is turned away.
+fn plan_text<S: Store, V: VendorHandler>(
+    alloc: Global,
+    reader: &mut FrameReader,
+    book: &mut Book<S, V>,
+    slots: &Slots<Boxed<Command>>,
+    at: &StationAt<'_>,
+    text: &Text,
+) -> Result<Plan, StoreFault>
+    ensures reads { OnlyReads (book_view S.view) book.old book.new result }
+    ensures plan { IsCleanBook S.view book.new → IfOk result (λ p. p
+        ≡ text_plan (book_answers V.view book.old) at.now.station.now text.now at.now.moment
+        (facts_of at.now.op.now (book_rows S.view book.old) slots.now)) }
+    ensures answers { book_answers V.view book.new ≡ book_answers V.view book.old }
+    ensures ready { IfOk result (λ p. IsReady (λ st. slot_at at.now.op.now st slots.now) p.effect) }
+{
+    match slots.place_if_connected(at.op.as_str(), at.station.as_str()) {
+        Some(near) => plan_frame(alloc, reader, book, slots, at, text, near),
+        None => Ok(turned_plan(alloc, at.station)?),
+    }
+}
+
+/// The same. An event of another kind than a text is rare, and what it needs isn't cleared for each text.
+#[inline(never)]
+#[tactic(auto, using(crate::proofs::Readiness::connect_ready, crate::proofs::Readiness::edit_ready, crate::proofs::Readiness::forget_ready, crate::proofs::Readiness::list_ready))]
+fn plan_any<S: Store, V: VendorHandler>(
     alloc: Global,
     reader: &mut FrameReader,
     book: &mut Book<S, V>,
@@ -49,9 +101,6 @@ pub fn plan_event<S: Store, V: VendorHandler>(
         }
         What::Disconnect { station } => Ok(disconnect_plan(alloc, station)?),
         What::Frame { station, text } => {
-            if !slots.is_connected(op.as_str(), station.as_str()) {
-                return Ok(turned_plan(alloc, station)?);
-            }
             let at = StationAt {
                 op,
                 station,

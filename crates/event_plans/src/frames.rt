@@ -23,15 +23,17 @@ use registry::StationAt;
 use station_calls::{Book, VendorHandler};
 use std::alloc::Global;
 
-/// The plan for a text of a connected station, by the frame that it is.
+/// The plan for a text of a connected station, by the frame that it is. `near` is the index that the station's row may
+/// have among all.
 #[tactic(auto, using(crate::proofs::Readiness::failure_ready))]
-pub fn plan_text<S: Store, V: VendorHandler>(
+pub fn plan_frame<S: Store, V: VendorHandler>(
     alloc: Global,
     reader: &mut FrameReader,
     book: &mut Book<S, V>,
     slots: &Slots<Boxed<Command>>,
     at: &StationAt<'_>,
     text: &Text,
+    near: usize,
 ) -> Result<Plan, StoreFault>
     ensures reads { OnlyReads (book_view S.view) book.old book.new result }
     ensures plan { IsCleanBook S.view book.new → IfOk result (λ p. p
@@ -47,7 +49,13 @@ pub fn plan_text<S: Store, V: VendorHandler>(
             payload,
         } => {
             let class = action_class(action.as_str());
-            plan_call(alloc, book, &CallAt { at, id: &id, text }, class, &payload)
+            let call = CallAt {
+                at,
+                id: &id,
+                text,
+                near,
+            };
+            plan_call(alloc, book, &call, class, &payload)
         }
         Frame::Broken { id } => {
             let code = ErrorCode::FormationViolation;

@@ -21,4 +21,6 @@ pub struct CallAt<'a> {
     pub id: &'a Text,
     /// The text of its frame.
     pub text: &'a Text,
+    /// The index that the station's row may have among all.
+    pub near: usize,
 }

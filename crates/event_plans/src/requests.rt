@@ -37,7 +37,8 @@ pub fn plan_request<S: Store, V: VendorHandler>(
     ensures ready { IfOk result (λ p. (slot : List ℕ → StationSlot) → IsReady slot p.effect) }
 {
     let StationAt { op, station, .. } = *call.at;
-    let Some(registration) = book.store.station(op.as_str(), station.as_str())? else {
+    let (operator, name) = (op.as_str(), station.as_str());
+    let Some(registration) = book.store.station_near(operator, name, call.near)? else {
         return Ok(error_plan(alloc, station, call.id, ErrorCode::InternalError, "")?);
     };
     if !is_allowed(registration.state, action) {

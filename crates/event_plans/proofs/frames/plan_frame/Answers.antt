@@ -1,6 +1,6 @@
 use Rattle.pending_calls.specs.Slots.{slot_at}
 use Rattle.event_plans.proofs.Readiness.{ready_at}
-use Rattle.event_plans.proofs.frames.plan_text.Goals as goal
+use Rattle.event_plans.proofs.frames.plan_frame.Goals as goal
 
 pub returns-in-Call-clause-ready : goal.returns-in-Call-clause-ready
 returns-in-Call-clause-ready g c = ready_at (λ st. slot_at c.args.at.now.op.now st c.args.slots.now) c.plan_call.result c.plan_call.ensures.ready
