@@ -1,3 +1,4 @@
 pub mod MemoLaws
 pub mod TagLaws
 pub mod StationLaws
+pub mod ReadingLaws

@@ -1,5 +1,5 @@
 -- Answers on registrations that an edit leaves right.
-use Rattle.std.specs.Prelude.{◌≡◌, ℕ, List, [], ◌∷◌, Bool, true, false, ◌&&◌, is_some, IfSome}
+use Rattle.std.specs.Prelude.{◌≡◌, ◌≢◌, ℕ, List, [], ◌∷◌, Bool, true, false, ◌&&◌, IfSome}
 use Rattle.std.proofs.Common.{refl, sym, ◌∙◌, ap, subst, arith, true≢false}
 use Rattle.std.specs.Option.{option_map}
 use Rattle.std.specs.Str.{bytes_eq}
@@ -19,14 +19,22 @@ use Rattle.hub_rows.proofs.ListLaws.{filter-put_not, head, ties_key, same_text}
 use Rattle.hub_rows.proofs.OrderLaws.{find-first}
 use Rattle.hub_rows.proofs.OwnerLaws.{find-kept}
 use Rattle.cached.specs.declared.station_answer.StationAnswer.{StationAnswer}
+use Rattle.cached.specs.Digests.{station_digest}
 use Rattle.cached.specs.StationAnswers.{changed_station, IsOf, IsRegistered}
-use Rattle.cached.proofs.MemoLaws.{if_none}
 
 and_first : (p q : Bool) → p && q ≡ true → p ≡ true
 and_first p q e = grind (arith, e)
 
 and_second : (p q : Bool) → p && q ≡ true → q ≡ true
 and_second p q e = grind (arith, e)
+
+-- stations of different numbers are different
+pub apart : (a s b t : List ℕ) → station_digest a s ≢ station_digest b t → bytes_eq a b && bytes_eq s t ≡ false
+apart a s b t differ =
+    elim (bytes_eq a b && bytes_eq s t) as (λ x. bytes_eq a b && bytes_eq s t ≡ x → x ≡ false) [
+      | false ↦ λ e. refl
+      | true ↦ λ e. absurd (differ (λ i. station_digest (same_text a b (and_first (bytes_eq a b) (bytes_eq s t) e) i) (same_text s t (and_second (bytes_eq a b) (bytes_eq s t) e) i)))
+    ] refl
 
 -- a station of that name
 abbrev pub named : List ℕ → List ℕ → StationRow → Bool
@@ -54,7 +62,7 @@ station-dropped a s b t other stations =
 both : (p q : Bool) → p ≡ true → q ≡ true → p && q ≡ true
 both p q is also = grind (arith, is, also)
 
-flipped : (a s b t : List ℕ) → bytes_eq a b && bytes_eq s t ≡ false → bytes_eq b a && bytes_eq t s ≡ false
+pub flipped : (a s b t : List ℕ) → bytes_eq a b && bytes_eq s t ≡ false → bytes_eq b a && bytes_eq t s ≡ false
 flipped a s b t other =
     elim (bytes_eq b a && bytes_eq t s) as (λ x. bytes_eq b a && bytes_eq t s ≡ x → x ≡ false) [
       | false ↦ λ e. refl
@@ -78,9 +86,6 @@ kept_station b (Tags (TagDropped key)) rows answer other right = right
 kept_station b (Transactions (ReadingsAdded station first readings)) rows answer other right = right
 kept_station b (Holdings (ReservationDropped station id)) rows answer other right = right
 kept_station b e rows answer other right = right
-
-pub unseen_station : (b : List ℕ) (e : Edit) (rows : Rows) (answer : StationAnswer) → is_some (changed_station e) ≡ false → IsRegistered rows answer → IsRegistered (edit b e rows) answer
-unseen_station b e rows answer none right = kept_station b e rows answer (if_none _ (changed_station e) none) right
 
 -- what the rows give of the station that an answer is of
 pub registered_of : (rows : Rows) (answer : StationAnswer) (a name : List ℕ) → IsOf a name answer → registration_at answer.op answer.station rows ≡ registration_at a name rows

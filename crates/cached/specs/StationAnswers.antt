@@ -4,6 +4,7 @@ use Rattle.hub_rows.specs.declared.change.Edit.{Edit}
 use Rattle.hub_rows.specs.declared.change.Edit.TheVariants.{Stations}
 use Rattle.hub_rows.specs.declared.change.StationEdit.TheVariants.{StationAdded, BootSeen, PolicySet, StationDropped}
 use Rattle.hub_rows.specs.Rows.{Rows, registration_at}
+use Rattle.cached.specs.Digests.{station_digest}
 use Rattle.cached.specs.declared.station_answer.StationAnswer.{StationAnswer}
 
 -- it is of that station of operator a
@@ -14,6 +15,10 @@ pub record IsOf (a name : List ℕ) (answer : StationAnswer) : Type 0 where
 -- it is what the rows give
 abbrev pub IsRegistered : Rows → StationAnswer → Type 0
 IsRegistered rows answer = answer.registration ≡ registration_at answer.op answer.station rows
+
+-- the number of its station
+abbrev pub digest_of_station : StationAnswer → ℕ
+digest_of_station answer = station_digest answer.op answer.station
 
 -- the station whose record an edit changes
 abbrev pub changed_station : Edit → Option (List ℕ)

@@ -1,5 +1,5 @@
 -- Answers to look-ups of id tags.
-use Rattle.std.specs.Prelude.{◌≡◌, ◌≢◌, ℕ, List, Option, Some, None, IfSome}
+use Rattle.std.specs.Prelude.{◌≡◌, ◌≢◌, ℕ, Bool, true, false, List, Option, Some, None, IfSome}
 use Rattle.ocpp_types.specs.TagKey.{key_of}
 use Rattle.hub_rows.specs.declared.grant_row.GrantRow.{GrantRow}
 use Rattle.hub_rows.specs.declared.info.Info.{Info}
@@ -10,6 +10,7 @@ use Rattle.hub_rows.specs.declared.change.TagEdit.TheVariants.{TagPut, TagDroppe
 use Rattle.hub_rows.specs.Grants.{granted_tag_in}
 use Rattle.hub_rows.specs.Rows.{Rows}
 use Rattle.hub_rows.specs.Tags.{own_tag_in}
+use Rattle.cached.specs.Digests.{tag_digest}
 use Rattle.cached.specs.declared.tag_answer.TagAnswer.{TagAnswer}
 use Rattle.cached.specs.declared.tag_answer.LookUp.{LookUp}
 use Rattle.cached.specs.declared.tag_answer.LookUp.TheVariants.{Own, Granted}
@@ -41,6 +42,15 @@ looked_up how a key rows = answered how a key rows.tags rows.grants
 -- it is what the rows give
 abbrev pub IsRight : Rows → TagAnswer → Type 0
 IsRight rows answer = answer.info ≡ looked_up answer.look_up answer.op answer.key rows
+
+-- whether it is of an operator's own tags
+abbrev pub is_own : LookUp → Bool
+is_own Own = true
+is_own Granted = false
+
+-- the number of what it answers
+abbrev pub digest_of_tag : TagAnswer → ℕ
+digest_of_tag answer = tag_digest (is_own answer.look_up) answer.op answer.key
 
 -- the key of the tag that an edit changes, or whose grants it changes
 abbrev pub touched : Edit → Option (List ℕ)

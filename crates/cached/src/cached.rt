@@ -3,12 +3,16 @@ ghost use Rattle.std.specs.Prelude.{◌≡◌, ◌<◌, ◌⊎◌, ◌↔◌, Er
 ghost use Rattle.std.proofs.Props.{props};
 ghost use Rattle.hub_rows.specs.Reads.{OnlyReads};
 ghost use Rattle.cached.specs.declared.cached.CacheFault.TheVariants as cache_fault;
-ghost use Rattle.hub_rows.specs.Rows.{registration_at};
+ghost use Rattle.hub_rows.specs.Changes.{edit, EditFits};
+ghost use Rattle.hub_rows.specs.Rows.{Rows, registration_at};
+ghost use Rattle.hub_rows.specs.Transactions.{last_reading_in};
 ghost use Rattle.cached.specs.Answers.{most_answers, AreRight};
-ghost use Rattle.cached.specs.StationAnswers.{IsRegistered};
-ghost use Rattle.cached.specs.TagAnswers.{looked_up, IsRight};
+ghost use Rattle.cached.specs.ReadingAnswers.{digest_of_reading, IsLast};
+ghost use Rattle.cached.specs.StationAnswers.{digest_of_station, IsRegistered};
+ghost use Rattle.cached.specs.TagAnswers.{digest_of_tag, looked_up, IsRight};
 
 use crate::memo::Memo;
+use crate::reading_answer::ReadingAnswer;
 use crate::station_answer::StationAnswer;
 use crate::tag_answer::{LookUp, TagAnswer};
 use crate::{station_answer, tag_answer};
@@ -36,16 +40,19 @@ pub enum CacheFault {
     BadCapacity,
 }
 
-/// A store that keeps the answers of look-ups, absent ones too, the last used first: of id tags, and of
-/// how stations are registered. So many of each.
+/// A store that keeps the answers of look-ups, absent ones too, the last used first: of id tags, of how
+/// stations are registered, and of the numbers of their last readings. So many of each. A change that adds readings
+/// to a station leaves the number of the last of them in the cache, where there is memory for it.
 #[derive(Drop)]
 pub struct Cached<S: Store> {
     alloc: Global,
     store: S,
     tags: Memo<TagAnswer>,
     stations: Memo<StationAnswer>,
-    ghost tags_right: { (S.view store).clean → AreRight IsRight (S.view store).rows tags } by { Prim.hlevel props },
-    ghost stations_right: { (S.view store).clean → AreRight IsRegistered (S.view store).rows stations } by { Prim.hlevel props },
+    readings: Memo<ReadingAnswer>,
+    ghost tags_right: { (S.view store).clean → AreRight digest_of_tag IsRight (S.view store).rows tags } by { Prim.hlevel props },
+    ghost stations_right: { (S.view store).clean → AreRight digest_of_station IsRegistered (S.view store).rows stations } by { Prim.hlevel props },
+    ghost readings_right: { (S.view store).clean → AreRight digest_of_reading IsLast (S.view store).rows readings } by { Prim.hlevel props },
 }
 
 impl<S: Store + Drop> Cached<S> {
@@ -66,12 +73,27 @@ impl<S: Store + Drop> Cached<S> {
         let Ok(stations) = Memo::new(alloc, capacity) else {
             return Err(CacheFault::NoMemory);
         };
+        let Ok(readings) = Memo::new(alloc, capacity) else {
+            return Err(CacheFault::NoMemory);
+        };
         Ok(Cached {
             alloc,
             store,
             tags,
             stations,
+            readings,
         })
+    }
+}
+
+/// Keeps the number of the last reading that a change adds.
+fn keep_last(alloc: Global, readings: &mut Memo<ReadingAnswer>, change: &Change<'_>)
+    ensures { (rows : Rows) → EditFits change.now.op.now change.now.edit.now rows
+        → AreRight digest_of_reading IsLast (edit change.now.op.now change.now.edit.now rows) readings.old
+        → AreRight digest_of_reading IsLast (edit change.now.op.now change.now.edit.now rows) readings.new }
+{
+    if let Some(answer) = ReadingAnswer::after(alloc, change) {
+        readings.keep(answer);
     }
 }
 
@@ -112,7 +134,7 @@ impl<S: Store> Cached<S> {
         }
         let info = ask(&mut self.store, look_up, op, key)?;
         if let Ok(answer) = TagAnswer::of(self.alloc, look_up, op, key, &info) {
-            self.tags.keep(digest, answer);
+            self.tags.keep(answer);
         }
         Ok(info)
     }
@@ -132,9 +154,29 @@ impl<S: Store> Cached<S> {
         }
         let registration = self.store.station(op, station)?;
         if let Ok(answer) = StationAnswer::of(self.alloc, op, station, registration) {
-            self.stations.keep(digest, answer);
+            self.stations.keep(answer);
         }
         Ok(registration)
+    }
+
+    /// The number of a station's last reading, from the cache if it is there.
+    fn last_read(&mut self, op: &str, station: &str) -> Result<u32, StoreFault>
+        ensures reads { OnlyReads S.view self.old.store self.new.store result }
+        ensures found { (S.view self.new.store).clean → IfOk result (λ last. last ≡ last_reading_in op.now station.now (S.view self.old.store).rows.readings) }
+    {
+        let digest = station_answer::digest(op, station);
+        if let Some(answer) = self.readings.find(digest) {
+            if answer.is_about(op, station) {
+                let last = answer.last();
+                self.readings.promote(digest);
+                return Ok(last);
+            }
+        }
+        let last = self.store.last_reading(op, station)?;
+        if let Ok(answer) = ReadingAnswer::of(self.alloc, op, station, last) {
+            self.readings.keep(answer);
+        }
+        Ok(last)
     }
 }
 
@@ -190,7 +232,7 @@ impl<S: Store> Store for Cached<S> {
     }
 
     fn last_reading(&mut self, op: &str, station: &str) -> Result<u32, StoreFault> {
-        self.store.last_reading(op, station)
+        self.last_read(op, station)
     }
 
     fn reserved_until(
@@ -278,7 +320,10 @@ impl<S: Store> Store for Cached<S> {
 
     fn apply(&mut self, change: &Change<'_>) -> Result<(), StoreFault> {
         self.tags.drop_stale(change);
-        self.stations.drop_stale(change);
-        self.store.apply(change)
+        self.stations.drop_touched(change);
+        self.readings.drop_touched(change);
+        self.store.apply(change)?;
+        keep_last(self.alloc, &mut self.readings, change);
+        Ok(())
     }
 }

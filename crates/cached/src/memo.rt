@@ -2,9 +2,9 @@
 ghost use Rattle.std.specs.Prelude.{IfNone, IfOk, IfSome};
 ghost use Rattle.hub_rows.specs.Changes.{edit};
 ghost use Rattle.hub_rows.specs.Rows.{Rows};
-ghost use Rattle.cached.specs.Answers.{AreRight, AreUnchanged};
+ghost use Rattle.cached.specs.Answers.{AreRight, AreUnchanged, HasNone};
 
-use crate::answer::Answer;
+use crate::answer::{Answer, Numbered, Searched};
 use hub_rows::Change;
 use lru::LruCache;
 use ocpp_types::Mem;
@@ -28,7 +28,7 @@ pub struct Memo<A> {
 impl<A: Answer> Memo<A> {
     /// No answer, and room for so many.
     pub fn new(alloc: Global, capacity: NonZeroUsize) -> Mem<Memo<A>>
-        ensures { IfOk result (λ memo. (rows : Rows) → AreRight A.is_right rows memo) }
+        ensures { IfOk result (λ memo. (rows : Rows) → AreRight A.digest A.is_right rows memo) }
     {
         Ok(Memo {
             answers: LruCache::new(alloc, capacity)?,
@@ -37,37 +37,62 @@ impl<A: Answer> Memo<A> {
 
     /// The answer with that number, if one is kept.
     pub fn find(&self, digest: u64) -> Option<&A>
-        ensures { (rows : Rows) → AreRight A.is_right rows self.now → IfSome result (λ answer. A.is_right rows answer.now) }
+        ensures { (rows : Rows) → AreRight A.digest A.is_right rows self.now → IfSome result (λ answer. A.is_right rows answer.now) }
     {
         self.answers.peek(&digest)
     }
 
     /// The answer with that number was used.
     pub fn promote(&mut self, digest: u64)
-        ensures { (rows : Rows) → AreRight A.is_right rows self.old → AreRight A.is_right rows self.new }
+        ensures { (rows : Rows) → AreRight A.digest A.is_right rows self.old → AreRight A.digest A.is_right rows self.new }
     {
         self.answers.promote(&digest);
     }
 
     /// Keeps an answer, where there is memory for it.
-    pub fn keep(&mut self, digest: u64, answer: A)
-        ensures { (rows : Rows) → AreRight A.is_right rows self.old → A.is_right rows answer → AreRight A.is_right rows self.new }
+    pub fn keep(&mut self, answer: A)
+        ensures { (rows : Rows) → AreRight A.digest A.is_right rows self.old → A.is_right rows answer → AreRight A.digest A.is_right rows self.new }
     {
-        let _put = self.answers.put(digest, answer);
+        let _put = self.answers.put(answer.digest(), answer);
     }
+}
 
-    /// Drops the answers that a change may make wrong, and others too where they are many.
-    pub fn drop_stale(&mut self, change: &Change<'_>)
-        ensures before { (rows : Rows) → AreRight A.is_right rows self.old → AreRight A.is_right rows self.new }
-        ensures after { (rows : Rows) → AreRight A.is_right rows self.old → AreRight A.is_right (edit change.now.op.now change.now.edit.now rows) self.new }
+impl<A: Numbered> Memo<A> {
+    /// Drops the answer that a change may make wrong, and no more than one.
+    pub fn drop_touched(&mut self, change: &Change<'_>)
+        ensures before { (rows : Rows) → AreRight A.digest A.is_right rows self.old → AreRight A.digest A.is_right rows self.new }
+        ensures after { (rows : Rows) → AreRight A.digest A.is_right rows self.old → AreRight A.digest A.is_right (edit change.now.op.now change.now.edit.now rows) self.new }
     {
-        if A::is_touched(change) {
-            self.drop_touched(change);
+        if let Some(digest) = A::touched(change) {
+            self.drop_under(digest);
         }
     }
 
-    fn drop_touched(&mut self, change: &Change<'_>)
-        ensures kept { (rows : Rows) → AreRight A.is_right rows self.old → AreRight A.is_right rows self.new }
+    /// Drops the answer with that number, if one is kept.
+    fn drop_under(&mut self, digest: u64)
+        ensures kept { (rows : Rows) → AreRight A.digest A.is_right rows self.old → AreRight A.digest A.is_right rows self.new }
+        ensures gone { HasNone digest self.new }
+    {
+        // The clause of `len` says that no number comes twice.
+        if self.answers.len() > 0 {
+            let _dropped = self.answers.pop_entry(&digest);
+        }
+    }
+}
+
+impl<A: Searched> Memo<A> {
+    /// Searches for the answers that a change may make wrong, and drops them, and others too where they are many.
+    pub fn drop_stale(&mut self, change: &Change<'_>)
+        ensures before { (rows : Rows) → AreRight A.digest A.is_right rows self.old → AreRight A.digest A.is_right rows self.new }
+        ensures after { (rows : Rows) → AreRight A.digest A.is_right rows self.old → AreRight A.digest A.is_right (edit change.now.op.now change.now.edit.now rows) self.new }
+    {
+        if A::is_touched(change) {
+            self.drop_found(change);
+        }
+    }
+
+    fn drop_found(&mut self, change: &Change<'_>)
+        ensures kept { (rows : Rows) → AreRight A.digest A.is_right rows self.old → AreRight A.digest A.is_right rows self.new }
         ensures unchanged { AreUnchanged A.is_right change.now.op.now change.now.edit.now self.new }
     {
         if self.answers.len() <= MOST_SEARCHED {

@@ -1,9 +1,9 @@
 //! Answers on how stations are registered.
-ghost use Rattle.std.specs.Prelude.{◌≡◌, ◌&&◌, true, IfOk, option_map};
-ghost use Rattle.std.specs.Str.{bytes_eq};
+ghost use Rattle.std.specs.Prelude.{◌≡◌, true, IfOk, option_map};
+ghost use Rattle.cached.specs.Digests.{station_digest};
 ghost use Rattle.cached.specs.StationAnswers.{changed_station, IsOf};
 
-use crate::answer::Answer;
+use crate::answer::{Answer, Numbered};
 use hub_rows::{Change, Edit, Registration, StationEdit};
 use ocpp_types::{Mem, Text};
 use std::alloc::Global;
@@ -48,28 +48,24 @@ impl StationAnswer {
     {
         self.op.as_str() == op && self.station.as_str() == station
     }
-
-    fn is_named(&self, op: &Text, station: &Text) -> bool
-        ensures { result ≡ (bytes_eq self.now.op op.now && bytes_eq self.now.station station.now) }
-    {
-        self.op.as_str() == op.as_str() && self.station.as_str() == station.as_str()
-    }
 }
 
 impl Answer for StationAnswer {
-    ghost use Rattle.cached.specs.StationAnswers.{IsRegistered};
+    ghost use Rattle.cached.specs.StationAnswers.{digest_of_station, IsRegistered};
 
     ghost is_right = { IsRegistered };
 
-    fn is_touched(change: &Change<'_>) -> bool {
-        changed_station(change.edit).is_some()
-    }
+    ghost digest = { digest_of_station };
 
-    fn may_change(&self, change: &Change<'_>) -> bool {
-        match changed_station(change.edit) {
-            Some(station) => self.is_named(change.op, station),
-            None => false,
-        }
+    fn digest(&self) -> u64 {
+        digest(self.op.as_str(), self.station.as_str())
+    }
+}
+
+impl Numbered for StationAnswer {
+    fn touched(change: &Change<'_>) -> Option<u64> {
+        let station = changed_station(change.edit)?;
+        Some(digest(change.op.as_str(), station.as_str()))
     }
 }
 
@@ -89,7 +85,9 @@ fn changed_station(edit: &Edit) -> Option<&Text>
 }
 
 /// A number of a station.
-pub fn digest(op: &str, station: &str) -> u64 {
+pub fn digest(op: &str, station: &str) -> u64
+    ensures { result ≡ station_digest op.now station.now }
+{
     let hasher: BuildHasherDefault<FoldHasher> = BuildHasherDefault::new();
     hasher.hash_one((op, station))
 }

@@ -1,8 +1,9 @@
 //! Answers to look-ups of id tags.
 ghost use Rattle.std.specs.Prelude.{◌≡◌, true, false, IfOk, option_map};
-ghost use Rattle.cached.specs.TagAnswers.{IsAbout, IsApart, IsParentApart, touched};
+ghost use Rattle.cached.specs.Digests.{tag_digest};
+ghost use Rattle.cached.specs.TagAnswers.{is_own, IsAbout, IsApart, IsParentApart, touched};
 
-use crate::answer::Answer;
+use crate::answer::{Answer, Searched};
 use hub_rows::{Change, Edit, Info, TagEdit};
 use ocpp_types::{Mem, TagKey, Text, copied};
 use std::alloc::Global;
@@ -71,10 +72,18 @@ impl TagAnswer {
 }
 
 impl Answer for TagAnswer {
-    ghost use Rattle.cached.specs.TagAnswers.{IsRight};
+    ghost use Rattle.cached.specs.TagAnswers.{digest_of_tag, IsRight};
 
     ghost is_right = { IsRight };
 
+    ghost digest = { digest_of_tag };
+
+    fn digest(&self) -> u64 {
+        digest(self.look_up, self.op.as_str(), &self.key)
+    }
+}
+
+impl Searched for TagAnswer {
     fn is_touched(change: &Change<'_>) -> bool {
         touched(change.edit).is_some()
     }
@@ -116,7 +125,9 @@ fn has_parent(info: &Option<Info>, key: &str) -> bool
 }
 
 /// A number of a look-up.
-pub fn digest(look_up: LookUp, op: &str, key: &TagKey) -> u64 {
+pub fn digest(look_up: LookUp, op: &str, key: &TagKey) -> u64
+    ensures { result ≡ tag_digest (is_own look_up) op.now key.now }
+{
     let is_own = look_up == LookUp::Own;
     let hasher: BuildHasherDefault<FoldHasher> = BuildHasherDefault::new();
     hasher.hash_one((is_own, op, key.as_str()))

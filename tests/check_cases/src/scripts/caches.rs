@@ -4,8 +4,10 @@ use crate::scripts::runs::{events, take_all};
 use anyhow::Result;
 use cached::Cached;
 use failing_store::Failing;
-use hub_rows::{Info, Registration, Store, StoreFault};
-use ocpp_types::{TagKey, Text};
+use hub_rows::{Change, Edit, Info, Reading, Registration, Store, StoreFault, TransactionEdit};
+use ocpp_types::{
+    Listed, Location, Measurand, ReadingContext, TagKey, Text, UnitOfMeasure, ValueFormat,
+};
 use std::alloc::Global;
 use std::fs;
 use store_mem::MemStore;
@@ -24,7 +26,46 @@ pub fn try_caches(rt: &HostRuntime) -> Result<()> {
     }
     let lines = fs::read(rt, RECORDED)?;
     println!(rt; "asked twice: {}", asked_twice(alloc, lines.as_slice())?)?;
+    println!(rt;
+        "the last reading is known: {}",
+        knows_last(alloc, lines.as_slice())?
+    )?;
     Ok(())
+}
+
+/// Whether the number of a station's last reading is known after one more, of a store whose third call fails.
+fn knows_last(alloc: Global, lines: &[u8]) -> Result<bool> {
+    let (_, store) = take_all(alloc, MemStore::new(alloc), &events(alloc, lines)?)?;
+    let mut cache = Cached::new(alloc, Failing::new(store, 2), 8)?;
+    let last = cache.last_reading("ACME", "CP01")?;
+    let edit = Edit::Transactions(TransactionEdit::ReadingsAdded {
+        station: Text::copy_of(alloc, "CP01")?,
+        first: last + 1,
+        readings: Listed::one(alloc, reading(alloc)?)?,
+    });
+    let op = Text::copy_of(alloc, "ACME")?;
+    cache.apply(&Change {
+        op: &op,
+        edit: &edit,
+    })?;
+    let known = cache.last_reading("ACME", "CP01")? == last + 1;
+    let asked = cache.last_reading("ACME", "CP02");
+    Ok(known && matches!(asked, Err(StoreFault::Failed)))
+}
+
+fn reading(alloc: Global) -> Result<Reading> {
+    Ok(Reading {
+        connector: 1,
+        transaction: None,
+        at: 0,
+        context: ReadingContext::SamplePeriodic,
+        format: ValueFormat::Raw,
+        measurand: Measurand::EnergyActiveImportRegister,
+        phase: None,
+        location: Location::Outlet,
+        unit: Some(UnitOfMeasure::Wh),
+        text: Text::copy_of(alloc, "1")?,
+    })
 }
 
 /// Whether each look-up that is kept is answered alike when it is asked again of a store that then fails.

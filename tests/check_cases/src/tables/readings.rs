@@ -84,7 +84,10 @@ fn value_shown(alloc: Global, value: &MeterValue) -> Result<String> {
 /// The text of the sampled values that a text is, or `none` if it isn't read.
 pub fn sampled_values(alloc: Global, text: &str) -> Result<String> {
     match read_sampled(alloc, text)? {
-        Some(sampled) => Ok(write_sampled(alloc, sampled.as_slice())?.into_string()),
+        Some(sampled) => {
+            let text = write_sampled(alloc, sampled.as_slice())?;
+            Ok(text.as_str().to_string(alloc)?)
+        }
         None => Ok("none".to_string(alloc)?),
     }
 }

@@ -1,7 +1,8 @@
 use Rattle.std.proofs.Common.{subst, sym}
 use Rattle.cached.specs.Answers.{AreRight}
-use Rattle.cached.specs.StationAnswers.{IsRegistered}
-use Rattle.cached.specs.TagAnswers.{IsRight}
+use Rattle.cached.specs.ReadingAnswers.{digest_of_reading, IsLast}
+use Rattle.cached.specs.StationAnswers.{digest_of_station, IsRegistered}
+use Rattle.cached.specs.TagAnswers.{digest_of_tag, IsRight}
 use Rattle.cached.proofs.cached.CachedStore.forgettable.Goals as goal
 
 pub invariant_of-self : goal.invariant_of-self
@@ -9,6 +10,7 @@ invariant_of-self g c =
     let s = c.args.self.now in
     let reads = c.forgettable.ensures.reads in
     record {
-      tags_right = λ clean. subst (λ rows. AreRight IsRight rows s.tags) (sym (reads.kept clean)) (s.tags_right (reads.was_clean clean));
-      stations_right = λ clean. subst (λ rows. AreRight IsRegistered rows s.stations) (sym (reads.kept clean)) (s.stations_right (reads.was_clean clean));
+      tags_right = λ clean. subst (λ rows. AreRight digest_of_tag IsRight rows s.tags) (sym (reads.kept clean)) (s.tags_right (reads.was_clean clean));
+      stations_right = λ clean. subst (λ rows. AreRight digest_of_station IsRegistered rows s.stations) (sym (reads.kept clean)) (s.stations_right (reads.was_clean clean));
+      readings_right = λ clean. subst (λ rows. AreRight digest_of_reading IsLast rows s.readings) (sym (reads.kept clean)) (s.readings_right (reads.was_clean clean));
     }

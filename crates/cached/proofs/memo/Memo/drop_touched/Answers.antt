@@ -1,6 +1,7 @@
-use Rattle.std.proofs.Common.{nat_eq, sym, subst}
-use Rattle.cached.proofs.MemoLaws.{All, remove}
+use Rattle.std.proofs.Common.{◌∙◌}
 use Rattle.cached.proofs.memo.Memo.drop_touched.Goals as goal
 
-pub loop-preserved : goal.loop-preserved
-loop-preserved g c = λ rows are. subst (λ a. All (g.A.Answer.is_right rows) a.entries) (sym c.pop_entry-dropped.ensures.entries) (remove (g.A.Answer.is_right rows) c.loop.self.answers.entries (nat_eq c.in-Some.digest) (c.loop.invariant rows are))
+pub returns-in-Some-clause-after : goal.returns-in-Some-clause-after
+returns-in-Some-clause-after g c = λ rows are e at.
+    let was = c.drop_under.ensures.kept rows are e at in
+    (was.0, c.in-Some.ensures e.1 (λ same. c.drop_under.ensures.gone e at (was.0 ∙ same)) rows was.1)

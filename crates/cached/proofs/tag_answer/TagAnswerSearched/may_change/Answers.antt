@@ -1,7 +1,7 @@
 use Rattle.std.proofs.Common.{subst, IfSome}
 use Rattle.cached.specs.TagAnswers.{IsApart}
 use Rattle.cached.proofs.TagLaws.{kept_right}
-use Rattle.cached.proofs.tag_answer.TagAnswerAnswer.may_change.Goals as goal
+use Rattle.cached.proofs.tag_answer.TagAnswerSearched.may_change.Goals as goal
 
 pub returns-in-Some : goal.returns-in-Some
 returns-in-Some c = λ apart rows right.
