@@ -59,8 +59,8 @@ KeepsSettled old new =
     (is_hosted : List ℕ → Bool) (file : List ℕ) (recorded since : List HubEvent) → Settled is_hosted file old recorded since → Settled is_hosted file new recorded since
 
 -- after one more event, which has changed nothing
-abbrev pub Takes : HubEvent → (List ℕ → Bool) → Turn → Turn → Type 0
-Takes event is_hosted old new =
+abbrev pub TakesEvent : HubEvent → (List ℕ → Bool) → Turn → Turn → Type 0
+TakesEvent event is_hosted old new =
     (file : List ℕ) (recorded since : List HubEvent) → Settled is_hosted file old recorded since → Settled is_hosted file new recorded (since ++ (event ∷ []))
 
 -- the line of an event comes ahead of the change that it makes
@@ -69,8 +69,8 @@ GoesAhead event is_hosted old new =
     (file : List ℕ) (recorded since : List HubEvent) → Settled is_hosted file old recorded since → Ahead is_hosted file new recorded since event
 
 -- that change is on record
-abbrev pub Changes : Turn → Turn → Type 0
-Changes old new =
+abbrev pub CountsChange : Turn → Turn → Type 0
+CountsChange old new =
     (is_hosted : List ℕ → Bool) (file : List ℕ) (recorded since : List HubEvent) (event : HubEvent) → Ahead is_hosted file old recorded since event
     → Settled is_hosted file new ((recorded ++ since) ++ (event ∷ [])) []
 
@@ -81,8 +81,8 @@ LeavesOut old new =
     → Settled is_hosted file new recorded since
 
 -- the first mark of a server or of a file
-abbrev pub Begins : Turn → Turn → Type 0
-Begins old new =
+abbrev pub BeginsWithMark : Turn → Turn → Type 0
+BeginsWithMark old new =
     (is_hosted : List ℕ → Bool) (file : List ℕ) (recorded : List HubEvent) → Opened is_hosted file old recorded → Settled is_hosted file new recorded []
 
 -- a tail is what those bytes end with

@@ -8,7 +8,7 @@ ghost use Rattle.journal.specs.declared.entry.Entry.TheVariants as said;
 ghost use Rattle.journal.specs.declared.entry.Entry.TheVariants.{Event, Taken};
 ghost use Rattle.journal.specs.Entries.{AreCounts, IsCount};
 ghost use Rattle.journal.specs.Journals.{AddsLine};
-ghost use Rattle.journal.specs.States.{AreSmall, KeepsSettled, Takes, GoesAhead, Changes, LeavesOut, Begins, Opens};
+ghost use Rattle.journal.specs.States.{AreSmall, KeepsSettled, TakesEvent, GoesAhead, CountsChange, LeavesOut, BeginsWithMark, Opens};
 
 use crate::pending::Pending;
 use crate::tail::Tail;
@@ -103,7 +103,7 @@ impl Turn {
     /// Adds the line of an event, which `line` loses.
     pub fn add_line(&mut self, line: &mut Pending) -> Mem<()>
         ensures takes { AreSmall self.old → self.old.has_changed ≡ false → OnOk result ((is_hosted : List ℕ → Bool) (event : HubEvent)
-            → AddsLine is_hosted (Event event) [] line.old.bytes.items → Takes event is_hosted self.old self.new) }
+            → AddsLine is_hosted (Event event) [] line.old.bytes.items → TakesEvent event is_hosted self.old self.new) }
         ensures ahead { AreSmall self.old → self.old.has_changed ≡ false → OnOk result ((is_hosted : List ℕ → Bool) (event : HubEvent)
             → AddsLine is_hosted (Event event) [] line.old.bytes.items → GoesAhead event is_hosted self.old self.new) }
         ensures kept { OnOk result (self.new.changes ≡ self.old.changes) }
@@ -115,7 +115,7 @@ impl Turn {
 
     /// The last event has changed records.
     pub fn count_change(&mut self)
-        ensures { AreSmall self.old → self.old.ready.bytes.items ≡ [] → Changes self.old self.new }
+        ensures { AreSmall self.old → self.old.ready.bytes.items ≡ [] → CountsChange self.old self.new }
     {
         self.changes = self.changes.saturating_add(1);
         self.has_changed = true;
@@ -123,7 +123,7 @@ impl Turn {
 
     /// A server begins, with those operators.
     pub fn begin_server(&mut self, operators: &str) -> Mem<()>
-        ensures begins { IsCount self.old.changes → list_any is_feed operators.now ≡ false → self.old.has_changed ≡ false → OnOk result (Begins self.old self.new) }
+        ensures begins { IsCount self.old.changes → list_any is_feed operators.now ≡ false → self.old.has_changed ≡ false → OnOk result (BeginsWithMark self.old self.new) }
         ensures line { IsCount self.old.changes → list_any is_feed operators.now ≡ false → OnOk result ((is_hosted : List ℕ → Bool)
             → AddsLine is_hosted (said.Begins self.old.changes operators.now) self.old.ready.bytes.items self.new.ready.bytes.items) }
         ensures kept { self.new.changes ≡ self.old.changes }
@@ -133,7 +133,7 @@ impl Turn {
 
     /// The next file of the server begins, the one of that number after its first.
     pub fn begin_file(&mut self, file: u64, operators: &str) -> Mem<()>
-        ensures begins { IsCount file → IsCount self.old.changes → list_any is_feed operators.now ≡ false → self.old.has_changed ≡ false → OnOk result (Begins self.old self.new) }
+        ensures begins { IsCount file → IsCount self.old.changes → list_any is_feed operators.now ≡ false → self.old.has_changed ≡ false → OnOk result (BeginsWithMark self.old self.new) }
         ensures line { IsCount file → IsCount self.old.changes → list_any is_feed operators.now ≡ false → OnOk result ((is_hosted : List ℕ → Bool)
             → AddsLine is_hosted (said.Continues file self.old.changes operators.now) self.old.ready.bytes.items self.new.ready.bytes.items) }
         ensures kept { self.new.changes ≡ self.old.changes }
