@@ -2,6 +2,7 @@
 
 use crate::reason::reason_of;
 use crate::recent::Recent;
+use memchr::memchr;
 use ocpp_types::{Mem, Text};
 use std::cell::RefCell;
 use std::io;
@@ -65,7 +66,7 @@ impl<'a, W: Write + Drop> BadLines<'a, W> {
                 rest = after;
                 continue;
             }
-            let Some(feed) = rest.iter().position(|byte| *byte == b'\n') else {
+            let Some(feed) = memchr(b'\n', rest) else {
                 return;
             };
             self.begin();

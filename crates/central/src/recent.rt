@@ -1,5 +1,6 @@
 //! The lines that a replay has read last.
 
+use memchr::{memchr, memchr_iter, memrchr};
 use std::alloc::Global;
 use std::cell::RefCell;
 use std::io;
@@ -12,6 +13,7 @@ const KEPT: usize = 1_048_576;
 /// What was read last, by lines.
 #[derive(Drop)]
 pub struct Recent {
+    alloc: Global,
     text: Vec<u8>,
     /// The number of the line with which the text begins, from 1. None where what is kept has no number any more.
     first: Option<u64>,
@@ -21,6 +23,7 @@ impl Recent {
     /// Nothing was read.
     pub fn new(alloc: Global) -> Recent {
         Recent {
+            alloc,
             text: Vec::new(alloc),
             first: Some(1),
         }
@@ -33,7 +36,7 @@ impl Recent {
         for _ in 0..before {
             rest = after_line(rest)?;
         }
-        let end = feed_in(rest).unwrap_or(rest.len());
+        let end = memchr(b'\n', rest).unwrap_or(rest.len());
         rest.get(..end)
     }
 
@@ -52,16 +55,20 @@ impl Recent {
     fn cut(&mut self) {
         let most = self.text.len().saturating_sub(KEPT);
         let front = self.text.get(..most).unwrap_or(&[]);
-        let Some(last) = front.iter().rposition(|byte| *byte == b'\n') else {
+        let Some(last) = memrchr(b'\n', front) else {
             self.lose();
             return;
         };
         let end = last.saturating_add(1);
-        let lines = front.iter().filter(|byte| **byte == b'\n').count();
+        let lines = memchr_iter(b'\n', front).count();
         self.first = self.first.map(|first| first.saturating_add(lines as u64));
-        let kept = self.text.len().saturating_sub(end);
-        self.text.rotate_left(end);
-        self.text.truncate(kept);
+        let mut kept = Vec::new(self.alloc);
+        let rest = self.text.get(end..).unwrap_or(&[]);
+        if kept.extend_from_slice(rest).is_err() {
+            self.lose();
+            return;
+        }
+        self.text = kept;
     }
 
     fn lose(&mut self) {
@@ -72,13 +79,8 @@ impl Recent {
 
 /// What follows the first line of a text, if it has a line feed.
 fn after_line(text: &[u8]) -> Option<&[u8]> {
-    let end = feed_in(text)?;
+    let end = memchr(b'\n', text)?;
     text.get(end.saturating_add(1)..)
-}
-
-/// Where the first line feed of a text is.
-fn feed_in(text: &[u8]) -> Option<usize> {
-    text.iter().position(|byte| *byte == b'\n')
 }
 
 /// A reader, and what it has given last.
