@@ -2,11 +2,12 @@
 of processor.
 
     python3 bench/unproved.py OUT
+    python3 bench/unproved.py OUT --without-checks
 
 `rt try` compiles the crates to bitcode, with a check at each access, and has clang translate that without optimising it.
 This takes the bitcode as clang begins, and translates it as that of proved crates is. So OUT has these checks, is slower
 than the program that is built of proved crates, and is covered by no proof: two that were made so are compared, and
-profiles are taken of one.
+profiles are taken of one. Without checks it is as fast as a proved one, and a wrong access in it does anything.
 """
 
 import glob
@@ -21,6 +22,9 @@ from pathlib import Path
 
 CENTRAL = Path(__file__).resolve().parent.parent / "crates" / "central"
 TARGET = "x86_64-unknown-linux-gnu"
+# the call of a check, in the text of bitcode, and the call before one that ends the program
+CHECK = 'call void @"rattle-llvm-checks::'
+TRAP = "call void @llvm.trap()"
 # as a program of proved crates is translated
 FLAGS = (
     f"--target={TARGET} -march=x86-64 -mllvm -no-trap-after-noreturn -ffunction-sections -fdata-sections "
@@ -61,6 +65,23 @@ def parent(process):
     return int((process / "stat").read_text().rsplit(")", 1)[1].split()[1])
 
 
+def without_checks(clang, bitcode, text):
+    """Writes the bitcode as text, without the calls of its checks: what a failed check led to is then unreachable."""
+    checked = f"{text}.checked"
+    as_text = [f"--target={TARGET}", "-x", "ir", bitcode, "-S", "-emit-llvm", "-O0", "-o", checked]
+    subprocess.run([*clang, *as_text], check=True)
+    with open(checked) as lines, open(text, "w") as kept:
+        last = ""
+        for line in lines:
+            if CHECK in line:
+                last = "" if TRAP in last else last
+                continue
+            kept.write(last)
+            last = line.replace(" sanitize_address", "") if line.startswith("attributes") else line
+        kept.write(last)
+    return text
+
+
 def main():
     out = os.path.abspath(sys.argv[1])
     tools = kit()
@@ -72,8 +93,10 @@ def main():
         shutil.copy(found, bitcode)
         for begun in (process.pid, caller):
             os.kill(begun, signal.SIGTERM)
-        clang = [f"{tools}/toolchain/bin/clang", f"--sysroot={tools}/toolchain", *FLAGS, bitcode, "-o", compiled]
-        subprocess.run(clang, check=True)
+        clang = [f"{tools}/toolchain/bin/clang", f"--sysroot={tools}/toolchain"]
+        if "--without-checks" in sys.argv[2:]:
+            bitcode = without_checks(clang, bitcode, f"{folder}/module.ll")
+        subprocess.run([*clang, *FLAGS, bitcode, "-o", compiled], check=True)
         libraries = [f"{tools}/c/libos_c.a", f"{tools}/c/liblibc_c.a"]
         link = [f"{tools}/bin/rattle-link", "--target", TARGET, "--toolchain", f"{tools}/toolchain", "-o", out]
         subprocess.run([*link, compiled, *libraries], check=True)
