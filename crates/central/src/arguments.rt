@@ -1,7 +1,6 @@
 //! The commands of the program, and their arguments.
 
 use crate::help;
-use crate::sim_command::sim_command;
 use clap::{Arg, ArgAction, Command, value_parser};
 use std::alloc::{AllocError, Global};
 
@@ -11,300 +10,450 @@ pub const VERSION: &str = "0.1.0";
 /// The words of `--log`.
 const LOGS: &[&str] = &["none", "errors", "connections"];
 
+/// The address to listen on, if nothing else is said.
+const ADDRESS: &str = "127.0.0.1";
+
 /// The most turns that `--turns` takes.
-const MAX_TURNS: i64 = 1_000_000;
+const MAX_TURNS: u32 = 1_000_000;
 
 /// The most connections of stations of an operator that can be said.
-const MAX_STATIONS: i64 = 1_000_000;
+const MAX_STATIONS: u32 = 1_000_000;
 
 /// The least rows of a listing that can be said.
-const MIN_LONGEST: i64 = 1_000;
+const MIN_LONGEST: u32 = 1_000;
 
 /// The most that can be said.
-const MAX_LONGEST: i64 = 1_000_000_000;
+const MAX_LONGEST: u32 = 1_000_000_000;
+
+/// The most sessions that `--sessions` takes.
+const MAX_SESSIONS: u32 = 1_000_000;
+
+/// The most stations that `--stations` takes: each has a descriptor, and a process mostly has 1,024.
+const MAX_FLEET: u32 = 1_000;
+
+const DB: &str = "The file with the records, made if there is none";
+const PORT: &str = "The port of the server on 127.0.0.1";
+
+/// A command.
+#[derive(Clone, Copy, Drop)]
+enum Named {
+    Replay,
+    Serve,
+    Sim,
+    Ask,
+    Forget,
+    Follow,
+}
+
+/// All commands, as the help lists them.
+const COMMANDS: &[Named] = &[
+    Named::Replay,
+    Named::Serve,
+    Named::Sim,
+    Named::Ask,
+    Named::Forget,
+    Named::Follow,
+];
+
+/// What an argument takes.
+#[derive(Clone, Copy, Drop)]
+enum Takes {
+    /// Nothing: it is there or not.
+    Nothing,
+    /// A text as it is given, which may begin with a hyphen.
+    Text,
+    /// A text that doesn't begin with a hyphen.
+    Word,
+    /// The same, without the name of the argument before it.
+    Place,
+    /// A number from the first to the last.
+    Number(u32, u32),
+    Port,
+    Address,
+    /// A word of `LOGS`.
+    Log,
+}
+
+/// An argument of a command.
+#[derive(Clone, Copy, Drop)]
+struct Argument {
+    name: &'static str,
+    /// What stands for its value in the help.
+    value: &'static str,
+    takes: Takes,
+    is_required: bool,
+    help: &'static str,
+}
+
+/// One that is there or not.
+fn flag(name: &'static str, help: &'static str) -> Argument {
+    optional(name, "", Takes::Nothing, help)
+}
+
+/// One that may be left out.
+fn optional(
+    name: &'static str,
+    value: &'static str,
+    takes: Takes,
+    help: &'static str,
+) -> Argument {
+    Argument {
+        name,
+        value,
+        takes,
+        is_required: false,
+        help,
+    }
+}
+
+/// One that has to be given.
+fn required(
+    name: &'static str,
+    value: &'static str,
+    takes: Takes,
+    help: &'static str,
+) -> Argument {
+    Argument {
+        name,
+        value,
+        takes,
+        is_required: true,
+        help,
+    }
+}
+
+fn port(help: &'static str) -> Argument {
+    required("port", "P", Takes::Port, help)
+}
+
+fn operators() -> Argument {
+    required(
+        "operators",
+        "A,B",
+        Takes::Text,
+        "The operators that are hosted, parted by commas",
+    )
+}
+
+fn operator(help: &'static str) -> Argument {
+    required("operator", "OP", Takes::Text, help)
+}
+
+fn accept_loss() -> Argument {
+    flag(
+        "accept-loss",
+        "Takes a file that lacks changes which were synced, as FILE-count says",
+    )
+}
+
+fn page_sums() -> Argument {
+    flag(
+        "page-sums",
+        "Ends each page of a new file in a sum, so that a start finds changed bits; sqlite3 may then not write into it",
+    )
+}
 
 /// All commands.
 pub fn central<'a>(alloc: Global) -> Result<Command<'a>, AllocError> {
-    let central = Command::new(alloc, "central")
+    let mut central = Command::new(alloc, "central")
         .version(VERSION)
         .about("A central system for charging stations of several operators (OCPP 1.6 JSON)")
         .after_help(help::CENTRAL)
         .subcommand_required(true);
-    let central = with(central, replay_command(alloc))?;
-    let central = with(central, serve_command(alloc))?;
-    let central = with(central, sim_command(alloc))?;
-    let central = with(central, ask_command(alloc))?;
-    let central = with(central, forget_command(alloc))?;
-    with(central, follow_command(alloc))
+    for named in COMMANDS {
+        central = central.subcommand(command_of(alloc, *named)?)?;
+    }
+    Ok(central)
 }
 
-fn with<'a>(
-    central: Command<'a>,
-    command: Result<Command<'a>, AllocError>,
+fn command_of<'a>(alloc: Global, named: Named) -> Result<Command<'a>, AllocError> {
+    match named {
+        Named::Replay => replay_command(alloc),
+        Named::Serve => serve_command(alloc),
+        Named::Sim => sim_command(alloc),
+        Named::Ask => ask_command(alloc),
+        Named::Forget => forget_command(alloc),
+        Named::Follow => follow_command(alloc),
+    }
+}
+
+/// A command with these arguments.
+fn command<'a>(
+    alloc: Global,
+    name: &'static str,
+    about: &'static str,
+    after_help: &'static str,
+    arguments: &[Argument],
 ) -> Result<Command<'a>, AllocError> {
-    central.subcommand(command?)
+    let mut command = Command::new(alloc, name)
+        .about(about)
+        .after_help(after_help);
+    for argument in arguments {
+        command = command.arg(arg_of(alloc, argument))?;
+    }
+    Ok(command)
+}
+
+fn arg_of<'a>(alloc: Global, argument: &Argument) -> Arg<'a> {
+    let arg = Arg::new(alloc, argument.name)
+        .help(argument.help)
+        .required(argument.is_required);
+    match argument.takes {
+        Takes::Nothing => arg.long(argument.name).action(ArgAction::SetTrue),
+        Takes::Place => arg.value_name(argument.value),
+        takes => taking(
+            arg.long(argument.name).value_name(argument.value),
+            takes,
+        ),
+    }
+}
+
+/// An argument with what it takes.
+fn taking<'a>(arg: Arg<'a>, takes: Takes) -> Arg<'a> {
+    match takes {
+        Takes::Text => arg.allow_hyphen_values(true),
+        Takes::Number(first, last) => {
+            let range = i64::from(first)..=i64::from(last);
+            arg.value_parser(value_parser!(u32).range(range))
+        }
+        Takes::Port => arg.value_parser(value_parser!(u16).range(1..)),
+        Takes::Address => arg.default_value(ADDRESS),
+        Takes::Log => arg.value_parser(LOGS),
+        Takes::Nothing | Takes::Word | Takes::Place => arg,
+    }
 }
 
 fn replay_command<'a>(alloc: Global) -> Result<Command<'a>, AllocError> {
-    Command::new(alloc, "replay")
-        .about("Reads lines of events from standard input and writes what the hub answers")
-        .after_help(help::REPLAY)
-        .arg(operators_arg(alloc))?
-        .arg(db_arg(
-            alloc,
-            "The file with the records, made if there is none; else they are in memory",
-        ))?
-        .arg(accept_loss_arg(alloc))?
-        .arg(page_sums_arg(alloc))?
-        .arg(strict_arg(alloc))
-}
-
-/// A bad line is told by the status.
-fn strict_arg<'a>(alloc: Global) -> Arg<'a> {
-    Arg::new(alloc, "strict")
-        .long("strict")
-        .help("Ends with status 3 where a line was bad")
-        .action(ArgAction::SetTrue)
+    command(
+        alloc,
+        "replay",
+        "Reads lines of events from standard input and writes what the hub answers",
+        help::REPLAY,
+        &[
+            operators(),
+            optional(
+                "db",
+                "FILE",
+                Takes::Text,
+                "The file with the records, made if there is none; else they are in memory",
+            ),
+            accept_loss(),
+            page_sums(),
+            flag("strict", "Ends with status 3 where a line was bad"),
+        ],
+    )
 }
 
 fn serve_command<'a>(alloc: Global) -> Result<Command<'a>, AllocError> {
-    Command::new(alloc, "serve")
-        .about("Serves stations and operators over WebSocket")
-        .after_help(help::SERVE)
-        .arg(port_arg(alloc, "The port to listen on, from 1 to 65535"))?
-        .arg(bind_arg(alloc))?
-        .arg(db_arg(alloc, "The file with the records, made if there is none").required(true))?
-        .arg(accept_loss_arg(alloc))?
-        .arg(page_sums_arg(alloc))?
-        .arg(operators_arg(alloc))?
-        .arg(origin_arg(alloc))?
-        .arg(most_stations_arg(alloc))?
-        .arg(longest_arg(alloc))?
-        .arg(turns_arg(alloc))?
-        .arg(stop_file_arg(alloc))?
-        .arg(journal_arg(
-            alloc,
-            "Appends each event that is taken to this file, before anybody is told of it",
-        ))?
-        .arg(journal_sync_arg(alloc))?
-        .arg(journal_size_arg(alloc))?
-        .arg(follow_arg(alloc))?
-        .arg(log_arg(alloc))
+    command(
+        alloc,
+        "serve",
+        "Serves stations and operators over WebSocket",
+        help::SERVE,
+        &[
+            port("The port to listen on, from 1 to 65535"),
+            optional(
+                "bind",
+                "ADDRESS",
+                Takes::Address,
+                "The IP address to listen on. Nobody is authenticated, so one that other machines reach has to stand behind a proxy that does",
+            ),
+            required("db", "FILE", Takes::Text, DB),
+            accept_loss(),
+            page_sums(),
+            operators(),
+            optional(
+                "origin",
+                "ORIGINS",
+                Takes::Text,
+                "The origins whose pages are served in a browser, parted by commas, as https://console.example or null; else none is",
+            ),
+            most_stations(),
+            longest(),
+            turns(),
+            stop_file(),
+            optional(
+                "journal",
+                "FILE",
+                Takes::Text,
+                "Appends each event that is taken to this file, before anybody is told of it",
+            ),
+            flag(
+                "journal-sync",
+                "Syncs the journal, so that it outlasts a power cut as the records do",
+            ),
+            journal_size(),
+            follow(),
+            log(),
+        ],
+    )
 }
 
-/// The file of a journal.
-fn journal_arg<'a>(alloc: Global, help: &'a str) -> Arg<'a> {
-    Arg::new(alloc, "journal")
-        .long("journal")
-        .value_name("FILE")
-        .help(help)
-        .allow_hyphen_values(true)
+fn most_stations() -> Argument {
+    optional(
+        "connections-per-operator",
+        "N",
+        Takes::Number(1, MAX_STATIONS),
+        "The most connections of stations that an operator has at once, 10000 if it isn't given",
+    )
 }
 
-/// Whether a journal is synced.
-fn journal_sync_arg<'a>(alloc: Global) -> Arg<'a> {
-    Arg::new(alloc, "journal-sync")
-        .long("journal-sync")
-        .help("Syncs the journal, so that it outlasts a power cut as the records do")
-        .action(ArgAction::SetTrue)
+fn longest() -> Argument {
+    optional(
+        "longest-listing",
+        "N",
+        Takes::Number(MIN_LONGEST, MAX_LONGEST),
+        "The most rows of a listing, of which a reading counts as two; 250000 if it isn't given",
+    )
 }
 
-/// With how many bytes a journal goes on in the next file.
-fn journal_size_arg<'a>(alloc: Global) -> Arg<'a> {
-    Arg::new(alloc, "journal-size")
-        .long("journal-size")
-        .value_name("BYTES")
-        .help(
-            "Begins the next file of the journal where it has so many bytes; the one before keeps the moment behind its name",
-        )
-        .value_parser(value_parser!(u32).range(1..))
+fn turns() -> Argument {
+    optional(
+        "turns",
+        "N",
+        Takes::Number(0, MAX_TURNS),
+        "Ends after N turns, up to 1000000, without waiting; else serves until it is ended",
+    )
 }
 
-/// The journal that is followed first.
-fn follow_arg<'a>(alloc: Global) -> Arg<'a> {
-    Arg::new(alloc, "follow")
-        .long("follow")
-        .value_name("FILE")
-        .help(
-            "Follows the journal of another server to its end first, - for standard input, and then serves",
-        )
-        .allow_hyphen_values(true)
+fn stop_file() -> Argument {
+    optional(
+        "stop-file",
+        "PATH",
+        Takes::Text,
+        "Ends as a file of that name appears, after what was taken is answered, and removes it; one that is there at the start is removed first",
+    )
 }
 
-fn follow_command<'a>(alloc: Global) -> Result<Command<'a>, AllocError> {
-    Command::new(alloc, "follow")
-        .about("Follows the journal of a server to its end, over records of its own")
-        .after_help(help::FOLLOW)
-        .arg(db_arg(alloc, "The file with the records, made if there is none").required(true))?
-        .arg(journal_arg(alloc, "The journal, - for standard input").required(true))?
-        .arg(operators_arg(alloc))?
-        .arg(accept_loss_arg(alloc))?
-        .arg(page_sums_arg(alloc))
+fn journal_size() -> Argument {
+    optional(
+        "journal-size",
+        "BYTES",
+        Takes::Number(1, u32::MAX),
+        "Begins the next file of the journal where it has so many bytes; the one before keeps the moment behind its name",
+    )
 }
 
-/// The address to listen on.
-fn bind_arg<'a>(alloc: Global) -> Arg<'a> {
-    Arg::new(alloc, "bind")
-        .long("bind")
-        .value_name("ADDRESS")
-        .help(
-            "The IP address to listen on. Nobody is authenticated, so one that other machines reach has to stand behind a proxy that does",
-        )
-        .default_value("127.0.0.1")
+fn follow() -> Argument {
+    optional(
+        "follow",
+        "FILE",
+        Takes::Text,
+        "Follows the journal of another server to its end first, - for standard input, and then serves",
+    )
 }
 
-/// How many turns are made.
-fn turns_arg<'a>(alloc: Global) -> Arg<'a> {
-    Arg::new(alloc, "turns")
-        .long("turns")
-        .value_name("N")
-        .help("Ends after N turns, up to 1000000, without waiting; else serves until it is ended")
-        .value_parser(value_parser!(u32).range(..=MAX_TURNS))
+fn log() -> Argument {
+    optional(
+        "log",
+        "LEVEL",
+        Takes::Log,
+        "What is written to standard error: faults alone, what went wrong, or each connection too",
+    )
 }
 
-/// The most connections of stations that an operator has.
-fn most_stations_arg<'a>(alloc: Global) -> Arg<'a> {
-    Arg::new(alloc, "connections-per-operator")
-        .long("connections-per-operator")
-        .value_name("N")
-        .help(
-            "The most connections of stations that an operator has at once, 10000 if it isn't given",
-        )
-        .value_parser(value_parser!(u32).range(1..=MAX_STATIONS))
-}
-
-/// The most rows of a listing.
-fn longest_arg<'a>(alloc: Global) -> Arg<'a> {
-    Arg::new(alloc, "longest-listing")
-        .long("longest-listing")
-        .value_name("N")
-        .help(
-            "The most rows of a listing, of which a reading counts as two; 250000 if it isn't given",
-        )
-        .value_parser(value_parser!(u32).range(MIN_LONGEST..=MAX_LONGEST))
-}
-
-/// The file that ends the server.
-fn stop_file_arg<'a>(alloc: Global) -> Arg<'a> {
-    Arg::new(alloc, "stop-file")
-        .long("stop-file")
-        .value_name("PATH")
-        .help(
-            "Ends as a file of that name appears, after what was taken is answered, and removes it; one that is there at the start is removed first",
-        )
-        .allow_hyphen_values(true)
-}
-
-/// What is written to standard error.
-fn log_arg<'a>(alloc: Global) -> Arg<'a> {
-    Arg::new(alloc, "log")
-        .long("log")
-        .value_name("LEVEL")
-        .help(
-            "What is written to standard error: faults alone, what went wrong, or each connection too",
-        )
-        .value_parser(LOGS)
-}
-
-/// The origins whose pages are served.
-fn origin_arg<'a>(alloc: Global) -> Arg<'a> {
-    Arg::new(alloc, "origin")
-        .long("origin")
-        .value_name("ORIGINS")
-        .help(
-            "The origins whose pages are served in a browser, parted by commas, as https://console.example or null; else none is",
-        )
-        .allow_hyphen_values(true)
+fn sim_command<'a>(alloc: Global) -> Result<Command<'a>, AllocError> {
+    command(
+        alloc,
+        "sim",
+        "Runs charging sessions as a station, and prints each message",
+        help::SIM,
+        &[
+            port(PORT),
+            required(
+                "path",
+                "/ocpp/A/S",
+                Takes::Text,
+                "The path of the station: its operator and its name",
+            ),
+            optional(
+                "tag",
+                "TAG",
+                Takes::Text,
+                "The id tag of its own sessions, of up to 20 characters, SIM1 if it isn't given; with --stations the number of the station follows it",
+            ),
+            optional(
+                "sessions",
+                "N",
+                Takes::Number(0, MAX_SESSIONS),
+                "Runs N sessions of its own, up to 1000000, one after the other; 1 if it isn't given, and 0 with --stay",
+            ),
+            flag(
+                "stay",
+                "Stays connected after its own sessions, accepts a RemoteStartTransaction while no session runs and the RemoteStopTransaction of its transaction, and sends heartbeats at the interval in seconds that the boot is answered with",
+            ),
+            optional(
+                "stations",
+                "N",
+                Takes::Number(1, MAX_FLEET),
+                "Runs N stations side by side, from 1 to 1000, each named and with a tag that end in its number: /ocpp/ACME/CP gives CP1 with SIM1, CP2 with SIM2 and so on. Of more than one it prints how far they are, at most once a second, in place of the messages",
+            ),
+        ],
+    )
 }
 
 fn ask_command<'a>(alloc: Global) -> Result<Command<'a>, AllocError> {
-    let wait = Arg::new(alloc, "wait")
-        .long("wait")
-        .help("Follows the call of a command to its end")
-        .action(ArgAction::SetTrue);
-    let line = Arg::new(alloc, "line").value_name("LINE").help(
-        "The line to send; without it each line of standard input, one after the other",
-    );
-    Command::new(alloc, "ask")
-        .about("Sends lines as an operator, and prints what they are answered")
-        .after_help(help::ASK)
-        .arg(port_arg(alloc, "The port of the server on 127.0.0.1"))?
-        .arg(operator_arg(alloc, "The operator that asks"))?
-        .arg(wait)?
-        .arg(line)
+    command(
+        alloc,
+        "ask",
+        "Sends lines as an operator, and prints what they are answered",
+        help::ASK,
+        &[
+            port(PORT),
+            operator("The operator that asks"),
+            flag("wait", "Follows the call of a command to its end"),
+            optional(
+                "line",
+                "LINE",
+                Takes::Place,
+                "The line to send; without it each line of standard input, one after the other",
+            ),
+        ],
+    )
 }
 
 fn forget_command<'a>(alloc: Global) -> Result<Command<'a>, AllocError> {
-    let before = Arg::new(alloc, "before")
-        .long("before")
-        .value_name("DAYS")
-        .help("What is older than so many days goes, as 90d")
-        .required(true);
-    let export = Arg::new(alloc, "export")
-        .long("export")
-        .value_name("NAME")
-        .help(
-            "Writes what goes to NAME-transactions.csv and NAME-readings.csv before it goes, after what is there",
-        )
-        .allow_hyphen_values(true);
-    Command::new(alloc, "forget")
-        .about("Forgets the history of an operator's stations, and prints how many rows went")
-        .after_help(help::FORGET)
-        .arg(port_arg(alloc, "The port of the server on 127.0.0.1"))?
-        .arg(operator_arg(alloc, "The operator whose history goes"))?
-        .arg(before)?
-        .arg(export)
+    command(
+        alloc,
+        "forget",
+        "Forgets the history of an operator's stations, and prints how many rows went",
+        help::FORGET,
+        &[
+            port(PORT),
+            operator("The operator whose history goes"),
+            required(
+                "before",
+                "DAYS",
+                Takes::Word,
+                "What is older than so many days goes, as 90d",
+            ),
+            optional(
+                "export",
+                "NAME",
+                Takes::Text,
+                "Writes what goes to NAME-transactions.csv and NAME-readings.csv before it goes, after what is there",
+            ),
+        ],
+    )
 }
 
-/// An operator's name, which is taken as it is given.
-fn operator_arg<'a>(alloc: Global, help: &'a str) -> Arg<'a> {
-    Arg::new(alloc, "operator")
-        .long("operator")
-        .value_name("OP")
-        .help(help)
-        .allow_hyphen_values(true)
-        .required(true)
-}
-
-pub fn port_arg<'a>(alloc: Global, help: &'a str) -> Arg<'a> {
-    Arg::new(alloc, "port")
-        .long("port")
-        .value_name("P")
-        .help(help)
-        .value_parser(value_parser!(u16).range(1..))
-        .required(true)
-}
-
-/// The file of a database, a path that is taken as it is given.
-fn db_arg<'a>(alloc: Global, help: &'a str) -> Arg<'a> {
-    Arg::new(alloc, "db")
-        .long("db")
-        .value_name("FILE")
-        .help(help)
-        .allow_hyphen_values(true)
-}
-
-fn accept_loss_arg<'a>(alloc: Global) -> Arg<'a> {
-    Arg::new(alloc, "accept-loss")
-        .long("accept-loss")
-        .help("Takes a file that lacks changes which were synced, as FILE-count says")
-        .action(ArgAction::SetTrue)
-}
-
-fn page_sums_arg<'a>(alloc: Global) -> Arg<'a> {
-    Arg::new(alloc, "page-sums")
-        .long("page-sums")
-        .help(
-            "Ends each page of a new file in a sum, so that a start finds changed bits; sqlite3 may then not write into it",
-        )
-        .action(ArgAction::SetTrue)
-}
-
-fn operators_arg<'a>(alloc: Global) -> Arg<'a> {
-    Arg::new(alloc, "operators")
-        .long("operators")
-        .value_name("A,B")
-        .help("The operators that are hosted, parted by commas")
-        .allow_hyphen_values(true)
-        .required(true)
+fn follow_command<'a>(alloc: Global) -> Result<Command<'a>, AllocError> {
+    command(
+        alloc,
+        "follow",
+        "Follows the journal of a server to its end, over records of its own",
+        help::FOLLOW,
+        &[
+            required("db", "FILE", Takes::Text, DB),
+            required(
+                "journal",
+                "FILE",
+                Takes::Text,
+                "The journal, - for standard input",
+            ),
+            operators(),
+            accept_loss(),
+            page_sums(),
+        ],
+    )
 }

@@ -88,18 +88,31 @@ impl Page {
         labels: &[(&str, &str)],
         value: D,
     ) -> Mem<()> {
-        let mut shown = String::new(self.alloc);
-        for (label, of) in labels {
-            if !shown.is_empty() {
-                shown.push(',')?;
-            }
-            let pair = format!(in self.alloc; "{label}=\"{of}\"")?;
-            shown.push_str(pair.as_str())?;
-        }
+        let shown = shown_labels(self.alloc, labels)?;
         let line = format!(in self.alloc; "doxeguir_{name}{{{shown}}} {value}\n")?;
         self.text.push_str(line.as_str())?;
         Ok(())
     }
+}
+
+/// Labels as a sample shows them, parted by commas.
+fn shown_labels(alloc: Global, labels: &[(&str, &str)]) -> Mem<String> {
+    let mut shown = String::new(alloc);
+    for (label, of) in labels {
+        if !shown.is_empty() {
+            shown.push(',')?;
+        }
+        push_label(&mut shown, label, of)?;
+    }
+    Ok(shown)
+}
+
+fn push_label(shown: &mut String, label: &str, of: &str) -> Mem<()> {
+    shown.push_str(label)?;
+    shown.push_str("=\"")?;
+    shown.push_str(of)?;
+    shown.push('"')?;
+    Ok(())
 }
 
 /// The page. `connected` has what is counted of each operator, in their order.

@@ -4,6 +4,7 @@ pub mod RowLaws
 pub mod StationRowsLaws
 pub mod FromLaws
 pub mod GroupLaws
+pub mod OwnTagLaws
 pub mod RoomLaws
 pub mod DroppedLaws
 pub mod TripleLaws

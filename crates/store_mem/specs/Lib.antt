@@ -5,5 +5,6 @@ pub mod Lists
 pub mod Open
 pub mod Received
 pub mod Starts
+pub mod Tags
 pub mod TxOwners
 pub mod Uses

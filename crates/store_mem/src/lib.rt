@@ -11,6 +11,7 @@ mod groups;
 mod lists;
 mod mem_store;
 mod named_groups;
+mod near;
 mod numbers;
 mod open;
 mod readers;

@@ -9,11 +9,10 @@ use crate::copies::{copies, own_copies};
 use crate::granted::{granted, granted_tag};
 use crate::groups::rows_of_group;
 use crate::lists::Lists;
-use crate::named_groups::ANYWHERE;
 use crate::readers::reader_of;
 use crate::reservations::reserved_until;
 use crate::station_copies::{copies_of_station, local_list_of};
-use crate::stations::{place_of_station, registration_of};
+use crate::stations::{ANYWHERE, place_of_station, registration_of};
 use hub_rows::{
     Change, ConnectorRow, GrantRow, GrantedTag, History, Info, LocalList, Reader, ReaderRow,
     ReadingRow, Registration, ReportRow, ReservationId, ReservationRow, StartKey, StationRow,

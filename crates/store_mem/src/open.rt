@@ -12,7 +12,8 @@ ghost use Rattle.store_mem.specs.NamedGroups.{all_rows, AreGrouped, rows_at, Are
 ghost use Rattle.store_mem.specs.Open.{open_key, open_of, has_at, has_other, is_excepted, is_open_tx, tx_of, txs_of, AreOpens};
 
 use crate::copies::copy;
-use crate::named_groups::{ANYWHERE, NamedGroup, drop_if_empty, make_room_at, put_at};
+use crate::named_groups::{NamedGroup, drop_if_empty, make_room_at, put_at};
+use crate::near::Near;
 use crate::station_rows::row_of_number;
 use hub_rows::{Keyed, TxKey, TxRow, place_of_name};
 use ocpp_types::{Listed, Mem, TagKey, Text};
@@ -92,7 +93,7 @@ fn tx_of(groups: &[NamedGroup<TxRow>], op: &str, row: &OpenRow) -> Mem<Option<Tx
     requires { AreGrouped (λ r. r.op) (λ r. r.station) (λ r. r.number) groups.now }
     ensures { IfOk result (λ r. r ≡ tx_of op.now (all_rows groups.now) row.now) }
 {
-    match row_of_number(groups, ANYWHERE, op, row.station.as_str(), row.number) {
+    match row_of_number(groups, None, op, row.station.as_str(), row.number) {
         Some(tx) => Ok(Some(copy(tx)?)),
         None => Ok(None),
     }
@@ -109,10 +110,10 @@ fn is_left_out(row: &OpenRow, except: &Option<TxKey>) -> bool
     }
 }
 
-/// The key of a transaction's tag. The group of its station may be at the index `near`.
+/// The key of a transaction's tag. The group of its station is looked for first where `near` says.
 fn tag_of<'a>(
     groups: &'a [NamedGroup<TxRow>],
-    near: usize,
+    near: Option<&Near>,
     op: &str,
     station: &str,
     number: u32,
@@ -138,7 +139,7 @@ pub fn make_room_if(
     ensures room { OnOk result (counts ≡ true → HasRoomAt op.now key.now opens.new.items) }
 {
     if counts {
-        make_room_at(alloc, opens, ANYWHERE, op, key)
+        make_room_at(alloc, opens, None, op, key)
     } else {
         Ok(())
     }
@@ -161,16 +162,16 @@ pub fn put_counted(
         ≡ (if bytes_eq op.now b && (counts && bytes_eq key.now n) then put (by_key open_key) row (rows_at b n opens.old.items) else rows_at b n opens.old.items) }
 {
     if counts {
-        put_at(opens, ANYWHERE, op, key, row);
+        put_at(opens, None, op, key, row);
     }
 }
 
-/// Removes a transaction, which then is stopped, from those by which its tag is in use. The group of its station may be at
-/// the index `near`.
+/// Removes a transaction, which then is stopped, from those by which its tag is in use. The group of its station is looked
+/// for first where `near` says.
 pub fn close_tag(
     opens: &mut Vec<NamedGroup<OpenRow>>,
     groups: &[NamedGroup<TxRow>],
-    near: usize,
+    near: Option<&Near>,
     op: &str,
     station: &str,
     number: u32,

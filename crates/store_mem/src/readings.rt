@@ -9,6 +9,7 @@ ghost use Rattle.store_mem.specs.NamedGroups.{all_rows, AreGrouped};
 
 use crate::copies::copy;
 use crate::named_groups::NamedGroup;
+use crate::near::Near;
 use crate::station_rows::{append_rows, drop_numbers, last_number, rows_of};
 use hub_rows::{Reading, ReadingRow, is_sent_with};
 use ocpp_types::{Listed, Mem, Text};
@@ -20,8 +21,8 @@ pub struct Readings {
     alloc: Global,
     /// All of them, by their stations.
     pub rows: Vec<NamedGroup<ReadingRow>>,
-    /// The index at which a station's group is looked for first.
-    near: usize,
+    /// Where a station's group is looked for first.
+    near: Near,
     ghost by_station: { AreGrouped (λ r. r.op) (λ r. r.station) (λ r. r.number) rows.items } by { Prim.hlevel props },
 }
 
@@ -33,15 +34,15 @@ impl Readings {
         Readings {
             alloc,
             rows: Vec::new(alloc),
-            near: 0,
+            near: Near::new(alloc),
         }
     }
 
-    /// From now on a station's group is looked for at that index first.
+    /// From now on the station's row is at that index, by which its group is looked for.
     pub fn look_near(&mut self, near: usize)
         ensures { all_rows self.new.rows.items ≡ all_rows self.old.rows.items }
     {
-        self.near = near;
+        self.near.look(near);
     }
 
     /// Adds readings after those of their station, numbered from the first number on.
@@ -53,11 +54,12 @@ impl Readings {
         if readings.is_empty() {
             return Ok(());
         }
+        self.near.make_room(self.alloc);
         let rows = reading_rows(self.alloc, op, station, first, readings)?;
         append_rows(
             self.alloc,
             &mut self.rows,
-            self.near,
+            Some(&self.near),
             op.as_str(),
             station.as_str(),
             rows,
@@ -75,7 +77,7 @@ impl Readings {
     {
         sent_with(
             self.alloc,
-            rows_of(&self.rows, self.near, op, station),
+            rows_of(&self.rows, Some(&self.near), op, station),
             transaction,
         )
     }
@@ -84,7 +86,7 @@ impl Readings {
     pub fn rows_of(&self, op: &str, station: &str) -> &[ReadingRow]
         ensures { result.now ≡ readings_in op.now station.now None (all_rows self.now.rows.items) }
     {
-        rows_of(&self.rows, self.near, op, station)
+        rows_of(&self.rows, Some(&self.near), op, station)
     }
 
     /// Drops the readings of a station that have these numbers, which can't fail.
@@ -98,7 +100,7 @@ impl Readings {
     pub fn last_number(&self, op: &str, station: &str) -> u32
         ensures { result ≡ last_reading_in op.now station.now (all_rows self.now.rows.items) }
     {
-        last_number(rows_of(&self.rows, self.near, op, station))
+        last_number(rows_of(&self.rows, Some(&self.near), op, station))
     }
 }
 

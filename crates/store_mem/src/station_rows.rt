@@ -8,9 +8,10 @@ ghost use Rattle.hub_rows.specs.Keyed.{by_key, found, greatest, numbered_key, pu
 ghost use Rattle.hub_rows.specs.Places.{IsPlace};
 ghost use Rattle.store_mem.specs.NamedGroups.{all_rows, AreOf, AreGrouped, HasRoomAt};
 
-use crate::named_groups::{NamedGroup, rows_at};
+use crate::named_groups::{NamedGroup, place_at, rows_at};
+use crate::near::Near;
 use crate::numbers::{greatest, is_none_of};
-use hub_rows::{ReadingRow, TxOwnerRow, TxRow, place_near, place_of_name};
+use hub_rows::{ReadingRow, TxOwnerRow, TxRow, place_of_name};
 use ocpp_types::{Mem, Text};
 use std::alloc::{AllocError, Global};
 
@@ -95,10 +96,10 @@ impl NumberedRow for TxOwnerRow {
     }
 }
 
-/// The rows of a station, whose group may be at the index `near`.
+/// The rows of a station, whose group is looked for first where `near` says.
 pub fn rows_of<'a, R: NumberedRow>(
     groups: &'a [NamedGroup<R>],
-    near: usize,
+    near: Option<&Near>,
     op: &str,
     station: &str,
 ) -> &'a [R]
@@ -117,10 +118,10 @@ pub fn place_of_number<R: NumberedRow>(rows: &[R], number: u32) -> Result<usize,
     rows.binary_search_by(|row| row.number().cmp(&number))
 }
 
-/// The row of a number of a station, whose group may be at the index `near`.
+/// The row of a number of a station, whose group is looked for first where `near` says.
 pub fn row_of_number<'a, R: NumberedRow>(
     groups: &'a [NamedGroup<R>],
-    near: usize,
+    near: Option<&Near>,
     op: &str,
     station: &str,
     number: u32,
@@ -143,10 +144,10 @@ pub fn row_in<R: NumberedRow>(rows: &[R], number: u32) -> Option<&R>
     }
 }
 
-/// The rows of a station from a number on, by a binary search. Its group may be at the index `near`.
+/// The rows of a station from a number on, by a binary search. Its group is looked for first where `near` says.
 pub fn rows_from<'a, R: NumberedRow>(
     groups: &'a [NamedGroup<R>],
-    near: usize,
+    near: Option<&Near>,
     op: &str,
     station: &str,
     first: u32,
@@ -181,11 +182,11 @@ pub fn last_number<R: NumberedRow>(rows: &[R]) -> u32
     }
 }
 
-/// Adds rows of a station after those that it has. Its group may be at the index `near`.
+/// Adds rows of a station after those that it has. Its group is looked for first where `near` says.
 pub fn append_rows<R: NumberedRow>(
     alloc: Global,
     groups: &mut Vec<NamedGroup<R>>,
-    near: usize,
+    near: Option<&Near>,
     op: &str,
     station: &str,
     rows: Vec<R>,
@@ -197,7 +198,7 @@ pub fn append_rows<R: NumberedRow>(
     ensures ok { OnOk result (all_rows groups.new.items ≡ put_all (by_key (numbered_key R.op R.station R.number)) rows.items (all_rows groups.old.items)) }
     ensures err { OnErr result (all_rows groups.new.items ≡ all_rows groups.old.items) }
 {
-    match place_near(groups.as_slice(), near, op, station) {
+    match place_at(groups.as_slice(), near, op, station) {
         Ok(place) => extend_group(&mut groups[place], rows)?,
         Err(place) => {
             let group = NamedGroup {
@@ -247,16 +248,16 @@ fn drop_in_group<R: NumberedRow>(group: &mut NamedGroup<R>, numbers: &[u32])
     rows.retain(|row| is_none_of(numbers, last, row.number()));
 }
 
-/// Puts a row behind those of its station, whose group may be at the index `near`. There is room for it, so that it
-/// can't fail.
-pub fn put_last<R: NumberedRow>(groups: &mut Vec<NamedGroup<R>>, near: usize, row: R)
+/// Puts a row behind those of its station, whose group is looked for first where `near` says. There is room for it, so
+/// that it can't fail.
+pub fn put_last<R: NumberedRow>(groups: &mut Vec<NamedGroup<R>>, near: Option<&Near>, row: R)
     requires groups { AreGrouped R.op R.station R.number groups.old.items }
     requires room { HasRoomAt (R.op row) (R.station row) groups.old.items }
     requires behind { greatest (map R.number (those R.op (R.op row) (λ x. bytes_eq (R.station x) (R.station row)) (all_rows groups.old.items))) < R.number row }
     ensures groups { AreGrouped R.op R.station R.number groups.new.items }
     ensures rows { all_rows groups.new.items ≡ put (by_key (numbered_key R.op R.station R.number)) row (all_rows groups.old.items) }
 {
-    match place_near(groups.as_slice(), near, row.op(), row.station()) {
+    match place_at(groups.as_slice(), near, row.op(), row.station()) {
         Ok(place) => groups[place].rows.push_reserved(row),
         Err(_) => unreachable!(),
     }

@@ -9,6 +9,9 @@ ghost use Rattle.store_mem.specs.Stations.{station_after};
 use hub_rows::{Boot, Registration, StationRow, place_near, place_of_name, row_near};
 use ocpp_types::{Policy, State, Text};
 
+/// No index: nothing is known of where a station is.
+pub const ANYWHERE: usize = usize::MAX;
+
 /// The index of a station, which may be `near`, or else that to which it would go.
 pub fn place_of_station(stations: &[StationRow], near: usize, op: &str, station: &str) -> usize
     requires { IsStrictlySortedBy (by_key station_key) stations.now }

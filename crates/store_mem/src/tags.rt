@@ -1,15 +1,17 @@
 //! Id tags, kept in groups by their operators.
-ghost use Rattle.std.specs.Prelude.{◌≡◌, [], IfOk, OnOk, OnErr, option_map};
+ghost use Rattle.std.specs.Prelude.{◌≡◌, [], ◌∷◌, IfOk, OnOk, OnErr, option_map};
 ghost use Rattle.std.specs.List.Sorted.{IsStrictlySortedBy};
 ghost use Rattle.std.specs.Str.{bytes_eq};
 ghost use Rattle.std.proofs.Props.{props};
 ghost use Rattle.hub_rows.specs.Keyed.{by_key, own, put, without};
-ghost use Rattle.hub_rows.specs.Rows.{tag_key};
-ghost use Rattle.hub_rows.specs.Tags.{own_tag_in, tag_in, is_blocked, is_parent_blocked};
+ghost use Rattle.hub_rows.specs.Places.{IsPlace};
+ghost use Rattle.hub_rows.specs.Rows.{tag_key, tag_rest};
+ghost use Rattle.hub_rows.specs.Tags.{own_tag_in, effective_tag, is_blocked, is_parent_blocked};
 ghost use Rattle.store_mem.specs.Groups.{all_of, AreGroups};
+ghost use Rattle.store_mem.specs.Tags.{row_of_key};
 
 use crate::groups::{Group, place_of_group, put_in_group, rows_of_group};
-use hub_rows::{Info, TagRow, remove_row, row_of};
+use hub_rows::{Info, TagRow, remove_row};
 use ocpp_types::{Mem, TagKey, Text, copied};
 use std::alloc::Global;
 
@@ -59,20 +61,20 @@ impl Tags {
     pub fn own_tag(&self, op: &str, key: &TagKey) -> Mem<Option<Info>>
         ensures { IfOk result (λ t. t ≡ own_tag_in op.now key.now (all_of self.now.groups.items)) }
     {
-        tag_among(self.alloc, rows_of_group(&self.groups, op), op, key)
+        tag_of_key(self.alloc, rows_of_group(&self.groups, op), key)
     }
 }
 
-/// The tag of a key as it counts, among those of its operator.
-fn tag_among(alloc: Global, tags: &[TagRow], op: &str, key: &TagKey) -> Mem<Option<Info>>
-    requires { IsStrictlySortedBy (by_key tag_key) tags.now }
-    ensures { IfOk result (λ t. t ≡ own_tag_in op.now key.now tags.now) }
+/// The tag of a key as it counts, among those of one operator.
+fn tag_of_key(alloc: Global, tags: &[TagRow], key: &TagKey) -> Mem<Option<Info>>
+    requires { IsStrictlySortedBy (by_key tag_rest) tags.now }
+    ensures { IfOk result (λ t. t ≡ effective_tag (λ k. row_of_key k tags.now) key.now) }
 {
-    let Some(row) = row_of(tags, op, key.as_str()) else {
+    let Some(row) = row_of_key(tags, key.as_str()) else {
         return Ok(None);
     };
     let tag = &row.tag;
-    let by_parent = is_parent_blocked(alloc, tags, op, &tag.parent)?;
+    let by_parent = has_blocked_parent(alloc, tags, &tag.parent)?;
     Ok(Some(Info {
         text: tag.text.clone()?,
         parent: copied(&tag.parent)?,
@@ -82,15 +84,35 @@ fn tag_among(alloc: Global, tags: &[TagRow], op: &str, key: &TagKey) -> Mem<Opti
     }))
 }
 
-fn is_parent_blocked(alloc: Global, tags: &[TagRow], op: &str, parent: &Option<Text>) -> Mem<bool>
-    requires { IsStrictlySortedBy (by_key tag_key) tags.now }
-    ensures { IfOk result (λ b. b ≡ is_parent_blocked (λ key. is_blocked (tag_in op.now key tags.now)) parent.now) }
+/// Whether a tag's parent is blocked, among the tags of one operator.
+fn has_blocked_parent(alloc: Global, tags: &[TagRow], parent: &Option<Text>) -> Mem<bool>
+    requires { IsStrictlySortedBy (by_key tag_rest) tags.now }
+    ensures { IfOk result (λ b. b ≡ is_parent_blocked (λ key. is_blocked (row_of_key key tags.now)) parent.now) }
 {
     let Some(parent) = parent else {
         return Ok(false);
     };
     let key = TagKey::of(alloc, parent.as_str())?;
-    Ok(is_blocked(row_of(tags, op, key.as_str())))
+    Ok(is_blocked(row_of_key(tags, key.as_str())))
+}
+
+/// The row of a key among those of one operator.
+fn row_of_key<'a>(tags: &'a [TagRow], key: &str) -> Option<&'a TagRow>
+    requires { IsStrictlySortedBy (by_key tag_rest) tags.now }
+    ensures { option_map (λ r. r.now) result ≡ row_of_key key.now tags.now }
+{
+    match place_of_key(tags, key) {
+        Ok(place) => Some(&tags[place]),
+        Err(_) => None,
+    }
+}
+
+/// The index of the row of a key among those of one operator, or else the index that it would go to, by a binary search.
+fn place_of_key(tags: &[TagRow], key: &str) -> Result<usize, usize>
+    requires { IsStrictlySortedBy (by_key tag_rest) tags.now }
+    ensures { IsPlace tag_rest (key.now ∷ []) tags.now result }
+{
+    tags.binary_search_by(|row| row.key.as_str().cmp(key))
 }
 
 fn is_blocked(row: Option<&TagRow>) -> bool

@@ -12,7 +12,8 @@ ghost use Rattle.store_mem.specs.NamedGroups.{all_rows, AreGrouped};
 ghost use Rattle.store_mem.specs.Open.{AreOpens};
 ghost use Rattle.store_mem.specs.Starts.{AreStarts};
 
-use crate::named_groups::{ANYWHERE, NamedGroup, make_room_at, put_at, rows_at};
+use crate::named_groups::{NamedGroup, make_room_at, put_at, rows_at};
+use crate::near::Near;
 use crate::open::{
     OpenRow, close, close_tag, has_at, has_other, make_room_if, open_of, put_counted, txs_of,
 };
@@ -35,8 +36,10 @@ pub struct Transactions {
     open_txs: Vec<NamedGroup<OpenRow>>,
     /// The starts of each station's, in the order of their times.
     starts: Vec<NamedGroup<StartRow>>,
-    /// The index at which a station's group is looked for first.
-    near: usize,
+    /// Where a station's group is looked for first among `rows`.
+    near: Near,
+    /// The same among `starts`.
+    near_starts: Near,
     ghost by_station: { AreGrouped (λ r. r.op) (λ r. r.station) (λ r. r.number) rows.items } by { Prim.hlevel props },
     ghost sorted: { IsStrictlySortedBy (by_key tx_key) (all_rows rows.items) } by { Prim.hlevel props },
     ghost in_use: { AreOpens counts (λ r. r.start.id.key) opens.items (all_rows rows.items) } by { Prim.hlevel props },
@@ -55,15 +58,17 @@ impl Transactions {
             opens: Vec::new(alloc),
             open_txs: Vec::new(alloc),
             starts: Vec::new(alloc),
-            near: 0,
+            near: Near::new(alloc),
+            near_starts: Near::new(alloc),
         }
     }
 
-    /// From now on a station's group is looked for at that index first.
+    /// From now on the station's row is at that index, by which its group is looked for.
     pub fn look_near(&mut self, near: usize)
         ensures { all_rows self.new.rows.items ≡ all_rows self.old.rows.items }
     {
-        self.near = near;
+        self.near.look(near);
+        self.near_starts.look(near);
     }
 
     /// Adds a transaction after those of its station.
@@ -77,17 +82,30 @@ impl Transactions {
         let open_row = open_of(&row)?;
         let used_row = open_of(&row)?;
         let counts = row.counts();
-        let near = self.near;
+        self.near.make_room(self.alloc);
+        self.near_starts.make_room(self.alloc);
         let (op, station) = (op.as_str(), station.as_str());
         let key = start.id.key.as_str();
-        make_room_at(self.alloc, &mut self.starts, near, op, station)?;
+        make_room_at(
+            self.alloc,
+            &mut self.starts,
+            Some(&self.near_starts),
+            op,
+            station,
+        )?;
         make_room_if(self.alloc, &mut self.opens, op, key, counts)?;
-        make_room_at(self.alloc, &mut self.open_txs, ANYWHERE, op, op)?;
-        make_room_at(self.alloc, &mut self.rows, near, op, station)?;
-        put_at(&mut self.starts, near, op, station, start_row);
+        make_room_at(self.alloc, &mut self.open_txs, None, op, op)?;
+        make_room_at(self.alloc, &mut self.rows, Some(&self.near), op, station)?;
+        put_at(
+            &mut self.starts,
+            Some(&self.near_starts),
+            op,
+            station,
+            start_row,
+        );
         put_counted(&mut self.opens, op, key, used_row, counts);
-        put_at(&mut self.open_txs, ANYWHERE, op, op, open_row);
-        put_last(&mut self.rows, near, row);
+        put_at(&mut self.open_txs, None, op, op, open_row);
+        put_last(&mut self.rows, Some(&self.near), row);
         Ok(())
     }
 
@@ -96,8 +114,15 @@ impl Transactions {
         ensures { all_rows self.new.rows.items ≡ changed (λ r. r.op) op.now (is_tx station.now number) (with_stop stop) (all_rows self.old.rows.items) }
     {
         close(&mut self.open_txs, op, op, station, number);
-        close_tag(&mut self.opens, &self.rows, self.near, op, station, number);
-        stop_tx(&mut self.rows, self.near, op, station, number, stop);
+        close_tag(
+            &mut self.opens,
+            &self.rows,
+            Some(&self.near),
+            op,
+            station,
+            number,
+        );
+        stop_tx(&mut self.rows, Some(&self.near), op, station, number, stop);
     }
 
     /// Drops the transactions of a station that have these numbers, all of which are stopped. It can't fail.
@@ -113,28 +138,31 @@ impl Transactions {
     pub fn is_used(&self, op: &str, key: &str, except: &Option<TxKey>) -> bool
         ensures { result ≡ is_used_in op.now key.now except.now (all_rows self.now.rows.items) }
     {
-        has_other(rows_at(&self.opens, ANYWHERE, op, key), except)
+        has_other(rows_at(&self.opens, None, op, key), except)
     }
 
     /// The number of the first transaction of a station with that start.
     pub fn same_start(&self, op: &str, station: &str, start: &StartKey) -> Option<u32>
         ensures { result ≡ same_start_in op.now station.now start.now (all_rows self.now.rows.items) }
     {
-        number_of(rows_at(&self.starts, self.near, op, station), start)
+        number_of(
+            rows_at(&self.starts, Some(&self.near_starts), op, station),
+            start,
+        )
     }
 
     /// Whether a transaction of a station is open.
     pub fn has_open(&self, op: &str, station: &str) -> bool
         ensures { result ≡ has_open_in op.now station.now (all_rows self.now.rows.items) }
     {
-        has_at(rows_at(&self.open_txs, ANYWHERE, op, op), station)
+        has_at(rows_at(&self.open_txs, None, op, op), station)
     }
 
     /// A transaction of a station, by its number.
     pub fn row(&self, op: &str, station: &str, number: u32) -> Option<&TxRow>
         ensures { option_map (λ r. r.now) result ≡ found (λ r. r.op) op.now (is_tx station.now number) (all_rows self.now.rows.items) }
     {
-        row_of_number(&self.rows, self.near, op, station, number)
+        row_of_number(&self.rows, Some(&self.near), op, station, number)
     }
 
     /// What rules ask of it.
@@ -148,7 +176,7 @@ impl Transactions {
     pub fn of_station(&self, op: &str, station: &str, first: u32) -> &[TxRow]
         ensures { result.now ≡ txs_from_in op.now station.now first (all_rows self.now.rows.items) }
     {
-        rows_from(&self.rows, self.near, op, station, first)
+        rows_from(&self.rows, Some(&self.near), op, station, first)
     }
 
     /// All transactions of a station.
@@ -156,14 +184,14 @@ impl Transactions {
         ensures rows { result.now ≡ txs_in op.now station.now (all_rows self.now.rows.items) }
         ensures sorted { IsStrictlySortedBy (by_key (number_key (λ r. r.number))) result.now }
     {
-        rows_of(&self.rows, self.near, op, station)
+        rows_of(&self.rows, Some(&self.near), op, station)
     }
 
     /// Copies of the open transactions of an operator.
     pub fn open_copies(&self, op: &str) -> Mem<Listed<TxRow>>
         ensures { IfOk result (λ l. l ≡ open_txs_in op.now (all_rows self.now.rows.items)) }
     {
-        let opens = rows_at(&self.open_txs, ANYWHERE, op, op);
+        let opens = rows_at(&self.open_txs, None, op, op);
         txs_of(self.alloc, &self.rows, op, opens)
     }
 
@@ -171,6 +199,6 @@ impl Transactions {
     pub fn last_number(&self, op: &str, station: &str) -> u32
         ensures { result ≡ last_tx_in op.now station.now (all_rows self.now.rows.items) }
     {
-        last_number(rows_of(&self.rows, self.near, op, station))
+        last_number(rows_of(&self.rows, Some(&self.near), op, station))
     }
 }

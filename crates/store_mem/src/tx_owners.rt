@@ -8,6 +8,7 @@ ghost use Rattle.store_mem.specs.NamedGroups.{all_rows, AreGrouped};
 ghost use Rattle.store_mem.specs.TxOwners.{owner_row, with_row, HasRoomFor, IsBehind};
 
 use crate::named_groups::{NamedGroup, make_room_at};
+use crate::near::Near;
 use crate::station_rows::{drop_numbers, put_last, row_of_number};
 use hub_rows::TxOwnerRow;
 use ocpp_types::{Mem, Text};
@@ -19,8 +20,8 @@ pub struct TxOwners {
     alloc: Global,
     /// All of them, by the stations of the transactions.
     pub rows: Vec<NamedGroup<TxOwnerRow>>,
-    /// The index at which a station's group is looked for first.
-    near: usize,
+    /// Where a station's group is looked for first.
+    near: Near,
     ghost by_station: { AreGrouped (λ r. r.op) (λ r. r.station) (λ r. r.number) rows.items } by { Prim.hlevel props },
 }
 
@@ -32,22 +33,22 @@ impl TxOwners {
         TxOwners {
             alloc,
             rows: Vec::new(alloc),
-            near: 0,
+            near: Near::new(alloc),
         }
     }
 
-    /// From now on a station's group is looked for at that index first.
+    /// From now on the station's row is at that index, by which its group is looked for.
     pub fn look_near(&mut self, near: usize)
         ensures { all_rows self.new.rows.items ≡ all_rows self.old.rows.items }
     {
-        self.near = near;
+        self.near.look(near);
     }
 
     /// The owner of a transaction's tag, if another operator granted it.
     pub fn owner(&self, op: &str, station: &str, number: u32) -> Option<&Text>
         ensures { option_map (λ o. o.now) result ≡ owner_in op.now station.now number (all_rows self.now.rows.items) }
     {
-        row_of_number(&self.rows, self.near, op, station, number).map(|row| &row.owner)
+        row_of_number(&self.rows, Some(&self.near), op, station, number).map(|row| &row.owner)
     }
 
     /// Makes room for a row, if there is one.
@@ -58,7 +59,8 @@ impl TxOwners {
         match row {
             Some(row) => {
                 let (op, station) = (row.op.as_str(), row.station.as_str());
-                make_room_at(self.alloc, &mut self.rows, self.near, op, station)
+                self.near.make_room(self.alloc);
+                make_room_at(self.alloc, &mut self.rows, Some(&self.near), op, station)
             }
             None => Ok(()),
         }
@@ -78,7 +80,7 @@ impl TxOwners {
         ensures { all_rows self.new.rows.items ≡ with_row row (all_rows self.old.rows.items) }
     {
         if let Some(row) = row {
-            put_last(&mut self.rows, self.near, row);
+            put_last(&mut self.rows, Some(&self.near), row);
         }
     }
 }

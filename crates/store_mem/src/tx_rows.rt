@@ -6,9 +6,10 @@ ghost use Rattle.hub_rows.specs.Keyed.{by_key, changed, number_key};
 ghost use Rattle.hub_rows.specs.Transactions.{is_tx};
 ghost use Rattle.store_mem.specs.NamedGroups.{all_rows, AreGrouped};
 
-use crate::named_groups::NamedGroup;
+use crate::named_groups::{NamedGroup, place_at};
+use crate::near::Near;
 use crate::station_rows::place_of_number;
-use hub_rows::{Start, Stop, TxRow, place_near};
+use hub_rows::{Start, Stop, TxRow};
 use ocpp_types::{Mem, Text};
 
 /// The record of a transaction that begins.
@@ -24,10 +25,10 @@ pub fn started(op: &Text, station: &Text, number: u32, start: &Start) -> Mem<TxR
     })
 }
 
-/// Stops a transaction, if it is there. The group of its station may be at the index `near`.
+/// Stops a transaction, if it is there. The group of its station is looked for first where `near` says.
 pub fn stop_tx(
     groups: &mut Vec<NamedGroup<TxRow>>,
-    near: usize,
+    near: Option<&Near>,
     op: &str,
     station: &str,
     number: u32,
@@ -38,7 +39,7 @@ pub fn stop_tx(
     ensures rows { all_rows groups.new.items
         ≡ changed (λ r. r.op) op.now (is_tx station.now number) (with_stop stop) (all_rows groups.old.items) }
 {
-    if let Ok(place) = place_near(groups.as_slice(), near, op, station) {
+    if let Ok(place) = place_at(groups.as_slice(), near, op, station) {
         stop_in_group(&mut groups[place], number, stop);
     }
 }
