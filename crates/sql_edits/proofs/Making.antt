@@ -1,5 +1,5 @@
 -- What a part of a transaction makes, and what a look-up inside it says, by the parts of which they consist.
-use Rattle.std.proofs.Common.{◌≡◌, ◌∙◌, ap, subst, sym, ◌∷◌, ℕ, List, [], Bool, Option, Result, Ok, Err, IfOk, IsErr, IsOk, IsTrue, OnOk, filter, find, map, refl}
+use Rattle.std.proofs.Common.{◌≡◌, ◌∙◌, ap, subst, sym, ◌∷◌, ℕ, List, [], Bool, Option, Result, Ok, Err, IfOk, IsErr, IsOk, IsTrue, OnOk, filter, find, map, refl, true, false, true≢false}
 use Rattle.sqlite_trees.specs.Tree.{Trees}
 use Rattle.sqlite_value.specs.Order.{Row, column}
 use Rattle.sqlite.specs.declared.error.Error.{Error}
@@ -9,6 +9,7 @@ use Rattle.sqlite.specs.State.{State}
 use Rattle.sqlite.specs.Store.{Ghosts}
 use Rattle.hub_rows.specs.Keyed.{first, greatest, put_all}
 use Rattle.hub_rows.specs.Rows.{Rows}
+use Rattle.hub_rows.specs.declared.store.StoreFault.{StoreFault}
 use Rattle.sql_rows.specs.Kept.{AsksInside, AsksInsideIn, Goes, Inside, IsInside, IsSame, Leaves, MakesIf, MakesIn, IsAny, IsPage, ShowsAnyInside, ShowsInside, ShowsLastInside, ShowsPageInside}
 use Rattle.sql_rows.specs.TypedTable.{TypedTable, cmp, rows_in}
 use Rattle.sql_rows.specs.TypedTables.{rows_of}
@@ -16,6 +17,7 @@ use Rattle.sql_rows.specs.Values.{count_in}
 use Rattle.sql_edits.specs.Moving.{IsAnyRow}
 use Rattle.sql_rows.proofs.Calls.{first_finds, last_finds}
 use Rattle.sql_rows.proofs.RowEdits.{goes_if}
+use Rattle.sql_rows.proofs.StoreLemmas.{AreSame, IfDone}
 use Rattle.sql_rows.proofs.TxLemmas.{goes_then, inside_self, leaves_then}
 
 if_ok : {A E : Type 0} {P Q : A → Type 0} (r : Result A E) → ((a : A) → P a → Q a) → IfOk r P → IfOk r Q
@@ -189,3 +191,14 @@ module _ {S : Type 0} {g : Ghosts S} where
         let first = (one.goes begins).ok in
         goes_err Both (state g a.conn.now) (state g c.conn.now) q failed (leaves_then (state g a.conn.now) (state g b.conn.now) (state g c.conn.now) first.leaves (two.goes first.within).err);
   }
+
+  -- a part that may make its edit, and made it
+  pub makes_done : {F : Type 0} (Edit : Trees → Trees → Type 0) (done : Bool) {old new : Transaction S} → MakesIn {E = StoreFault} g (IfDone Edit done) old new (Ok done) → done ≡ true → MakesIn {E = F} g Edit old new (Ok (tt {0}))
+  makes_done Edit true part is = makes_also part (λ inside up it. it)
+  makes_done Edit false part is = absurd (true≢false (sym is))
+
+  -- or else left each table as it was, and another part after it
+  pub makes_else : {B F : Type 0} {Two : Trees → Trees → Type 0} (Edit : Trees → Trees → Type 0) (done : Bool) {a b c : Transaction S} {r : Result B F} → MakesIn {E = StoreFault} g (IfDone Edit done) a b (Ok done) → done ≡ false → MakesIn g Two b c r
+      → (AreSame (state g a.conn.now).now.trees (state g b.conn.now).now.trees → Two (state g b.conn.now).now.trees (state g c.conn.now).now.trees → Edit (state g a.conn.now).now.trees (state g c.conn.now).now.trees) → MakesIn g Edit a c r
+  makes_else Edit true part is second joined = absurd (true≢false is)
+  makes_else Edit false part is second joined = makes_then part second (λ inside up same made. joined same made)

@@ -1,11 +1,12 @@
 //! Values as they are bound to the parameters of a statement.
-ghost use Rattle.std.specs.Prelude.{◌≡◌, ◌+◌, ◌<◌, ◌^◌, option_map, pos, IfOk, IfSome, IsErr, IsOk, OnErr, OnOk};
+ghost use Rattle.std.specs.Prelude.{◌≡◌, ◌+◌, ◌<◌, ◌^◌, option_map, pos, nat_lt, IfOk, IfSome, IsErr, IsOk, OnErr, OnOk};
 ghost use Rattle.ocpp_types.specs.TagKey.{key_of};
+ghost use Rattle.sql_rows.specs.Kept.{IsAdded, rows_changed};
 
 use hub_rows::StoreFault;
 use ocpp_types::{Mem, Moment, Named, TagKey, Text};
 use sql_rows::told;
-use sqlite::Error;
+use sqlite::{Error, ErrorCode};
 use std::alloc::Global;
 
 pub(crate) fn lent(text: &Option<Text>) -> Option<&str>
@@ -65,4 +66,25 @@ pub(crate) fn done(ran: Result<usize, Error>) -> Result<(), StoreFault>
     ensures err { OnErr result (IsErr ran) }
 {
     ran.map(|_| ()).map_err(|error| told(error))
+}
+
+/// Whether a statement changed rows, as a store tells it.
+pub(crate) fn changed_any(ran: Result<usize, Error>) -> Result<bool, StoreFault>
+    ensures ok { OnOk result (IsOk ran) }
+    ensures any { IfOk result (λ any. any ≡ nat_lt 0 (rows_changed ran)) }
+    ensures err { OnErr result (IsErr ran) }
+{
+    ran.map(|rows| rows > 0).map_err(|error| told(error))
+}
+
+/// Whether a row was added, which a constraint may refuse, as a store tells it.
+pub(crate) fn added(ran: Result<usize, Error>) -> Result<bool, StoreFault>
+    ensures ok { IfOk result (λ is_added. IsAdded is_added ran) }
+    ensures err { OnErr result (IsErr ran) }
+{
+    match ran {
+        Ok(_) => Ok(true),
+        Err(Error::SqliteFailure(ErrorCode::ConstraintViolation(_))) => Ok(false),
+        Err(error) => Err(told(error)),
+    }
 }

@@ -1,17 +1,44 @@
 //! Edits of id tags.
 ghost use Rattle.std.specs.Prelude.{◌≡◌, option_map};
-ghost use Rattle.sql_rows.specs.Kept.{Makes};
-ghost use Rattle.hub_rows.specs.Changes.{edit};
+ghost use Rattle.sql_rows.specs.Kept.{Makes, Ran};
+ghost use Rattle.sql_rows.specs.TypedTables.{tags};
+ghost use Rattle.hub_rows.specs.Changes.{edit, tag_row};
 ghost use Rattle.hub_rows.specs.declared.change.Edit.TheVariants.{Tags};
 ghost use Rattle.hub_rows.specs.declared.change.TagEdit.TheVariants.{TagPut, TagDropped};
 ghost use Rattle.ocpp_types.specs.TagKey.{key_of};
 
-use crate::binds::{done, key_if_any, lent, lent_key, seconds_if_any};
+use crate::binds::{added, done, key_if_any, lent, lent_key, seconds_if_any};
 use hub_rows::{StoreFault, Tag};
-use sqlite::{Alter, Transaction, params};
+use sqlite::{Alter, Error, Transaction, params};
 use std::alloc::Global;
 
-/// Puts the row of a tag, with the key of its parent.
+/// Runs a statement on the row of a tag, with the key of its parent.
+fn run_row<S: Alter>(
+    tx: &mut Transaction<'_, S>,
+    sql: &str,
+    op: &str,
+    key: &str,
+    tag: &Tag,
+    parent_key: Option<&str>,
+) -> Result<usize, Error>
+    requires { option_map (λ k. k.now) parent_key ≡ option_map key_of tag.now.parent }
+    ensures ran { Ran S.Store sql.now (tags.row (tag_row op.now key.now tag.now)) tx.old tx.new result }
+{
+    tx.execute(
+        sql,
+        params![
+            op,
+            key,
+            tag.text.as_str(),
+            lent(&tag.parent),
+            parent_key,
+            tag.blocked,
+            seconds_if_any(&tag.expiry)
+        ],
+    )
+}
+
+/// Puts the row of a tag, with the key of its parent. Most often none is there.
 fn put_row<S: Alter>(
     tx: &mut Transaction<'_, S>,
     op: &str,
@@ -22,18 +49,11 @@ fn put_row<S: Alter>(
     requires { option_map (λ k. k.now) parent_key ≡ option_map key_of tag.now.parent }
     ensures makes { Makes S.Store (edit op.now (Tags (TagPut key.now tag.now))) tx.old tx.new result }
 {
-    done(tx.execute(
-        sql_tables::tags::PUT,
-        params![
-            op,
-            key,
-            tag.text.as_str(),
-            lent(&tag.parent),
-            parent_key,
-            tag.blocked,
-            seconds_if_any(&tag.expiry)
-        ],
-    ))
+    if added(run_row(tx, sql_tables::tags::ADD, op, key, tag, parent_key))? {
+        Ok(())
+    } else {
+        done(run_row(tx, sql_tables::tags::PUT, op, key, tag, parent_key))
+    }
 }
 
 /// Drops a tag and its grants.

@@ -3,7 +3,7 @@ ghost use Rattle.std.specs.Prelude.{◌≡◌, ◌&&◌, None};
 ghost use Rattle.std.specs.Str.{bytes_eq};
 ghost use Rattle.hub_rows.specs.Keyed.{found, by_key, changed, put};
 ghost use Rattle.hub_rows.specs.Transactions.{is_tx, is_accepted};
-ghost use Rattle.sql_rows.specs.Kept.{AsksInside, Makes, ShowsInside};
+ghost use Rattle.sql_rows.specs.Kept.{AsksInside, Makes, Ran, ShowsInside};
 ghost use Rattle.sql_rows.specs.TypedTables.{txs};
 ghost use Rattle.hub_rows.specs.Changes.{edit, tx_row, with_stop};
 ghost use Rattle.hub_rows.specs.declared.change.Edit.TheVariants.{Transactions};
@@ -11,7 +11,7 @@ ghost use Rattle.hub_rows.specs.declared.change.TransactionEdit.TheVariants.{TxS
 ghost use Rattle.hub_rows.specs.Rows.{tx_key};
 ghost use Rattle.hub_rows.specs.Uses.{settled_use, with_use};
 
-use crate::binds::{done, lent, seconds};
+use crate::binds::{changed_any, done, lent, seconds};
 use crate::reservations::drop_named;
 use crate::uses::settle;
 use hub_rows::{Start, Stop, StoreFault, TxRow};
@@ -61,17 +61,18 @@ fn put_started<S: Alter>(
     ))
 }
 
-/// Puts a transaction that has ended.
-fn put_ended<S: Alter>(
+/// Runs a statement on a transaction that has ended.
+fn run_ended<S: Alter>(
     tx: &mut Transaction<'_, S>,
+    sql: &str,
     row: &TxRow,
     stop: &Stop,
-) -> Result<(), StoreFault>
-    ensures makes { Makes S.Store (λ rows. record rows { transactions = put (by_key tx_key) (with_stop stop.now row.now) rows.transactions }) tx.old tx.new result }
+) -> Result<usize, Error>
+    ensures ran { Ran S.Store sql.now (txs.row (with_stop stop.now row.now)) tx.old tx.new result }
 {
     let start = &row.start;
-    done(tx.execute(
-        sql_tables::txs::PUT,
+    tx.execute(
+        sql,
         params![
             row.op.as_str(),
             row.station.as_str(),
@@ -92,7 +93,22 @@ fn put_ended<S: Alter>(
             lent(&stop.tag),
             seconds(stop.moment)
         ],
-    ))
+    )
+}
+
+/// Puts a transaction that has ended, most often in place of one that is there.
+fn put_ended<S: Alter>(
+    tx: &mut Transaction<'_, S>,
+    row: &TxRow,
+    stop: &Stop,
+) -> Result<(), StoreFault>
+    ensures makes { Makes S.Store (λ rows. record rows { transactions = put (by_key tx_key) (with_stop stop.now row.now) rows.transactions }) tx.old tx.new result }
+{
+    if changed_any(run_ended(tx, sql_tables::txs::UPDATE, row, stop))? {
+        Ok(())
+    } else {
+        done(run_ended(tx, sql_tables::txs::PUT, row, stop))
+    }
 }
 
 fn find_inside<S: Alter>(

@@ -7,12 +7,14 @@ use Rattle.sqlite_trees.specs.Tree.{Trees}
 use Rattle.sqlite_schema.specs.declared.schema.Index.{Index}
 use Rattle.sqlite_schema.specs.declared.schema.Table.{Table}
 use Rattle.sqlite_rules.specs.Lists.{Has}
-use Rattle.sqlite_rules.proofs.ListLemmas.{all_has}
-use Rattle.hub_rows.specs.Keyed.{put_all}
+use Rattle.sqlite_rules.proofs.ListLemmas.{all_has, all_from}
+use Rattle.hub_rows.specs.Keyed.{put, put_all}
+use Rattle.hub_rows.specs.Rows.{Rows}
 use Rattle.sql_tables.specs.Tables.{hub_schema}
 use Rattle.sql_rows.specs.TypedTable.{TypedTable, cmp, typed, rows_in, Spares}
-use Rattle.sql_rows.specs.TypedTables.{metas}
-use Rattle.sql_rows.specs.Kept.{IsNumbered, our_meta}
+use Rattle.sql_rows.specs.TypedTables.{metas, rows_of}
+use Rattle.sql_rows.specs.Kept.{IsMade, IsNumbered, IsPutIn, our_meta}
+use Rattle.sql_rows.proofs.StoreLemmas.{AreSame}
 
 pub all_plain : AllByRecursion (λ (i : Index). i.order ≡ plain) hub_schema.indexes
 all_plain = (refl, (refl, (refl, (refl, (refl, (refl, (refl, (refl, (refl, (refl, (refl, (refl, (refl, (refl, (refl, (refl, (refl, (refl, (refl, (refl, tt))))))))))))))))))))
@@ -63,3 +65,20 @@ all_old ts trees old new same tree = elim (cases_Bool (list_any (λ n. n == tree
 -- the tables with other trees are as they were
 pub rest_is : (trees : List ℕ) (old new : Trees) → ((t : Table) → Has hub_schema.tables t → IsApart trees t.tree → new t.tree ≡ old t.tree) → with_new hub_schema.tables trees old new ≡ old
 rest_is trees old new same = λ i tree. all_old hub_schema.tables trees old new same tree i
+
+-- ---- where each table is as it was
+
+pub all_same : {T : Type 0} (s : TypedTable T) (old new : Trees) → Has hub_schema.tables s.table → AreSame old new → rows_in s new ≡ rows_in s old
+all_same s old new listed same = ap (λ l. put_all (cmp s) (map (typed s) l) []) (all_has (λ (t : Table). new t.tree ≡ old t.tree) hub_schema.tables s.table same listed)
+
+-- what is put later is put
+pub put_later : {T : Type 0} (s : TypedTable T) (t : T) (a b c : Trees) → Has hub_schema.tables s.table → AreSame a b → IsPutIn s t b c → IsPutIn s t a c
+put_later s t a b c listed same it = record {
+  rows = it.rows ∙ ap (put (cmp s) t) (all_same s a b listed same);
+  frame = all_from (λ (u : Table). (u.tree ≡ s.table.tree → ⊥) → c u.tree ≡ a u.tree) hub_schema.tables
+      (λ u there other. all_has (λ (u : Table). (u.tree ≡ s.table.tree → ⊥) → c u.tree ≡ b u.tree) hub_schema.tables u it.frame there other ∙ all_has (λ (u : Table). b u.tree ≡ a u.tree) hub_schema.tables u same there);
+}
+
+-- and what is made later is made
+pub made_later : (f : Rows → Rows) (a b c : Trees) → AreSame a b → IsMade f b c → IsMade f a c
+made_later f a b c same made = made ∙ ap (λ (db : Trees). f (rows_of db)) (rest_is [] a b (λ t listed apart. all_has (λ (u : Table). b u.tree ≡ a u.tree) hub_schema.tables t same listed))

@@ -4,6 +4,7 @@ pub mod TableLemmas
 pub mod TypedTableLemmas
 pub mod PutLemmas
 pub mod AddLemmas
+pub mod UpdateLemmas
 pub mod ReadLaws
 pub mod DropLemmas
 pub mod StoreLemmas

@@ -1,5 +1,5 @@
 -- hub_meta: its typed table, what it means to put a row there, and the count of changes that is found there.
-use Rattle.std.proofs.Common.{◌≡◌, ◌∙◌, ℕ, pos, codes, List, [], ◌∷◌, Bool, true, Some, find, Ordering, Less, Equal, Greater, ap, refl, subst, sym, inl, inr}
+use Rattle.std.proofs.Common.{◌≡◌, ◌∙◌, ℕ, nat_lt, pos, codes, List, [], ◌∷◌, Bool, true, Some, find, Ordering, Less, Equal, Greater, ap, refl, subst, sym, inl, inr}
 use Rattle.std.proofs.lemmas.Bool.{cases_Bool}
 use Rattle.std.specs.Ordering.{match_ordering}
 use Rattle.sqlite_rules.specs.Lists.{Has}
@@ -19,9 +19,9 @@ use Rattle.sql_rows.proofs.ReadLaws.{IsWhole}
 use Rattle.sql_tables.specs.declared.meta.TheConstants as sql_meta
 use Rattle.sql_tables.proofs.Texts as texts
 use Rattle.sql_rows.specs.Kept.{IsNumbered, IsPutIn, changes_in, changes_of, count_meta, is_count, our_meta}
-use Rattle.sql_rows.proofs.StoreLemmas.{Means}
+use Rattle.sql_rows.proofs.StoreLemmas.{IfDone, Means, MeansBy}
 use Rattle.sql_rows.proofs.MemberLaws.{has_new, put_spares}
-use Rattle.sql_rows.proofs.Writes.{puts_as}
+use Rattle.sql_rows.proofs.Writes.{puts_as, updates_as}
 use Rattle.sql_rows.proofs.Selects.{ReadsRows}
 use Rattle.sql_rows.proofs.Tests as tests
 use Rattle.sql_rows.proofs.HubTables.{all_plain, rest_is, spared}
@@ -68,9 +68,15 @@ puts_number = puts_as 0 metas on_metas sql_meta.PUT.now 1 put_metas texts.put_me
 -- ---- the count of changes
 
 -- the names of the two rows differ
+numbered_still : (n : ℕ) (old new : Trees) → IsPutIn metas (count_meta n) old new → IsNumbered old → IsNumbered new
+numbered_still n old new it numbered =
+    subst (λ l. Has l our_meta) (sym it.rows) (put_spares (cmp metas) (by_key_total metas.key) (count_meta n) (rows_in metas old) our_meta numbered (λ e. let clash : Greater ≡ Equal = e in cc))
+
 pub puts_count : (n : ℕ) → Means sql_meta.PUT.now (metas.row (count_meta n)) (IsPutIn metas (count_meta n))
-puts_count n = puts_as 0 metas on_metas sql_meta.PUT.now 1 put_metas texts.put_meta_is (count_meta n)
-    (λ old new it numbered. subst (λ l. Has l our_meta) (sym it.rows) (put_spares (cmp metas) (by_key_total metas.key) (count_meta n) (rows_in metas old) our_meta numbered (λ e. let clash : Greater ≡ Equal = e in cc)))
+puts_count n = puts_as 0 metas on_metas sql_meta.PUT.now 1 put_metas texts.put_meta_is (count_meta n) (numbered_still n)
+
+pub updates_count : (n : ℕ) → MeansBy sql_meta.UPDATE.now (metas.row (count_meta n)) (λ rows. IfDone (IsPutIn metas (count_meta n)) (nat_lt 0 rows))
+updates_count n = updates_as 0 metas on_metas sql_meta.UPDATE.now 1 (λ m u j. refl) texts.update_meta_is (count_meta n) (numbered_still n)
 
 -- a row that was put is found by a test that it passes, and of the others only one with its key
 find_put : {R : Type 0} (cmp : R → R → Ordering) (p : R → Bool) (r : R) (xs : List R) → p r ≡ true → ((x : R) → p x ≡ true → cmp r x ≡ Equal) → find p (put cmp r xs) ≡ Some r

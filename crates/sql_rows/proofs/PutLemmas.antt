@@ -25,6 +25,7 @@ use Rattle.sqlite_rules.specs.Lists.{Has}
 use Rattle.sqlite_rules.specs.Cast.{cast_row}
 use Rattle.sqlite_rules.specs.Keys.{AreConflicts, conflicts, aims, shares}
 use Rattle.sqlite_rules.specs.Edit.{Edit, edit_of, id_in, left_by, put_all, with_rowid, next_rowid, taken_by, are_fresh, Applies}
+use Rattle.sqlite_rules.specs.Action.{Writes}
 use Rattle.sqlite_rules.specs.Calls.{ids_of}
 use Rattle.sqlite_rules.proofs.ListLemmas.{all_has, some_has, some_from}
 use Rattle.sqlite_rules.proofs.TableLemmas.{has_put, put_has, put_all_has, put_all_keeps, put_all_adds}
@@ -188,8 +189,12 @@ module _ {T : Type 0} (schema : Schema) (good : ℕ → Row → Type 0) (at : �
           frame = subst (λ (d : Trees). Spares schema tree db d) (sym trees) (frame_in it.0 edit refl applied);
         }
 
+    some_long : (rows : List Row) (x : Row) → Has rows x → (length (map (λ z. cast_row s.table (drop 1 z)) rows) == 0) ≡ false
+    some_long [] x none = absurd none
+    some_long (y ∷ rows) x some = false_from_ne_true _ (λ e. let z : suc (length (map (λ z. cast_row s.table (drop 1 z)) rows)) ≡ 0 = eqb-true _ _ e in omega (arith, z))
+
     -- the row that is there with the key is written anew
-    module _ (m : ℕ) (form : IsPutForm s m) (r : Row) (there : Has (db tree) r) (tie : SameKey (row_in r there).1 t) (i : ℤ) where
+    module _ (r : Row) (there : Has (db tree) r) (tie : SameKey (row_in r there).1 t) where
       abbrev id : ℤ
       id = (row_in r there).0
 
@@ -199,27 +204,12 @@ module _ {T : Type 0} (schema : Schema) (good : ℕ → Row → Type 0) (at : �
       id_is : rowid r ≡ Int id
       id_is = ap rowid (row_in r there).2
 
-      abbrev read : Row
-      read = met s t (rowid r) i
+      -- its key, and the other columns of the new row
+      pub joined_is : take (length s.parts) (s.row was) ++ drop (length s.parts) (s.row t) ≡ s.row t
+      joined_is = ap (λ (l : Row). l ++ drop (length s.parts) (s.row t)) (typed_table.same_values schema good at s is was t tie) ∙ take-append-drop (length s.parts) (s.row t)
 
-      told_is : eval_all (put_project (length s.parts) m) (read ∷ r ∷ []) ≡ Int id ∷ Int id ∷ s.row t
-      told_is =
-          subst (λ (x : Row). eval_all (put_project (length s.parts) m) (read ∷ x ∷ []) ≡ Int id ∷ Int id ∷ s.row t) (sym (row_in r there).2)
-          (form.project t was (rowid r) i id ∙ ap (λ (l : Row). Int id ∷ Int id ∷ l) (ap (λ (l : Row). l ++ drop (length s.parts) (s.row t)) (typed_table.same_values schema good at s is was t tie) ∙ take-append-drop (length s.parts) (s.row t)))
-
-      module _ (rows : List Row) (answer : IsAnswer (put_query tree (length s.parts) m) (overlay db []) read rows) where
-        told_from : (x : Row) → Has rows x → x ≡ Int id ∷ Int id ∷ s.row t
-        told_from x h =
-            let y = query.rows_from (put_filter (length s.parts + m)) (put_project (length s.parts) m) [] (overlay db []) tree read rows answer x h in
-            let test : (equal Binary (column y.0 0) (rowid r) && true) ≡ true = sym (form.filter t (rowid r) i y.0) ∙ y.2 in
-            let same : y.0 ≡ r = tied_same (db tree) y.0 r (typed_table.table_in schema good at s is db kept) (subst (λ l. Has l y.0) (is.base db) y.1) there (tied_from (column y.0 0) (rowid r) (and_parts _ _ test).0) in
-            y.3 ∙ ap (λ (z : Row). eval_all (put_project (length s.parts) m) (read ∷ z ∷ [])) same ∙ told_is
-
-        told_has : Has rows (Int id ∷ Int id ∷ s.row t)
-        told_has =
-            subst (Has rows) told_is (query.rows_have (put_filter (length s.parts + m)) (put_project (length s.parts) m) [] (overlay db []) tree read rows answer r (subst (λ l. Has l r) (sym (is.base db)) there)
-            (form.filter t (rowid r) i r ∙ and_from _ _ (tied_to (rowid r) (rw id_is refl)) refl))
-
+      -- by the rows of a query, which are this row
+      module _ (rows : List Row) (told_from : (x : Row) → Has rows x → x ≡ Int id ∷ Int id ∷ s.row t) (told_has : Has rows (Int id ∷ Int id ∷ s.row t)) where
         gone_is : (j : ℤ) → Has (ids_of rows) j → j ≡ id
         gone_is j h = let x = has_mapped (λ (y : Row). id_in (rowid y)) rows j h in x.2 ∙ ap (λ (y : Row). id_in (rowid y)) (told_from x.0 x.1)
 
@@ -253,6 +243,36 @@ module _ {T : Type 0} (schema : Schema) (good : ℕ → Row → Type 0) (at : �
               frame = frame_in next edit refl applied;
             }
 
+        -- what the edit by them makes, which sets off nothing
+        pub writes_over : (next : Trees) → Writes schema Enforced db (edit_of db s.table (ids_of rows) Given 1 rows) (Ok next) → Puts schema s db next t
+        writes_over next written =
+            let edit = edit_of db s.table (ids_of rows) Given 1 rows in
+            let news : edit.news ≡ map (λ z. cast_row s.table (drop 1 z)) rows = given _ _ in
+            let some : (length edit.news == 0) ≡ false = subst (λ (l : List Row). (length l == 0) ≡ false) (sym news) (some_long rows _ told_has) in
+            put_over next (one_step schema Enforced db next edit (is.still (taken_by db edit) edit.news some) written)
+
+      module _ (m : ℕ) (form : IsPutForm s m) (i : ℤ) where
+        abbrev read : Row
+        read = met s t (rowid r) i
+
+        told_is : eval_all (put_project (length s.parts) m) (read ∷ r ∷ []) ≡ Int id ∷ Int id ∷ s.row t
+        told_is =
+            subst (λ (x : Row). eval_all (put_project (length s.parts) m) (read ∷ x ∷ []) ≡ Int id ∷ Int id ∷ s.row t) (sym (row_in r there).2)
+            (form.project t was (rowid r) i id ∙ ap (λ (l : Row). Int id ∷ Int id ∷ l) joined_is)
+
+        module _ (rows : List Row) (answer : IsAnswer (put_query tree (length s.parts) m) (overlay db []) read rows) where
+          told_from : (x : Row) → Has rows x → x ≡ Int id ∷ Int id ∷ s.row t
+          told_from x h =
+              let y = query.rows_from (put_filter (length s.parts + m)) (put_project (length s.parts) m) [] (overlay db []) tree read rows answer x h in
+              let test : (equal Binary (column y.0 0) (rowid r) && true) ≡ true = sym (form.filter t (rowid r) i y.0) ∙ y.2 in
+              let same : y.0 ≡ r = tied_same (db tree) y.0 r (typed_table.table_in schema good at s is db kept) (subst (λ l. Has l y.0) (is.base db) y.1) there (tied_from (column y.0 0) (rowid r) (and_parts _ _ test).0) in
+              y.3 ∙ ap (λ (z : Row). eval_all (put_project (length s.parts) m) (read ∷ z ∷ [])) same ∙ told_is
+
+          told_has : Has rows (Int id ∷ Int id ∷ s.row t)
+          told_has =
+              subst (Has rows) told_is (query.rows_have (put_filter (length s.parts + m)) (put_project (length s.parts) m) [] (overlay db []) tree read rows answer r (subst (λ l. Has l r) (sym (is.base db)) there)
+              (form.filter t (rowid r) i r ∙ and_from _ _ (tied_to (rowid r) (rw id_is refl)) refl))
+
     clears_means : (i : ℤ) (limit : Option ℕ) (one : Written) (found : List Row) → ((r : Row) (h : Has (db tree) r) → SameKey (row_in r h).1 t → ⊥) → Clears (task limit) Abort (Int i ∷ s.row t) db found (Ok one) → Puts schema s db one.trees t
     clears_means i limit one [] free h = put_in i limit one free h
     clears_means i limit one (x ∷ more) free h = put_in i limit one free h
@@ -269,16 +289,8 @@ module _ {T : Type 0} (schema : Schema) (good : ℕ → Row → Type 0) (at : �
           let rows = it.0 in
           let answer : IsAnswer (put_query tree (length s.parts) m) (overlay db []) (met s t (rowid r.0) i) rows =
           subst (λ (v : Row). IsAnswer (put_query tree (length s.parts) m) (overlay db []) (met s t (rowid v) i) rows) r.3 (it.1.answer Null) in
-          let some = told_has m form r.0 r.1 tie i rows answer in
-          let edit = edit_of db s.table (ids_of rows) Given 1 rows in
-          let news : edit.news ≡ map (λ z. cast_row s.table (drop 1 z)) rows = given _ _ in
-          let written : (length edit.news == 0) ≡ false = subst (λ (l : List Row). (length l == 0) ≡ false) (sym news) (some_long rows _ some) in
-          let applied = one_step schema Enforced db edited.0 edit (is.still (taken_by db edit) edit.news written) edited.1 in
-          subst (λ d. Puts schema s db d t) (sym (ap (λ (w : Written). w.trees) (same_value edited.2))) (put_over m form r.0 r.1 tie i rows answer edited.0 applied)
-        where
-          some_long : (rows : List Row) (x : Row) → Has rows x → (length (map (λ z. cast_row s.table (drop 1 z)) rows) == 0) ≡ false
-          some_long [] x none = absurd none
-          some_long (y ∷ rows) x some = false_from_ne_true _ (λ e. let z : suc (length (map (λ z. cast_row s.table (drop 1 z)) rows)) ≡ 0 = eqb-true _ _ e in omega (arith, z))
+          subst (λ d. Puts schema s db d t) (sym (ap (λ (w : Written). w.trees) (same_value edited.2)))
+          (writes_over r.0 r.1 tie rows (told_from r.0 r.1 tie m form i rows answer) (told_has r.0 r.1 tie m form i rows answer) edited.0 edited.1)
 
       tries_means : (new : Row) → new ≡ Int i ∷ s.row t → Tries (task limit) Abort (put_clause tree (length s.parts) m ∷ []) new db (Ok one) → Puts schema s db one.trees t
       tries_means new same (inl big) = absurd (let e = big.1 in cc)

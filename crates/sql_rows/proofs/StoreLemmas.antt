@@ -1,11 +1,12 @@
 -- What any read and any write leave, whatever its text.
-use Rattle.std.proofs.Common.{◌≡◌, ℕ, List, Bool, true, false, Option, Some, None, Ok, Err, Result, IsTrue, IsSome, IsOk, OnOk, refl, sym, ap, ◌∙◌, subst, inl, inr, true≢false, arith}
+use Rattle.std.proofs.Common.{◌≡◌, ℕ, List, Bool, true, false, Option, Some, None, Ok, Err, Result, IsTrue, IsSome, IsOk, OnOk, unwrap_or, refl, sym, ap, ◌∙◌, subst, inl, inr, true≢false, arith}
+use Rattle.std.specs.List.{AllByRecursion}
 use Rattle.sqlite_value.specs.Order.{Row}
 use Rattle.sqlite_trees.specs.Tree.{Trees}
 use Rattle.sqlite_trees.specs.View.{doubt}
 use Rattle.sqlite_schema.specs.Rules.{Obeys}
 use Rattle.sqlite_schema.specs.declared.command.Command.{Command}
-use Rattle.sqlite_schema.specs.declared.command.Command.TheVariants.{Insert, InsertOr, Delete}
+use Rattle.sqlite_schema.specs.declared.command.Command.TheVariants.{Insert, InsertOr, Update, Delete}
 use Rattle.sqlite_schema.specs.declared.command.Returning.{Returning}
 use Rattle.sqlite.specs.declared.error.Error.{Error}
 use Rattle.sqlite.specs.Effect.{Database, IsDatabase}
@@ -110,33 +111,61 @@ module _ (sql : List ℕ) (params : Row) (old new : State) where
 abbrev pub IsWriting : Command → Type 0
 IsWriting (Insert at from) = Unit {0}
 IsWriting (InsertOr at how from clauses) = Unit {0}
+IsWriting (Update at q) = Unit {0}
 IsWriting (Delete at q) = Unit {0}
 IsWriting _ = ⊥
 
 pub written_runs : (old new : State) (k : Command) (text : List ℕ) (params : Row) (count : ℕ) → IsWriting k → Runs old new None k text params count → Writes old new None k text params count
 written_runs old new (Insert at from) text params count w h = h
 written_runs old new (InsertOr at how from clauses) text params count w h = h
+written_runs old new (Update at q) text params count w h = h
 written_runs old new (Delete at q) text params count w h = h
 written_runs old new _ text params count w h = absurd w
 
--- what a text does to tables that are kept, for any statement that writes rows; the number of our schema stays
-pub record Means (sql : List ℕ) (params : Row) (Edit : Trees → Trees → Type 0) : Type 1 where
+-- what a text does to tables that are kept, by how many rows it changes, for any statement that writes rows; the number of our
+-- schema stays
+pub record MeansBy (sql : List ℕ) (params : Row) (Edit : ℕ → Trees → Trees → Type 0) : Type 1 where
   pub command : Command
   pub is : command_of (understood hub_schema sql) ≡ command
   pub plain : IsPlain (understood hub_schema sql)
   pub writes : IsWriting command
   pub does : (limit : Option ℕ) (st : State) (db : Database) (text : List ℕ) (tally : Tally) (after : Database) → db.schema ≡ hub_schema → AreTyped hub_schema hub_good db.trees → Obeys hub_schema db.trees
-      → Does limit (mode_of st) params db text None command (Ok (tally, after)) → (after.schema ≡ hub_schema) × AreTyped hub_schema hub_good after.trees × (Obeys hub_schema after.trees → Edit db.trees after.trees × (IsNumbered db.trees → IsNumbered after.trees))
+      → Does limit (mode_of st) params db text None command (Ok (tally, after))
+      → (after.schema ≡ hub_schema) × AreTyped hub_schema hub_good after.trees × (Obeys hub_schema after.trees → Edit (unwrap_or tally.rows 0) db.trees after.trees × (IsNumbered db.trees → IsNumbered after.trees))
 
--- the same, by what follows of its edit
-pub means_as : {sql : List ℕ} {params : Row} {E F : Trees → Trees → Type 0} → Means sql params E → ((old new : Trees) → E old new → F old new) → Means sql params F
-means_as m weaker = record {
+-- the same, however many rows it changes
+abbrev pub Means : List ℕ → Row → (Trees → Trees → Type 0) → Type 1
+Means sql params Edit = MeansBy sql params (λ _. Edit)
+
+-- by what follows of its edit
+pub means_by : {sql : List ℕ} {params : Row} {E F : ℕ → Trees → Trees → Type 0} → MeansBy sql params E → ((n : ℕ) (old new : Trees) → E n old new → F n old new) → MeansBy sql params F
+means_by m weaker = record {
   command = m.command;
   is = m.is;
   plain = m.plain;
   writes = m.writes;
-  does = λ limit st db text tally after has kept obeys h. let d = m.does limit st db text tally after has kept obeys h in (d.0, d.1, λ sound. let both = d.2 sound in (weaker _ _ both.0, both.1));
+  does = λ limit st db text tally after has kept obeys h.
+      let d = m.does limit st db text tally after has kept obeys h in (d.0, d.1, λ sound. let both = d.2 sound in (weaker (unwrap_or tally.rows 0) _ _ both.0, both.1));
 }
+
+pub means_as : {sql : List ℕ} {params : Row} {E F : Trees → Trees → Type 0} → Means sql params E → ((old new : Trees) → E old new → F old new) → Means sql params F
+means_as m weaker = means_by m (λ n old new. weaker old new)
+
+-- ---- an edit that may be done
+
+-- each table is as it was
+abbrev pub AreSame : Trees → Trees → Type 0
+AreSame old new = AllByRecursion (λ t. new t.tree ≡ old t.tree) hub_schema.tables
+
+-- the edit is made, or else each table is as it was
+abbrev pub IfDone : (Trees → Trees → Type 0) → Bool → Trees → Trees → Type 0
+IfDone Edit true = Edit
+IfDone Edit false = AreSame
+
+-- what follows of it
+pub if_done : (E F : Trees → Trees → Type 0) (done : Bool) (old new : Trees) → (E old new → F old new) → IfDone E done old new → IfDone F done old new
+if_done E F true old new weaker it = weaker it
+if_done E F false old new weaker same = same
 
 -- ---- calls one after the other that leave all as it was
 

@@ -26,7 +26,7 @@ use Rattle.sql_tables.proofs.Texts as texts
 use Rattle.sql_rows.specs.TypedTable.{rows_in, Spares}
 use Rattle.sql_rows.specs.Kept.{IsMade}
 use Rattle.sql_rows.proofs.StoreLemmas.{Means, means_as}
-use Rattle.sql_rows.proofs.Writes.{puts, drops}
+use Rattle.sql_rows.proofs.Writes.{adds, puts, drops}
 use Rattle.sql_rows.proofs.Selects.{ReadsRows}
 use Rattle.sql_rows.proofs.Tests as tests
 use Rattle.sql_rows.proofs.HubTables.{all_plain, rest_is, spared}
@@ -65,6 +65,9 @@ tags_made old new made rows frame = λ i. record (rows_of (rest_is (6 ∷ []) ol
 
 pub puts_tag : (r : TagRow) → Means sql_tags.PUT.now (tags.row r) (IsMade (λ rows. record rows { tags = put (by_key tag_key) r rows.tags }))
 puts_tag r = means_as (puts 3 tags on_tags sql_tags.PUT.now (λ e. cc) 5 put_tags texts.put_tag_is r) (λ old new h. tags_made old new _ h.rows h.frame)
+
+pub adds_tag : (r : TagRow) → Means sql_tags.ADD.now (tags.row r) (IsMade (λ rows. record rows { tags = put (by_key tag_key) r rows.tags }))
+adds_tag r = means_as (adds 3 tags on_tags sql_tags.ADD.now (λ e. cc) 5 put_tags texts.add_tag_is r) (λ old new h. tags_made old new _ h.rows h.frame)
 
 pub reads_tag : (op key : List ℕ) → ReadsRows sql_tags.FIND.now (Text op ∷ Text key ∷ Text key ∷ []) tags (λ r. bytes_eq r.op op && bytes_eq r.key key)
 reads_tag op key = record { at = 3; is = on_tags; wanted = where_is 0 (1 ∷ []) ++ range_is 1 2; project = cols 1 1 7; whole = whole_tags; order = by_column 2 ∷ []; names = names_of hub_tag; text = texts.find_tags_is; test = tests.one_tag op key }

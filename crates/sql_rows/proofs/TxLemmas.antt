@@ -1,16 +1,21 @@
 -- Transactions of any number of statements.
-use Rattle.std.proofs.Common.{◌≡◌, ◌≤◌, ℕ, List, [], true, false, Ok, Err, Result, IsTrue, IsOk, IsErr, OnOk, OnErr, IfErr, refl, sym, ap, ◌∙◌, subst, inl, inr, true≢false, arith}
+use Rattle.std.proofs.Common.{◌≡◌, ◌≤◌, ℕ, nat_lt, List, [], Bool, true, false, Ok, Err, Result, IsTrue, IsOk, IsErr, OnOk, OnErr, IfErr, refl, sym, ap, ◌∙◌, subst, inl, inr, true≢false, arith}
 use Rattle.std.proofs.lemmas.Bool.{cases_Bool}
 use Rattle.sqlite_value.specs.Order.{Row}
 use Rattle.sqlite_trees.specs.Tree.{Trees}
 use Rattle.sqlite_trees.specs.View.{doubt}
+use Rattle.sqlite_trees.specs.declared.error.StoreError.{StoreError}
+use Rattle.sqlite_trees.specs.declared.error.StoreError.TheVariants.{OutOfMemory, Io, Corrupt, Full, Broken, Unstorable}
+use Rattle.sqlite_schema.specs.declared.schema.Constraint.{Constraint}
+use Rattle.sqlite_schema.specs.declared.schema.Table.{Table}
 use Rattle.sqlite_schema.specs.Rules.{Obeys}
+use Rattle.sqlite_rules.proofs.ListLemmas.{all_from}
 use Rattle.sqlite.specs.declared.error.Error.{Error}
 use Rattle.sqlite.specs.declared.error.Error.TheVariants.{SqliteFailure}
-use Rattle.sqlite.specs.declared.error.ErrorCode.TheVariants.{TransactionState}
+use Rattle.sqlite.specs.declared.error.ErrorCode.TheVariants.{ConstraintViolation, TransactionState}
 use Rattle.sqlite.specs.declared.transaction.Transaction.{Transaction}
 use Rattle.sqlite.specs.Effect.{Database, IsDatabase}
-use Rattle.sqlite.specs.State.{State, HasCleanDisk, Survives, ExecutesInside, IsRolledBack, Shows, KeepsCounts}
+use Rattle.sqlite.specs.State.{State, HasCleanDisk, Survives, ExecutesIn, ExecutesInside, IsNotRun, IsRolledBack, IsUnchanged, Shows, KeepsCounts, shows_rows, store_error}
 use Rattle.sqlite.proofs.Callers.{runs_as}
 use Rattle.sqlite.proofs.StateLemmas.{survives_then}
 use Rattle.sqlite.specs.Held.{Held, state}
@@ -19,8 +24,8 @@ use Rattle.sqlite.specs.Store.{Ghosts}
 use Rattle.sql_tables.specs.Tables.{hub_schema}
 use Rattle.sql_rows.specs.TypedTables.{hub_good}
 use Rattle.sql_rows.specs.TypedTable.{AreTyped}
-use Rattle.sql_rows.specs.Kept.{IsNumbered, IsServing, IsAsBefore, Made, Changes, Within, IsInside, Leaves, Inside, Goes, MakesIn}
-use Rattle.sql_rows.proofs.StoreLemmas.{Means, serves_as, written_runs}
+use Rattle.sql_rows.specs.Kept.{IsNumbered, IsServing, IsAsBefore, Made, Changes, Within, IsInside, Leaves, Inside, Goes, IsAdded, MakesIn, Ran, rows_changed}
+use Rattle.sql_rows.proofs.StoreLemmas.{AreSame, IfDone, Means, MeansBy, serves_as, written_runs}
 
 pub leaves_then : (a b c : State) → Leaves a b → Leaves b c → Leaves a c
 leaves_then a b c p q = record {
@@ -49,22 +54,22 @@ inside_then F G H a b c joined p q = record {
   still = λ up clean. let before = q.leaves.survives.clean in q.still (p.still up (omega (arith, before, clean))) clean;
 }
 
-module _ {sql : List ℕ} {params : Row} {Edit : Trees → Trees → Type 0} (means : Means sql params Edit) where
+module _ {sql : List ℕ} {params : Row} {Edit : ℕ → Trees → Trees → Type 0} (means : MeansBy sql params Edit) where
   -- one statement of a transaction
   pub step : {H : Type 0} (state : H → State) (a b : H) (values : Row) (r : Result ℕ Error)
       → (HasCleanDisk (state b) → IsTrue (state a).in_transaction → ExecutesInside 0 sql values (state a) (state b) r)
       → ((state a).in_transaction ≡ false → (r ≡ Err (SqliteFailure TransactionState)) × (b ≡ a)) → Survives (state a) (state b) (λ _. ⊥) → values ≡ params → (IsTrue (state b).is_open → HasCleanDisk (state b)) → IsInside (state a)
-      → Goes Edit (state a) (state b) r
+      → Goes (Edit (rows_changed r)) (state a) (state b) r
   step state a b values r ran ended survives given clean h = elim (cases_Bool (state a).in_transaction) [
     | inl mode ↦ went r (λ c. subst (λ p. ExecutesInside 0 sql p (state a) (state b) r) given (ran c mode))
     | inr over ↦ let e = ended over in stays r e.0 e.1
   ]
     where
-      stays : (r : Result ℕ Error) → r ≡ Err (SqliteFailure TransactionState) → b ≡ a → Goes Edit (state a) (state b) r
+      stays : (r : Result ℕ Error) → r ≡ Err (SqliteFailure TransactionState) → b ≡ a → Goes (Edit (rows_changed r)) (state a) (state b) r
       stays (Ok n) e same = absurd cc
       stays (Err x) e same = record { ok = tt; err = subst (λ k. Leaves (state a) (state k)) (sym same) (leaves_self (state a)) }
 
-      went : (r : Result ℕ Error) → (HasCleanDisk (state b) → ExecutesInside 0 sql params (state a) (state b) r) → Goes Edit (state a) (state b) r
+      went : (r : Result ℕ Error) → (HasCleanDisk (state b) → ExecutesInside 0 sql params (state a) (state b) r) → Goes (Edit (rows_changed r)) (state a) (state b) r
       went (Err e) ran = record {
         ok = tt;
         err = record {
@@ -74,14 +79,14 @@ module _ {sql : List ℕ} {params : Row} {Edit : Trees → Trees → Type 0} (me
         };
       }
       went (Ok count) ran =
-          let made : IsTrue (state b).is_open → Within (state b) × Edit (state a).now.trees (state b).now.trees × (IsNumbered (state a).now.trees → IsNumbered (state b).now.trees) = λ up.
+          let made : IsTrue (state b).is_open → Within (state b) × Edit count (state a).now.trees (state b).now.trees × (IsNumbered (state a).now.trees → IsNumbered (state b).now.trees) = λ up.
           let it = ran (clean up) in
           let was = h it.1.was_open in
           let w = written_runs (state a) (state b) means.command _ params count means.writes (runs_as sql params (state a) (state b) hub_schema was.schema means.command means.is means.plain count it.0) in
           let before : Obeys hub_schema (state a).now.trees = rw was.schema at was.sound.obeys in
           let d = means.does (state a).step_limit (state a) (state a).now _ w.tally (state b).now was.schema was.rows before w.changed in
           let both = d.2 (rw d.0 at w.sound.obeys) in
-          (record { schema = d.0; sound = w.sound; rows = d.1; mode = it.1.mode }, both.0, both.1) in
+          (record { schema = d.0; sound = w.sound; rows = d.1; mode = it.1.mode }, subst (λ n. Edit n (state a).now.trees (state b).now.trees) (sym w.counted) both.0, both.1) in
           record {
             ok = record {
               leaves = record { was_open = λ up. (ran (clean up)).1.was_open; committed = λ up. (ran (clean up)).1.committed_is; survives = survives };
@@ -103,13 +108,13 @@ goes_as Edit a b (Ok x) (Err y) ok err g = absurd cc
 goes_as Edit a b (Err x) (Ok y) ok err g = absurd cc
 
 -- a statement of a transaction, whose answer is told as another type
-pub makes_step : {sql : List ℕ} {params : Row} {Edit : Trees → Trees → Type 0} → Means sql params Edit → {S B F : Type 0} {g : Ghosts S} {old new : Transaction S} {values : Row} {r : Result ℕ Error} {q : Result B F} → new.conn.ghost_name ≡ old.conn.ghost_name
+pub makes_step : {sql : List ℕ} {params : Row} {Edit : ℕ → Trees → Trees → Type 0} → MeansBy sql params Edit → {S B F : Type 0} {g : Ghosts S} {old new : Transaction S} {values : Row} {r : Result ℕ Error} {q : Result B F} → new.conn.ghost_name ≡ old.conn.ghost_name
     → (HasCleanDisk (state g new.conn.now) → IsTrue (state g old.conn.now).in_transaction → ExecutesInside 0 sql values (state g old.conn.now) (state g new.conn.now) r)
     → ((state g old.conn.now).in_transaction ≡ false → (r ≡ Err (SqliteFailure TransactionState)) × (new.conn.now ≡ old.conn.now)) → Survives (state g old.conn.now) (state g new.conn.now) (λ _. ⊥) → values ≡ params → (IsTrue (state g new.conn.now).is_open → HasCleanDisk (state g new.conn.now))
-    → OnOk q (IsOk r) → OnErr q (IsErr r) → MakesIn g Edit old new q
+    → OnOk q (IsOk r) → OnErr q (IsErr r) → MakesIn g (Edit (rows_changed r)) old new q
 makes_step {sql} {params} {Edit} means {S} {B} {F} {g} {old} {new} {values} {r} {q} same ran ended survives given clean ok err = record {
   same_reference = same;
-  goes = λ inside. goes_as Edit (state g old.conn.now) (state g new.conn.now) r q ok err (step means (state g) old.conn.now new.conn.now values r ran ended survives given clean inside);
+  goes = λ inside. goes_as (Edit (rows_changed r)) (state g old.conn.now) (state g new.conn.now) r q ok err (step means (state g) old.conn.now new.conn.now values r ran ended survives given clean inside);
 }
 
 -- what follows of a part
@@ -124,6 +129,83 @@ goes_then F G H a b c (Err e) joined first g = record { ok = tt; err = leaves_th
 -- a part that fails after others
 pub fails_then : {A E : Type 0} (F H : Trees → Trees → Type 0) (a b c : State) (e : E) → Inside F a b → Leaves b c → Goes {A = A} {E = E} H a c (Err e)
 fails_then F H a b c e first left = record { ok = tt; err = leaves_then a b c first.leaves left }
+
+-- ---- a statement that may make its edit
+
+-- a statement that ran with values that are these
+pub ran_as : {sql : List ℕ} {params : Row} {S : Type 0} {g : Ghosts S} {old new : Transaction S} {values : Row} {r : Result ℕ Error} → new.conn.ghost_name ≡ old.conn.ghost_name
+    → (HasCleanDisk (state g new.conn.now) → IsTrue (state g old.conn.now).in_transaction → ExecutesInside 0 sql values (state g old.conn.now) (state g new.conn.now) r)
+    → ((state g old.conn.now).in_transaction ≡ false → (r ≡ Err (SqliteFailure TransactionState)) × (new.conn.now ≡ old.conn.now)) → Survives (state g old.conn.now) (state g new.conn.now) (λ _. ⊥) → values ≡ params → (IsTrue (state g new.conn.now).is_open → HasCleanDisk (state g new.conn.now))
+    → Ran g sql params old new r
+ran_as {sql} {params} {S} {g} {old} {new} {values} {r} same ran ended survives given clean = record {
+  same_reference = same;
+  runs = λ sure mode. subst (λ v. ExecutesInside 0 sql v (state g old.conn.now) (state g new.conn.now) r) given (ran sure mode);
+  ended = ended;
+  survives = survives;
+  clean = clean;
+}
+
+pub makes_ran : {sql : List ℕ} {params : Row} {Edit : ℕ → Trees → Trees → Type 0} → MeansBy sql params Edit → {S B F : Type 0} {g : Ghosts S} {old new : Transaction S} {r : Result ℕ Error} {q : Result B F} → Ran g sql params old new r → OnOk q (IsOk r) → OnErr q (IsErr r)
+    → MakesIn g (Edit (rows_changed r)) old new q
+makes_ran means ran ok err = makes_step means ran.same_reference ran.runs ran.ended ran.survives refl ran.clean ok err
+
+-- an update made its edit where it changed rows
+pub makes_update : {sql : List ℕ} {params : Row} (Edit : Trees → Trees → Type 0) → MeansBy sql params (λ n. IfDone Edit (nat_lt 0 n)) → {S F : Type 0} {g : Ghosts S} {old new : Transaction S} {r : Result ℕ Error} (done : Bool) → Ran g sql params old new r → IsOk r → done ≡ nat_lt 0 (rows_changed r)
+    → MakesIn {E = F} g (IfDone Edit done) old new (Ok done)
+makes_update {sql} {params} Edit means {S} {F} {g} {old} {new} {r} done ran ok is = subst (λ b. MakesIn {E = F} g (IfDone Edit b) old new (Ok done)) (sym is) (makes_ran means ran ok tt)
+
+never_stored : (cause : StoreError) (rule : Constraint) → ◌≡◌ {A = Error} (SqliteFailure (ConstraintViolation rule)) (store_error cause) → ⊥
+never_stored OutOfMemory rule e = cc
+never_stored Io rule e = cc
+never_stored Corrupt rule e = cc
+never_stored Full rule e = cc
+never_stored Broken rule e = cc
+never_stored Unstorable rule e = cc
+
+-- a statement that a constraint refused changes nothing
+refused_unchanged : (a b : State) (sql : List ℕ) (values : Row) (rule : Constraint) → ExecutesInside 0 sql values a b (Err (SqliteFailure (ConstraintViolation rule))) → IsUnchanged a b
+unfolding ExecutesIn IsNotRun
+refused_unchanged a b sql values rule (inr ends) = ends.2
+refused_unchanged a b sql values rule (inl x) = elim x.0 [
+  | inl unrun ↦ elim unrun [ inl refused ↦ refused.1 | inr failed ↦ absurd (never_stored failed.0 rule failed.1) ]
+  | inr ran ↦ elim (cases_Bool (shows_rows false ran.0)) [
+    | inl shows ↦ (rw shows at ran.2).1
+    | inr runs ↦ elim (rw runs at ran.2) [ inl refused ↦ refused.1 | inr failed ↦ absurd (never_stored failed.0 rule failed.1) ]
+  ]
+]
+
+unchanged_inside : (a b : State) → (HasCleanDisk b → IsUnchanged a b) → Survives a b (λ _. ⊥) → (IsTrue b.is_open → HasCleanDisk b) → IsInside a → Inside AreSame a b
+unchanged_inside a b same survives clean h =
+    let now : IsTrue b.is_open → b.now ≡ a.now = λ up. (same (clean up)).0.now_is in
+    record {
+      leaves = record { was_open = λ up. (same (clean up)).0.was_open; committed = λ up. (same (clean up)).0.committed_is; survives = survives };
+      within = λ up.
+          let was = h (same (clean up)).0.was_open in
+          record {
+            schema = ap (λ (d : Database). d.schema) (now up) ∙ was.schema;
+            sound = subst IsDatabase (sym (now up)) was.sound;
+            rows = subst (λ (d : Database). AreTyped hub_schema hub_good d.trees) (sym (now up)) was.rows;
+            mode = (same (clean up)).0.mode ∙ was.mode;
+          };
+      edit = λ up. subst (λ (d : Database). AreSame a.now.trees d.trees) (sym (now up)) (all_from (λ (t : Table). a.now.trees t.tree ≡ a.now.trees t.tree) hub_schema.tables (λ t listed. refl));
+      numbered = λ up was. subst (λ (d : Database). IsNumbered d.trees) (sym (now up)) was;
+      still = λ up c. (same c).0.is_open;
+    }
+
+refused_inside : (a b : State) (sql : List ℕ) (values : Row) (rule : Constraint) (r : Result ℕ Error) → r ≡ Err (SqliteFailure (ConstraintViolation rule)) → (HasCleanDisk b → IsTrue a.in_transaction → ExecutesInside 0 sql values a b r) → (a.in_transaction ≡ false → r ≡ Err (SqliteFailure TransactionState))
+    → Survives a b (λ _. ⊥) → (IsTrue b.is_open → HasCleanDisk b) → IsInside a → Inside AreSame a b
+refused_inside a b sql values rule r is ran ended survives clean = elim (cases_Bool a.in_transaction) [
+  | inl mode ↦ unchanged_inside a b (λ sure. refused_unchanged a b sql values rule (subst (ExecutesInside 0 sql values a b) is (ran sure mode))) survives clean
+  | inr over ↦ absurd (let clash : ◌≡◌ {A = Result ℕ Error} (Err (SqliteFailure (ConstraintViolation rule))) (Err (SqliteFailure TransactionState)) = sym is ∙ ended over in cc)
+]
+
+-- an insert made its edit unless a constraint refused its row
+pub makes_add : {sql : List ℕ} {params : Row} {Edit : Trees → Trees → Type 0} → Means sql params Edit → {S F : Type 0} {g : Ghosts S} {old new : Transaction S} {r : Result ℕ Error} (done : Bool) → Ran g sql params old new r → IsAdded done r → MakesIn {E = F} g (IfDone Edit done) old new (Ok done)
+makes_add means true ran added = makes_ran means ran added tt
+makes_add {sql} {params} {Edit} means {S} {F} {g} {old} {new} {r} false ran refused = record {
+  same_reference = ran.same_reference;
+  goes = λ inside. record { ok = refused_inside (state g old.conn.now) (state g new.conn.now) sql params refused.0 r refused.1 ran.runs (λ over. (ran.ended over).0) ran.survives ran.clean inside; err = tt };
+}
 
 -- ---- the ends of a transaction
 

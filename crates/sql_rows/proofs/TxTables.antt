@@ -1,6 +1,6 @@
 -- Transactions, the owners of their tags, readings and uses: their typed tables, and what the texts that write and show them
 -- mean.
-use Rattle.std.proofs.Common.{◌&&◌, ◌++◌, ◌∷◌, ◌≡◌, ◌∙◌, ℕ, nat_le, pos, codes, List, [], Bool, Option, Some, None, option_map, unwrap_or, length, refl, sym, ap, arith, inl, inr, true, Equal}
+use Rattle.std.proofs.Common.{◌&&◌, ◌++◌, ◌∷◌, ◌≡◌, ◌∙◌, ℕ, nat_le, nat_lt, pos, codes, List, [], Bool, Option, Some, None, option_map, unwrap_or, length, refl, sym, ap, arith, inl, inr, true, Equal}
 use Rattle.std.proofs.lemmas.Bool.{and_parts}
 use Rattle.std.proofs.lemmas.Cmp.{tied_itself}
 use Rattle.sqlite_value.specs.Order.{Row}
@@ -43,8 +43,8 @@ use Rattle.sql_rows.specs.TypedTable.{rows_in, Spares}
 use Rattle.sql_rows.specs.Kept.{IsDropped, IsMade, IsPutIn}
 use Rattle.sql_rows.specs.declared.meter_value_rows.MeterValueRow.{MeterValueRow}
 use Rattle.meter_values.proofs.ReadAgain.{read_again}
-use Rattle.sql_rows.proofs.StoreLemmas.{Means, means_as}
-use Rattle.sql_rows.proofs.Writes.{adds, puts, drops}
+use Rattle.sql_rows.proofs.StoreLemmas.{IfDone, Means, MeansBy, if_done, means_as, means_by}
+use Rattle.sql_rows.proofs.Writes.{adds, puts, updates, drops}
 use Rattle.hub_rows.specs.declared.tx_row.StartKey.{StartKey}
 use Rattle.sql_rows.proofs.Selects.{ReadsAny, ReadsRows, ReadsLast, ReadsPage}
 use Rattle.sql_rows.proofs.Tests as tests
@@ -108,6 +108,9 @@ transactions_made old new made rows frame = λ i. record (rows_of (rest_is (10 �
 
 pub puts_tx : (r : TxRow) → Means sql_txs.PUT.now (txs.row r) (IsMade (λ rows. record rows { transactions = put (by_key tx_key) r rows.transactions }))
 puts_tx r = means_as (puts 5 txs on_txs sql_txs.PUT.now (λ e. cc) 15 put_txs texts.put_tx_is r) (λ old new h. transactions_made old new _ h.rows h.frame)
+
+pub updates_tx : (r : TxRow) → MeansBy sql_txs.UPDATE.now (txs.row r) (λ n. IfDone (IsMade (λ rows. record rows { transactions = put (by_key tx_key) r rows.transactions })) (nat_lt 0 n))
+updates_tx r = means_by (updates 5 txs on_txs sql_txs.UPDATE.now (λ e. cc) 15 (λ s u j. refl) texts.update_tx_is r) (λ n old new h. if_done (IsPutIn txs r) _ (nat_lt 0 n) old new (λ it. transactions_made old new _ it.rows it.frame) h)
 
 pub adds_tx : (r : TxRow) → Means sql_txs.ADD.now (txs.row r) (IsMade (λ rows. record rows { transactions = put (by_key tx_key) r rows.transactions }))
 adds_tx r = means_as (adds 5 txs on_txs sql_txs.ADD.now (λ e. cc) 15 put_txs texts.add_tx_is r) (λ old new h. transactions_made old new _ h.rows h.frame)

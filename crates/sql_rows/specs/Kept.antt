@@ -1,16 +1,19 @@
 -- What a connection keeps, and what a call makes of it.
-use Rattle.std.specs.Prelude.{◌≡◌, ◌⊎◌, ◌&&◌, ℕ, ◌+◌, codes, find, nat_le, ◌≤◌, false, true, not, Option, None, Some, option_map, List, [], ◌∷◌, map, filter, Bool, IsTrue, Result, Ok, Err, OnOk, OnErr, IfOk}
+use Rattle.std.specs.Prelude.{◌≡◌, ◌⊎◌, ◌&&◌, ℕ, ◌+◌, codes, find, nat_le, ◌≤◌, false, true, not, Option, None, Some, option_map, List, [], ◌∷◌, map, filter, Bool, IsTrue, Result, Ok, Err, IsOk, OnOk, OnErr, IfOk}
 use Rattle.std.specs.declared.cmp.Ordering.TheVariants.{Equal}
 use Rattle.std.specs.Str.{bytes_eq}
 use Rattle.sqlite_rules.specs.Lists.{Has}
 use Rattle.sqlite_value.specs.Order.{Row, column}
 use Rattle.sqlite_trees.specs.Tree.{Trees}
 use Rattle.sqlite_trees.specs.View.{doubt}
+use Rattle.sqlite_schema.specs.declared.schema.Constraint.{Constraint}
 use Rattle.sqlite.specs.declared.error.Error.{Error}
+use Rattle.sqlite.specs.declared.error.Error.TheVariants.{SqliteFailure}
+use Rattle.sqlite.specs.declared.error.ErrorCode.TheVariants.{ConstraintViolation, TransactionState}
 use Rattle.sqlite.specs.declared.transaction.Transaction.{Transaction}
 use Rattle.sqlite.specs.Effect.{IsDatabase}
 use Rattle.sqlite.specs.Held.{state}
-use Rattle.sqlite.specs.State.{State, HasCleanDisk, Survives}
+use Rattle.sqlite.specs.State.{State, HasCleanDisk, Survives, ExecutesInside}
 use Rattle.sqlite.specs.Store.{Ghosts}
 use Rattle.hub_rows.specs.Keyed.{first, greatest, put, put_all}
 use Rattle.hub_rows.specs.Rows.{Rows}
@@ -236,6 +239,24 @@ Makes g f old new r = MakesIn g (IsMade f) old new r
 -- nothing is changed
 abbrev pub IsSame : Trees → Trees → Type 0
 IsSame old new = new ≡ old
+
+-- a statement ran with these values inside a transaction
+pub record Ran {S : Type 0} (g : Ghosts S) (sql : List ℕ) (values : Row) (old new : Transaction S) (r : Result ℕ Error) : Type 0 where
+  pub same_reference : new.conn.ghost_name ≡ old.conn.ghost_name
+  pub runs : HasCleanDisk (state g new.conn.now) → IsTrue (state g old.conn.now).in_transaction → ExecutesInside 0 sql values (state g old.conn.now) (state g new.conn.now) r
+  pub ended : (state g old.conn.now).in_transaction ≡ false → (r ≡ Err (SqliteFailure TransactionState)) × (new.conn.now ≡ old.conn.now)
+  pub survives : Survives (state g old.conn.now) (state g new.conn.now) (λ _. ⊥)
+  pub clean : IsTrue (state g new.conn.now).is_open → HasCleanDisk (state g new.conn.now)
+
+-- how many rows a statement says that it changed
+abbrev pub rows_changed : Result ℕ Error → ℕ
+rows_changed (Ok n) = n
+rows_changed (Err e) = 0
+
+-- a row is added, or a constraint refuses it
+abbrev pub IsAdded : Bool → Result ℕ Error → Type 0
+IsAdded true r = IsOk r
+IsAdded false r = (rule : Constraint) × (r ≡ Err (SqliteFailure (ConstraintViolation rule)))
 
 -- what a look-up inside a transaction says, of the tables
 pub record AsksInsideIn {S A E : Type 0} (g : Ghosts S) (old new : Transaction S) (r : Result A E) (P : Trees → A → Type 0) : Type 0 where

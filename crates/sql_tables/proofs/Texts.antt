@@ -3,7 +3,7 @@ use Rattle.std.proofs.Common.{[], ◌∷◌, ◌++◌, codes, refl}
 use Rattle.sqlite_tied.specs.Compute.{everything}
 use Rattle.sqlite.specs.Listing.{understood}
 use Rattle.sqlite_sql.specs.Query.{inner, end}
-use Rattle.sql_tables.specs.Forms.{above_is, add_command, any_query, by_column, cols, drop_command, last_query, page_query, plain_query, put_command, range_is, where_is}
+use Rattle.sql_tables.specs.Forms.{above_is, add_command, any_query, by_column, cols, drop_command, last_query, page_query, plain_query, put_command, range_is, update_command, where_is}
 use Rattle.sql_tables.specs.Meanings.{IsRead, IsWrite}
 use Rattle.sql_tables.specs.declared.connectors.TheConstants as connectors
 use Rattle.sql_tables.specs.declared.grants.TheConstants as grants
@@ -26,6 +26,10 @@ pub put_meta_is : IsWrite meta.PUT.now (put_command 0 0 1 1)
 unfolding understood everything
 put_meta_is = (refl, (refl, refl))
 
+pub update_meta_is : IsWrite meta.UPDATE.now (update_command 0 0 1 1)
+unfolding understood everything
+update_meta_is = (refl, (refl, refl))
+
 pub find_meta_is : IsRead meta.FIND.now (plain_query (inner 0 end) (where_is 0 (1 ∷ [])) (cols 1 1 2) ([])) (names_of hub_meta)
 unfolding understood everything
 find_meta_is = (refl, (refl, refl), refl)
@@ -42,6 +46,10 @@ pub put_tag_is : IsWrite tags.PUT.now (put_command 3 6 2 5)
 unfolding understood everything
 put_tag_is = (refl, (refl, refl))
 
+pub add_tag_is : IsWrite tags.ADD.now (add_command 3 7)
+unfolding understood everything
+add_tag_is = (refl, (refl, refl))
+
 pub put_grant_is : IsWrite grants.PUT.now (put_command 4 8 3 1)
 unfolding understood everything
 put_grant_is = (refl, (refl, refl))
@@ -49,6 +57,10 @@ put_grant_is = (refl, (refl, refl))
 pub put_tx_is : IsWrite txs.PUT.now (put_command 5 10 3 15)
 unfolding understood everything
 put_tx_is = (refl, (refl, refl))
+
+pub update_tx_is : IsWrite txs.UPDATE.now (update_command 5 10 3 15)
+unfolding understood everything
+update_tx_is = (refl, (refl, refl))
 
 pub add_tx_is : IsWrite txs.ADD.now (add_command 5 18)
 unfolding understood everything

@@ -8,7 +8,7 @@ use Rattle.sqlite_sql.specs.declared.ops.CompareOp.TheVariants.{Eq, Ge, Gt, Le}
 use Rattle.sqlite_sql.specs.Term.{Term, lit, col, op2}
 use Rattle.sqlite_sql.specs.Query.{Query, Join, inner, end}
 use Rattle.sqlite.specs.Command.{Command}
-use Rattle.sqlite.specs.Command.TheVariants.{Insert, InsertOr, Delete}
+use Rattle.sqlite.specs.Command.TheVariants.{Insert, InsertOr, Update, Delete}
 use Rattle.sqlite.specs.Source.TheVariants.{Values}
 use Rattle.sqlite_schema.specs.declared.command.Conflict.TheVariants.{Abort}
 use Rattle.sqlite_schema.specs.declared.command.Upsert.{Upsert}
@@ -87,6 +87,17 @@ put_clause tree n m = record { target = Some (places 1 n); update = Some (record
 -- into the table at that place of the schema, whose tree has that number
 abbrev pub put_command : ℕ → ℕ → ℕ → ℕ → Command
 put_command at tree n m = InsertOr at Abort (Values (put_terms (n + m)) (n + m + 1)) (put_clause tree n m ∷ [])
+
+-- ---- UPDATE .. SET each of the m other columns .. WHERE the n columns of the key are the first parameters
+
+abbrev pub update_project : ℕ → ℕ → List Term
+update_project n m = col 1 0 ∷ col 1 0 ∷ cols 1 1 n ++ cols 0 n m
+
+abbrev pub update_query : ℕ → ℕ → ℕ → Query
+update_query tree n m = plain_query (inner tree end) (where_is 0 (places 1 n)) (update_project n m) []
+
+abbrev pub update_command : ℕ → ℕ → ℕ → ℕ → Command
+update_command at tree n m = Update at (record { lets = []; body = update_query tree n m })
 
 -- ---- DELETE .. WHERE
 

@@ -20,6 +20,12 @@ pub const FIND: &str = with_columns!(
     " FROM hub_tag WHERE op = ?1 AND tag_key BETWEEN ?2 AND ?3 ORDER BY tag_key"
 );
 
+/// Adds a tag.
+pub const ADD: &str = with_columns!(
+    "INSERT INTO hub_tag (",
+    ") VALUES (?1, ?2, ?3, ?4, ?5, ?6, ?7)"
+);
+
 /// Puts a tag in place of the one with its key.
 pub const PUT: &str = with_columns!(
     "INSERT INTO hub_tag (",

@@ -90,6 +90,10 @@ pub const PUT: &str = with_columns!(
     ") VALUES (?1, ?2, ?3, ?4, ?5, ?6, ?7, ?8, ?9, ?10, ?11, ?12, ?13, ?14, ?15, ?16, ?17, ?18) ON CONFLICT (op, station, number) DO UPDATE SET connector = excluded.connector, tag_key = excluded.tag_key, meter_start = excluded.meter_start, start_at = excluded.start_at, id_tag = excluded.id_tag, reservation_id = excluded.reservation_id, status = excluded.status, begun = excluded.begun, is_open = excluded.is_open, in_use = excluded.in_use, meter_stop = excluded.meter_stop, stop_at = excluded.stop_at, stop_reason = excluded.stop_reason, stop_id_tag = excluded.stop_id_tag, ended = excluded.ended"
 );
 
+/// Sets all columns of the transaction with its key, if there is one.
+pub const UPDATE: &str =
+    "UPDATE hub_tx SET connector = ?4, tag_key = ?5, meter_start = ?6, start_at = ?7, id_tag = ?8, reservation_id = ?9, status = ?10, begun = ?11, is_open = ?12, in_use = ?13, meter_stop = ?14, stop_at = ?15, stop_reason = ?16, stop_id_tag = ?17, ended = ?18 WHERE op = ?1 AND station = ?2 AND number = ?3";
+
 /// Drops the transactions of a station whose numbers lie in a range.
 pub const DROP: &str =
     "DELETE FROM hub_tx WHERE op = ?1 AND station = ?2 AND number BETWEEN ?3 AND ?4";

@@ -1,13 +1,28 @@
-use Rattle.std.proofs.Common.{refl}
-use Rattle.sql_rows.proofs.TagTables.{puts_tag}
-use Rattle.sql_rows.proofs.StoreLemmas.{open_is_clean}
-use Rattle.sql_rows.proofs.TxLemmas.{makes_step}
-use Rattle.hub_rows.specs.Changes.{tag_row}
-use Rattle.sql_rows.proofs.ValueLaws.{optional}
+use Rattle.sqlite.specs.Held.{state}
+use Rattle.hub_rows.specs.Changes.{edit, tag_row}
+use Rattle.hub_rows.specs.declared.change.Edit.TheVariants.{Tags}
+use Rattle.hub_rows.specs.declared.change.TagEdit.TheVariants.{TagPut}
+use Rattle.sql_rows.specs.Kept.{IsMade}
+use Rattle.sql_rows.proofs.HubTables.{made_later}
+use Rattle.sql_rows.proofs.TagTables.{adds_tag, puts_tag}
+use Rattle.sql_rows.proofs.TxLemmas.{makes_add, makes_ran}
+use Rattle.sql_edits.proofs.Making.{makes_done, makes_else}
 use Rattle.sql_edits.proofs.tags.put_row.Goals as goal
 
-pub returns : goal.returns
-returns g c = record {
-  makes = makes_step (puts_tag (tag_row c.args.op.now c.args.key.now c.args.tag.now)) c.execute.ensures.same_reference c.execute.ensures.runs c.execute.ensures.ended c.execute.ensures.survives
-      (rw (c.params-to_sql.ensures, c.params-to_sql-2.ensures, c.params-to_sql-3.ensures, c.params-to_sql-4.ensures, c.params-to_sql-5.ensures, c.params-to_sql-6.ensures, c.params-to_sql-7.ensures, c.seconds_if_any.ensures, c.as_str.ensures, optional (λ t. t.now) c.args.parent_key, c.requires, optional (λ t. t.now) c.lent.result, c.lent.ensures) refl) (open_is_clean _ _ (g.met.S.Store.shut_if_dirty c.execute.new.self.conn.now.store)) c.done.ensures.ok c.done.ensures.err;
-}
+pub returns-then-branch : goal.returns-then-branch
+returns-then-branch g c =
+    let row = tag_row c.args.op.now c.args.key.now c.args.tag.now in
+    let Puts = IsMade (edit c.args.op.now (Tags (TagPut c.args.key.now c.args.tag.now))) in
+    record { makes = makes_done Puts _ (makes_add (adds_tag row) _ c.run_row.ensures.ran c.in_ok-added.ensures.ok) c.if-branch.true }
+
+pub returns-else-branch : goal.returns-else-branch
+returns-else-branch g c =
+    let row = tag_row c.args.op.now c.args.key.now c.args.tag.now in
+    let puts = edit c.args.op.now (Tags (TagPut c.args.key.now c.args.tag.now)) in
+    let old = (state g.S.Store c.args.tx.now.conn.now).now.trees in
+    let mid = (state g.S.Store c.run_row.new.tx.conn.now).now.trees in
+    let new = (state g.S.Store c.run_row-else-branch.new.tx.conn.now).now.trees in
+    record {
+      makes = makes_else (IsMade puts) _ (makes_add (adds_tag row) _ c.run_row.ensures.ran c.in_ok-added.ensures.ok) c.if-branch.false
+          (makes_ran (puts_tag row) c.run_row-else-branch.ensures.ran c.done.ensures.ok c.done.ensures.err) (made_later puts old mid new);
+    }
