@@ -32,6 +32,7 @@ const MAX_SESSIONS: u32 = 1_000_000;
 const MAX_FLEET: u32 = 1_000;
 
 const DB: &str = "The file with the records, made if there is none";
+
 const PORT: &str = "The port of the server on 127.0.0.1";
 
 /// A command.
@@ -91,12 +92,7 @@ fn flag(name: &'static str, help: &'static str) -> Argument {
 }
 
 /// One that may be left out.
-fn optional(
-    name: &'static str,
-    value: &'static str,
-    takes: Takes,
-    help: &'static str,
-) -> Argument {
+fn optional(name: &'static str, value: &'static str, takes: Takes, help: &'static str) -> Argument {
     Argument {
         name,
         value,
@@ -107,12 +103,7 @@ fn optional(
 }
 
 /// One that has to be given.
-fn required(
-    name: &'static str,
-    value: &'static str,
-    takes: Takes,
-    help: &'static str,
-) -> Argument {
+fn required(name: &'static str, value: &'static str, takes: Takes, help: &'static str) -> Argument {
     Argument {
         name,
         value,
@@ -201,10 +192,7 @@ fn arg_of<'a>(alloc: Global, argument: &Argument) -> Arg<'a> {
     match argument.takes {
         Takes::Nothing => arg.long(argument.name).action(ArgAction::SetTrue),
         Takes::Place => arg.value_name(argument.value),
-        takes => taking(
-            arg.long(argument.name).value_name(argument.value),
-            takes,
-        ),
+        takes => taking(arg.long(argument.name).value_name(argument.value), takes),
     }
 }
 
