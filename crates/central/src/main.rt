@@ -66,7 +66,7 @@ fn run(rt: &HostRuntime) -> Result<u8, RunFault> {
         return Ok(0);
     }
     match command::read(rt.alloc(), words.as_slice()) {
-        Ok(plan) => carry_out(rt, plan),
+        Ok(plan) => carry_out(rt, &plan),
         Err(error) if error.kind() == ErrorKind::OutOfMemory => Err(RunFault::NoMemory),
         Err(error) => {
             error.print(rt)?;
@@ -76,7 +76,7 @@ fn run(rt: &HostRuntime) -> Result<u8, RunFault> {
 }
 
 /// Does what a plan asks for, and gives the program's status.
-fn carry_out(rt: &HostRuntime, plan: Plan) -> Result<u8, RunFault> {
+fn carry_out(rt: &HostRuntime, plan: &Plan) -> Result<u8, RunFault> {
     let alloc = rt.alloc();
     let mut vendors: Vec<Box<dyn VendorHandler>> = Vec::new(alloc);
     vendors.push(Box::new(alloc, Echo { alloc })?)?;
@@ -84,10 +84,10 @@ fn carry_out(rt: &HostRuntime, plan: Plan) -> Result<u8, RunFault> {
     match plan {
         Plan::Replay(options) => all_taken = replay_lines(rt, options, vendors)?,
         Plan::Serve(options) => serve(rt, options, vendors)?,
-        Plan::Sim(options) => all_taken = simulate(rt, &options)?,
-        Plan::Ask(options) => all_taken = ask(rt, &options)?,
-        Plan::Forget(options) => all_taken = forget(rt, &options)?,
-        Plan::Follow(options) => follow_alone(rt, &options)?,
+        Plan::Sim(options) => all_taken = simulate(rt, options)?,
+        Plan::Ask(options) => all_taken = ask(rt, options)?,
+        Plan::Forget(options) => all_taken = forget(rt, options)?,
+        Plan::Follow(options) => follow_alone(rt, options)?,
     }
     Ok(status::of_lines(all_taken))
 }

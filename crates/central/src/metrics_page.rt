@@ -246,6 +246,12 @@ fn print_connected(page: &mut Page, metrics: &Metrics, connected: &[Connected]) 
 }
 
 fn print_counts(page: &mut Page, metrics: &Metrics) -> Mem<()> {
+    print_events(page, metrics)?;
+    print_served(page, metrics)?;
+    print_ends(page, metrics)
+}
+
+fn print_events(page: &mut Page, metrics: &Metrics) -> Mem<()> {
     page.family(
         "events_total",
         "counter",
@@ -264,20 +270,23 @@ fn print_counts(page: &mut Page, metrics: &Metrics) -> Mem<()> {
             counts.orders,
         )?;
     }
+    Ok(())
+}
+
+fn print_served(page: &mut Page, metrics: &Metrics) -> Mem<()> {
     page.family(
         "served_seconds_total",
         "counter",
         "The time in which connections were served.",
     )?;
     for (operator, counts) in metrics.operators.iter().zip(&metrics.counts) {
-        let served = Seconds(counts.served);
         page.sample(
             "served_seconds_total",
             &[("operator", operator.as_str())],
-            served,
+            Seconds(counts.served),
         )?;
     }
-    print_ends(page, metrics)
+    Ok(())
 }
 
 fn print_ends(page: &mut Page, metrics: &Metrics) -> Mem<()> {

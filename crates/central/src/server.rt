@@ -2,7 +2,7 @@
 
 use crate::command::ServeOptions;
 use crate::fault::RunFault;
-use crate::hosted::hub_of;
+use crate::hosted::{copies_of, hub_of};
 use crate::journal_file::{JournalOptions, begin_journal};
 use crate::kept_journal::KeptJournal;
 use crate::measured::{connected_of, now_of};
@@ -15,7 +15,7 @@ use clients::now;
 use hub::{Fault, Hub};
 use hub_rows::Store;
 use journal::Journal;
-use ocpp_types::{Mem, Moment, Text};
+use ocpp_types::{Mem, Moment, Text, copied};
 use ready_streams::{ReadyStream, Streams};
 use station_calls::VendorHandler;
 use std::alloc::Global;
@@ -40,8 +40,7 @@ const SERVES: u64 = 1_000_000;
 /// The nanoseconds that peers have at most, as the server ends, to take what waits for them.
 const LAST_WAIT: u64 = 2_000_000_000;
 
-/// Those that they have at least, so that what the system has taken arrives: a stream that is closed while bytes wait to be
-/// read is reset, and drops what is on its way.
+/// Those that they have at least: a stream that is closed while bytes wait to be read is reset, and drops what is on its way.
 const LEAST_WAIT: u64 = 300_000_000;
 
 /// The seconds after a fault of the store in which health checks are answered 503.
@@ -107,27 +106,30 @@ impl<S: Store + Drop, V: VendorHandler> Server<S, V> {
         rt: &HostRuntime,
         store: S,
         mut streams: Streams,
-        options: ServeOptions,
+        options: &ServeOptions,
         vendors: Vec<V>,
         log: ServerLog,
     ) -> Result<Server<S, V>, RunFault> {
         let alloc = rt.alloc();
         let moment = now(rt).ok_or(RunFault::Clock)?;
+        let begun = Instant::now(rt)?;
         let service = Service::new(alloc, options.operators.as_slice())?;
         let metrics = Metrics::new(alloc, service.operators())?;
-        let hub = hub_of(alloc, store, options.operators, vendors)?;
-        let gateway = gateway_with_notes(alloc);
-        let lobby = lobby_with_notes(alloc, options.origins)?;
+        let db = options.db.clone()?;
+        let stop_file = StopFile::new(copied(&options.stop_file)?);
+        let lobby = lobby_with_notes(alloc, options.origins.as_slice())?;
+        let operators = copies_of(alloc, options.operators.as_slice())?;
+        let hub = hub_of(alloc, store, operators, vendors)?;
         streams.set_second(0);
         Ok(Server {
             alloc,
             address: options.address,
             hub,
-            gateway,
+            gateway: gateway_with_notes(alloc),
             lobby,
             streams,
             moment,
-            begun: Instant::now(rt)?,
+            begun,
             now: 0,
             second: 0,
             service,
@@ -136,8 +138,8 @@ impl<S: Store + Drop, V: VendorHandler> Server<S, V> {
             page: None,
             most_stations: u64::from(options.most_stations),
             journal: KeptJournal::none(),
-            db: options.db,
-            stop_file: StopFile::new(options.stop_file),
+            db,
+            stop_file,
             failed_accept: false,
             has_faulted: false,
             hurt: None,
@@ -238,10 +240,7 @@ impl<S: Store + Drop, V: VendorHandler> Server<S, V> {
         let waited = self.streams.wait(time);
         let idle = self.read_clock(rt).saturating_sub(before);
         self.metrics.idle = self.metrics.idle.saturating_add(idle);
-        match waited {
-            Ok(()) => Ok(()),
-            Err(error) => Err(RunFault::at(self.address, error)),
-        }
+        waited.map_err(|error| RunFault::at(self.address, error))
     }
 
     /// How long nothing can be done, if nothing is reported: until the operators that rest are served again, and 10 ms
@@ -480,8 +479,8 @@ fn gateway_with_notes(alloc: Global) -> Gateway<ReadyStream> {
 }
 
 /// Those whose handshake isn't done, as well.
-fn lobby_with_notes(alloc: Global, origins: Vec<Text>) -> Mem<Lobby<ReadyStream>> {
-    let mut lobby = Lobby::new(alloc, origins)?;
+fn lobby_with_notes(alloc: Global, origins: &[Text]) -> Mem<Lobby<ReadyStream>> {
+    let mut lobby = Lobby::new(alloc, copies_of(alloc, origins)?)?;
     lobby.keep_notes();
     Ok(lobby)
 }

@@ -6,7 +6,7 @@ use crate::command::ServeOptions;
 use crate::repair_log::Repairs;
 use crate::stderr::takes_line;
 use log::sink::Console;
-use log::{LevelFilter, Log, Logged, error, info, warn};
+use log::{Level, LevelFilter, Log, Logged, info, warn};
 use ocpp_types::{Mem, Moment, print_time};
 use std::alloc::Global;
 use std::fmt;
@@ -208,25 +208,40 @@ fn is_usual(happened: Happened) -> bool {
 
 fn write_note<L: Log>(log: &L, time: &str, note: &Note) {
     let who = Who { note };
-    match note.happened {
-        Happened::Failed(fault) => error!(log; target: TARGET, "{time} {who} fault {fault}"),
-        Happened::Refused(refusal) =>
-            warn!(log; target: TARGET, "{time} {who} refused: {}", reason(refusal)),
-        Happened::Repaired(repair) => {
-            let Repair {
-                action,
-                code,
-                field,
-            } = repair;
-            warn!(log; target: TARGET, "{time} {who} repaired: {action} {code} {field}")
+    let shown = Shown(note.happened);
+    log::log!(log; target: TARGET, level_of_note(note.happened), "{time} {who} {shown}");
+}
+
+/// The level of the line about that.
+fn level_of_note(happened: Happened) -> Level {
+    match happened {
+        Happened::Failed(_) => Level::Error,
+        _ if is_usual(happened) => Level::Info,
+        _ => Level::Warn,
+    }
+}
+
+/// What became of a connection, as the log tells it.
+#[derive(Clone, Copy, Drop)]
+struct Shown(Happened);
+
+impl Display for Shown {
+    fn fmt<W: Write>(&self, f: &mut Formatter<W>) -> fmt::Result {
+        match self.0 {
+            Happened::Failed(fault) => write!(f, "fault {fault}"),
+            Happened::Refused(refusal) => write!(f, "refused: {}", reason(refusal)),
+            Happened::Repaired(repair) => {
+                let Repair {
+                    action,
+                    code,
+                    field,
+                } = repair;
+                write!(f, "repaired: {action} {code} {field}")
+            }
+            Happened::Connected => f.write_str("connected"),
+            Happened::Replaced => f.write_str("replaced by another connection"),
+            Happened::Ended(cause) => write!(f, "ended: {}", end(cause)),
         }
-        Happened::Connected => info!(log; target: TARGET, "{time} {who} connected"),
-        Happened::Replaced =>
-            info!(log; target: TARGET, "{time} {who} replaced by another connection"),
-        Happened::Ended(cause) if is_usual_end(cause) => {
-            info!(log; target: TARGET, "{time} {who} ended: {}", end(cause))
-        }
-        Happened::Ended(cause) => warn!(log; target: TARGET, "{time} {who} ended: {}", end(cause)),
     }
 }
 

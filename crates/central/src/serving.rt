@@ -34,11 +34,11 @@ const MOST_COMPARED: usize = 1_000;
 /// a moment, no memory at the start.
 pub fn serve<V: VendorHandler>(
     rt: &HostRuntime,
-    options: ServeOptions,
+    options: &ServeOptions,
     vendors: Vec<V>,
 ) -> Result<(), RunFault> {
     let streams = listen(rt, options.address)?;
-    tell_opening(rt, &options)?;
+    tell_opening(rt, options)?;
     if let Some(path) = &options.stop_file {
         let _none = fs::remove_file(rt, path.as_str());
     }
@@ -73,7 +73,7 @@ fn serve_database<A: Alter + Drop, V: VendorHandler>(
     rt: &HostRuntime,
     mut store: SqlStore<A>,
     streams: Streams,
-    options: ServeOptions,
+    options: &ServeOptions,
     vendors: Vec<V>,
     opening: Duration,
 ) -> Result<(), RunFault> {
@@ -108,7 +108,7 @@ fn serve_journaled<S: Store + Drop, V: VendorHandler>(
     rt: &HostRuntime,
     store: S,
     opened: Opened,
-    options: ServeOptions,
+    options: &ServeOptions,
     vendors: Vec<V>,
 ) -> Result<(), RunFault> {
     let journal = Rc::clone(&opened.journal)?;
@@ -120,7 +120,7 @@ fn serve_cached<S: Store + Drop, V: VendorHandler>(
     rt: &HostRuntime,
     store: S,
     opened: Opened,
-    options: ServeOptions,
+    options: &ServeOptions,
     vendors: Vec<V>,
 ) -> Result<(), RunFault> {
     let store = Cached::new(rt.alloc(), store, ANSWERS)?;
@@ -132,7 +132,7 @@ fn serve_followed<S: Store + Drop, V: VendorHandler>(
     rt: &HostRuntime,
     store: S,
     opened: Opened,
-    options: ServeOptions,
+    options: &ServeOptions,
     vendors: Vec<V>,
 ) -> Result<(), RunFault> {
     let store = match &options.follow {
@@ -150,28 +150,43 @@ fn serve_over<S: Store + Drop, V: VendorHandler>(
     rt: &HostRuntime,
     mut store: S,
     opened: Opened,
-    mut options: ServeOptions,
+    options: &ServeOptions,
     vendors: Vec<V>,
 ) -> Result<(), RunFault> {
-    let counts = count_stations(rt.alloc(), &mut store, options.operators.as_slice())?;
+    let operators = options.operators.as_slice();
+    let counts = count_stations(rt.alloc(), &mut store, operators)?;
     let stations = counts
         .iter()
         .fold(0, |all: usize, count| all.saturating_add(*count));
-    let start = start_text(rt.alloc(), &options, opened.opening, stations)?;
-    let turns = options.turns;
-    let address = options.address;
-    let log = ServerLog::new(rt, options.log);
     if stations > 0 {
-        warn_of_names(rt, options.operators.as_slice(), counts.as_slice());
+        warn_of_names(rt, operators, counts.as_slice());
     }
-    let kept = options.journal.take();
-    let mut server = Server::new(rt, store, opened.streams, options, vendors, log)?;
-    if let Some(kept) = kept {
-        server.keep_journal(rt, &kept, opened.journal)?;
+    let start = start_text(rt.alloc(), options, opened.opening, stations)?;
+    run_server(rt, store, opened, options, vendors, start.as_str())
+}
+
+/// Runs a server, whose log begins with that line.
+fn run_server<S: Store + Drop, V: VendorHandler>(
+    rt: &HostRuntime,
+    store: S,
+    opened: Opened,
+    options: &ServeOptions,
+    vendors: Vec<V>,
+    start: &str,
+) -> Result<(), RunFault> {
+    let Opened {
+        streams,
+        journal,
+        ..
+    } = opened;
+    let log = ServerLog::new(rt, options.log);
+    let mut server = Server::new(rt, store, streams, options, vendors, log)?;
+    if let Some(kept) = &options.journal {
+        server.keep_journal(rt, kept, journal)?;
     }
-    warn_of(rt, address);
-    server.tell_start(start.as_str());
-    server.run(rt, turns)
+    warn_of(rt, options.address);
+    server.tell_start(start);
+    server.run(rt, options.turns)
 }
 
 /// Warns on standard error of an address that is reached from other machines. If the warning can't be written it is lost.
