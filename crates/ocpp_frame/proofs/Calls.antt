@@ -9,7 +9,7 @@ use Rattle.serde_json.specs.Read.{of_json, of_items, converted, number_of}
 use Rattle.serde_json.proofs.OnLiterals.{serde_json_on_literals}
 use Rattle.ocpp_frame.specs.declared.frame.Frame.TheVariants.{Ignored}
 use Rattle.ocpp_frame.specs.Frame.{frame, frame_of, call_with, payload_of}
-use Rattle.ocpp_frame.proofs.Reading.{converted-array, item_read, items_over, whole_read}
+use Rattle.json_data.proofs.Reading.{converted-array, item_read, items_over, whole_read}
 
 two : number_of (50 ∷ []) ≡ Some (unsigned 2)
 unfolding serde_json_on_literals

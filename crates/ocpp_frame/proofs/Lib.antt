@@ -1,4 +1,3 @@
 pub mod Items
 pub mod ReadAgain
-pub mod Reading
 pub mod Calls

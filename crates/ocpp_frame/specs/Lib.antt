@@ -1,4 +1,3 @@
 pub mod StoredData
 pub mod Frame
 pub mod Written
-pub mod Refused

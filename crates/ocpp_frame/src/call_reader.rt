@@ -1,29 +1,22 @@
 //! Calls straight from text: most frames are calls, and no list of a call's items is made.
-ghost use Rattle.std.specs.Prelude.{◌≡◌, ◌∷◌, [], IfOk, IfSome, Some, true};
-ghost use Rattle.json.specs.Token.{number, string, begin_array};
+ghost use Rattle.std.specs.Prelude.{◌≡◌, ◌∷◌, [], IfOk, IfSome, true};
+ghost use Rattle.json.specs.Token.{number, begin_array};
 ghost use Rattle.ocpp_frame.specs.Frame.{frame};
 
 use crate::frame::Frame;
 use crate::read::call_of;
-use crate::value_reader::{MAX_DEPTH, Refused, read};
 use json::{Reader, Scratch, Token};
+use json_data::{MAX_DEPTH, Refused, read};
 use ocpp_types::{Mem, NoMemory, Text};
 use std::alloc::Global;
 
 /// The frame of a text that is `[2,"<id>","<action>",<payload>]`, and `None` where it has another form.
-pub fn read_call(alloc: Global, scratch: &mut Scratch, text: &str) -> Mem<Option<Frame>>
-    ensures { IfOk result (λ call. IfSome call (λ f. f ≡ frame text.now)) }
-{
-    match call_among(alloc, scratch, text) {
-        Ok(call) => Ok(call),
-        Err(Refused::Invalid) => Ok(None),
-        Err(Refused::NoMemory) => Err(NoMemory),
-    }
-}
-
-/// The same, where what isn't read may also be refused.
 #[tactic(auto, using(crate::proofs::Calls::call_of_tokens))]
-fn call_among(alloc: Global, scratch: &mut Scratch, text: &str) -> Result<Option<Frame>, Refused>
+pub fn read_call<'a>(
+    alloc: Global,
+    scratch: &'a mut Scratch,
+    text: &'a str,
+) -> Mem<Option<Frame<'a>>>
     ensures { IfOk result (λ call. IfSome call (λ f. f ≡ frame text.now)) }
 {
     let mut reader = Reader::new(text, scratch)?;
@@ -36,7 +29,11 @@ fn call_among(alloc: Global, scratch: &mut Scratch, text: &str) -> Result<Option
     let Some(Token::String(action)) = reader.next() else {
         return Ok(None);
     };
-    let payload = read(alloc, &mut reader, MAX_DEPTH - 1)?;
+    let payload = match read(alloc, &mut reader, MAX_DEPTH - 1) {
+        Ok(payload) => payload,
+        Err(Refused::Invalid) => return Ok(None),
+        Err(Refused::NoMemory) => return Err(NoMemory),
+    };
     if !reader.take_end_array() || reader.next().is_some() {
         return Ok(None);
     }

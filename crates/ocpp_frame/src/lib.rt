@@ -5,7 +5,6 @@ mod call_reader;
 mod frame;
 mod payload;
 mod read;
-mod value_reader;
 mod write;
 
 pub use frame::Frame;

@@ -1,20 +1,20 @@
-//! JSON values that contracts see as their data.
+//! Payloads of messages, which contracts see as their data.
 ghost use Rattle.std.specs.Prelude.{◌≡◌};
-ghost use Rattle.serde_json.specs.View.{view};
+ghost use Rattle.json_data.specs.View.{view};
 
-use serde_json::Value;
-use std::alloc::AllocError;
+use json::Value;
 use std::marker::Model;
 
-/// The payload of a message: a JSON value. A contract sees it as its data.
+/// The payload of a message: a JSON value, whose texts are borrowed from the text of the message, or
+/// from the memory of its reader where they have escapes. A contract sees it as its data.
 #[derive(Drop)]
-pub struct Payload {
-    value: Value,
+pub struct Payload<'a> {
+    value: Value<'a>,
 }
 
-impl Model for Payload {
+impl<'a> Model for Payload<'a> {
     ghost use Rattle.serde_json.specs.Data.{Data};
-    ghost use Rattle.serde_json.specs.View.{view as data_of};
+    ghost use Rattle.json_data.specs.View.{view as data_of};
     ghost use Rattle.ocpp_frame.specs.StoredData.{data_code};
 
     ghost Value = { Data };
@@ -24,38 +24,21 @@ impl Model for Payload {
     ghost view = { λ p. data_of p.value };
 }
 
-impl Payload {
+impl<'a> Payload<'a> {
     /// The value, lent.
-    pub fn as_value(&self) -> &Value
+    pub fn as_value(&self) -> &Value<'a>
         ensures { view result.now ≡ self.now }
     {
         &self.value
     }
-
-    /// The value, taken out.
-    pub fn into_value(self) -> Value
-        ensures { view result ≡ self }
-    {
-        self.value
-    }
 }
 
-impl From<Value> for Payload {
+impl<'a> From<Value<'a>> for Payload<'a> {
     ghost from_gives = { λ value payload. payload ≡ view value };
 
-    fn from(value: Value) -> Payload
-        ensures { result ≡ view value }
+    fn from(value: Value<'a>) -> Payload<'a>
+        ensures { result ≡ view value.entry }
     {
         Payload { value }
-    }
-}
-
-impl Clone for Payload {
-    ghost is_clone = { λ payload copy. copy ≡ payload };
-
-    fn clone(&self) -> Result<Payload, AllocError> {
-        Ok(Payload {
-            value: self.value.clone()?,
-        })
     }
 }

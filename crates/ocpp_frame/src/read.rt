@@ -1,17 +1,17 @@
 //! Frames from text.
-ghost use Rattle.std.specs.Prelude.{◌≡◌, ◌+◌, ◌<◌, ◌≤◌, ◌⊎◌, List, ◌∷◌, length, Some, IfOk, IfNone, IfSome};
+ghost use Rattle.std.specs.Prelude.{◌≡◌, ◌+◌, ◌<◌, ◌≤◌, ◌⊎◌, List, ◌∷◌, length, Some, IfOk, IfNone, IfSome, option_map};
+ghost use Rattle.std.specs.declared.alloc.Global.{Global};
 ghost use Rattle.serde_json.specs.Find.{as_str};
-ghost use Rattle.serde_json.specs.View.{view, items_view};
+ghost use Rattle.json_data.specs.View.{view, items_view};
 ghost use Rattle.ocpp_frame.specs.Frame.{frame, frame_of, frame_of_items, call, call_result, call_error, payload_of, description_of, call_with, error_with};
-ghost use Rattle.serde_json.specs.declared.value.Value.{Value};
+ghost use Rattle.json.specs.declared.value.Value.{Value};
 
 use crate::call_reader::read_call;
 use crate::frame::Frame;
 use crate::payload::Payload;
-use crate::value_reader::{Refused, read_value};
-use json::Scratch;
+use json::{Scratch, Value};
+use json_data::{Refused, read_value, text_of, unsigned_of};
 use ocpp_types::{Mem, NoMemory, Text, count_characters};
-use serde_json::{Map, Value};
 use std::alloc::Global;
 
 /// The greatest number of characters of a call's id (OCPP-J 1.6, section 4.1.4).
@@ -21,7 +21,9 @@ pub const MAX_ID: usize = 36;
 #[derive(Drop)]
 pub struct FrameReader {
     alloc: Global,
-    scratch: Scratch,
+    /// That of calls, and that of texts that aren't read as calls.
+    calls: Scratch,
+    others: Scratch,
 }
 
 impl FrameReader {
@@ -29,83 +31,97 @@ impl FrameReader {
     pub fn new(alloc: Global) -> FrameReader {
         FrameReader {
             alloc,
-            scratch: Scratch::new(alloc),
+            calls: Scratch::new(alloc),
+            others: Scratch::new(alloc),
         }
     }
 
     /// The frame that a text is (OCPP-J 1.6, section 4.2; docs/RULES.md, Frames). Every text is
     /// one: what `serde_json` doesn't read, or what isn't formed as a message, is `Ignored`, and a
     /// call with an id that isn't formed as a call is `Broken`.
-    pub fn read(&mut self, text: &str) -> Mem<Frame>
+    pub fn read<'a>(&'a mut self, text: &'a str) -> Mem<Frame<'a>>
         ensures { IfOk result (λ f. f ≡ frame text.now) }
     {
-        match read_call(self.alloc, &mut self.scratch, text) {
-            Ok(Some(call)) => Ok(call),
-            Ok(None) => self.read_any(text),
-            Err(refused) => Err(refused),
-        }
-    }
-
-    /// The frame that a text is, by its whole value.
-    fn read_any(&mut self, text: &str) -> Mem<Frame>
-        ensures { IfOk result (λ f. f ≡ frame text.now) }
-    {
-        match read_value(self.alloc, &mut self.scratch, text) {
-            Ok(value) => Ok(frame_of(self.alloc, value)),
-            Err(Refused::NoMemory) => Err(NoMemory),
-            Err(Refused::Invalid) => Ok(Frame::Ignored),
+        let FrameReader {
+            alloc,
+            calls,
+            others,
+        } = self;
+        match read_call(*alloc, calls, text)? {
+            Some(call) => Ok(call),
+            None => read_any(*alloc, others, text),
         }
     }
 }
 
-fn frame_of(alloc: Global, value: Value) -> Frame
-    ensures { result ≡ frame_of (view value) }
+/// The frame that a text is, by its whole value.
+fn read_any<'a>(alloc: Global, scratch: &'a mut Scratch, text: &'a str) -> Mem<Frame<'a>>
+    ensures { IfOk result (λ f. f ≡ frame text.now) }
+{
+    match read_value(alloc, scratch, text) {
+        Ok(value) => frame_of(alloc, value),
+        Err(Refused::NoMemory) => Err(NoMemory),
+        Err(Refused::Invalid) => Ok(Frame::Ignored),
+    }
+}
+
+fn frame_of<'a>(alloc: Global, value: Value<'a>) -> Mem<Frame<'a>>
+    ensures { IfOk result (λ f. f ≡ frame_of (view value.entry)) }
 {
     match value {
         Value::Array(items) => frame_of_items(alloc, items),
-        _ => Frame::Ignored,
+        _ => Ok(Frame::Ignored),
     }
 }
 
-fn frame_of_items(alloc: Global, mut items: Vec<Value>) -> Frame
-    ensures { result ≡ frame_of_items (items_view items.items) }
+fn frame_of_items<'a>(alloc: Global, mut items: Vec<Value<'a>>) -> Mem<Frame<'a>>
+    ensures { IfOk result (λ f. f ≡ frame_of_items (items_view items.entry.items)) }
 {
     if items.len() < 2 {
-        return Frame::Ignored;
+        return Ok(Frame::Ignored);
     }
     let kind = items.remove(0);
     let Value::String(id) = items.remove(0) else {
-        return Frame::Ignored;
+        return Ok(Frame::Ignored);
     };
-    match kind.as_u64() {
-        Some(2) => call(alloc, Text::from(id), items),
-        Some(3) => call_result(alloc, Text::from(id), items),
-        Some(4) => call_error(alloc, Text::from(id), items),
-        _ => Frame::Ignored,
+    let id = Text::copy_of(alloc, id)?;
+    match unsigned_of(&kind) {
+        Some(2) => call(alloc, id, items),
+        Some(3) => Ok(call_result(alloc, id, items)),
+        Some(4) => call_error(alloc, id, items),
+        _ => Ok(Frame::Ignored),
     }
 }
 
-fn call(alloc: Global, id: Text, rest: Vec<Value>) -> Frame
-    ensures { result ≡ call id (items_view rest.items) }
+fn call<'a>(alloc: Global, id: Text, rest: Vec<Value<'a>>) -> Mem<Frame<'a>>
+    ensures { IfOk result (λ f. f ≡ call id (items_view rest.entry.items)) }
 {
     match two_of(rest, 2) {
-        Some((action, payload)) => call_with(alloc, id, action, payload),
-        None => Frame::Broken { id },
+        Some((action, payload)) => call_with(alloc, id, &action, payload),
+        None => Ok(Frame::Broken { id }),
     }
 }
 
-fn call_with(alloc: Global, id: Text, action: Value, payload: Value) -> Frame
-    ensures { result ≡ call_with id (as_str (view action)) (payload_of (view payload)) }
+fn call_with<'a>(
+    alloc: Global,
+    id: Text,
+    action: &Value<'a>,
+    payload: Value<'a>,
+) -> Mem<Frame<'a>>
+    ensures { IfOk result (λ f. f ≡ call_with id (as_str (view action.now)) (payload_of (view payload.entry))) }
 {
-    match action {
-        Value::String(action) => call_of(alloc, id, Text::from(action), payload),
-        _ => Frame::Broken { id },
+    match text_of(action) {
+        Some(action) => {
+            let action = Text::copy_of(alloc, action)?;
+            Ok(call_of(alloc, id, action, payload))
+        }
+        None => Ok(Frame::Broken { id }),
     }
 }
 
 /// The call of an id with a text as its action, or why it is none, by its payload.
-pub fn call_of(alloc: Global, id: Text, action: Text, payload: Value) -> Frame
-    ensures { result ≡ call_with id (Some action) (payload_of (view payload)) }
+pub fn call_of<'a>(alloc: Global, id: Text, action: Text, payload: Value<'a>) -> Frame<'a>
+    ensures { result ≡ call_with id (Some action) (payload_of (view payload.entry)) }
 {
     let Some(payload) = payload_of(alloc, payload) else {
         return Frame::Broken { id };
@@ -120,8 +136,8 @@ pub fn call_of(alloc: Global, id: Text, action: Text, payload: Value) -> Frame
     }
 }
 
-fn call_result(alloc: Global, id: Text, mut rest: Vec<Value>) -> Frame
-    ensures { result ≡ call_result id (items_view rest.items) }
+fn call_result<'a>(alloc: Global, id: Text, mut rest: Vec<Value<'a>>) -> Frame<'a>
+    ensures { result ≡ call_result id (items_view rest.entry.items) }
 {
     if rest.len() != 1 {
         return Frame::Ignored;
@@ -132,33 +148,38 @@ fn call_result(alloc: Global, id: Text, mut rest: Vec<Value>) -> Frame
     }
 }
 
-fn call_error(alloc: Global, id: Text, rest: Vec<Value>) -> Frame
-    ensures { result ≡ call_error id (items_view rest.items) }
+fn call_error<'a>(alloc: Global, id: Text, rest: Vec<Value<'a>>) -> Mem<Frame<'a>>
+    ensures { IfOk result (λ f. f ≡ call_error id (items_view rest.entry.items)) }
 {
     match two_of(rest, 3) {
-        Some((code, description)) => error_with(alloc, id, code, description),
-        None => Frame::Ignored,
+        Some((code, description)) => error_with(alloc, id, &code, &description),
+        None => Ok(Frame::Ignored),
     }
 }
 
-fn error_with(alloc: Global, id: Text, code: Value, description: Value) -> Frame
-    ensures { result ≡ error_with id (as_str (view code)) (description_of (view description)) }
+fn error_with<'a>(
+    alloc: Global,
+    id: Text,
+    code: &Value<'a>,
+    description: &Value<'a>,
+) -> Mem<Frame<'a>>
+    ensures { IfOk result (λ f. f ≡ error_with id (as_str (view code.now)) (description_of (view description.now))) }
 {
-    match (code, description_of(alloc, description)) {
-        (Value::String(code), Some(description)) => Frame::CallError {
+    match (text_of(code), description_of(description)) {
+        (Some(code), Some(description)) => Ok(Frame::CallError {
             id,
-            code: Text::from(code),
-            description,
-        },
-        _ => Frame::Ignored,
+            code: Text::copy_of(alloc, code)?,
+            description: Text::copy_of(alloc, description)?,
+        }),
+        _ => Ok(Frame::Ignored),
     }
 }
 
 // The first two of two to `most` items.
-fn two_of(mut items: Vec<Value>, most: usize) -> Option<(Value, Value)>
-    ensures none { IfNone result ((length items.items < 2) ⊎ (most < length items.items)) }
-    ensures some { IfSome result (λ two. (rest : List Value)
-        × (items.items ≡ two.0 ∷ two.1 ∷ rest) × (length rest + 2 ≤ most)) }
+fn two_of<'a>(mut items: Vec<Value<'a>>, most: usize) -> Option<(Value<'a>, Value<'a>)>
+    ensures none { IfNone result ((length items.entry.items < 2) ⊎ (most < length items.entry.items)) }
+    ensures some { IfSome result (λ two. (rest : List (Value Global))
+        × (items.entry.items ≡ two.0 ∷ two.1 ∷ rest) × (length rest + 2 ≤ most)) }
 {
     if items.len() < 2 || most < items.len() {
         return None;
@@ -167,22 +188,22 @@ fn two_of(mut items: Vec<Value>, most: usize) -> Option<(Value, Value)>
     Some((first, items.remove(0)))
 }
 
-fn payload_of(alloc: Global, value: Value) -> Option<Payload>
-    ensures { result ≡ payload_of (view value) }
+fn payload_of<'a>(alloc: Global, value: Value<'a>) -> Option<Payload<'a>>
+    ensures { result ≡ payload_of (view value.entry) }
 {
     match value {
-        Value::Null => Some(Payload::from(Value::Object(Map::new(alloc)))),
+        Value::Null => Some(Payload::from(Value::Object(Vec::new(alloc)))),
         Value::Object(members) => Some(Payload::from(Value::Object(members))),
         _ => None,
     }
 }
 
-fn description_of(alloc: Global, value: Value) -> Option<Text>
-    ensures { result ≡ description_of (view value) }
+fn description_of<'a>(value: &Value<'a>) -> Option<&'a str>
+    ensures { option_map (λ s. s.now) result ≡ description_of (view value.now) }
 {
     match value {
-        Value::Null => Some(Text::from(String::new(alloc))),
-        Value::String(text) => Some(Text::from(text)),
+        Value::Null => Some(""),
+        Value::String(text) => Some(*text),
         _ => None,
     }
 }

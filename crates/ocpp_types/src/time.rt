@@ -13,6 +13,9 @@ use jiff::civil::{DateTime, datetime};
 use std::alloc::Global;
 use std::time::Duration;
 
+/// The length of a moment's text.
+const LENGTH: usize = 20;
+
 /// The text `YYYY-MM-DDTHH:MM:SSZ` of a moment. `parse_time` reads it again, unless the moment is
 /// past 9999-12-30T22:00:00Z, the last second that `jiff`'s Timestamp holds: `parse_time` refuses
 /// that text.
@@ -24,7 +27,9 @@ pub fn print_time(alloc: Global, moment: Moment) -> Mem<String>
         → time_of (string_bytes s) ≡ None) }
 {
     let civil = civil_time(moment);
-    Ok(format!(in alloc; "{civil}Z")?)
+    let mut text = String::with_capacity(alloc, LENGTH)?;
+    write!(text, "{civil}Z")?;
+    Ok(text)
 }
 
 /// The time that a text is, in milliseconds since 1970, floored: an instant as `jiff` reads a

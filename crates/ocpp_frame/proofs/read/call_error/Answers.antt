@@ -1,4 +1,4 @@
-use Rattle.std.proofs.Common.{◌∙◌}
+use Rattle.std.proofs.Common.{◌≡◌, IfOk, subst}
 use Rattle.ocpp_frame.proofs.Items.{call_error-other, call_error-some}
 use Rattle.ocpp_frame.proofs.read.call_error.Goals as goal
 
@@ -8,4 +8,4 @@ returns-in-None c = call_error-other c.args.id c.args.rest.items c.in-None.ensur
 pub returns-in-Some : goal.returns-in-Some
 returns-in-Some c =
     let some = c.in-Some.ensures.some in
-    c.error_with.ensures ∙ call_error-some c.args.id c.in-Some.code c.in-Some.description c.args.rest.items some.0 some.1 some.2
+    subst (λ frame. IfOk c.error_with.result (λ f. f ≡ frame)) (call_error-some c.args.id c.in-Some.code c.in-Some.description c.args.rest.items some.0 some.1 some.2) c.error_with.ensures

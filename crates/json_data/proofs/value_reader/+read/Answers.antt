@@ -1,15 +1,17 @@
-use Rattle.std.proofs.Common.{◌≡◌, ◌-◌, ◌<◌, [], ◌∷◌, length, Some, None, string_bytes, sym, ap, ap₂, ◌∙◌, arith, rules}
+use Rattle.std.proofs.Common.{◌≡◌, ◌-◌, ◌<◌, [], ◌∷◌, ◌++◌, length, Some, None, sym, ap, ap₂, ◌∙◌, arith, rules}
 use Rattle.json.specs.Token.{Token}
+use Rattle.json.specs.Json as json
 use Rattle.json.specs.Json.{parse_map, after_end_array, read_key, items, members, value}
 use Rattle.json.specs.Reads.{token_of}
 use Rattle.json.proofs.Grammar.{value_is, value-begin_array, value-begin_object, read_key-shorter}
-use Rattle.serde_json.specs.Data.{null, boolean, number, string, array, object, put}
+use Rattle.json.specs.Value as tree
+use Rattle.json.specs.declared.value.Value.{String, Number, Bool, Null, the_lemmas}
+use Rattle.json.proofs.Trees.{view-Array, view-Object}
+use Rattle.serde_json.specs.Data.{array, object, put}
 use Rattle.serde_json.specs.Read.{of_json, of_items, of_members, converted}
-use Rattle.serde_json.specs.View.{view, number_view, members_view}
-use Rattle.serde_json.specs.declared.value.Value.{String, Number, Bool, Null, the_lemmas}
-use Rattle.serde_json.proofs.Views.{view-Array, view-Object, members_view-insert_entry}
-use Rattle.ocpp_frame.proofs.Reading.{converted-array, converted-object, item_read, item_refused, items_over, member_read, member_refused, key_refused, members_over, items_before, items_before-no_items, one_more_item, none_before}
-use Rattle.ocpp_frame.proofs.value_reader.+read.Goals as goal
+use Rattle.json_data.specs.View.{data_of, view, members_view}
+use Rattle.json_data.proofs.Reading.{converted-array, converted-object, item_read, item_refused, items_over, member_read, member_refused, key_refused, members_over, items_before, items_before-no_items, one_more_item, one_more_member, none_before, number_read}
+use Rattle.json_data.proofs.value_reader.+read.Goals as goal
 
 pub read-returns-in_err-token-clause-err : goal.read-returns-in_err-token-clause-err
 read-returns-in_err-token-clause-err t c refused =
@@ -42,33 +44,33 @@ read-returns-in_err-read_members-in-BeginObject-clause-err t c refused =
     let opened = ap (converted of_json) (ap (value c.args.depth) (first ∙ ap (λ k. token_of k ∷ c.next.new.self) c.in-BeginObject.is) ∙ value-begin_object c.args.depth c.next.new.self (omega arith)) ∙ converted-object (members (value (c.args.depth - 1)) (length c.next.new.self) c.next.new.self) in
     opened ∙ ap (parse_map object) (c.read_members.ensures.err (grind arith))
 
-pub read-returns-in_ok-from_str-in-String-clause-ok : goal.read-returns-in_ok-from_str-in-String-clause-ok
-read-returns-in_ok-from_str-in-String-clause-ok t c =
+pub read-returns-in-String-clause-ok : goal.read-returns-in-String-clause-ok
+read-returns-in-String-clause-ok t c =
     let first : c.args.reader.now ≡ token_of c.in_ok-token.token ∷ c.next.new.self = grind arith in
     let is : c.args.reader.now ≡ Token.string c.in-String.text.now ∷ c.next.new.self = grind (arith, first) in
-    let seen : view (String c.in_ok-from_str-in-String.field-0) ≡ string c.in-String.text.now = search (rules, the_lemmas) in
-    ap (converted of_json) (ap (value c.args.depth) is ∙ value_is c.args.depth _) ∙ ap (λ d. Some (d, c.next.new.self)) (sym seen)
+    let seen : tree.value_view (String c.in-String.text) ≡ json.string c.in-String.text.now = search (rules, the_lemmas) in
+    ap (converted of_json) (ap (value c.args.depth) is ∙ value_is c.args.depth _) ∙ ap (λ j. Some (data_of j, c.next.new.self)) (sym seen)
 
 pub read-returns-in-Bool-clause-ok : goal.read-returns-in-Bool-clause-ok
 read-returns-in-Bool-clause-ok t c =
     let first : c.args.reader.now ≡ token_of c.in_ok-token.token ∷ c.next.new.self = grind arith in
     let is : c.args.reader.now ≡ Token.boolean c.in-Bool.b ∷ c.next.new.self = grind (arith, first) in
-    let seen : view (Bool c.in-Bool.b) ≡ boolean c.in-Bool.b = search (rules, the_lemmas) in
-    ap (converted of_json) (ap (value c.args.depth) is ∙ value_is c.args.depth _) ∙ ap (λ d. Some (d, c.next.new.self)) (sym seen)
+    let seen : tree.value_view (Bool c.in-Bool.b) ≡ json.boolean c.in-Bool.b = search (rules, the_lemmas) in
+    ap (converted of_json) (ap (value c.args.depth) is ∙ value_is c.args.depth _) ∙ ap (λ j. Some (data_of j, c.next.new.self)) (sym seen)
 
 pub read-returns-in-Null-clause-ok : goal.read-returns-in-Null-clause-ok
 read-returns-in-Null-clause-ok t c =
     let first : c.args.reader.now ≡ token_of c.in_ok-token.token ∷ c.next.new.self = grind arith in
     let is : c.args.reader.now ≡ Token.null ∷ c.next.new.self = grind (arith, first) in
-    let seen : view (Null) ≡ null = search (rules, the_lemmas) in
-    ap (converted of_json) (ap (value c.args.depth) is ∙ value_is c.args.depth _) ∙ ap (λ d. Some (d, c.next.new.self)) (sym seen)
+    let seen : tree.value_view (Null) ≡ json.null = search (rules, the_lemmas) in
+    ap (converted of_json) (ap (value c.args.depth) is ∙ value_is c.args.depth _) ∙ ap (λ j. Some (data_of j, c.next.new.self)) (sym seen)
 
 pub read-returns-in-Some-clause-ok : goal.read-returns-in-Some-clause-ok
 read-returns-in-Some-clause-ok t c =
     let first : c.args.reader.now ≡ token_of c.in_ok-token.token ∷ c.next.new.self = grind arith in
     let is : c.args.reader.now ≡ Token.number c.in-Number.text.now ∷ c.next.new.self = grind (arith, first) in
-    let seen : view (Number c.in-Some.number) ≡ number (number_view c.in-Some.number) = search (rules, the_lemmas) in
-    ap (converted of_json) (ap (value c.args.depth) is ∙ value_is c.args.depth _) ∙ rw (← c.in-Some.ensures, seen)
+    let seen : tree.value_view (Number c.in-Number.text) ≡ json.number c.in-Number.text.now = search (rules, the_lemmas) in
+    ap (converted of_json) (ap (value c.args.depth) is ∙ value_is c.args.depth _) ∙ number_read _ _ _ c.in-Some.ensures ∙ ap (λ j. Some (data_of j, c.next.new.self)) (sym seen)
 
 pub read-returns-in-None-clause-err : goal.read-returns-in-None-clause-err
 read-returns-in-None-clause-err t c refused =
@@ -87,14 +89,14 @@ read-returns-in_ok-read_items-in-BeginArray-clause-ok t c =
     let first : c.args.reader.now ≡ token_of c.in_ok-token.token ∷ c.next.new.self = grind arith in
     let opened = ap (converted of_json) (ap (value c.args.depth) (first ∙ ap (λ k. token_of k ∷ c.next.new.self) c.in-BeginArray.is) ∙ value-begin_array c.args.depth c.next.new.self (omega arith)) ∙ converted-array (items (value (c.args.depth - 1)) (length c.next.new.self) c.next.new.self) in
     let found = c.in_ok-read_items-in-BeginArray in
-    opened ∙ ap (parse_map array) found.ensures.ok ∙ ap (λ d. Some (d, c.read_items.new.reader)) (sym (view-Array found.field-0))
+    opened ∙ ap (parse_map array) found.ensures.ok ∙ ap (λ d. Some (d, c.read_items.new.reader)) (sym (ap data_of (view-Array found.field-0)))
 
 pub read-returns-in_ok-read_members-in-BeginObject-clause-ok : goal.read-returns-in_ok-read_members-in-BeginObject-clause-ok
 read-returns-in_ok-read_members-in-BeginObject-clause-ok t c =
     let first : c.args.reader.now ≡ token_of c.in_ok-token.token ∷ c.next.new.self = grind arith in
     let opened = ap (converted of_json) (ap (value c.args.depth) (first ∙ ap (λ k. token_of k ∷ c.next.new.self) c.in-BeginObject.is) ∙ value-begin_object c.args.depth c.next.new.self (omega arith)) ∙ converted-object (members (value (c.args.depth - 1)) (length c.next.new.self) c.next.new.self) in
     let found = c.in_ok-read_members-in-BeginObject in
-    opened ∙ ap (parse_map object) found.ensures.ok ∙ ap (λ d. Some (d, c.read_members.new.reader)) (sym (view-Object found.field-0))
+    opened ∙ ap (parse_map object) found.ensures.ok ∙ ap (λ d. Some (d, c.read_members.new.reader)) (sym (ap data_of (view-Object found.field-0)))
 
 pub read_items-items-init : goal.read_items-items-init
 read_items-items-init t c =
@@ -138,14 +140,14 @@ read_items-returns-clause-ok t c =
 pub read_members-members-init : goal.read_members-members-init
 read_members-members-init t c =
     let all = members (value c.args.depth) (length c.args.reader.now) c.args.reader.now in
-    (length c.args.reader.now, omega arith, ap (λ es. converted (λ ms. of_members ms (members_view es)) all) (sym c.new-found.ensures.empty), omega arith)
+    (length c.args.reader.now, omega arith, ap (λ es. converted (λ ms. of_members ms (members_view es)) all) (sym c.new-found.ensures.items), omega arith)
 
 pub read_members-returns-in_err-name-clause-err : goal.read_members-returns-in_err-name-clause-err
 read_members-returns-in_err-name-clause-err t c refused =
     let p = value c.args.depth in
     let l = c.members in
     let n = l.invariant.0 in
-    let old = members_view l.found.entries in
+    let old = members_view l.found.items in
     l.invariant.2 ∙ key_refused p old n l.reader c.in_err-name.ensures.value
 
 pub read_members-returns-in_err-member-clause-err : goal.read_members-returns-in_err-member-clause-err
@@ -153,7 +155,7 @@ read_members-returns-in_err-member-clause-err t c refused =
     let p = value c.args.depth in
     let l = c.members in
     let n = l.invariant.0 in
-    let old = members_view l.found.entries in
+    let old = members_view l.found.items in
     let k = c.in-Some.name.now in
     let s = c.next_key.new.self in
     let named : read_key l.reader ≡ Some (Some k, s) = grind arith in
@@ -164,7 +166,7 @@ read_members-members-preserved t c =
     let p = value c.args.depth in
     let l = c.members in
     let n = l.invariant.0 in
-    let old = members_view l.found.entries in
+    let old = members_view l.found.items in
     let k = c.in-Some.name.now in
     let s = c.next_key.new.self in
     let named : read_key l.reader ≡ Some (Some k, s) = grind arith in
@@ -173,9 +175,8 @@ read_members-members-preserved t c =
     let r = c.read.new.reader in
     let less = read_key-shorter l.reader (Some k) s named in
     let lesser = done.shorter in
-    let copied : string_bytes c.in_ok-key.key ≡ k = search rules in
-    let inserted : members_view c.insert.new.self.entries ≡ put k (view v) old =
-    ap members_view c.in_ok-insert.ensures.entries ∙ members_view-insert_entry l.found.entries c.in_ok-key.key v ∙ ap (λ name. put name (view v) old) copied in (
+    let pushed : c.push.new.self.items ≡ l.found.items ++ (c.in-Some.name, v) ∷ [] = search rules in
+    let inserted : members_view c.push.new.self.items ≡ put k (view v) old = ap members_view pushed ∙ one_more_member l.found.items (c.in-Some.name, v) in (
       n - 1,
       omega (arith, l.invariant.1),
       l.invariant.2 ∙ member_read p old n k l.reader s r (view v) (omega (arith, l.invariant.1)) named done.ok
@@ -188,5 +189,5 @@ read_members-returns-clause-ok t c =
     let p = value c.args.depth in
     let l = c.members in
     let n = l.invariant.0 in
-    let old = members_view l.found.entries in
+    let old = members_view l.found.items in
     l.invariant.2 ∙ members_over p old n l.reader c.next_key.new.self l.invariant.1 (grind arith)
