@@ -1,3 +1,2 @@
-pub mod StoredData
 pub mod Frame
 pub mod Written

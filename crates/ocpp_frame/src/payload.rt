@@ -15,7 +15,7 @@ pub struct Payload<'a> {
 impl<'a> Model for Payload<'a> {
     ghost use Rattle.serde_json.specs.Data.{Data};
     ghost use Rattle.json_data.specs.View.{view as data_of};
-    ghost use Rattle.ocpp_frame.specs.StoredData.{data_code};
+    ghost use Rattle.json_data.specs.StoredData.{data_code};
 
     ghost Value = { Data };
 

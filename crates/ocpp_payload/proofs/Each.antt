@@ -1,8 +1,8 @@
 -- Reading the items of a list, one after another.
 use Rattle.std.proofs.Common.{◌≡◌, ℕ, suc, ◌+◌, ◌<◌, ◌==◌, false, List, [], ◌∷◌, ◌++◌, length, get_or, drop, Result, Ok, Err, refl, ap, subst, sym, ◌∙◌, append_assoc, drop-cons, add-one}
 use Rattle.serde_json.specs.Data.{Data}
-use Rattle.serde_json.specs.View.{view, items_view}
-use Rattle.serde_json.specs.declared.value.Value.{Value}
+use Rattle.json_data.specs.View.{view, items_view}
+use Rattle.json.specs.declared.value.Value.{Value}
 use Rattle.ocpp_payload.specs.declared.fault.FieldFault.{FieldFault}
 use Rattle.ocpp_payload.specs.Kind.{Kind, ◌>>=◌}
 use Rattle.ocpp_payload.specs.Lists.{each, some_each}
@@ -23,7 +23,7 @@ module _ {A : Type 0} where
   with_front-one front y (Ok xs) = ap Ok (sym (append_assoc front (y ∷ []) xs))
   with_front-one front y (Err e) = refl
 
-  pub each-item : (read : Data → Result A FieldFault) (front : List A) (vs : List Value) (i : ℕ) (v : Value) (y : A) → i < length vs → v ≡ get_or vs i v → read (view v) ≡ Ok y
+  pub each-item : {B : Type 0} → (read : Data → Result A FieldFault) (front : List A) (vs : List (Value B)) (i : ℕ) (v : Value B) (y : A) → i < length vs → v ≡ get_or vs i v → read (view v) ≡ Ok y
       → with_front front (each read (items_view (drop i vs))) ≡ with_front (front ++ y ∷ []) (each read (items_view (drop (i + 1) vs)))
   each-item read front vs i v y within is e =
       ap (λ ws. with_front front (each read (items_view ws))) (drop-cons vs i v within)
@@ -32,7 +32,7 @@ module _ {A : Type 0} where
       ∙ with_front-one front y (each read (items_view (drop (suc i) vs)))
       ∙ ap (λ n. with_front (front ++ y ∷ []) (each read (items_view (drop n vs)))) (sym (add-one i))
 
-  pub each-refused : (read : Data → Result A FieldFault) (front : List A) (vs : List Value) (i : ℕ) (v : Value) (f : FieldFault) → i < length vs → v ≡ get_or vs i v → read (view v) ≡ Err f
+  pub each-refused : {B : Type 0} → (read : Data → Result A FieldFault) (front : List A) (vs : List (Value B)) (i : ℕ) (v : Value B) (f : FieldFault) → i < length vs → v ≡ get_or vs i v → read (view v) ≡ Err f
       → with_front front (each read (items_view (drop i vs))) ≡ Err f
   each-refused read front vs i v f within is e =
       ap (λ ws. with_front front (each read (items_view ws))) (drop-cons vs i v within)
@@ -40,14 +40,14 @@ module _ {A : Type 0} where
       ∙ ap (λ r. with_front front (r >>= (λ x. each read (items_view (drop (suc i) vs)) >>= (λ xs. Ok (x ∷ xs))))) e
 
   -- a fault at an item is the list's
-  pub each-fails : (e : ReadError) (read : Data → Result A FieldFault) (front : List A) (vs : List Value) (i : ℕ) (v : Value)
+  pub each-fails : {B : Type 0} → (e : ReadError) (read : Data → Result A FieldFault) (front : List A) (vs : List (Value B)) (i : ℕ) (v : Value B)
       → i < length vs → v ≡ get_or vs i v → Fails e (read (view v))
       → with_front front (each read (items_view (drop i vs))) ≡ each read (items_view vs)
       → Fails e (each read (items_view vs))
   each-fails NoMemory read front vs i v within is h same = tt
   each-fails (Fault f) read front vs i v within is h same = sym same ∙ each-refused read front vs i v f within is h
 
-  pub some_each-each : (kind : Kind A) (name : List ℕ) (vs : List Value) → (length vs == 0) ≡ false → each (kind name) (items_view vs) ≡ some_each kind name (items_view vs)
+  pub some_each-each : {B : Type 0} → (kind : Kind A) (name : List ℕ) (vs : List (Value B)) → (length vs == 0) ≡ false → each (kind name) (items_view vs) ≡ some_each kind name (items_view vs)
   some_each-each kind name [] some = absurd (cc)
   some_each-each kind name (v ∷ vs) some = refl
 

@@ -1,20 +1,21 @@
 //! The members of a payload.
 ghost use Rattle.std.specs.Prelude.{◌≡◌};
 ghost use Rattle.std.specs.Option.{option_map};
-ghost use Rattle.serde_json.specs.View.{view};
+ghost use Rattle.json_data.specs.View.{view};
 ghost use Rattle.ocpp_payload.specs.Fields.{present, required, optional, with_default};
 ghost use Rattle.ocpp_payload.specs.Gives.{Gives};
 
 use crate::fault::{ReadError, refused};
 use crate::kind::Kind;
+use json::Value;
+use json_data::{is_null, member_of};
 use ocpp_types::ErrorCode;
-use serde_json::Value;
 use std::alloc::Global;
 
 /// Reads a member that has to be there.
 pub fn required<K: Kind>(
     alloc: Global,
-    object: &Value,
+    object: &Value<'_>,
     field: &'static str,
     kind: K,
 ) -> Result<K::Out, ReadError>
@@ -29,7 +30,7 @@ pub fn required<K: Kind>(
 /// Reads a member that may be missing.
 pub fn optional<K: Kind>(
     alloc: Global,
-    object: &Value,
+    object: &Value<'_>,
     field: &'static str,
     kind: K,
 ) -> Result<Option<K::Out>, ReadError>
@@ -44,7 +45,7 @@ pub fn optional<K: Kind>(
 /// Reads a member that counts as sent with that value where it is missing.
 pub fn with_default<K: Kind>(
     alloc: Global,
-    object: &Value,
+    object: &Value<'_>,
     field: &'static str,
     kind: K,
     default: K::Out,
@@ -55,11 +56,11 @@ pub fn with_default<K: Kind>(
 }
 
 /// The value of a member, unless it is missing or `null`.
-fn present<'a>(object: &'a Value, field: &str) -> Option<&'a Value>
+fn present<'v, 'a>(object: &'v Value<'a>, field: &str) -> Option<&'v Value<'a>>
     ensures { option_map (λ v. view v.now) result ≡ present field.now (view object.now) }
 {
-    match object.get(field) {
-        Some(Value::Null) => None,
+    match member_of(object, field) {
+        Some(value) if is_null(value) => None,
         found => found,
     }
 }

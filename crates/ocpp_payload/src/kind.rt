@@ -2,14 +2,15 @@
 ghost use Rattle.std.specs.Prelude.{◌≡◌, List, ℕ, Result, option_and_then};
 ghost use Rattle.serde_json.specs.Find.{as_integer, as_number};
 ghost use Rattle.serde_json.specs.Data.{Data};
-ghost use Rattle.serde_json.specs.View.{view};
+ghost use Rattle.json_data.specs.View.{view};
 ghost use Rattle.ocpp_payload.specs.Gives.{Gives};
 ghost use Rattle.ocpp_payload.specs.Kind.{moment_at, typed};
 ghost use Rattle.ocpp_payload.specs.declared.fault.FieldFault.{FieldFault};
 
 use crate::fault::{ReadError, refused};
+use json::Value;
+use json_data::{integer_of, text_of, truth_of};
 use ocpp_types::{ErrorCode, Moment, Named, Text, count_characters, parse_time};
-use serde_json::Value;
 use std::alloc::Global;
 use std::marker::PhantomData;
 
@@ -26,7 +27,7 @@ pub trait Kind: Drop {
         &self,
         alloc: Global,
         field: &'static str,
-        value: &Value,
+        value: &Value<'_>,
     ) -> Result<Self::Out, ReadError>
         ensures { Gives result (reads self.now field.now (view value.now)) };
 }
@@ -42,8 +43,8 @@ impl Kind for TextOf {
 
     ghost reads = { λ kind. text kind.0 };
 
-    fn read(&self, alloc: Global, field: &'static str, value: &Value) -> Result<Text, ReadError> {
-        let Some(text) = value.as_str() else {
+    fn read(&self, alloc: Global, field: &'static str, value: &Value<'_>) -> Result<Text, ReadError> {
+        let Some(text) = text_of(value) else {
             return refused(ErrorCode::TypeConstraintViolation, field);
         };
         if count_characters(text) > self.0 {
@@ -64,8 +65,8 @@ impl Kind for AnyText {
 
     ghost reads = { λ _. any_text };
 
-    fn read(&self, alloc: Global, field: &'static str, value: &Value) -> Result<Text, ReadError> {
-        let Some(text) = value.as_str() else {
+    fn read(&self, alloc: Global, field: &'static str, value: &Value<'_>) -> Result<Text, ReadError> {
+        let Some(text) = text_of(value) else {
             return refused(ErrorCode::TypeConstraintViolation, field);
         };
         let copy = Text::copy_of(alloc, text)?;
@@ -84,7 +85,7 @@ impl Kind for ConnectorFrom {
 
     ghost reads = { λ kind. connector_from kind.0 };
 
-    fn read(&self, _alloc: Global, field: &'static str, value: &Value) -> Result<u8, ReadError> {
+    fn read(&self, _alloc: Global, field: &'static str, value: &Value<'_>) -> Result<u8, ReadError> {
         let number = integer(field, value)?;
         if number < self.0 as i128 || 255 < number {
             return refused(ErrorCode::PropertyConstraintViolation, field);
@@ -104,7 +105,7 @@ impl Kind for Int32 {
 
     ghost reads = { λ _. int_32 };
 
-    fn read(&self, _alloc: Global, field: &'static str, value: &Value) -> Result<i32, ReadError> {
+    fn read(&self, _alloc: Global, field: &'static str, value: &Value<'_>) -> Result<i32, ReadError> {
         let number = integer(field, value)?;
         if number < i32::MIN as i128 || (i32::MAX as i128) < number {
             return refused(ErrorCode::PropertyConstraintViolation, field);
@@ -124,7 +125,7 @@ impl Kind for Int64 {
 
     ghost reads = { λ _. int_64 };
 
-    fn read(&self, _alloc: Global, field: &'static str, value: &Value) -> Result<i64, ReadError> {
+    fn read(&self, _alloc: Global, field: &'static str, value: &Value<'_>) -> Result<i64, ReadError> {
         let number = integer(field, value)?;
         if number < i64::MIN as i128 || (i64::MAX as i128) < number {
             return refused(ErrorCode::PropertyConstraintViolation, field);
@@ -133,12 +134,11 @@ impl Kind for Int64 {
     }
 }
 
-/// The integer that a value is: a number that `serde_json` holds as a signed or unsigned integer of
-/// 64 bits. One written with a fraction or an exponent, `-0`, and one past 64 bits are floats to it.
-fn integer(field: &'static str, value: &Value) -> Result<i128, ReadError>
+/// The integer that a value is.
+fn integer(field: &'static str, value: &Value<'_>) -> Result<i128, ReadError>
     ensures { Gives result (typed field.now (option_and_then as_integer (as_number (view value.now)))) }
 {
-    match value.as_number().and_then(|number| number.as_i128()) {
+    match integer_of(value) {
         Some(number) => Ok(number),
         None => refused(ErrorCode::TypeConstraintViolation, field),
     }
@@ -162,8 +162,8 @@ impl<E: Named + Drop> Kind for NameOf<E> {
 
     ghost reads = { λ _. choice E.names };
 
-    fn read(&self, _alloc: Global, field: &'static str, value: &Value) -> Result<E, ReadError> {
-        let Some(name) = value.as_str() else {
+    fn read(&self, _alloc: Global, field: &'static str, value: &Value<'_>) -> Result<E, ReadError> {
+        let Some(name) = text_of(value) else {
             return refused(ErrorCode::TypeConstraintViolation, field);
         };
         match E::of(name) {
@@ -184,8 +184,8 @@ impl Kind for Boolean {
 
     ghost reads = { λ _. boolean };
 
-    fn read(&self, _alloc: Global, field: &'static str, value: &Value) -> Result<bool, ReadError> {
-        match value.as_bool() {
+    fn read(&self, _alloc: Global, field: &'static str, value: &Value<'_>) -> Result<bool, ReadError> {
+        match truth_of(value) {
             Some(truth) => Ok(truth),
             None => refused(ErrorCode::TypeConstraintViolation, field),
         }
@@ -203,8 +203,8 @@ impl Kind for Time {
 
     ghost reads = { λ _. time };
 
-    fn read(&self, _alloc: Global, field: &'static str, value: &Value) -> Result<i64, ReadError> {
-        let Some(time) = value.as_str().and_then(|text| parse_time(text)) else {
+    fn read(&self, _alloc: Global, field: &'static str, value: &Value<'_>) -> Result<i64, ReadError> {
+        let Some(time) = text_of(value).and_then(|text| parse_time(text)) else {
             return refused(ErrorCode::TypeConstraintViolation, field);
         };
         Ok(time)
@@ -222,7 +222,7 @@ impl Kind for WholeSecond {
 
     ghost reads = { λ _. moment };
 
-    fn read(&self, alloc: Global, field: &'static str, value: &Value) -> Result<Moment, ReadError> {
+    fn read(&self, alloc: Global, field: &'static str, value: &Value<'_>) -> Result<Moment, ReadError> {
         let time = Time.read(alloc, field, value)?;
         match moment_at(time.div_euclid(1000)) {
             Some(moment) => Ok(moment),

@@ -1,15 +1,16 @@
 //! Objects and lists as the values of members.
 ghost use Rattle.std.specs.Prelude.{◌≡◌, Result};
 ghost use Rattle.serde_json.specs.Data.{Data};
-ghost use Rattle.serde_json.specs.View.{view, items_view};
+ghost use Rattle.json_data.specs.View.{view, items_view};
 ghost use Rattle.ocpp_payload.specs.Gives.{Gives};
 ghost use Rattle.ocpp_payload.specs.Lists.{each};
 ghost use Rattle.ocpp_payload.specs.declared.fault.FieldFault.{FieldFault};
 
 use crate::fault::{ReadError, refused};
 use crate::kind::Kind;
+use json::Value;
+use json_data::{is_object, items_of};
 use ocpp_types::{ErrorCode, Listed};
-use serde_json::Value;
 use std::alloc::Global;
 use std::marker::PhantomData;
 
@@ -19,7 +20,7 @@ pub trait Readable: Drop {
     ghost reads_as: { Data → Result Self FieldFault };
 
     /// Reads it.
-    fn read_from(alloc: Global, object: &Value) -> Result<Self, ReadError>
+    fn read_from(alloc: Global, object: &Value<'_>) -> Result<Self, ReadError>
         ensures { Gives result (reads_as (view object.now)) };
 }
 
@@ -41,8 +42,8 @@ impl<T: Readable> Kind for ObjectOf<T> {
 
     ghost reads = { λ _. object_of T.reads_as };
 
-    fn read(&self, alloc: Global, field: &'static str, value: &Value) -> Result<T, ReadError> {
-        if !value.is_object() {
+    fn read(&self, alloc: Global, field: &'static str, value: &Value<'_>) -> Result<T, ReadError> {
+        if !is_object(value) {
             return refused(ErrorCode::TypeConstraintViolation, field);
         }
         T::read_from(alloc, value)
@@ -64,12 +65,12 @@ impl<K: Kind> Kind for ListOf<K> {
         &self,
         alloc: Global,
         field: &'static str,
-        value: &Value,
+        value: &Value<'_>,
     ) -> Result<Listed<K::Out>, ReadError> {
-        let Some(items) = value.as_array() else {
+        let Some(items) = items_of(value) else {
             return refused(ErrorCode::TypeConstraintViolation, field);
         };
-        each(alloc, field, items.as_slice(), &self.0)
+        each(alloc, field, items, &self.0)
     }
 }
 
@@ -88,12 +89,11 @@ impl<K: Kind> Kind for SomeOf<K> {
         &self,
         alloc: Global,
         field: &'static str,
-        value: &Value,
+        value: &Value<'_>,
     ) -> Result<Listed<K::Out>, ReadError> {
-        let Some(items) = value.as_array() else {
+        let Some(items) = items_of(value) else {
             return refused(ErrorCode::TypeConstraintViolation, field);
         };
-        let items = items.as_slice();
         if items.is_empty() {
             return refused(ErrorCode::OccurenceConstraintViolation, field);
         }
@@ -105,7 +105,7 @@ impl<K: Kind> Kind for SomeOf<K> {
 fn each<K: Kind>(
     alloc: Global,
     field: &'static str,
-    items: &[Value],
+    items: &[Value<'_>],
     kind: &K,
 ) -> Result<Listed<K::Out>, ReadError>
     ensures { Gives result (each (K.reads kind.now field.now) (items_view items.now)) }

@@ -1,16 +1,16 @@
 //! Readings of a meter, as a station sends them.
 ghost use Rattle.std.specs.Prelude.{◌≡◌};
-ghost use Rattle.serde_json.specs.View.{view};
+ghost use Rattle.json_data.specs.View.{view};
 ghost use Rattle.ocpp_payload.specs.Gives.{Gives};
 
 use crate::fault::ReadError;
 use crate::fields::{optional, required, with_default};
 use crate::kind::{AnyText, NameOf, Time};
 use crate::lists::{ObjectOf, Readable, SomeOf};
+use json::Value;
 use ocpp_types::{
     Listed, Location, Measurand, Phase, ReadingContext, Text, UnitOfMeasure, ValueFormat,
 };
-use serde_json::Value;
 use std::alloc::Global;
 
 /// One reading (OCPP 1.6, type SampledValue). A member that the station left out has the standard's
@@ -31,7 +31,7 @@ impl Readable for SampledValue {
 
     ghost reads_as = { sampled_value };
 
-    fn read_from(alloc: Global, object: &Value) -> Result<SampledValue, ReadError> {
+    fn read_from(alloc: Global, object: &Value<'_>) -> Result<SampledValue, ReadError> {
         Ok(SampledValue {
             value: required(alloc, object, "value", AnyText)?,
             context: with_default(
@@ -70,7 +70,7 @@ impl Readable for MeterValue {
 
     ghost reads_as = { meter_value };
 
-    fn read_from(alloc: Global, object: &Value) -> Result<MeterValue, ReadError> {
+    fn read_from(alloc: Global, object: &Value<'_>) -> Result<MeterValue, ReadError> {
         Ok(MeterValue {
             timestamp: required(alloc, object, "timestamp", Time)?,
             sampled_value: required(alloc, object, "sampledValue", SomeOf(ObjectOf::new()))?,

@@ -1,6 +1,6 @@
 //! The requests of a station.
 ghost use Rattle.std.specs.Prelude.{◌≡◌, IfOk};
-ghost use Rattle.serde_json.specs.View.{view};
+ghost use Rattle.json_data.specs.View.{view};
 ghost use Rattle.ocpp_payload.specs.Gives.{Gives};
 ghost use Rattle.ocpp_payload.specs.Request.{authorize, boot_notification, data_transfer, diagnostics_status_notification, firmware_status_notification, meter_values, start_transaction, status_notification, stop_transaction, request};
 
@@ -13,8 +13,8 @@ use crate::request::{
     Authorize, DataTransfer, DiagnosticsStatusNotification, FirmwareStatusNotification,
     MeterValues, Request, StartTransaction, StatusNotification, StopTransaction,
 };
+use json::Value;
 use ocpp_types::{BootNotification, Boxed, Listed, Mem, NoMemory, Reason};
-use serde_json::Value;
 use std::alloc::Global;
 
 /// The request of that action that a payload is, or its first faulty member in the order of the
@@ -22,7 +22,7 @@ use std::alloc::Global;
 pub fn read_request(
     alloc: Global,
     action: Action,
-    payload: &Value,
+    payload: &Value<'_>,
 ) -> Mem<Result<Request, FieldFault>>
     ensures { IfOk result (λ r. r ≡ request action (view payload.now)) }
 {
@@ -33,7 +33,7 @@ pub fn read_request(
     }
 }
 
-fn read_any(alloc: Global, action: Action, payload: &Value) -> Result<Request, ReadError>
+fn read_any(alloc: Global, action: Action, payload: &Value<'_>) -> Result<Request, ReadError>
     ensures { Gives result (request action (view payload.now)) }
 {
     Ok(match action {
@@ -56,14 +56,14 @@ fn read_any(alloc: Global, action: Action, payload: &Value) -> Result<Request, R
     })
 }
 
-fn authorize(alloc: Global, payload: &Value) -> Result<Authorize, ReadError>
+fn authorize(alloc: Global, payload: &Value<'_>) -> Result<Authorize, ReadError>
     ensures { Gives result (authorize (view payload.now)) }
 {
     let id_tag = required(alloc, payload, "idTag", TextOf(20))?;
     Ok(Authorize { id_tag })
 }
 
-fn boot_notification(alloc: Global, payload: &Value) -> Result<Boxed<BootNotification>, ReadError>
+fn boot_notification(alloc: Global, payload: &Value<'_>) -> Result<Boxed<BootNotification>, ReadError>
     ensures { Gives result (boot_notification (view payload.now)) }
 {
     let boot = BootNotification {
@@ -85,7 +85,7 @@ fn boot_notification(alloc: Global, payload: &Value) -> Result<Boxed<BootNotific
     Ok(Boxed::new(alloc, boot)?)
 }
 
-fn data_transfer(alloc: Global, payload: &Value) -> Result<DataTransfer, ReadError>
+fn data_transfer(alloc: Global, payload: &Value<'_>) -> Result<DataTransfer, ReadError>
     ensures { Gives result (data_transfer (view payload.now)) }
 {
     Ok(DataTransfer {
@@ -97,7 +97,7 @@ fn data_transfer(alloc: Global, payload: &Value) -> Result<DataTransfer, ReadErr
 
 fn diagnostics_status_notification(
     alloc: Global,
-    payload: &Value,
+    payload: &Value<'_>,
 ) -> Result<DiagnosticsStatusNotification, ReadError>
     ensures { Gives result (diagnostics_status_notification (view payload.now)) }
 {
@@ -107,7 +107,7 @@ fn diagnostics_status_notification(
 
 fn firmware_status_notification(
     alloc: Global,
-    payload: &Value,
+    payload: &Value<'_>,
 ) -> Result<FirmwareStatusNotification, ReadError>
     ensures { Gives result (firmware_status_notification (view payload.now)) }
 {
@@ -115,7 +115,7 @@ fn firmware_status_notification(
     Ok(FirmwareStatusNotification { status })
 }
 
-fn meter_values(alloc: Global, payload: &Value) -> Result<MeterValues, ReadError>
+fn meter_values(alloc: Global, payload: &Value<'_>) -> Result<MeterValues, ReadError>
     ensures { Gives result (meter_values (view payload.now)) }
 {
     Ok(MeterValues {
@@ -125,7 +125,7 @@ fn meter_values(alloc: Global, payload: &Value) -> Result<MeterValues, ReadError
     })
 }
 
-fn start_transaction(alloc: Global, payload: &Value) -> Result<StartTransaction, ReadError>
+fn start_transaction(alloc: Global, payload: &Value<'_>) -> Result<StartTransaction, ReadError>
     ensures { Gives result (start_transaction (view payload.now)) }
 {
     Ok(StartTransaction {
@@ -139,7 +139,7 @@ fn start_transaction(alloc: Global, payload: &Value) -> Result<StartTransaction,
 
 fn status_notification(
     alloc: Global,
-    payload: &Value,
+    payload: &Value<'_>,
 ) -> Result<Boxed<StatusNotification>, ReadError>
     ensures { Gives result (status_notification (view payload.now)) }
 {
@@ -155,7 +155,7 @@ fn status_notification(
     Ok(Boxed::new(alloc, report)?)
 }
 
-fn stop_transaction(alloc: Global, payload: &Value) -> Result<StopTransaction, ReadError>
+fn stop_transaction(alloc: Global, payload: &Value<'_>) -> Result<StopTransaction, ReadError>
     ensures { Gives result (stop_transaction (view payload.now)) }
 {
     Ok(StopTransaction {

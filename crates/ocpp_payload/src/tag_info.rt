@@ -16,7 +16,7 @@ use std::alloc::Global;
 impl Readable for IdTagInfo {
     ghost reads_as = { read_by id_tag_info };
 
-    fn read_from(alloc: Global, object: &Value) -> Result<IdTagInfo, ReadError> {
+    fn read_from(alloc: Global, object: &json::Value<'_>) -> Result<IdTagInfo, ReadError> {
         Ok(IdTagInfo {
             expiry_date: optional(alloc, object, "expiryDate", WholeSecond)?,
             parent_id_tag: optional(alloc, object, "parentIdTag", TextWithin(20))?,

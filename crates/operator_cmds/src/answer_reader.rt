@@ -1,22 +1,22 @@
 //! Answers of stations from JSON.
 ghost use Rattle.std.specs.Prelude.{◌≡◌, IfOk, false};
-ghost use Rattle.serde_json.specs.View.{view};
+ghost use Rattle.json_data.specs.View.{view};
 ghost use Rattle.serde_json.specs.Written.{has_float};
 ghost use Rattle.ocpp_payload.specs.Gives.{Gives};
-ghost use Rattle.operator_cmds.specs.Answer.{known_members, as_sent, is_accepted};
+ghost use Rattle.operator_cmds.specs.Answer.{known_members, as_sent};
 
 use crate::answers::{
     DataTransferAnswer, GetConfigurationAnswer, GetLocalListVersionAnswer, Status,
 };
 use crate::command::Command;
+use crate::known_members::KnownMembers;
 use crate::statuses::{
     AcceptanceStatus, AvailabilityStatus, ConfigurationStatus, ReservationStatus,
     TriggerMessageStatus, UnlockStatus, UpdateStatus,
 };
-use ocpp_frame::Payload;
+use json::Value;
 use ocpp_payload::{FieldFault, ReadError, Tabled};
 use ocpp_types::{Mem, NoMemory};
-use serde_json::Value;
 use std::alloc::Global;
 
 /// The answer to a command that a payload is: its known members as they were sent, or its first
@@ -25,8 +25,8 @@ use std::alloc::Global;
 pub fn read_answer(
     alloc: Global,
     command: &Command,
-    payload: &Value,
-) -> Mem<Result<Payload, FieldFault>>
+    payload: &Value<'_>,
+) -> Mem<Result<KnownMembers, FieldFault>>
     ensures known { IfOk result (λ r. r ≡ known_members command.now (view payload.now)) }
     ensures no_float { IfOk result (λ r. IfOk r (λ p. has_float p ≡ false)) }
 {
@@ -34,7 +34,7 @@ pub fn read_answer(
     Ok(read)
 }
 
-fn read_known(alloc: Global, command: &Command, payload: &Value) -> Mem<Result<Payload, FieldFault>>
+fn read_known(alloc: Global, command: &Command, payload: &Value<'_>) -> Mem<Result<KnownMembers, FieldFault>>
     ensures { IfOk result (λ r. r ≡ known_members command.now (view payload.now)) }
 {
     match sent_members(alloc, command, payload) {
@@ -44,7 +44,7 @@ fn read_known(alloc: Global, command: &Command, payload: &Value) -> Mem<Result<P
     }
 }
 
-fn sent_members(alloc: Global, command: &Command, payload: &Value) -> Result<Payload, ReadError>
+fn sent_members(alloc: Global, command: &Command, payload: &Value<'_>) -> Result<KnownMembers, ReadError>
     ensures { Gives result (known_members command.now (view payload.now)) }
 {
     match command {
@@ -65,20 +65,9 @@ fn sent_members(alloc: Global, command: &Command, payload: &Value) -> Result<Pay
     }
 }
 
-fn as_sent<T: Tabled>(alloc: Global, payload: &Value) -> Result<Payload, ReadError>
+fn as_sent<T: Tabled>(alloc: Global, payload: &Value<'_>) -> Result<KnownMembers, ReadError>
     ensures { Gives result (as_sent T.reads_as T.form (view payload.now)) }
 {
     let known = T::read_from(alloc, payload)?.write(alloc)?;
-    Ok(Payload::from(known))
-}
-
-/// Whether the member `status` of an answer is `Accepted`. An answer without a status, as that to
-/// GetLocalListVersion, isn't.
-pub fn is_accepted(answer: &Value) -> bool
-    ensures { result ≡ is_accepted (view answer.now) }
-{
-    match answer.get("status").and_then(|status| status.as_str()) {
-        Some(status) => status == "Accepted",
-        None => false,
-    }
+    Ok(KnownMembers::from(known))
 }

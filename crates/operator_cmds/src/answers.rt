@@ -19,7 +19,7 @@ pub struct Status<E> {
 impl<E: Named + Drop> Readable for Status<E> {
     ghost reads_as = { read_by (status_of E.names E.name_of) };
 
-    fn read_from(alloc: Global, object: &Value) -> Result<Status<E>, ReadError> {
+    fn read_from(alloc: Global, object: &json::Value<'_>) -> Result<Status<E>, ReadError> {
         let status = required(alloc, object, "status", NameOf::new())?;
         Ok(Status { status })
     }
@@ -46,7 +46,7 @@ pub struct DataTransferAnswer {
 impl Readable for DataTransferAnswer {
     ghost reads_as = { read_by data_transfer_answer };
 
-    fn read_from(alloc: Global, object: &Value) -> Result<DataTransferAnswer, ReadError> {
+    fn read_from(alloc: Global, object: &json::Value<'_>) -> Result<DataTransferAnswer, ReadError> {
         Ok(DataTransferAnswer {
             status: required(alloc, object, "status", NameOf::new())?,
             content: optional(alloc, object, "data", AnyText)?,
@@ -76,7 +76,7 @@ pub struct KeyValue {
 impl Readable for KeyValue {
     ghost reads_as = { read_by key_value };
 
-    fn read_from(alloc: Global, object: &Value) -> Result<KeyValue, ReadError> {
+    fn read_from(alloc: Global, object: &json::Value<'_>) -> Result<KeyValue, ReadError> {
         Ok(KeyValue {
             key: required(alloc, object, "key", TextOf(50))?,
             readonly: required(alloc, object, "readonly", Boolean)?,
@@ -107,7 +107,7 @@ pub struct GetConfigurationAnswer {
 impl Readable for GetConfigurationAnswer {
     ghost reads_as = { read_by get_configuration_answer };
 
-    fn read_from(alloc: Global, object: &Value) -> Result<GetConfigurationAnswer, ReadError> {
+    fn read_from(alloc: Global, object: &json::Value<'_>) -> Result<GetConfigurationAnswer, ReadError> {
         let keys = ListOf(ObjectOf::new());
         Ok(GetConfigurationAnswer {
             configuration_key: optional(alloc, object, "configurationKey", keys)?,
@@ -149,7 +149,7 @@ pub struct GetLocalListVersionAnswer {
 impl Readable for GetLocalListVersionAnswer {
     ghost reads_as = { read_by get_local_list_version_answer };
 
-    fn read_from(alloc: Global, object: &Value) -> Result<GetLocalListVersionAnswer, ReadError> {
+    fn read_from(alloc: Global, object: &json::Value<'_>) -> Result<GetLocalListVersionAnswer, ReadError> {
         let list_version = required(alloc, object, "listVersion", Int32)?;
         Ok(GetLocalListVersionAnswer { list_version })
     }

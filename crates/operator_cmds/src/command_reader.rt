@@ -1,5 +1,6 @@
 //! Commands from JSON, their bounds, and their requests.
 ghost use Rattle.std.specs.Prelude.{◌≡◌, IfOk, false};
+ghost use Rattle.json_data.specs.View as lent;
 ghost use Rattle.serde_json.specs.View.{view};
 ghost use Rattle.serde_json.specs.Written.{has_float};
 ghost use Rattle.ocpp_payload.specs.Gives.{Gives};
@@ -12,6 +13,7 @@ use crate::operator_action::OperatorAction;
 use crate::remote::{RemoteStartTransaction, RemoteStopTransaction};
 use crate::reservations::{CancelReservation, ReserveNow};
 use crate::station::{ChangeAvailability, DataTransfer, Reset, TriggerMessage, UnlockConnector};
+use json_data::is_object;
 use ocpp_payload::{Checked, ReadError, Readable, Tabled};
 use ocpp_types::{FieldName, Mem, Named, NoMemory};
 use serde_json::{Map, Value};
@@ -21,13 +23,13 @@ use std::alloc::Global;
 /// for a payload that is no object, and for a member that is missing, of another type, an integer
 /// past 64 bits, or a name that its enumeration doesn't have. A member that is `null` counts as
 /// missing, and unknown members are left out.
-pub fn read_command(alloc: Global, action: &str, payload: &Value) -> Mem<Option<Command>>
-    ensures { IfOk result (λ r. r ≡ command action.now (view payload.now)) }
+pub fn read_command(alloc: Global, action: &str, payload: &json::Value<'_>) -> Mem<Option<Command>>
+    ensures { IfOk result (λ r. r ≡ command action.now (lent.view payload.now)) }
 {
     let Some(action) = OperatorAction::of(action) else {
         return Ok(None);
     };
-    if !payload.is_object() {
+    if !is_object(payload) {
         return Ok(None);
     }
     match read_any(alloc, action, payload) {
@@ -37,8 +39,8 @@ pub fn read_command(alloc: Global, action: &str, payload: &Value) -> Mem<Option<
     }
 }
 
-fn read_any(alloc: Global, action: OperatorAction, payload: &Value) -> Result<Command, ReadError>
-    ensures { Gives result (command_of action (view payload.now)) }
+fn read_any(alloc: Global, action: OperatorAction, payload: &json::Value<'_>) -> Result<Command, ReadError>
+    ensures { Gives result (command_of action (lent.view payload.now)) }
 {
     Ok(match action {
         OperatorAction::CancelReservation => {

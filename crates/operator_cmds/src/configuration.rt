@@ -22,7 +22,7 @@ pub struct ChangeConfiguration {
 impl Readable for ChangeConfiguration {
     ghost reads_as = { read_by change_configuration };
 
-    fn read_from(alloc: Global, object: &Value) -> Result<ChangeConfiguration, ReadError> {
+    fn read_from(alloc: Global, object: &json::Value<'_>) -> Result<ChangeConfiguration, ReadError> {
         Ok(ChangeConfiguration {
             key: required(alloc, object, "key", TextWithin(50))?,
             value: required(alloc, object, "value", TextWithin(500))?,
@@ -58,7 +58,7 @@ pub struct GetConfiguration {
 impl Readable for GetConfiguration {
     ghost reads_as = { read_by get_configuration };
 
-    fn read_from(alloc: Global, object: &Value) -> Result<GetConfiguration, ReadError> {
+    fn read_from(alloc: Global, object: &json::Value<'_>) -> Result<GetConfiguration, ReadError> {
         let key = optional(alloc, object, "key", ListOf(TextWithin(50)))?;
         Ok(GetConfiguration { key })
     }

@@ -28,7 +28,7 @@ pub struct AuthorizationData {
 impl Readable for AuthorizationData {
     ghost reads_as = { read_by authorization_data };
 
-    fn read_from(alloc: Global, object: &Value) -> Result<AuthorizationData, ReadError> {
+    fn read_from(alloc: Global, object: &json::Value<'_>) -> Result<AuthorizationData, ReadError> {
         Ok(AuthorizationData {
             id_tag: required(alloc, object, "idTag", ID_TAG)?,
             id_tag_info: optional(alloc, object, "idTagInfo", ObjectOf::new())?,
@@ -129,7 +129,7 @@ impl SendLocalList {
 impl Readable for SendLocalList {
     ghost reads_as = { read_by send_local_list };
 
-    fn read_from(alloc: Global, object: &Value) -> Result<SendLocalList, ReadError> {
+    fn read_from(alloc: Global, object: &json::Value<'_>) -> Result<SendLocalList, ReadError> {
         let list_version = required(alloc, object, "listVersion", LIST_VERSION)?;
         let kind = ListOf(ObjectOf::new());
         let entries = optional(alloc, object, "localAuthorizationList", kind)?;

@@ -21,7 +21,7 @@ pub struct CancelReservation {
 impl Readable for CancelReservation {
     ghost reads_as = { read_by cancel_reservation };
 
-    fn read_from(alloc: Global, object: &Value) -> Result<CancelReservation, ReadError> {
+    fn read_from(alloc: Global, object: &json::Value<'_>) -> Result<CancelReservation, ReadError> {
         let reservation_id = required(alloc, object, "reservationId", NUMBER_OF_32_BITS)?;
         Ok(CancelReservation { reservation_id })
     }
@@ -67,7 +67,7 @@ pub struct ReserveNow {
 impl Readable for ReserveNow {
     ghost reads_as = { read_by reserve_now };
 
-    fn read_from(alloc: Global, object: &Value) -> Result<ReserveNow, ReadError> {
+    fn read_from(alloc: Global, object: &json::Value<'_>) -> Result<ReserveNow, ReadError> {
         Ok(ReserveNow {
             connector_id: required(alloc, object, "connectorId", STATION_OR_CONNECTOR)?,
             expiry_date: required(alloc, object, "expiryDate", WholeSecond)?,

@@ -24,7 +24,7 @@ pub struct ChangeAvailability {
 impl Readable for ChangeAvailability {
     ghost reads_as = { read_by change_availability };
 
-    fn read_from(alloc: Global, object: &Value) -> Result<ChangeAvailability, ReadError> {
+    fn read_from(alloc: Global, object: &json::Value<'_>) -> Result<ChangeAvailability, ReadError> {
         Ok(ChangeAvailability {
             connector_id: required(alloc, object, "connectorId", STATION_OR_CONNECTOR)?,
             kind: required(alloc, object, "type", NameOf::new())?,
@@ -69,7 +69,7 @@ pub struct DataTransfer {
 impl Readable for DataTransfer {
     ghost reads_as = { read_by data_transfer };
 
-    fn read_from(alloc: Global, object: &Value) -> Result<DataTransfer, ReadError> {
+    fn read_from(alloc: Global, object: &json::Value<'_>) -> Result<DataTransfer, ReadError> {
         Ok(DataTransfer {
             vendor_id: required(alloc, object, "vendorId", TextWithin(255))?,
             message_id: optional(alloc, object, "messageId", TextWithin(50))?,
@@ -119,7 +119,7 @@ pub struct Reset {
 impl Readable for Reset {
     ghost reads_as = { read_by reset };
 
-    fn read_from(alloc: Global, object: &Value) -> Result<Reset, ReadError> {
+    fn read_from(alloc: Global, object: &json::Value<'_>) -> Result<Reset, ReadError> {
         let kind = required(alloc, object, "type", NameOf::new())?;
         Ok(Reset { kind })
     }
@@ -153,7 +153,7 @@ pub struct TriggerMessage {
 impl Readable for TriggerMessage {
     ghost reads_as = { read_by trigger_message };
 
-    fn read_from(alloc: Global, object: &Value) -> Result<TriggerMessage, ReadError> {
+    fn read_from(alloc: Global, object: &json::Value<'_>) -> Result<TriggerMessage, ReadError> {
         Ok(TriggerMessage {
             requested_message: required(alloc, object, "requestedMessage", NameOf::new())?,
             connector_id: optional(alloc, object, "connectorId", CONNECTOR)?,
@@ -201,7 +201,7 @@ pub struct UnlockConnector {
 impl Readable for UnlockConnector {
     ghost reads_as = { read_by unlock_connector };
 
-    fn read_from(alloc: Global, object: &Value) -> Result<UnlockConnector, ReadError> {
+    fn read_from(alloc: Global, object: &json::Value<'_>) -> Result<UnlockConnector, ReadError> {
         let connector_id = required(alloc, object, "connectorId", CONNECTOR)?;
         Ok(UnlockConnector { connector_id })
     }

@@ -1,6 +1,6 @@
 use Rattle.std.proofs.Common.{ap, sym, ◌∙◌, ◌+◌, drop}
 use Rattle.std.proofs.lemmas.Result.{err_from_is_err_and}
-use Rattle.serde_json.specs.View.{items_view}
+use Rattle.json_data.specs.View.{items_view}
 use Rattle.ocpp_payload.specs.Lists.{each}
 use Rattle.ocpp_payload.proofs.Each.{with_front, each-item, each-fails}
 use Rattle.ocpp_payload.proofs.lists.each.Goals as goal

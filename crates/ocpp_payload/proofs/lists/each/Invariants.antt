@@ -1,5 +1,5 @@
 use Rattle.std.proofs.Common.{◌≡◌, drop}
-use Rattle.serde_json.specs.View.{items_view}
+use Rattle.json_data.specs.View.{items_view}
 use Rattle.ocpp_payload.specs.Lists.{each}
 use Rattle.ocpp_payload.proofs.Each.{with_front}
 use Rattle.ocpp_payload.proofs.lists.each.Given as goal

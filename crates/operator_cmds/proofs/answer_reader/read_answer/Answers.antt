@@ -1,4 +1,4 @@
-use Rattle.serde_json.specs.View.{view}
+use Rattle.json_data.specs.View.{view}
 use Rattle.operator_cmds.proofs.NoFloats.{answer_no_float}
 use Rattle.operator_cmds.proofs.answer_reader.read_answer.Goals as goal
 

@@ -1,5 +1,4 @@
 use Rattle.std.proofs.Common.{ap, sym, ◌∙◌}
-use Rattle.serde_json.specs.View.{items_view}
 use Rattle.ocpp_payload.specs.Kind.{◌>>=◌, typed}
 use Rattle.ocpp_payload.specs.Lists.{some_each}
 use Rattle.ocpp_payload.proofs.Each.{some_each-each, gives_as}
@@ -10,6 +9,4 @@ returns g c =
     let kind = g.K.Kind.reads c.args.self.now.0 in
     let name = c.args.field.now in
     gives_as c.each.result _ _ c.each.ensures
-    (some_each-each kind name c.as_slice-items.result.now (sym c.is_empty.ensures ∙ c.if-is_empty.false)
-    ∙ ap (λ vs. some_each kind name (items_view vs)) c.as_slice-items.ensures.value
-    ∙ ap (λ o. typed name o >>= some_each kind name) c.in-Some.ensures)
+    (some_each-each kind name c.in-Some.items.now (sym c.is_empty.ensures ∙ c.if-is_empty.false) ∙ ap (λ o. typed name o >>= some_each kind name) c.in-Some.ensures)
