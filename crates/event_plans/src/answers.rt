@@ -18,7 +18,7 @@ use hub_rows::{Edit, Store, StoreFault};
 use ocpp_frame::Payload;
 use ocpp_payload::FieldFault;
 use ocpp_types::{Boxed, Mem, Text};
-use operator_cmds::{Command, is_accepted, read_answer};
+use operator_cmds::{Command, KnownMembers, read_answer};
 use pending_calls::Slots;
 use registry::StationAt;
 use std::alloc::Global;
@@ -31,7 +31,7 @@ pub fn plan_result<S: Store>(
     store: &mut S,
     slots: &Slots<Boxed<Command>>,
     message: &MessageAt<'_>,
-    payload: &Payload,
+    payload: &Payload<'_>,
 ) -> Result<Plan, StoreFault>
     ensures reads { OnlyReads S.view store.old store.new result }
     ensures plan { (S.view store.new).clean → IfOk result (λ p. p ≡ result_plan message.now.at.now.station.now message.now.id.now payload.now
@@ -86,7 +86,7 @@ fn ended_plan<S: Store>(
     store: &mut S,
     message: &MessageAt<'_>,
     command: &Command,
-    read: &Result<Payload, FieldFault>,
+    read: &Result<KnownMembers, FieldFault>,
 ) -> Result<Plan, StoreFault>
     requires { IfOk read.now (λ known. has_float known ≡ false) }
     ensures reads { OnlyReads S.view store.old store.new result }
@@ -109,7 +109,7 @@ fn ended_plan<S: Store>(
 
 /// The outcome of a call: the known members of its answer, or their first fault.
 #[tactic(auto, unfolding(crate::specs::Commands::read_outcome))]
-fn read_outcome(alloc: Global, read: &Result<Payload, FieldFault>) -> Mem<Boxed<Outcome>>
+fn read_outcome(alloc: Global, read: &Result<KnownMembers, FieldFault>) -> Mem<Boxed<Outcome>>
     requires { IfOk read.now (λ known. has_float known ≡ false) }
     ensures { IfOk result (λ o. o ≡ read_outcome read.now) }
 {
@@ -133,14 +133,14 @@ fn read_edit<S: Store>(
     store: &mut S,
     at: &StationAt<'_>,
     command: &Command,
-    read: &Result<Payload, FieldFault>,
+    read: &Result<KnownMembers, FieldFault>,
 ) -> Result<Option<Boxed<Edit>>, StoreFault>
     ensures reads { OnlyReads S.view store.old store.new result }
     ensures edit { (S.view store.new).clean → IfOk result (λ e. e
         ≡ edit_by at.now.station.now command.now read.now (lookups_at at.now.op.now (S.view store.old).rows)) }
 {
     match read {
-        Ok(known) if is_accepted(known.as_value()) => {
+        Ok(known) if known.is_accepted() => {
             edit_when_accepted(alloc, store, at.op, at.station, command)
         }
         _ => Ok(None),

@@ -83,7 +83,7 @@ fn plan_call<S: Store, V: VendorHandler>(
     book: &mut Book<S, V>,
     call: &CallAt<'_>,
     class: ActionClass,
-    payload: &Payload,
+    payload: &Payload<'_>,
 ) -> Result<Plan, StoreFault>
     ensures reads { OnlyReads (book_view S.view) book.old book.new result }
     ensures plan { IsCleanBook S.view book.new → IfOk result (λ p. p

@@ -27,7 +27,7 @@ pub fn plan_request<S: Store, V: VendorHandler>(
     book: &mut Book<S, V>,
     call: &CallAt<'_>,
     action: Action,
-    payload: &Payload,
+    payload: &Payload<'_>,
 ) -> Result<Plan, StoreFault>
     ensures reads { OnlyReads (book_view S.view) book.old book.new result }
     ensures plan { IsCleanBook S.view book.new → IfOk result (λ p. p
@@ -66,7 +66,7 @@ fn read_as<S: Store>(
     store: &mut S,
     call: &CallAt<'_>,
     action: Action,
-    payload: &Payload,
+    payload: &Payload<'_>,
 ) -> Result<Reading, StoreFault>
     ensures reads { OnlyReads S.view store.old store.new result }
     ensures reading { (S.view store.new).clean → IfOk result (λ r. r

@@ -1,6 +1,6 @@
 //! The parts of a value, by its data.
 ghost use Rattle.std.specs.Prelude.{◌≡◌, is_some, option_map, option_and_then};
-ghost use Rattle.serde_json.specs.Find.{get, as_null, as_bool, as_integer, as_number, as_u64, as_str, as_array, as_object};
+ghost use Rattle.serde_json.specs.Find.{get, as_null, as_bool, as_integer, as_number, as_i64, as_u64, as_str, as_array, as_object};
 ghost use Rattle.json_data.specs.View.{view, items_view};
 
 use crate::numbers::number_of;
@@ -60,6 +60,16 @@ pub fn unsigned_of(value: &Value<'_>) -> Option<u64>
         return None;
     };
     number_of(text)?.as_u64()
+}
+
+/// The signed integer of 64 bits that a value is, as `serde_json` holds it.
+pub fn signed_of(value: &Value<'_>) -> Option<i64>
+    ensures { result ≡ option_and_then as_i64 (as_number (view value.now)) }
+{
+    let Value::Number(text) = value else {
+        return None;
+    };
+    number_of(text)?.as_i64()
 }
 
 /// The items of a list.

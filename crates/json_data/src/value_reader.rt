@@ -1,5 +1,5 @@
 //! JSON values from text, over memory that is kept from one text to the next.
-ghost use Rattle.std.specs.Prelude.{◌≡◌, ◌<◌, length, Some, None, IfOk, OnOk};
+ghost use Rattle.std.specs.Prelude.{◌≡◌, ◌<◌, length, Some, None, IfOk, OnOk, option_map};
 ghost use Rattle.json.specs.Json.{value, items, members};
 ghost use Rattle.serde_json.specs.Data.{no_members};
 ghost use Rattle.serde_json.specs.Read.{of_json, of_items, of_members, converted, read as read_text};
@@ -46,8 +46,22 @@ impl From<Invalid> for Refused {
     }
 }
 
-/// The value that a text is, as `serde_json` reads it.
+/// The value that a text is, as `serde_json` reads it. `None`: it is no JSON to it.
 pub fn read_value<'a>(
+    alloc: Global,
+    scratch: &'a mut Scratch,
+    text: &'a str,
+) -> Result<Option<Value<'a>>, AllocError>
+    ensures { IfOk result (λ value. option_map (λ v. view v) value ≡ read_text text.now) }
+{
+    match read_all(alloc, scratch, text) {
+        Ok(value) => Ok(Some(value)),
+        Err(Refused::Invalid) => Ok(None),
+        Err(Refused::NoMemory) => Err(AllocError),
+    }
+}
+
+fn read_all<'a>(
     alloc: Global,
     scratch: &'a mut Scratch,
     text: &'a str,

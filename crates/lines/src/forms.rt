@@ -1,7 +1,5 @@
 //! The forms of the lines of an operator (docs/RULES.md, Lines).
 ghost use Rattle.std.specs.Prelude.{◌≡◌, IfOk, option_map};
-ghost use Rattle.serde_json.specs.Read.{read};
-ghost use Rattle.serde_json.specs.View.{view};
 ghost use Rattle.lines.specs.Words.{only_word, parent_of};
 ghost use Rattle.lines.specs.Forms.{what_of, connect_form, disconnect_form, frame_form, quoted_form, call_form, station_form, station_add_form, station_policy_form, station_reader_form, station_drop_form, policy_words, tag_form, tag_put_form, tag_drop_form, transaction_form, transaction_close_form, forget_form, grant_form, revoke_form, mark_of};
 
@@ -13,9 +11,10 @@ use crate::words::{
 use hub_events::{Admin, What};
 use hub_rows::{Reader, Tag};
 use id_tags::Grant;
-use ocpp_types::{Boxed, Mem, Named, NoMemory, Policy, Text};
+use json::Scratch;
+use json_data::{read_value, text_of};
+use ocpp_types::{Boxed, Mem, Named, Policy, Text};
 use operator_cmds::read_command;
-use serde_json::{Category, Value};
 use std::alloc::Global;
 
 /// What happens at an operator by the text after `MOMENT OP`, `None` where it has none of the
@@ -81,10 +80,11 @@ fn quoted(alloc: Global, rest: &str) -> Mem<Option<What>>
     let Some((station, json)) = first_word(rest) else {
         return Ok(None);
     };
-    let Some(value) = read_json(alloc, json)? else {
+    let mut scratch = Scratch::new(alloc);
+    let Some(value) = read_value(alloc, &mut scratch, json)? else {
         return Ok(None);
     };
-    let Some(text) = value.as_str() else {
+    let Some(text) = text_of(&value) else {
         return Ok(None);
     };
     let station = Text::copy_of(alloc, station)?;
@@ -101,7 +101,8 @@ fn call(alloc: Global, rest: &str) -> Mem<Option<What>>
     let Some((action, json)) = first_word(rest) else {
         return Ok(None);
     };
-    let Some(payload) = read_json(alloc, json)? else {
+    let mut scratch = Scratch::new(alloc);
+    let Some(payload) = read_value(alloc, &mut scratch, json)? else {
         return Ok(None);
     };
     let Some(command) = read_command(alloc, action, &payload)? else {
@@ -110,19 +111,6 @@ fn call(alloc: Global, rest: &str) -> Mem<Option<What>>
     let station = Text::copy_of(alloc, station)?;
     let command = Boxed::new(alloc, command)?;
     Ok(Some(What::Do { station, command }))
-}
-
-/// The JSON value that a text is, `None` where it is none.
-fn read_json(alloc: Global, text: &str) -> Mem<Option<Value>>
-    ensures { IfOk result (λ v. option_map view v ≡ read text.now) }
-{
-    match Value::from_str(alloc, text) {
-        Ok(value) => Ok(Some(value)),
-        Err(error) => match error.classify() {
-            Category::Memory => Err(NoMemory),
-            _ => Ok(None),
-        },
-    }
 }
 
 fn station(alloc: Global, rest: &str) -> Mem<Option<What>>

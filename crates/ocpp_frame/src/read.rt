@@ -10,8 +10,8 @@ use crate::call_reader::read_call;
 use crate::frame::Frame;
 use crate::payload::Payload;
 use json::{Scratch, Value};
-use json_data::{Refused, read_value, text_of, unsigned_of};
-use ocpp_types::{Mem, NoMemory, Text, count_characters};
+use json_data::{read_value, text_of, unsigned_of};
+use ocpp_types::{Mem, Text, count_characters};
 use std::alloc::Global;
 
 /// The greatest number of characters of a call's id (OCPP-J 1.6, section 4.1.4).
@@ -58,10 +58,9 @@ impl FrameReader {
 fn read_any<'a>(alloc: Global, scratch: &'a mut Scratch, text: &'a str) -> Mem<Frame<'a>>
     ensures { IfOk result (λ f. f ≡ frame text.now) }
 {
-    match read_value(alloc, scratch, text) {
-        Ok(value) => frame_of(alloc, value),
-        Err(Refused::NoMemory) => Err(NoMemory),
-        Err(Refused::Invalid) => Ok(Frame::Ignored),
+    match read_value(alloc, scratch, text)? {
+        Some(value) => frame_of(alloc, value),
+        None => Ok(Frame::Ignored),
     }
 }
 

@@ -4,15 +4,15 @@ ghost use Rattle.json.specs.Print.{print};
 ghost use Rattle.json.specs.Tree.{HasNumbers, MembersHaveNumbers, json_tokens};
 ghost use Rattle.json.specs.Value.{value_view, members_view};
 ghost use Rattle.serde_json.specs.Read.{read};
-ghost use Rattle.serde_json.specs.View.{view};
 ghost use Rattle.repairs.specs.Tables.{repair_at};
 ghost use Rattle.repairs.specs.Readings.{named_members, is_unnamed_at, has_unnamed, sampled_object, sampled_value_table, sampled_values, is_meter_value, if_read, meter_value, meter_values};
 
 use crate::names::{is_unnamed, named_if_any};
 use crate::tables::{ItemRepair, MemberRepairs, by_table, repaired_items, repaired_members};
 use crate::texts::{time, value_text};
-use crate::written::data_of;
-use json::Value;
+use crate::written::text_of;
+use json::{Scratch, Value};
+use json_data::read_value;
 use ocpp_payload::{MeterValue, ReadError, Readable};
 use ocpp_types::{
     Enumerated, Location, Measurand, Mem, NoMemory, Phase, ReadingContext, UnitOfMeasure,
@@ -182,10 +182,12 @@ fn is_meter_value(alloc: Global, value: &Value<'_>) -> Mem<bool>
     ensures { IfOk result (λ is. is
         ≡ is_meter_value (read (print (json_tokens (value_view value.now))))) }
 {
-    let Some(data) = data_of(alloc, value)? else {
+    let written = text_of(alloc, value)?;
+    let mut scratch = Scratch::new(alloc);
+    let Some(again) = read_value(alloc, &mut scratch, written.as_str())? else {
         return Ok(false);
     };
-    match MeterValue::read_from(alloc, &data) {
+    match MeterValue::read_from(alloc, &again) {
         Ok(_) => Ok(true),
         Err(ReadError::Fault(_)) => Ok(false),
         Err(ReadError::NoMemory) => Err(NoMemory),

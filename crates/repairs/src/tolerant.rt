@@ -1,20 +1,20 @@
 //! The tolerant reader of requests.
-ghost use Rattle.std.specs.Prelude.{◌≡◌, Ok, IfOk, IfSome, option_map, option_and_then};
+ghost use Rattle.std.specs.Prelude.{◌≡◌, Ok, IfOk, IfSome, option_map, option_and_then, string_bytes};
 ghost use Rattle.json.specs.Find.{at};
 ghost use Rattle.json.specs.Json.{document};
 ghost use Rattle.json.specs.Print.{print};
 ghost use Rattle.json.specs.Tree.{HasNumbers, json_tokens};
 ghost use Rattle.json.specs.Value.{value_view};
-ghost use Rattle.serde_json.specs.Read.{read};
-ghost use Rattle.serde_json.specs.View.{view};
+ghost use Rattle.json_data.specs.View.{view};
 ghost use Rattle.ocpp_payload.specs.Request.{request};
 ghost use Rattle.ocpp_payload.specs.declared.request.Request.{Request};
 ghost use Rattle.repairs.specs.Tolerant.{repaired, second_reading, after_second, reading, IsWritten};
 
 use crate::reading::Reading;
 use crate::tables::by_table;
-use crate::written::data_of;
+use crate::written::text_of;
 use json::{Error, Scratch, Value};
+use json_data::read_value;
 use ocpp_payload::{Action, FieldFault, read_request};
 use ocpp_types::{Mem, Moment, NoMemory, print_time};
 use std::alloc::Global;
@@ -30,7 +30,7 @@ pub fn read_tolerant(
     action: Action,
     moment: Moment,
     text: &str,
-    payload: &serde_json::Value,
+    payload: &Value<'_>,
 ) -> Mem<Reading>
     ensures reading { IfOk result (λ r. r ≡ reading action moment text.now (view payload.now)) }
     ensures strict { (q : Request) → request action (view payload.now) ≡ Ok q
@@ -55,7 +55,11 @@ fn read_repaired(
         ≡ after_second fault (second_reading action moment text.now fault)) }
 {
     let now = print_time(alloc, moment)?;
-    let Some(payload) = repaired_payload(alloc, action, now.as_str(), text)? else {
+    let Some(written) = repaired_text(alloc, action, now.as_str(), text)? else {
+        return Ok(Reading::Refused(fault));
+    };
+    let mut scratch = Scratch::new(alloc);
+    let Some(payload) = read_value(alloc, &mut scratch, written.as_str())? else {
         return Ok(Reading::Refused(fault));
     };
     match read_request(alloc, action, &payload)? {
@@ -64,22 +68,21 @@ fn read_repaired(
     }
 }
 
-/// The payload of the frame as it is repaired. `None`: the text is no such frame, or `serde_json`
-/// refuses what is repaired.
-fn repaired_payload(
+/// The text of the frame's payload as it is repaired. `None`: the text is no such frame.
+fn repaired_text(
     alloc: Global,
     action: Action,
     now: &str,
     text: &str,
-) -> Mem<Option<serde_json::Value>>
-    ensures { IfOk result (λ payload. option_map (λ v. view v) payload
-        ≡ option_and_then read (option_map (λ j. print (json_tokens j)) (repaired action now.now text.now))) }
+) -> Mem<Option<String>>
+    ensures { IfOk result (λ written. option_map string_bytes written
+        ≡ option_map (λ j. print (json_tokens j)) (repaired action now.now text.now)) }
 {
     let mut scratch = Scratch::new(alloc);
     match payload_of(alloc, text, &mut scratch)? {
         Some(payload) => {
             let changed = by_table(alloc, &action, now, payload)?;
-            data_of(alloc, &changed)
+            Ok(Some(text_of(alloc, &changed)?))
         }
         None => Ok(None),
     }

@@ -1,20 +1,21 @@
 //! Transactions that the central system starts and stops (OCPP 1.6, sections 5.11 and 5.12).
 ghost use Rattle.std.specs.Prelude.{◌≡◌, option_map};
-ghost use Rattle.serde_json.specs.View.{view};
+ghost use Rattle.json_data.specs.View.{view};
 ghost use Rattle.station_sim.specs.Remote.{ordered_tag, names, start_of, goes_on, open_at, stop_of};
 
 use crate::results::transaction_of;
 use crate::session::Session;
 use crate::stage::Stage;
+use json::Value;
+use json_data::{member_of, text_of, unsigned_of};
 use ocpp_types::count_characters;
-use serde_json::Value;
 
 /// The tag of a RemoteStartTransaction that the session takes: none runs, the command is for its connector, and the tag
 /// has up to 20 characters.
-pub fn start_of<'a>(session: &Session, payload: &'a Value) -> Option<&'a str>
+pub fn start_of<'a>(session: &Session, payload: &Value<'a>) -> Option<&'a str>
     ensures { option_map (λ s. s.now) result ≡ start_of session.now (view payload.now) }
 {
-    if session.stage.is_idle() && names(session.script.connector, payload.get("connectorId")) {
+    if session.stage.is_idle() && names(session.script.connector, member_of(payload, "connectorId")) {
         ordered_tag(payload)
     } else {
         None
@@ -22,7 +23,7 @@ pub fn start_of<'a>(session: &Session, payload: &'a Value) -> Option<&'a str>
 }
 
 /// The transaction of a RemoteStopTransaction that the session takes.
-pub fn stop_of(session: &Session, payload: &Value) -> Option<i32>
+pub fn stop_of(session: &Session, payload: &Value<'_>) -> Option<i32>
     ensures { result ≡ stop_of session.now (view payload.now) }
 {
     let asked = transaction_of(payload)?;
@@ -54,11 +55,11 @@ fn goes_on(session: &Session, sent: usize) -> bool
 }
 
 /// Whether a command is for that connector: it names it, or none.
-fn names(connector: u8, named: Option<&Value>) -> bool
+fn names(connector: u8, named: Option<&Value<'_>>) -> bool
     ensures { result ≡ names connector (option_map (λ v. view v.now) named.entry) }
 {
     match named {
-        Some(named) => match named.as_number().and_then(|number| number.as_u64()) {
+        Some(named) => match unsigned_of(named) {
             Some(number) => number == u64::from(connector),
             None => false,
         },
@@ -67,10 +68,10 @@ fn names(connector: u8, named: Option<&Value>) -> bool
 }
 
 /// The tag that a command names.
-fn ordered_tag(payload: &Value) -> Option<&str>
+fn ordered_tag<'a>(payload: &Value<'a>) -> Option<&'a str>
     ensures { option_map (λ s. s.now) result ≡ ordered_tag (view payload.now) }
 {
-    let tag = payload.get("idTag")?.as_str()?;
+    let tag = text_of(member_of(payload, "idTag")?)?;
     if count_characters(tag) <= 20 {
         Some(tag)
     } else {

@@ -3,6 +3,7 @@ ghost use Rattle.std.specs.Prelude.{◌≡◌, IfOk, option_map, string_bytes};
 ghost use Rattle.ocpp_frame.specs.declared.frame.Frame.TheVariants.{CallResult};
 ghost use Rattle.ocpp_types.specs.Named.{named};
 ghost use Rattle.serde_json.specs.Data.{string};
+ghost use Rattle.json_data.specs.View as lent;
 ghost use Rattle.serde_json.specs.View.{view, items_view};
 ghost use Rattle.station_sim.specs.Replies.{commands, status, accepted_if, texts, keys_of, configuration, version_data, answer_payload, reply_with, reply_to};
 ghost use Rattle.station_sim.specs.Written.{IsTextOf, IsWritten, IsWritable};
@@ -10,6 +11,7 @@ ghost use Rattle.station_sim.specs.Written.{IsTextOf, IsWritten, IsWritable};
 use crate::command::{Answer, answer_of};
 use crate::remote::{start_of, stop_of};
 use crate::session::Session;
+use json_data::{items_of, member_of, text_of};
 use ocpp_frame::{Frame, Payload, write_error, write_result};
 use ocpp_types::{ErrorCode, Mem, Named, Text};
 use serde_json::{Value, json};
@@ -18,7 +20,7 @@ use std::alloc::Global;
 /// The text of the reply to a message: to a command its answer, or the error NotImplemented for an
 /// action that it doesn't answer; to a broken call the error FormationViolation; to another message none
 /// (OCPP-J 1.6, sections 4.2.2 and 4.2.3). The session is as it was before the message.
-pub fn reply_to(alloc: Global, session: &Session, frame: &Frame) -> Mem<Option<String>>
+pub fn reply_to(alloc: Global, session: &Session, frame: &Frame<'_>) -> Mem<Option<String>>
     ensures { IfOk result (λ reply. IsWritten (reply_to session.now frame.now) (option_map string_bytes reply)) }
 {
     match frame {
@@ -40,7 +42,7 @@ fn command_reply(
     session: &Session,
     id: &Text,
     action: &Text,
-    payload: &Payload,
+    payload: &Payload<'_>,
 ) -> Mem<String>
     ensures { IfOk result (λ s. IsTextOf (reply_with id.now
         (option_map (answer_payload session.now payload.now) (named commands action.now))) (string_bytes s)) }
@@ -61,16 +63,16 @@ fn result_text(alloc: Global, id: &str, payload: Value) -> Mem<String>
     write_result(alloc, id, payload)
 }
 
-fn answer_payload(alloc: Global, session: &Session, payload: &Value, answer: Answer) -> Mem<Value>
-    ensures value { IfOk result (λ v. view v ≡ answer_payload session.now (view payload.now) answer) }
+fn answer_payload(alloc: Global, session: &Session, payload: &json::Value<'_>, answer: Answer) -> Mem<Value>
+    ensures value { IfOk result (λ v. view v ≡ answer_payload session.now (lent.view payload.now) answer) }
     ensures writable { IfOk result (λ v. IsWritable (view v)) }
 {
     let payload = payload_of(alloc, session, payload, answer)?;
     Ok(payload)
 }
 
-fn payload_of(alloc: Global, session: &Session, payload: &Value, answer: Answer) -> Mem<Value>
-    ensures { IfOk result (λ v. view v ≡ answer_payload session.now (view payload.now) answer) }
+fn payload_of(alloc: Global, session: &Session, payload: &json::Value<'_>, answer: Answer) -> Mem<Value>
+    ensures { IfOk result (λ v. view v ≡ answer_payload session.now (lent.view payload.now) answer) }
 {
     match answer {
         Answer::Accepted => status(alloc, "Accepted"),
@@ -111,21 +113,21 @@ fn configuration(alloc: Global, keys: Vec<Value>) -> Mem<Value>
 }
 
 /// The texts of the member `key`.
-fn keys_of(alloc: Global, payload: &Value) -> Mem<Vec<Value>>
-    ensures { IfOk result (λ keys. items_view keys.items ≡ keys_of (view payload.now)) }
+fn keys_of(alloc: Global, payload: &json::Value<'_>) -> Mem<Vec<Value>>
+    ensures { IfOk result (λ keys. items_view keys.items ≡ keys_of (lent.view payload.now)) }
 {
-    match payload.get("key").and_then(|key| key.as_array()) {
-        Some(items) => texts(alloc, items.as_slice()),
+    match member_of(payload, "key").and_then(|key| items_of(key)) {
+        Some(items) => texts(alloc, items),
         None => Ok(Vec::new(alloc)),
     }
 }
 
-fn texts(alloc: Global, items: &[Value]) -> Mem<Vec<Value>>
-    ensures { IfOk result (λ found. items_view found.items ≡ texts (items_view items.now)) }
+fn texts(alloc: Global, items: &[json::Value<'_>]) -> Mem<Vec<Value>>
+    ensures { IfOk result (λ found. items_view found.items ≡ texts (lent.items_view items.now)) }
 {
     let mut found = Vec::new(alloc);
     for item in items {
-        if let Some(text) = item.as_str() {
+        if let Some(text) = text_of(item) {
             found.push(text_value(alloc, text)?)?;
         }
     }

@@ -1,11 +1,12 @@
 //! How the script goes on after the result of a call.
 ghost use Rattle.std.specs.Prelude.{◌≡◌, option_map};
-ghost use Rattle.serde_json.specs.View.{view};
+ghost use Rattle.json_data.specs.View.{view};
 ghost use Rattle.station_sim.specs.Results.{status_of, tag_status_of, is_accepted, transaction_of, rest_of, next_session, after_start, after_result, after_error, given_interval, interval_after};
 
 use crate::script::Script;
 use crate::stage::Stage;
-use serde_json::Value;
+use json::Value;
+use json_data::{integer_of, member_of, text_of, unsigned_of};
 
 /// The seconds between heartbeats where the result of a boot gives none that are taken.
 pub const INTERVAL: u32 = 10;
@@ -15,7 +16,7 @@ pub const MAX_INTERVAL: u32 = 86_400;
 
 /// The stage after a result with that payload, where so many sessions of its own are left (OCPP 1.6,
 /// Authorize.conf, BootNotification.conf, StartTransaction.conf).
-pub fn after_result(script: &Script, left: u32, stage: Stage, payload: &Value) -> Stage
+pub fn after_result(script: &Script, left: u32, stage: Stage, payload: &Value<'_>) -> Stage
     ensures { result ≡ after_result script.now left stage (view payload.now) }
 {
     match stage {
@@ -72,7 +73,7 @@ fn rest_of(script: &Script) -> Stage
 }
 
 /// The seconds between heartbeats after the result of a stage's call.
-pub fn interval_after(stage: Stage, payload: &Value, interval: u32) -> u32
+pub fn interval_after(stage: Stage, payload: &Value<'_>, interval: u32) -> u32
     ensures { result ≡ interval_after stage (view payload.now) interval }
 {
     match stage {
@@ -82,10 +83,10 @@ pub fn interval_after(stage: Stage, payload: &Value, interval: u32) -> u32
 }
 
 /// The interval that the result of a boot gives, where that is 1 to MAX_INTERVAL (OCPP 1.6, BootNotification.conf).
-fn interval_of(payload: &Value) -> Option<u32>
+fn interval_of(payload: &Value<'_>) -> Option<u32>
     ensures { result ≡ given_interval (view payload.now) }
 {
-    let interval = payload.get("interval")?.as_number()?.as_u64()?;
+    let interval = unsigned_of(member_of(payload, "interval")?)?;
     if 1 <= interval && interval <= u64::from(MAX_INTERVAL) {
         Some(interval as u32)
     } else {
@@ -118,23 +119,23 @@ fn is_accepted(status: Option<&str>) -> bool
     }
 }
 
-fn status_of(payload: &Value) -> Option<&str>
+fn status_of<'a>(payload: &Value<'a>) -> Option<&'a str>
     ensures { option_map (λ s. s.now) result ≡ status_of (view payload.now) }
 {
-    payload.get("status")?.as_str()
+    text_of(member_of(payload, "status")?)
 }
 
-fn tag_status_of(payload: &Value) -> Option<&str>
+fn tag_status_of<'a>(payload: &Value<'a>) -> Option<&'a str>
     ensures { option_map (λ s. s.now) result ≡ tag_status_of (view payload.now) }
 {
-    status_of(payload.get("idTagInfo")?)
+    status_of(member_of(payload, "idTagInfo")?)
 }
 
 /// The member `transactionId`, where that is an integer of 32 bits.
-pub fn transaction_of(payload: &Value) -> Option<i32>
+pub fn transaction_of(payload: &Value<'_>) -> Option<i32>
     ensures { result ≡ transaction_of (view payload.now) }
 {
-    let number = payload.get("transactionId")?.as_number()?.as_i128()?;
+    let number = integer_of(member_of(payload, "transactionId")?)?;
     if i32::MIN as i128 <= number && number <= i32::MAX as i128 {
         Some(number as i32)
     } else {

@@ -2,7 +2,7 @@
 ghost use Rattle.std.specs.Prelude.{◌≡◌, ◌≤◌, ◌+◌, false, if◌then◌else◌, Some, IfOk, OnOk, OnErr, option_map, string_bytes};
 ghost use Rattle.ocpp_types.specs.Text.{characters};
 ghost use Rattle.ocpp_types.specs.TimeText.{time_text};
-ghost use Rattle.serde_json.specs.View.{view};
+ghost use Rattle.json_data.specs.View.{view};
 ghost use Rattle.station_sim.specs.Kept.{IsSession};
 ghost use Rattle.station_sim.specs.Session.{start, is_done, is_waiting, is_spent, heartbeat_at, wanted_call, due_call, next_call, moves_on, ends_session, metered, after_call, after_message, moved, answered, after_answer, begun, stopped, after_command, left_at, is_id};
 ghost use Rattle.station_sim.specs.Calls.{call_id};
@@ -14,10 +14,10 @@ use crate::results::{INTERVAL, after_error, after_result, interval_after};
 use crate::script::Script;
 use crate::stage::Stage;
 use crate::version::{ListVersion, version_of};
+use json::Value;
 use ocpp_frame::Frame;
 use ocpp_payload::Action;
 use ocpp_types::{Mem, Moment, Text};
-use serde_json::Value;
 use std::alloc::Global;
 
 /// The most calls that a station makes: one that has made them has ended.
@@ -166,7 +166,7 @@ impl Session {
     }
 
     /// Takes a message of the central system. Where there is no memory nothing changes.
-    pub fn hear(&mut self, alloc: Global, frame: &Frame) -> Mem<()>
+    pub fn hear(&mut self, alloc: Global, frame: &Frame<'_>) -> Mem<()>
         ensures ok { OnOk result (self.new ≡ after_message frame.now self.old) }
         ensures err { OnErr result (self.new ≡ self.old) }
     {
@@ -221,7 +221,7 @@ impl Session {
         }
     }
 
-    fn take_command(&mut self, alloc: Global, action: &str, payload: &Value) -> Mem<()>
+    fn take_command(&mut self, alloc: Global, action: &str, payload: &Value<'_>) -> Mem<()>
         ensures ok { OnOk result (self.new ≡ after_command action.now (view payload.now) self.old) }
         ensures err { OnErr result (self.new ≡ self.old) }
     {

@@ -1,8 +1,10 @@
 //! The version of the list of tags that a station has.
 ghost use Rattle.std.specs.Prelude.{◌≡◌};
+ghost use Rattle.json_data.specs.View as lent;
 ghost use Rattle.serde_json.specs.View.{view};
 ghost use Rattle.station_sim.specs.Replies.{version_data, version_of};
 
+use json_data::{member_of, signed_of, unsigned_of};
 use serde_json::Value;
 
 /// The version of the local list: an integer, as JSON has it.
@@ -25,12 +27,12 @@ impl ListVersion {
 }
 
 /// The member `listVersion` of a command, where that is an integer.
-pub fn version_of(payload: &Value) -> Option<ListVersion>
-    ensures { result ≡ version_of (view payload.now) }
+pub fn version_of(payload: &json::Value<'_>) -> Option<ListVersion>
+    ensures { result ≡ version_of (lent.view payload.now) }
 {
-    let number = payload.get("listVersion")?.as_number()?;
-    match number.as_u64() {
+    let version = member_of(payload, "listVersion")?;
+    match unsigned_of(version) {
         Some(n) => Some(ListVersion::Unsigned(n)),
-        None => number.as_i64().map(|n| ListVersion::Signed(n)),
+        None => signed_of(version).map(|n| ListVersion::Signed(n)),
     }
 }

@@ -1,6 +1,6 @@
 use Rattle.std.proofs.Common.{subst, sym, ◌∙◌}
 use Rattle.std.proofs.lemmas.Result.{IfOk-weaker}
-use Rattle.serde_json.specs.View.{view}
+use Rattle.json_data.specs.View.{view}
 use Rattle.repairs.specs.Tolerant.{IsWritten}
 use Rattle.repairs.proofs.SecondReading.{after_second-written}
 use Rattle.repairs.proofs.tolerant.read_tolerant.Goals as goal

@@ -1,4 +1,4 @@
-use Rattle.serde_json.specs.View.{view}
+use Rattle.json_data.specs.View.{view}
 use Rattle.station_sim.proofs.Writable.{writable_answer}
 use Rattle.station_sim.proofs.replies.answer_payload.Goals as goal
 

@@ -1,6 +1,6 @@
 use Rattle.std.proofs.Common.{◌∙◌, ap, sym, ◌+◌, drop}
 use Rattle.std.proofs.lemmas.List.{drop_all}
-use Rattle.serde_json.specs.View.{items_view}
+use Rattle.json_data.specs.View.{items_view}
 use Rattle.station_sim.specs.Replies.{texts}
 use Rattle.station_sim.proofs.Texts.{followed, followed_none, texts_take, texts_skip}
 use Rattle.station_sim.proofs.replies.texts.Goals as goal
@@ -10,7 +10,7 @@ pub loop-item-preserved : goal.loop-item-preserved
 loop-item-preserved c =
     let vs = c.args.items.now in
     let i = c.loop-item.item-index in
-    elim c.match-as_str.branch [
+    elim c.match-text_of.branch [
       | in-Some+in_ok-text_value+in_ok-push w ↦
           ap (λ found. followed found.items (texts (items_view (drop (i + 1) vs)))) w.found-is
           ∙ ap (λ found. followed found (texts (items_view (drop (i + 1) vs)))) w.in_ok-push.ensures.items

@@ -1,5 +1,5 @@
 use Rattle.std.proofs.Common.{◌≡◌, drop}
-use Rattle.serde_json.specs.View.{items_view}
+use Rattle.json_data.specs.View.{items_view}
 use Rattle.station_sim.specs.Replies.{texts}
 use Rattle.station_sim.proofs.Texts.{followed}
 use Rattle.station_sim.proofs.replies.texts.Given as goal
