@@ -74,7 +74,8 @@ impl Sim {
         ensures ok { OnOk result (session_of self.new ≡ after_message (frame text.now) (session_of self.old)) }
         ensures err { OnErr result (session_of self.new ≡ session_of self.old) }
     {
-        let frame = FrameReader::new(self.alloc).read(text)?;
+        let mut reader = FrameReader::new(self.alloc);
+        let frame = reader.read(text)?;
         let reply = reply_to(self.alloc, &self.session, &frame)?;
         self.session.hear(self.alloc, &frame)?;
         Ok(reply)
