@@ -37,7 +37,7 @@ const PORT: &str = "The port of the server on 127.0.0.1";
 
 /// A command.
 #[derive(Clone, Copy, Drop)]
-enum Named {
+enum Subcommand {
     Replay,
     Serve,
     Sim,
@@ -47,13 +47,13 @@ enum Named {
 }
 
 /// All commands, as the help lists them.
-const COMMANDS: &[Named] = &[
-    Named::Replay,
-    Named::Serve,
-    Named::Sim,
-    Named::Ask,
-    Named::Forget,
-    Named::Follow,
+const COMMANDS: &[Subcommand] = &[
+    Subcommand::Replay,
+    Subcommand::Serve,
+    Subcommand::Sim,
+    Subcommand::Ask,
+    Subcommand::Forget,
+    Subcommand::Follow,
 ];
 
 /// What an argument takes.
@@ -157,14 +157,14 @@ pub fn central<'a>(alloc: Global) -> Result<Command<'a>, AllocError> {
     Ok(central)
 }
 
-fn command_of<'a>(alloc: Global, named: Named) -> Result<Command<'a>, AllocError> {
-    match named {
-        Named::Replay => replay_command(alloc),
-        Named::Serve => serve_command(alloc),
-        Named::Sim => sim_command(alloc),
-        Named::Ask => ask_command(alloc),
-        Named::Forget => forget_command(alloc),
-        Named::Follow => follow_command(alloc),
+fn command_of<'a>(alloc: Global, subcommand: Subcommand) -> Result<Command<'a>, AllocError> {
+    match subcommand {
+        Subcommand::Replay => replay_command(alloc),
+        Subcommand::Serve => serve_command(alloc),
+        Subcommand::Sim => sim_command(alloc),
+        Subcommand::Ask => ask_command(alloc),
+        Subcommand::Forget => forget_command(alloc),
+        Subcommand::Follow => follow_command(alloc),
     }
 }
 

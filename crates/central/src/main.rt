@@ -16,6 +16,7 @@ mod measured;
 mod metrics;
 mod metrics_page;
 mod new_file;
+mod prepared;
 mod reason;
 mod recent;
 mod records;

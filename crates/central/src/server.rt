@@ -1,13 +1,12 @@
 //! The server.
 
-use crate::command::ServeOptions;
 use crate::fault::RunFault;
-use crate::hosted::{copies_of, hub_of};
 use crate::journal_file::{JournalOptions, begin_journal};
 use crate::kept_journal::KeptJournal;
 use crate::measured::{connected_of, now_of};
 use crate::metrics::{Counts, Metrics};
 use crate::metrics_page::page_of;
+use crate::prepared::Prepared;
 use crate::server_log::ServerLog;
 use crate::service::Service;
 use crate::stop_file::StopFile;
@@ -15,7 +14,7 @@ use clients::now;
 use hub::{Fault, Hub};
 use hub_rows::Store;
 use journal::Journal;
-use ocpp_types::{Mem, Moment, Text, copied};
+use ocpp_types::{Mem, Moment, Text};
 use ready_streams::{ReadyStream, Streams};
 use station_calls::VendorHandler;
 use std::alloc::Global;
@@ -101,29 +100,28 @@ pub struct Server<S, V> {
 }
 
 impl<S: Store + Drop, V: VendorHandler> Server<S, V> {
-    /// A server over a store. Errors: operators that can't be hosted, a clock without a moment, no memory.
+    /// A server over a hub, which begins to take connections from these streams.
     pub fn new(
-        rt: &HostRuntime,
-        store: S,
-        mut streams: Streams,
-        options: &ServeOptions,
-        vendors: Vec<V>,
+        hub: Hub<S, V>,
+        streams: Streams,
+        prepared: Prepared,
         log: ServerLog,
-    ) -> Result<Server<S, V>, RunFault> {
-        let alloc = rt.alloc();
-        let moment = now(rt).ok_or(RunFault::Clock)?;
-        let begun = Instant::now(rt)?;
-        let service = Service::new(alloc, options.operators.as_slice())?;
-        let metrics = Metrics::new(alloc, service.operators())?;
-        let db = options.db.clone()?;
-        let stop_file = StopFile::new(copied(&options.stop_file)?);
-        let lobby = lobby_with_notes(alloc, options.origins.as_slice())?;
-        let operators = copies_of(alloc, options.operators.as_slice())?;
-        let hub = hub_of(alloc, store, operators, vendors)?;
-        streams.set_second(0);
-        Ok(Server {
+    ) -> Server<S, V> {
+        let Prepared {
             alloc,
-            address: options.address,
+            address,
+            moment,
+            begun,
+            service,
+            metrics,
+            lobby,
+            most_stations,
+            db,
+            stop_file,
+        } = prepared;
+        Server {
+            alloc,
+            address,
             hub,
             gateway: gateway_with_notes(alloc),
             lobby,
@@ -136,7 +134,7 @@ impl<S: Store + Drop, V: VendorHandler> Server<S, V> {
             log,
             metrics,
             page: None,
-            most_stations: u64::from(options.most_stations),
+            most_stations,
             journal: KeptJournal::none(),
             db,
             stop_file,
@@ -145,7 +143,7 @@ impl<S: Store + Drop, V: VendorHandler> Server<S, V> {
             hurt: None,
             is_store_shut: false,
             reserve: set_aside(alloc).ok(),
-        })
+        }
     }
 
     /// Keeps a journal from now on, in which the server begins with those operators. What is taken is in its file before peers
@@ -476,13 +474,6 @@ fn gateway_with_notes(alloc: Global) -> Gateway<ReadyStream> {
     let mut gateway = Gateway::new(alloc);
     gateway.keep_notes();
     gateway
-}
-
-/// Those whose handshake isn't done, as well.
-fn lobby_with_notes(alloc: Global, origins: &[Text]) -> Mem<Lobby<ReadyStream>> {
-    let mut lobby = Lobby::new(alloc, copies_of(alloc, origins)?)?;
-    lobby.keep_notes();
-    Ok(lobby)
 }
 
 /// Whether a fault was a short time before that second.

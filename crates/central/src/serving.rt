@@ -3,6 +3,8 @@
 use crate::command::ServeOptions;
 use crate::fault::RunFault;
 use crate::following::follow_journal;
+use crate::hosted::{copies_of, hub_of};
+use crate::prepared::Prepared;
 use crate::records::{ANSWERS, open, size_of};
 use crate::server::Server;
 use crate::server_log::{ServerLog, opening_text, start_text};
@@ -179,8 +181,43 @@ fn run_server<S: Store + Drop, V: VendorHandler>(
         journal,
         ..
     } = opened;
+    let mut server = server_over(rt, store, streams, options, vendors)?;
+    begin_and_run(rt, &mut server, journal, options, start)
+}
+
+/// A server over a store. Errors: operators that can't be hosted, a clock without a moment, no memory.
+fn server_over<S: Store + Drop, V: VendorHandler>(
+    rt: &HostRuntime,
+    store: S,
+    mut streams: Streams,
+    options: &ServeOptions,
+    vendors: Vec<V>,
+) -> Result<Server<S, V>, RunFault> {
+    let (prepared, operators) = prepared_of(rt, options)?;
+    let hub = hub_of(rt.alloc(), store, operators, vendors)?;
+    streams.set_second(0);
     let log = ServerLog::new(rt, options.log);
-    let mut server = Server::new(rt, store, streams, options, vendors, log)?;
+    Ok(Server::new(hub, streams, prepared, log))
+}
+
+/// What a server has by its options, and its operators.
+fn prepared_of(
+    rt: &HostRuntime,
+    options: &ServeOptions,
+) -> Result<(Prepared, Vec<Text>), RunFault> {
+    let operators = copies_of(rt.alloc(), options.operators.as_slice())?;
+    let prepared = Prepared::of(rt, options)?;
+    Ok((prepared, operators))
+}
+
+/// Begins the journal and the log of a server, and runs it.
+fn begin_and_run<S: Store + Drop, V: VendorHandler>(
+    rt: &HostRuntime,
+    server: &mut Server<S, V>,
+    journal: Rc<Journal>,
+    options: &ServeOptions,
+    start: &str,
+) -> Result<(), RunFault> {
     if let Some(kept) = &options.journal {
         server.keep_journal(rt, kept, journal)?;
     }
