@@ -1,11 +1,11 @@
 -- A text that is a call, token by token.
-use Rattle.std.proofs.Common.{◌≡◌, ℕ, ◌+◌, ◌-◌, ◌<◌, ◌≤◌, List, [], ◌∷◌, length, Option, Some, None, option_map, unwrap_or, refl, ap, sym, ◌∙◌, arith}
+use Rattle.std.proofs.Common.{◌≡◌, ℕ, ◌-◌, ◌<◌, List, [], ◌∷◌, length, Some, None, option_map, unwrap_or, refl, ap, sym, ◌∙◌, arith}
 use Rattle.json.specs.Token.{Token}
 use Rattle.json.specs.Lex.{tokens}
 use Rattle.json.specs.Json.{value, items, parse_map, after_end_array}
 use Rattle.json.proofs.Grammar.{value_is, value-begin_array}
-use Rattle.serde_json.specs.Data.{Data, number, unsigned, string, array, item, no_items}
-use Rattle.serde_json.specs.Read.{of_json, of_items, converted, number_of}
+use Rattle.serde_json.specs.Data.{Data, number, unsigned, string, array, item}
+use Rattle.serde_json.specs.Read.{of_json, converted, number_of}
 use Rattle.serde_json.proofs.OnLiterals.{serde_json_on_literals}
 use Rattle.ocpp_frame.specs.declared.frame.Frame.TheVariants.{Ignored}
 use Rattle.ocpp_frame.specs.Frame.{frame, frame_of, call_with, payload_of}

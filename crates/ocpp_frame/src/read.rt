@@ -101,12 +101,7 @@ fn call<'a>(alloc: Global, id: Text, rest: Vec<Value<'a>>) -> Mem<Frame<'a>>
     }
 }
 
-fn call_with<'a>(
-    alloc: Global,
-    id: Text,
-    action: &Value<'a>,
-    payload: Value<'a>,
-) -> Mem<Frame<'a>>
+fn call_with<'a>(alloc: Global, id: Text, action: &Value<'a>, payload: Value<'a>) -> Mem<Frame<'a>>
     ensures { IfOk result (λ f. f ≡ call_with id (as_str (view action.now)) (payload_of (view payload.entry))) }
 {
     match text_of(action) {

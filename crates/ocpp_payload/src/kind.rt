@@ -43,7 +43,12 @@ impl Kind for TextOf {
 
     ghost reads = { λ kind. text kind.0 };
 
-    fn read(&self, alloc: Global, field: &'static str, value: &Value<'_>) -> Result<Text, ReadError> {
+    fn read(
+        &self,
+        alloc: Global,
+        field: &'static str,
+        value: &Value<'_>,
+    ) -> Result<Text, ReadError> {
         let Some(text) = text_of(value) else {
             return refused(ErrorCode::TypeConstraintViolation, field);
         };
@@ -65,7 +70,12 @@ impl Kind for AnyText {
 
     ghost reads = { λ _. any_text };
 
-    fn read(&self, alloc: Global, field: &'static str, value: &Value<'_>) -> Result<Text, ReadError> {
+    fn read(
+        &self,
+        alloc: Global,
+        field: &'static str,
+        value: &Value<'_>,
+    ) -> Result<Text, ReadError> {
         let Some(text) = text_of(value) else {
             return refused(ErrorCode::TypeConstraintViolation, field);
         };
@@ -85,7 +95,12 @@ impl Kind for ConnectorFrom {
 
     ghost reads = { λ kind. connector_from kind.0 };
 
-    fn read(&self, _alloc: Global, field: &'static str, value: &Value<'_>) -> Result<u8, ReadError> {
+    fn read(
+        &self,
+        _alloc: Global,
+        field: &'static str,
+        value: &Value<'_>,
+    ) -> Result<u8, ReadError> {
         let number = integer(field, value)?;
         if number < self.0 as i128 || 255 < number {
             return refused(ErrorCode::PropertyConstraintViolation, field);
@@ -105,7 +120,12 @@ impl Kind for Int32 {
 
     ghost reads = { λ _. int_32 };
 
-    fn read(&self, _alloc: Global, field: &'static str, value: &Value<'_>) -> Result<i32, ReadError> {
+    fn read(
+        &self,
+        _alloc: Global,
+        field: &'static str,
+        value: &Value<'_>,
+    ) -> Result<i32, ReadError> {
         let number = integer(field, value)?;
         if number < i32::MIN as i128 || (i32::MAX as i128) < number {
             return refused(ErrorCode::PropertyConstraintViolation, field);
@@ -125,7 +145,12 @@ impl Kind for Int64 {
 
     ghost reads = { λ _. int_64 };
 
-    fn read(&self, _alloc: Global, field: &'static str, value: &Value<'_>) -> Result<i64, ReadError> {
+    fn read(
+        &self,
+        _alloc: Global,
+        field: &'static str,
+        value: &Value<'_>,
+    ) -> Result<i64, ReadError> {
         let number = integer(field, value)?;
         if number < i64::MIN as i128 || (i64::MAX as i128) < number {
             return refused(ErrorCode::PropertyConstraintViolation, field);
@@ -184,7 +209,12 @@ impl Kind for Boolean {
 
     ghost reads = { λ _. boolean };
 
-    fn read(&self, _alloc: Global, field: &'static str, value: &Value<'_>) -> Result<bool, ReadError> {
+    fn read(
+        &self,
+        _alloc: Global,
+        field: &'static str,
+        value: &Value<'_>,
+    ) -> Result<bool, ReadError> {
         match truth_of(value) {
             Some(truth) => Ok(truth),
             None => refused(ErrorCode::TypeConstraintViolation, field),
@@ -203,7 +233,12 @@ impl Kind for Time {
 
     ghost reads = { λ _. time };
 
-    fn read(&self, _alloc: Global, field: &'static str, value: &Value<'_>) -> Result<i64, ReadError> {
+    fn read(
+        &self,
+        _alloc: Global,
+        field: &'static str,
+        value: &Value<'_>,
+    ) -> Result<i64, ReadError> {
         let Some(time) = text_of(value).and_then(|text| parse_time(text)) else {
             return refused(ErrorCode::TypeConstraintViolation, field);
         };
@@ -222,7 +257,12 @@ impl Kind for WholeSecond {
 
     ghost reads = { λ _. moment };
 
-    fn read(&self, alloc: Global, field: &'static str, value: &Value<'_>) -> Result<Moment, ReadError> {
+    fn read(
+        &self,
+        alloc: Global,
+        field: &'static str,
+        value: &Value<'_>,
+    ) -> Result<Moment, ReadError> {
         let time = Time.read(alloc, field, value)?;
         match moment_at(time.div_euclid(1000)) {
             Some(moment) => Ok(moment),

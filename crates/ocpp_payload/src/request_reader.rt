@@ -63,7 +63,10 @@ fn authorize(alloc: Global, payload: &Value<'_>) -> Result<Authorize, ReadError>
     Ok(Authorize { id_tag })
 }
 
-fn boot_notification(alloc: Global, payload: &Value<'_>) -> Result<Boxed<BootNotification>, ReadError>
+fn boot_notification(
+    alloc: Global,
+    payload: &Value<'_>,
+) -> Result<Boxed<BootNotification>, ReadError>
     ensures { Gives result (boot_notification (view payload.now)) }
 {
     let boot = BootNotification {

@@ -86,7 +86,12 @@ impl Kind for TextWithin {
 
     ghost reads = { λ _. any_text };
 
-    fn read(&self, alloc: Global, field: &'static str, value: &json::Value<'_>) -> Result<Text, ReadError> {
+    fn read(
+        &self,
+        alloc: Global,
+        field: &'static str,
+        value: &json::Value<'_>,
+    ) -> Result<Text, ReadError> {
         AnyText.read(alloc, field, value)
     }
 }
@@ -122,7 +127,12 @@ impl Kind for IntegerWithin {
 
     ghost reads = { λ _. int_64 };
 
-    fn read(&self, alloc: Global, field: &'static str, value: &json::Value<'_>) -> Result<i64, ReadError> {
+    fn read(
+        &self,
+        alloc: Global,
+        field: &'static str,
+        value: &json::Value<'_>,
+    ) -> Result<i64, ReadError> {
         Int64.read(alloc, field, value)
     }
 }

@@ -34,7 +34,11 @@ pub fn read_answer(
     Ok(read)
 }
 
-fn read_known(alloc: Global, command: &Command, payload: &Value<'_>) -> Mem<Result<KnownMembers, FieldFault>>
+fn read_known(
+    alloc: Global,
+    command: &Command,
+    payload: &Value<'_>,
+) -> Mem<Result<KnownMembers, FieldFault>>
     ensures { IfOk result (λ r. r ≡ known_members command.now (view payload.now)) }
 {
     match sent_members(alloc, command, payload) {
@@ -44,7 +48,11 @@ fn read_known(alloc: Global, command: &Command, payload: &Value<'_>) -> Mem<Resu
     }
 }
 
-fn sent_members(alloc: Global, command: &Command, payload: &Value<'_>) -> Result<KnownMembers, ReadError>
+fn sent_members(
+    alloc: Global,
+    command: &Command,
+    payload: &Value<'_>,
+) -> Result<KnownMembers, ReadError>
     ensures { Gives result (known_members command.now (view payload.now)) }
 {
     match command {

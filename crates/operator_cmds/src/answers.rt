@@ -107,7 +107,10 @@ pub struct GetConfigurationAnswer {
 impl Readable for GetConfigurationAnswer {
     ghost reads_as = { read_by get_configuration_answer };
 
-    fn read_from(alloc: Global, object: &json::Value<'_>) -> Result<GetConfigurationAnswer, ReadError> {
+    fn read_from(
+        alloc: Global,
+        object: &json::Value<'_>,
+    ) -> Result<GetConfigurationAnswer, ReadError> {
         let keys = ListOf(ObjectOf::new());
         Ok(GetConfigurationAnswer {
             configuration_key: optional(alloc, object, "configurationKey", keys)?,
@@ -149,7 +152,10 @@ pub struct GetLocalListVersionAnswer {
 impl Readable for GetLocalListVersionAnswer {
     ghost reads_as = { read_by get_local_list_version_answer };
 
-    fn read_from(alloc: Global, object: &json::Value<'_>) -> Result<GetLocalListVersionAnswer, ReadError> {
+    fn read_from(
+        alloc: Global,
+        object: &json::Value<'_>,
+    ) -> Result<GetLocalListVersionAnswer, ReadError> {
         let list_version = required(alloc, object, "listVersion", Int32)?;
         Ok(GetLocalListVersionAnswer { list_version })
     }

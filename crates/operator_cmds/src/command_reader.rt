@@ -39,7 +39,11 @@ pub fn read_command(alloc: Global, action: &str, payload: &json::Value<'_>) -> M
     }
 }
 
-fn read_any(alloc: Global, action: OperatorAction, payload: &json::Value<'_>) -> Result<Command, ReadError>
+fn read_any(
+    alloc: Global,
+    action: OperatorAction,
+    payload: &json::Value<'_>,
+) -> Result<Command, ReadError>
     ensures { Gives result (command_of action (lent.view payload.now)) }
 {
     Ok(match action {

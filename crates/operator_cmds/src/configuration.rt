@@ -22,7 +22,10 @@ pub struct ChangeConfiguration {
 impl Readable for ChangeConfiguration {
     ghost reads_as = { read_by change_configuration };
 
-    fn read_from(alloc: Global, object: &json::Value<'_>) -> Result<ChangeConfiguration, ReadError> {
+    fn read_from(
+        alloc: Global,
+        object: &json::Value<'_>,
+    ) -> Result<ChangeConfiguration, ReadError> {
         Ok(ChangeConfiguration {
             key: required(alloc, object, "key", TextWithin(50))?,
             value: required(alloc, object, "value", TextWithin(500))?,

@@ -22,7 +22,10 @@ pub struct RemoteStartTransaction {
 impl Readable for RemoteStartTransaction {
     ghost reads_as = { read_by remote_start_transaction };
 
-    fn read_from(alloc: Global, object: &json::Value<'_>) -> Result<RemoteStartTransaction, ReadError> {
+    fn read_from(
+        alloc: Global,
+        object: &json::Value<'_>,
+    ) -> Result<RemoteStartTransaction, ReadError> {
         Ok(RemoteStartTransaction {
             connector_id: optional(alloc, object, "connectorId", CONNECTOR)?,
             id_tag: required(alloc, object, "idTag", ID_TAG)?,
@@ -64,7 +67,10 @@ pub struct RemoteStopTransaction {
 impl Readable for RemoteStopTransaction {
     ghost reads_as = { read_by remote_stop_transaction };
 
-    fn read_from(alloc: Global, object: &json::Value<'_>) -> Result<RemoteStopTransaction, ReadError> {
+    fn read_from(
+        alloc: Global,
+        object: &json::Value<'_>,
+    ) -> Result<RemoteStopTransaction, ReadError> {
         let transaction_id = required(alloc, object, "transactionId", NUMBER_OF_32_BITS)?;
         Ok(RemoteStopTransaction { transaction_id })
     }

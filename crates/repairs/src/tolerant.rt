@@ -69,12 +69,7 @@ fn read_repaired(
 }
 
 /// The text of the frame's payload as it is repaired. `None`: the text is no such frame.
-fn repaired_text(
-    alloc: Global,
-    action: Action,
-    now: &str,
-    text: &str,
-) -> Mem<Option<String>>
+fn repaired_text(alloc: Global, action: Action, now: &str, text: &str) -> Mem<Option<String>>
     ensures { IfOk result (λ written. option_map string_bytes written
         ≡ option_map (λ j. print (json_tokens j)) (repaired action now.now text.now)) }
 {

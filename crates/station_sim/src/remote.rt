@@ -15,7 +15,9 @@ use ocpp_types::count_characters;
 pub fn start_of<'a>(session: &Session, payload: &Value<'a>) -> Option<&'a str>
     ensures { option_map (λ s. s.now) result ≡ start_of session.now (view payload.now) }
 {
-    if session.stage.is_idle() && names(session.script.connector, member_of(payload, "connectorId")) {
+    if session.stage.is_idle()
+        && names(session.script.connector, member_of(payload, "connectorId"))
+    {
         ordered_tag(payload)
     } else {
         None

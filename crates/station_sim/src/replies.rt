@@ -63,7 +63,12 @@ fn result_text(alloc: Global, id: &str, payload: Value) -> Mem<String>
     write_result(alloc, id, payload)
 }
 
-fn answer_payload(alloc: Global, session: &Session, payload: &json::Value<'_>, answer: Answer) -> Mem<Value>
+fn answer_payload(
+    alloc: Global,
+    session: &Session,
+    payload: &json::Value<'_>,
+    answer: Answer,
+) -> Mem<Value>
     ensures value { IfOk result (λ v. view v ≡ answer_payload session.now (lent.view payload.now) answer) }
     ensures writable { IfOk result (λ v. IsWritable (view v)) }
 {
@@ -71,7 +76,12 @@ fn answer_payload(alloc: Global, session: &Session, payload: &json::Value<'_>, a
     Ok(payload)
 }
 
-fn payload_of(alloc: Global, session: &Session, payload: &json::Value<'_>, answer: Answer) -> Mem<Value>
+fn payload_of(
+    alloc: Global,
+    session: &Session,
+    payload: &json::Value<'_>,
+    answer: Answer,
+) -> Mem<Value>
     ensures { IfOk result (λ v. view v ≡ answer_payload session.now (lent.view payload.now) answer) }
 {
     match answer {

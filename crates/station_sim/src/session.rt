@@ -2,7 +2,8 @@
 ghost use Rattle.std.specs.Prelude.{◌≡◌, ◌≤◌, ◌+◌, false, if◌then◌else◌, Some, IfOk, OnOk, OnErr, option_map, string_bytes};
 ghost use Rattle.ocpp_types.specs.Text.{characters};
 ghost use Rattle.ocpp_types.specs.TimeText.{time_text};
-ghost use Rattle.json_data.specs.View.{view};
+ghost use Rattle.json_data.specs.View as lent;
+ghost use Rattle.serde_json.specs.View.{view};
 ghost use Rattle.station_sim.specs.Kept.{IsSession};
 ghost use Rattle.station_sim.specs.Session.{start, is_done, is_waiting, is_spent, heartbeat_at, wanted_call, due_call, next_call, moves_on, ends_session, metered, after_call, after_message, moved, answered, after_answer, begun, stopped, after_command, left_at, is_id};
 ghost use Rattle.station_sim.specs.Calls.{call_id};
@@ -222,7 +223,7 @@ impl Session {
     }
 
     fn take_command(&mut self, alloc: Global, action: &str, payload: &Value<'_>) -> Mem<()>
-        ensures ok { OnOk result (self.new ≡ after_command action.now (view payload.now) self.old) }
+        ensures ok { OnOk result (self.new ≡ after_command action.now (lent.view payload.now) self.old) }
         ensures err { OnErr result (self.new ≡ self.old) }
     {
         match action {

@@ -1,9 +1,8 @@
-use Rattle.std.proofs.Common.{◌≡◌, [], ◌∷◌, Some, ap, sym, ◌∙◌, arith}
+use Rattle.std.proofs.Common.{◌≡◌, [], ◌∷◌, Some, ◌∙◌, arith}
 use Rattle.json.specs.Token.{Token}
 use Rattle.json.specs.Lex.{tokens}
 use Rattle.json.specs.Json.{after_end_array}
 use Rattle.json_data.specs.View.{view}
-use Rattle.ocpp_frame.specs.Frame.{call_with, payload_of}
 use Rattle.ocpp_frame.proofs.Calls.{call_of_tokens}
 use Rattle.ocpp_frame.proofs.call_reader.read_call.Goals as goal
 
