@@ -3,6 +3,7 @@ ghost use Rattle.std.specs.Prelude.{◌≡◌, IfOk, option_map};
 ghost use Rattle.lines.specs.Words.{only_word, parent_of};
 ghost use Rattle.lines.specs.Forms.{what_of, connect_form, disconnect_form, frame_form, quoted_form, call_form, station_form, station_add_form, station_policy_form, station_reader_form, station_drop_form, policy_words, tag_form, tag_put_form, tag_drop_form, transaction_form, transaction_close_form, forget_form, grant_form, revoke_form, mark_of};
 
+use crate::json_texts::{command_in, string_in};
 use crate::list_forms::list;
 use crate::words::{
     expiry_of, first_word, is_expiry, meter_of, moment_at, name_of, number_of, only_word,
@@ -11,10 +12,7 @@ use crate::words::{
 use hub_events::{Admin, What};
 use hub_rows::{Reader, Tag};
 use id_tags::Grant;
-use json::Scratch;
-use json_data::{read_value, text_of};
 use ocpp_types::{Boxed, Mem, Named, Policy, Text};
-use operator_cmds::read_command;
 use std::alloc::Global;
 
 /// What happens at an operator by the text after `MOMENT OP`, `None` where it has none of the
@@ -80,15 +78,10 @@ fn quoted(alloc: Global, rest: &str) -> Mem<Option<What>>
     let Some((station, json)) = first_word(rest) else {
         return Ok(None);
     };
-    let mut scratch = Scratch::new(alloc);
-    let Some(value) = read_value(alloc, &mut scratch, json)? else {
-        return Ok(None);
-    };
-    let Some(text) = text_of(&value) else {
+    let Some(text) = string_in(alloc, json)? else {
         return Ok(None);
     };
     let station = Text::copy_of(alloc, station)?;
-    let text = Text::copy_of(alloc, text)?;
     Ok(Some(What::Frame { station, text }))
 }
 
@@ -101,11 +94,7 @@ fn call(alloc: Global, rest: &str) -> Mem<Option<What>>
     let Some((action, json)) = first_word(rest) else {
         return Ok(None);
     };
-    let mut scratch = Scratch::new(alloc);
-    let Some(payload) = read_value(alloc, &mut scratch, json)? else {
-        return Ok(None);
-    };
-    let Some(command) = read_command(alloc, action, &payload)? else {
+    let Some(command) = command_in(alloc, action, json)? else {
         return Ok(None);
     };
     let station = Text::copy_of(alloc, station)?;

@@ -6,6 +6,7 @@ mod fields;
 mod forms;
 mod input_line;
 mod journal;
+mod json_texts;
 mod list_forms;
 mod mark;
 mod order;
