@@ -1,11 +1,12 @@
 //! The tables of commands and of the answers to them.
 
 use anyhow::{Result, bail};
-use ocpp_frame::Payload;
+use json::Scratch;
+use json_data::read_value;
 use ocpp_payload::FieldFault;
 use ocpp_types::Named;
 use operator_cmds::{
-    Command, action_name_of, bad_field, is_accepted, read_answer, read_command, write_request,
+    Command, KnownMembers, action_name_of, bad_field, read_answer, read_command, write_request,
 };
 use serde_json::Value;
 use std::alloc::Global;
@@ -27,8 +28,11 @@ pub fn answer_told(alloc: Global, action: &str, payload: &str, answer: &str) -> 
 }
 
 fn command_of(alloc: Global, action: &str, payload: &str) -> Result<Option<Command>> {
-    let payload = Value::from_str(alloc, payload)?;
-    Ok(read_command(alloc, action, &payload)?)
+    let mut scratch = Scratch::new(alloc);
+    match read_value(alloc, &mut scratch, payload)? {
+        Some(payload) => Ok(read_command(alloc, action, &payload)?),
+        None => bail!("no JSON"),
+    }
 }
 
 fn request_told(alloc: Global, command: &Command) -> Result<String> {
@@ -42,22 +46,25 @@ fn request_told(alloc: Global, command: &Command) -> Result<String> {
 }
 
 fn known_told(alloc: Global, command: &Command, answer: &str) -> Result<String> {
-    let answer = Value::from_str(alloc, answer)?;
+    let mut scratch = Scratch::new(alloc);
+    let Some(answer) = read_value(alloc, &mut scratch, answer)? else {
+        bail!("no JSON");
+    };
     match read_answer(alloc, command, &answer)? {
         Ok(known) => payload_told(alloc, &known),
         Err(fault) => fault_told(alloc, &fault),
     }
 }
 
-fn payload_told(alloc: Global, known: &Payload) -> Result<String> {
+fn payload_told(alloc: Global, known: &KnownMembers) -> Result<String> {
     let known = known.as_value().to_string(alloc)?;
     Ok(format!(in alloc; "Answer {known}")?)
 }
 
 /// Whether the known members of an answer accept the command.
 pub fn command_accepted(alloc: Global, answer: &str) -> Result<String> {
-    let answer = Value::from_str(alloc, answer)?;
-    let told = if is_accepted(&answer) {
+    let answer = KnownMembers::from(Value::from_str(alloc, answer)?);
+    let told = if answer.is_accepted() {
         "accepted"
     } else {
         "not accepted"

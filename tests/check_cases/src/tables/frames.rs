@@ -1,28 +1,30 @@
 //! Tables of frames.
 
 use anyhow::{Result, bail};
-use ocpp_frame::{Frame, FrameReader, write_call, write_error, write_result};
+use json::to_vec;
+use ocpp_frame::{Frame, FrameReader, Payload, write_call, write_error, write_result};
 use serde_json::Value;
 use std::alloc::Global;
 
 /// The frame that a text is: its kind and its parts, `|` between them.
 pub fn frame_read(alloc: Global, text: &str) -> Result<String> {
-    let frame = FrameReader::new(alloc).read(text)?;
+    let mut reader = FrameReader::new(alloc);
+    let frame = reader.read(text)?;
     frame_shown(alloc, &frame)
 }
 
-fn frame_shown(alloc: Global, frame: &Frame) -> Result<String> {
+fn frame_shown(alloc: Global, frame: &Frame<'_>) -> Result<String> {
     Ok(match frame {
         Frame::Call {
             id,
             action,
             payload,
         } => {
-            let payload = payload.as_value().to_string(alloc)?;
+            let payload = payload_shown(alloc, payload)?;
             format!(in alloc; "Call|{id}|{action}|{payload}")?
         }
         Frame::CallResult { id, payload } => {
-            let payload = payload.as_value().to_string(alloc)?;
+            let payload = payload_shown(alloc, payload)?;
             format!(in alloc; "CallResult|{id}|{payload}")?
         }
         Frame::CallError {
@@ -33,6 +35,12 @@ fn frame_shown(alloc: Global, frame: &Frame) -> Result<String> {
         Frame::Broken { id } => format!(in alloc; "Broken|{id}")?,
         Frame::Ignored => "Ignored".to_string(alloc)?,
     })
+}
+
+/// A payload as `serde_json` writes what it reads of it.
+fn payload_shown(alloc: Global, payload: &Payload<'_>) -> Result<String> {
+    let text = String::from_utf8(to_vec(alloc, payload.as_value())?).unwrap();
+    Ok(Value::from_str(alloc, text.as_str())?.to_string(alloc)?)
 }
 
 /// The text of a frame of that kind and those parts, as `frame_read` has them.

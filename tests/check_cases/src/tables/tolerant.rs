@@ -2,10 +2,11 @@
 
 use crate::tables::commands::fault_told;
 use anyhow::{Result, bail};
+use json::Scratch;
+use json_data::read_value;
 use ocpp_payload::{Action, MeterValue, Request, SampledValue};
 use ocpp_types::{Moment, Named};
 use repairs::{Reading, read_tolerant};
-use serde_json::Value;
 use std::alloc::Global;
 
 /// What a tolerant reader makes of a payload of that action at that moment: `as sent`, or the fault
@@ -24,7 +25,10 @@ pub fn tolerant_reading(
     };
     let name = action.name();
     let text = format!(in alloc; "[2,\"1\",\"{name}\",{payload}]")?;
-    let payload = Value::from_str(alloc, payload)?;
+    let mut scratch = Scratch::new(alloc);
+    let Some(payload) = read_value(alloc, &mut scratch, payload)? else {
+        bail!("no JSON");
+    };
     match read_tolerant(alloc, action, moment, text.as_str(), &payload)? {
         Reading::AsSent(_request) => Ok("as sent".to_string(alloc)?),
         Reading::Refused(fault) => {
