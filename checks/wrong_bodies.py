@@ -63,8 +63,10 @@ def stamps():
 
 
 def write(kept):
-    head = "# a line for each crate whose wrong bodies were refused: its name, and the hash of what was tried\n"
-    STAMPS.write_text(head + "".join(f"{crate} {stamp}\n" for crate, stamp in sorted(kept.items())))
+    """Writes the stamps. The comment lines above them stay, which tell what was stamped without a try."""
+    lines = STAMPS.read_text().splitlines(keepends=True) if STAMPS.is_file() else []
+    head = [line for line in lines if line.startswith("#")]
+    STAMPS.write_text("".join([*head, *(f"{crate} {stamp}\n" for crate, stamp in sorted(kept.items()))]))
 
 
 def due():
