@@ -32,9 +32,9 @@ from pathlib import Path
 sys.path.insert(0, str(Path(__file__).resolve().parent.parent / "checks"))
 
 from connections import resident  # noqa: E402
+from harness import wait_for  # noqa: E402
 from loads import METER_VALUES  # noqa: E402
 from peer import BOOT, HEAD, Peer, frame  # noqa: E402
-from programs import wait_for  # noqa: E402
 
 METER = METER_VALUES % '{"value":"%s"}'
 TRANSFER = '{"vendorId":"V","data":"%s"}'

@@ -51,8 +51,8 @@ def connect(stations, moment):
 
 
 def days(stations, sessions, first, last, forgets):
-    """The lines of some days. At the end of each what is too old goes, by as many orders as can be needed."""
-    per_day = 13 * sessions
+    """The lines of some days. At the end of each what is too old goes, by as many orders as can be needed for sessions and
+    their four meter values each."""
     for day in range(first, last):
         moment = BEGIN + day * DAY
         for turn in range(sessions):
@@ -60,7 +60,7 @@ def days(stations, sessions, first, last, forgets):
             yield from sorted((line for each in lists for line in each), key=lambda line: int(line.split(" ", 1)[0]))
         if forgets and day > KEPT:
             for n in range(stations):
-                for _ in range(per_day // 1000 + 1):
+                for _ in range(4 * sessions // 250 + sessions // 250 + 2):
                     yield f"{moment + DAY - 1} ACME forget CP{n} {moment - KEPT * DAY}"
 
 

@@ -9,23 +9,21 @@ What is refused are the calls of the C library's allocator, so the program has t
 
 import collections
 import contextlib
-import mmap
 import os
 import re
 import shutil
 import sqlite3
-import struct
 import subprocess
 import sys
 import tempfile
 import time
 from pathlib import Path
 
+from harness import EARLIER, MORE, SCHEMA, SCRIPTS, TIME, Counts, listening, remove_database
 from peer import BOOT, Peer
-from programs import EARLIER, MORE, SCHEMA, SCRIPTS, TIME, listening
+from preloaded import Preloaded
 
 PORT = 9287
-SOURCE = Path(__file__).with_name("refusing_malloc.c")
 REPLAYED = (
     "stations/boot_and_heartbeat",
     "transactions/start_repeated",
@@ -61,38 +59,31 @@ TEXTS = (
 )
 
 
-class Allocator:
-    """The library under the program, and the numbers that it shares with this check."""
+class Allocator(Preloaded):
+    """The library under the program."""
 
     def __init__(self, folder):
-        self.library = os.path.join(folder, "refusing_malloc.so")
-        subprocess.run(["gcc", "-O2", "-shared", "-fPIC", "-o", self.library, SOURCE], check=True)
-        self.path = os.path.join(folder, "numbers")
-        Path(self.path).write_bytes(bytes(32))
-        with open(self.path, "r+b") as file:
-            self.numbers = mmap.mmap(file.fileno(), 32)
-        self.environment = {**os.environ, "LD_PRELOAD": self.library, "REFUSING_MALLOC": self.path}
+        super().__init__(folder, "refusing_malloc", "REFUSING_MALLOC", "4Q")
 
     def refuse(self, first, last):
-        self.numbers[:] = struct.pack("4Q", 0, first, last, 0)
+        self.write(0, first, last, 0)
 
     @property
     def count(self):
-        return struct.unpack_from("Q", self.numbers, 0)[0]
+        return self.read()[0]
 
     @property
     def refused(self):
-        return struct.unpack_from("Q", self.numbers, 24)[0]
+        return self.read()[3]
 
 
-class Checks:
+class Checks(Counts):
     def __init__(self, program, folder, small):
         self.program = program
         self.folder = folder
         self.small = small
         self.allocator = Allocator(folder)
         self.files = 0
-        self.passed = self.failed = 0
 
     def new_file(self):
         """The path of a database that isn't there yet."""
@@ -121,11 +112,6 @@ def spread(first, last, count):
     """So many numbers from the first to the last, evenly spread, or all where they are fewer."""
     span = last - first + 1
     return [first + n * span // count for n in range(count)] if span > count else list(range(first, last + 1))
-
-
-def remove(db):
-    for path in (db, f"{db}-wal", f"{db}-shm", f"{db}-count", f"{db}.new", f"{db}.journal"):
-        Path(path).unlink(missing_ok=True)
 
 
 def steps_of(script):
@@ -253,7 +239,7 @@ def check_over_a_file(checks, script, start):
         more = counted(kept[0]) - changes
         checks.check(f"{scenario}, allocation {number}", kept != wanted and "other records", (ran, rest, kept))
         checks.check(f"{scenario}, allocation {number}", more not in (0, 1) and "another count", (ran, rest, more))
-        remove(db)
+        remove_database(db)
     told(scenario, count, endings)
 
 
@@ -300,7 +286,7 @@ def check_earlier_schema(checks, earlier):
         checks.check(f"{scenario}, allocation {number}", not is_whole and "the schema", found)
         again = checks.replay(lines, db)
         checks.check(f"{scenario}, allocation {number}", again != (0, wanted, "") and "other records", again)
-        remove(db)
+        remove_database(db)
     told(scenario, count, endings)
 
 
@@ -353,7 +339,8 @@ class Server:
     def close(self):
         self.end()
         self.log.close()
-        remove(self.db)
+        remove_database(self.db)
+        Path(f"{self.db}.journal").unlink(missing_ok=True)
 
 
 class Session:
@@ -482,7 +469,7 @@ def follow(checks, recorded, data, number=NEVER):
     ran = subprocess.run(words, input=data, capture_output=True, timeout=60, env=checks.allocator.environment)
     rows, _ = records(db)
     changes = counted(rows)
-    remove(db)
+    remove_database(db)
     return (ran.returncode, ran.stderr.decode()), rows, changes
 
 
@@ -552,6 +539,9 @@ def check_follow(checks, recorded, data):
 
 
 def main():
+    counts = Counts()
+    if not counts.can("refused allocations", "gcc"):
+        counts.end()
     with tempfile.TemporaryDirectory() as folder:
         checks = Checks(os.path.abspath(sys.argv[1]), folder, "--small" in sys.argv[2:])
         checks.replay("")
@@ -562,8 +552,7 @@ def main():
             check_earlier_schema(checks, earlier)
         check_serve(checks)
         check_journal(checks)
-    print(f"{checks.passed} passed, {checks.failed} failed")
-    sys.exit(1 if checks.failed else 0)
+    checks.end()
 
 
 if __name__ == "__main__":

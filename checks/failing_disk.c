@@ -9,17 +9,15 @@
    Where FAILING_DISK_SYNCED names a folder, each sync copies its file there, under the number of its inode. */
 
 #define _GNU_SOURCE
+#include "mapped.h"
+
 #include <dlfcn.h>
 #include <errno.h>
-#include <fcntl.h>
 #include <limits.h>
 #include <stdint.h>
 #include <stdio.h>
-#include <stdlib.h>
-#include <sys/mman.h>
 #include <sys/sendfile.h>
 #include <sys/stat.h>
-#include <unistd.h>
 
 struct numbers {
     volatile uint64_t syncs, writes, calls, first, halves;
@@ -30,15 +28,8 @@ static const char *synced;
 
 __attribute__((constructor)) static void map_numbers(void)
 {
-    const char *path = getenv("FAILING_DISK");
-    int file = path ? open(path, O_RDWR | O_CLOEXEC) : -1;
+    numbers = mapped("FAILING_DISK", sizeof *numbers);
     synced = getenv("FAILING_DISK_SYNCED");
-    if (file < 0)
-        return;
-    void *place = mmap(NULL, sizeof *numbers, PROT_READ | PROT_WRITE, MAP_SHARED, file, 0);
-    close(file);
-    if (place != MAP_FAILED)
-        numbers = place;
 }
 
 /* Counts a call. Whether it is to fail. */

@@ -15,11 +15,10 @@ import sys
 import tempfile
 from pathlib import Path
 
-from programs import Checks
+from harness import SCRIPTS, Checks
 
-DATA = Path(__file__).resolve().parent.parent / "tests" / "check_cases" / "data" / "scripts"
-OPENED = DATA / "databases" / "opened.txt"
-EARLIER_FORM = DATA / "databases" / "records_of_schema_3_earlier.db"
+OPENED = SCRIPTS / "databases" / "opened.txt"
+EARLIER_FORM = SCRIPTS / "databases" / "records_of_schema_3_earlier.db"
 # What is told of a bad line.
 REASON = re.compile(r"line \d+: ")
 # The most bytes of a log without a change.
@@ -44,7 +43,7 @@ def operators_of(script):
 
 def check_each(checks):
     """Each script in memory and over a new file, and the script that goes on over it."""
-    scripts = sorted(path for path in DATA.glob("*/*.script") if path.with_suffix(".expected").exists())
+    scripts = sorted(path for path in SCRIPTS.glob("*/*.script") if path.with_suffix(".expected").exists())
     checks.check("more than 150 scripts", len(scripts) > 150, True)
     for script in scripts:
         db, operators = checks.new_file(), operators_of(script)
@@ -67,7 +66,7 @@ def run_between(db, statements):
 def check_earlier(checks):
     """Two scripts over each file that an earlier version of the program made, and over that of schema 3 in its earlier
     form, which has the same records."""
-    files = [(script, script.with_suffix(".db")) for script in sorted(DATA.glob("*/*.opened"))]
+    files = [(script, script.with_suffix(".db")) for script in sorted(SCRIPTS.glob("*/*.opened"))]
     files.append((EARLIER_FORM.with_name("records_of_schema_3.opened"), EARLIER_FORM))
     for script, file in files:
         db = checks.new_file()
@@ -96,7 +95,7 @@ def told(checks, path):
 
 def check_databases(checks):
     wanted = OPENED.read_text().splitlines()
-    got = [told(checks, path) for path in sorted(DATA.glob("databases/*.db"))]
+    got = [told(checks, path) for path in sorted(SCRIPTS.glob("databases/*.db"))]
     folder = Path(checks.folder, "folder")
     folder.mkdir()
     got += [f"a folder: {said(checks, folder)}", f"in no folder: {said(checks, Path(checks.folder, 'none', 'new.db'))}"]
@@ -129,8 +128,7 @@ def main():
         check_earlier(checks)
         check_databases(checks)
         check_many(checks)
-    print(f"{checks.passed} passed, {checks.failed} failed")
-    sys.exit(checks.failed > 0)
+    checks.end()
 
 
 if __name__ == "__main__":

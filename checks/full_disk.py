@@ -13,8 +13,8 @@ import sys
 import tempfile
 import time
 
+from harness import TIME, Checks, begun
 from peer import BOOT, HEARTBEAT, Peer, close_code, health
-from programs import TIME, Checks, listening
 
 PORT = 9288
 AT = '"timestamp":"2024-01-01T00:00:00Z"'
@@ -65,8 +65,7 @@ class Server:
         os.close(write)
         os.set_blocking(read, False)
         self.read = read
-        while self.process.poll() is None and not list(listening(PORT)):
-            time.sleep(0.01)
+        begun(self.process, PORT)
 
     def limit(self, size):
         """From now on no write to a file goes past that size."""
@@ -224,8 +223,7 @@ def main():
     with tempfile.TemporaryDirectory() as folder:
         checks = Checks(os.path.abspath(sys.argv[1]), folder)
         check_all(checks, checks.program, folder)
-    print(f"{checks.passed} passed, {checks.failed} failed")
-    sys.exit(checks.failed > 0)
+    checks.end()
 
 
 if __name__ == "__main__":

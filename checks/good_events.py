@@ -113,7 +113,7 @@ class Script:
         elif turn % 2:
             self.group(f"{operator} transaction close {station} {number} {'-' if turn % 4 == 1 else turn}")
         if turn % 12 == 11:
-            self.group(f"{operator} forget {station} {self.moment - 100}")
+            self.group(f"{operator} forget {station} {self.moment - 100}{' 999 99' if turn % 24 == 11 else ''}")
 
     def commands(self, operator, station, turn):
         entry = f'{{"idTag":"L{turn % 7}","idTagInfo":{{"status":"Accepted","parentIdTag":"K0"}}}}'

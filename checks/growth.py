@@ -1,6 +1,7 @@
 """Checks that no event reads a history: the same lines cost about as much over a file with 100 rows of a kind as over
-one with 10,000. Prints the growth of each kind, then `N passed, M failed`. The figures are processor time of replays,
-without the opening of the file, the best of some rounds.
+one with 10,000. So do orders on the history of a station with 300 meter values and with 10,000, more than one order looks
+at, where none of them may go and where all may, and each order takes at most 20 ms. Prints the growth of each kind, then
+`N passed, M failed`. The figures are processor time of replays, without the opening of the file, the best of some rounds.
 
     python3 checks/growth.py crates/central/out/central
 """
@@ -13,10 +14,14 @@ import subprocess
 import sys
 import tempfile
 
+from harness import Counts, remove_database
+
 OPERATORS = "ACME,BETA"
 FEW, MANY = 100, 10_000
 MOST = 2.0
 ROUNDS = 4
+# Of the orders on a history: the fewer meter values, how often an order is given, and the most seconds of one.
+FULL, ORDERS, LONGEST = 300, 20, 0.020
 AT = "2024-01-01T00:00:00Z"
 MS = 1704067200000
 MEMORY = "/dev/shm" if os.path.isdir("/dev/shm") else None
@@ -94,23 +99,41 @@ KINDS = {
 }
 
 
+def meter_values_of(at):
+    """So many meter values of one time, in milliseconds since 1970, without a transaction."""
+    return of_rows(f"INSERT INTO hub_meter_value VALUES ('ACME', 'CP01', ?, 1, NULL, {at}, 1, '[{{\"value\":\"1\"}}]')")
+
+
+# Meter values before the orders, of which all may go but the last, and after them, of which none may.
+HISTORIES = {"all may go": meter_values_of(MS - 1), "none may go": meter_values_of(MS + 10**12)}
+# An order, and how often it is given: an order that takes rows once.
+ORDERS_ON_HISTORY = {
+    "list forgettable": ("1704067200 ACME list forgettable CP01 1704067200\n", ORDERS),
+    "forget": ("1704067200 ACME forget CP01 1704067200\n", 1),
+    "forget with ends": ("1704067200 ACME forget CP01 1704067200 0 0\n", ORDERS),
+    "station drop": ("1704067200 ACME station drop CP01\n1704067200 ACME station add CP01 Accepted 300\n", ORDERS),
+}
+
+
 def spent(program, db, lines):
-    """The seconds of processor time of a replay."""
+    """The seconds of processor time of a replay. Nothing is refused in it but a station that is dropped with its history,
+    or added again."""
     before = resource.getrusage(resource.RUSAGE_CHILDREN)
     words = [program, "replay", "--operators", OPERATORS, "--db", db]
     ran = subprocess.run(words, input=lines.encode(), capture_output=True, timeout=300)
     after = resource.getrusage(resource.RUSAGE_CHILDREN)
-    if ran.returncode or any(wrong in ran.stdout for wrong in (b" refused ", b"bad line", b" send [4,")):
+    output = ran.stdout.replace(b" refused 9 NotAllowedNow", b"").replace(b" refused 2 StationExists", b"")
+    if ran.returncode or any(wrong in output for wrong in (b" refused ", b"bad line", b" send [4,")):
         sys.exit(f"replay: status {ran.returncode}, {ran.stderr.decode()}")
     return after.ru_utime + after.ru_stime - before.ru_utime - before.ru_stime
 
 
-def filled(program, folder, name, rows):
-    """A file with so many rows of a kind."""
-    db = os.path.join(folder, f"{name.replace(' ', '_')}_{rows}.db")
+def filled(program, folder, name, statements):
+    """A file with the rows of these statements."""
+    db = os.path.join(folder, f"{name.replace(' ', '_')}.db")
     spent(program, db, RECORDED)
     database = sqlite3.connect(db)
-    for text, values in KINDS[name][0](rows):
+    for text, values in statements:
         database.executemany(text, values)
     database.commit()
     database.execute("PRAGMA wal_checkpoint(TRUNCATE)")
@@ -122,8 +145,7 @@ def spent_on_copy(program, db, lines):
     copy = db + ".copy"
     shutil.copyfile(db, copy)
     found = spent(program, copy, lines)
-    for end in ("", "-wal", "-count"):
-        os.remove(copy + end)
+    remove_database(copy)
     return found
 
 
@@ -131,27 +153,43 @@ def costs(program, folder, name):
     """What the lines of a kind cost by the number of rows: few, and many. Each is measured in turn."""
     found = {}
     for rows in (FEW, MANY):
-        db = filled(program, folder, name, rows)
+        db = filled(program, folder, f"{name} {rows}", KINDS[name][0](rows))
         lines = KINDS[name][1](rows if "starts" in name else 0)
         opening = min(spent_on_copy(program, db, CONNECT) for _ in range(ROUNDS))
         found[rows] = min(spent_on_copy(program, db, CONNECT + lines) for _ in range(ROUNDS)) - opening
     return found[FEW], found[MANY]
 
 
+def costs_of_orders(program, folder, history):
+    """What each order costs by the number of meter values, few and many: lists of the name and of both."""
+    found = {name: [] for name in ORDERS_ON_HISTORY}
+    for rows in (FULL, MANY):
+        db = filled(program, folder, f"{history} {rows}", HISTORIES[history](rows))
+        opening = min(spent_on_copy(program, db, "1704067200 * tick\n") for _ in range(ROUNDS))
+        for name, (line, times) in ORDERS_ON_HISTORY.items():
+            least = min(spent_on_copy(program, db, line * times) for _ in range(ROUNDS))
+            found[name].append((least - opening) / times)
+    return [(f"{name}, {history}", few, many) for name, (few, many) in found.items()]
+
+
+def tell(name, few, many, most):
+    """Whether a cost grows by less than that, and no more than so much."""
+    # A clock of the processor that counts by the millisecond may show none.
+    growth = many / max(few, 0.001)
+    print(f"{name}: {few * 1000:.1f} ms and {many * 1000:.1f} ms, growth {growth:.2f}")
+    return growth < MOST and many <= most
+
+
 def main():
     program = os.path.abspath(sys.argv[1])
-    passed = failed = 0
+    counts = Counts()
     with tempfile.TemporaryDirectory(dir=MEMORY) as folder:
-        for name in KINDS:
-            few, many = costs(program, folder, name)
-            growth = many / few
-            print(f"{name}: {few * 1000:.1f} ms and {many * 1000:.1f} ms, growth {growth:.2f}")
-            if growth < MOST:
-                passed += 1
-            else:
-                failed += 1
-    print(f"{passed} passed, {failed} failed")
-    sys.exit(failed > 0)
+        told = [tell(name, *costs(program, folder, name), float("inf")) for name in KINDS]
+        for history in HISTORIES:
+            told += [tell(*order, LONGEST) for order in costs_of_orders(program, folder, history)]
+    counts.passed += told.count(True)
+    counts.failed += told.count(False)
+    counts.end()
 
 
 if __name__ == "__main__":

@@ -11,13 +11,13 @@ import os
 import random
 import re
 import subprocess
-import sys
 import tempfile
 import time
 from collections import Counter
 
 from frame_rules import SILENT, Operator, Station, written
 from good_events import BOOT, Script
+from harness import Counts
 from hostile_frames import COMMANDS, MOST, chosen, wrong_answers
 
 import repair_rules
@@ -69,10 +69,9 @@ REASONS = re.compile(rb"(line \d+: [^\x00-\x1f\x7f]{1,9000}\n){0,20}")
 FORM = re.compile("|".join(f"(?:{form})" for form in FORMS), re.DOTALL)
 
 
-class Checks:
+class Checks(Counts):
     def __init__(self, program, seed):
         self.program, self.seed = program, seed
-        self.passed = self.failed = 0
         self.kinds = {}
 
     def check(self, what, is_right, *details):
@@ -451,8 +450,7 @@ def main():
     check_own(checks, script, good, rng, count // 5)
     check_file(checks, script, rng, count // 20)
     told_by_kinds(checks)
-    print(f"{checks.passed} passed, {checks.failed} failed")
-    sys.exit(1 if checks.failed else 0)
+    checks.end()
 
 
 if __name__ == "__main__":

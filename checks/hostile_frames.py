@@ -4,7 +4,7 @@ bytes without a line feed."""
 import copy
 import json
 
-from frame_rules import ANSWERS, NOT_SUPPORTED, REQUESTS
+from frame_rules import ANSWERS, NOT_SUPPORTED
 
 TIME = "2024-01-01T00:00:00Z"
 MOST = 1 << 20

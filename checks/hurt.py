@@ -9,7 +9,6 @@ are gone. With --page-sums each changed bit of the database file is found. Nobod
 import contextlib
 import os
 import re
-import shutil
 import sqlite3
 import subprocess
 import sys
@@ -17,10 +16,12 @@ import tempfile
 from pathlib import Path
 
 from disk import Disk
+from harness import TIME, Checks, copy_database, faults_of, files_of, wait_for
 from peer import BOOT, CLOSE, HEARTBEAT, Peer, close_code, health
-from programs import TIME, Checks, wait_for
 
 PORT = 9286
+# The modes of the files of a database, by the ends of their names.
+MODES = {"": "0o600", "-wal": "0o600", "-count": "0o600"}
 TAGS = 40
 FRAME = 24
 LOG_HEAD = 32
@@ -42,19 +43,11 @@ class Server:
         self.process.communicate()
 
 
-def files_of(db):
-    return [db, f"{db}-wal", f"{db}-count"]
-
-
 def copied(db, folder, name):
-    """A copy of a database and of the files beside it."""
-    copy = os.path.join(folder, name)
-    for path, to in zip(files_of(db), files_of(copy)):
-        if os.path.exists(path):
-            shutil.copyfile(path, to)
-        elif os.path.exists(to):
-            os.remove(to)
-    return copy
+    """A copy of a database."""
+    path = os.path.join(folder, name)
+    copy_database(db, path)
+    return path
 
 
 def put(line):
@@ -126,8 +119,7 @@ def check_modes(checks):
     db = checks.new_file()
     server = Server(checks.program, db)
     checks.check("a change", put("tag put SIM1 - 0 -"), "ACME ok")
-    for path in files_of(db):
-        checks.check(f"the mode of {Path(path).name}", oct(os.stat(path).st_mode & 0o777), "0o600")
+    checks.check("the modes of its files", {path.name[len(Path(db).name) :]: oct(path.stat().st_mode & 0o777) for path in files_of(db)}, MODES)
     server.kill()
 
 
@@ -204,9 +196,10 @@ def check_sums(checks):
         ran = subprocess.run([checks.program, "replay", "--operators", "ACME", "--db", path, *words], input=lines, capture_output=True)
         checks.check("tags", (ran.returncode, ran.stdout), (0, b"ACME ok\n" * len(tags)))
     checks.check("room for sums", (Path(db).read_bytes()[20], Path(plain).read_bytes()[20]), (8, 0))
-    with contextlib.closing(sqlite3.connect(copied(db, checks.folder, "read.db"))) as database:
+    read = copied(db, checks.folder, "read.db")
+    with contextlib.closing(sqlite3.connect(read)) as database:
         checks.check("sqlite3 reads it", database.execute("SELECT count(*) FROM hub_tag").fetchone(), (len(tags),))
-        checks.check("and finds it whole", database.execute("PRAGMA integrity_check").fetchall(), [("ok",)])
+    checks.check("and finds it whole", faults_of(read), [("ok",)])
     checks.check("it is taken", tags_of(checks.program, db), tags)
     checks.check("a file without sums is taken", tags_of(checks.program, plain, ("--page-sums",)), tags)
     checks.check("and has none", Path(plain).read_bytes()[20], 0)
@@ -228,14 +221,11 @@ def main():
         check_modes(checks)
         check_losses(checks)
         check_sums(checks)
-        if shutil.which("gcc"):
+        if checks.can("what a failing disk leads to", "gcc"):
             disk = Disk(folder)
             check_syncs(checks, disk)
             check_writes(checks, disk)
-        else:
-            print("no gcc: what a failing disk leads to is not checked")
-    print(f"{checks.passed} passed, {checks.failed} failed")
-    sys.exit(checks.failed > 0)
+    checks.end()
 
 
 if __name__ == "__main__":

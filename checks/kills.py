@@ -8,6 +8,7 @@ found made, how many uses there are, how many of the copies were found with this
 """
 
 import contextlib
+import itertools
 import json
 import os
 import random
@@ -20,8 +21,8 @@ import tempfile
 import threading
 import time
 
+from harness import EARLIER, MORE, SCHEMA, SCRIPTS, Counts, begun, copy_database
 from peer import BOOT, Peer
-from programs import EARLIER, MORE, SCHEMA, SCRIPTS, listening
 
 PORT = 9289
 OPERATORS = {"ACME": "BETA", "BETA": "ACME"}
@@ -119,8 +120,8 @@ class Station(Load):
         self.stops[number] = (self.stops[number][0], int(time.time()))
 
     def old(self, until):
-        """The transactions and the readings that are forgotten up to a second. None where a stop may have come in it or
-        not."""
+        """The transactions and the readings that one order forgets up to a second. None where a stop may have come in it
+        or not."""
         rows, readings = self.rows[self.transactions], self.rows[self.readings]
         over = set()
         for number in (number_of(row) for row in rows if not row.endswith(" - - - -")):
@@ -130,10 +131,13 @@ class Station(Load):
             elif sent < until:
                 return None
         stays = {str(number) for number in map(number_of, rows) if number not in over}
-        old = [row for row in readings[:-1] if row.split(" ")[6] not in stays][:1000]
-        left = {row.split(" ")[6] for row in set(readings).difference(old)}
-        gone = [row for row in rows[:-1] if number_of(row) in over and str(number_of(row)) not in left]
-        return gone[: 1000 - len(old)], old
+        # the readings of a meter value have one text, and those of the next another
+        values = [list(value) for _, value in itertools.groupby(readings, lambda row: row.split(" ")[-1])]
+        old = [row for value in values[:-1][:250] for row in value if row.split(" ")[6] not in stays]
+        if old:
+            return [], old
+        named = {row.split(" ")[6] for row in readings}
+        return [row for row in rows[:-1][:250] if number_of(row) in over and str(number_of(row)) not in named], []
 
     def forget(self):
         """Its operator forgets what is so old as can be told. What is on record then."""
@@ -322,11 +326,7 @@ def server_words(program, db):
 
 class Server:
     def __init__(self, program, db):
-        self.process = subprocess.Popen(server_words(program, db))
-        while self.process.poll() is None and not list(listening(PORT)):
-            time.sleep(0.002)
-        if self.process.poll() is not None:
-            sys.exit(f"the server ended with {self.process.returncode}")
+        self.process = begun(subprocess.Popen(server_words(program, db)), PORT)
 
     def kill(self):
         self.process.kill()
@@ -351,15 +351,10 @@ def listing(peer, name):
 @contextlib.contextmanager
 def copied(db, folder):
     """SQLite over a copy of the database."""
-    copy = os.path.join(folder, "copy.db")
-    for end in ("", "-wal"):
-        if os.path.exists(db + end):
-            shutil.copy(db + end, copy + end)
-    with contextlib.closing(sqlite3.connect(copy)) as database:
+    path = os.path.join(folder, "copy.db")
+    copy_database(db, path)
+    with contextlib.closing(sqlite3.connect(path)) as database:
         yield database
-    for end in ("", "-wal", "-shm"):
-        with contextlib.suppress(FileNotFoundError):
-            os.remove(copy + end)
 
 
 def whole(db, folder):
@@ -385,7 +380,7 @@ def records_of(name):
     return [(op, name, listed) for (op, name), listed in zip(asked, rows)]
 
 
-class Checks:
+class Checks(Counts):
     def __init__(self, program, folder, seed):
         self.program, self.folder = program, folder
         self.db = os.path.join(folder, "hub.db")
@@ -393,7 +388,7 @@ class Checks:
         self.loads = [Operator(op, f"{seed}{op}") for op in OPERATORS]
         self.loads += [Station(op, name, f"{seed}{op}{name}") for op in OPERATORS for name in STATIONS[op]]
         self.uses = {}
-        self.passed = self.failed = self.in_flight = self.made = 0
+        self.in_flight = self.made = 0
 
     def check(self, what, passes, seen=""):
         if passes:
@@ -494,8 +489,7 @@ def main():
         earlier = [(number, number % len(EARLIER) + 1) for number in range(1, kills + 1)]
         migrated = sum(checks.kill_as_it_opens(number, old, records[old]) for number, old in earlier)
         print(f"{kills} kills at the start, {migrated} files found with schema {SCHEMA}")
-    print(f"{checks.passed} passed, {checks.failed} failed")
-    sys.exit(checks.failed > 0)
+    checks.end()
 
 
 if __name__ == "__main__":

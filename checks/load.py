@@ -32,6 +32,7 @@ import sys
 import tempfile
 import time
 
+from harness import Counts, copy_database, memory, remove_database, spent
 from loads import (
     HELD,
     HOSTILE,
@@ -46,7 +47,6 @@ from loads import (
     load_readings,
 )
 from peer import BOOT, HEARTBEAT, Peer
-from programs import memory, spent
 
 # The most that a figure may be: what the design promises, on a machine without other work, and what is wanted of a
 # small run on any machine, where a server that serves nobody for a second fails. Waits are in ms, and V's are without
@@ -142,13 +142,13 @@ def without_lags(noted):
 # The servers and the figures.
 
 
-class Run:
+class Run(Counts):
     def __init__(self, program, folder, is_small):
         self.program = program
         self.folder = folder
         self.is_small = is_small
         self.patience = 20
-        self.files = self.passed = self.failed = 0
+        self.files = 0
 
     def size(self, large, small):
         return small if self.is_small else large
@@ -161,7 +161,7 @@ class Run:
         most = resource.getrlimit(resource.RLIMIT_NOFILE)[0]
         if count + 100 <= most:
             return True
-        print(f"{name:<12}skipped: {count:,} connections, and {most:,} files may be open")
+        self.skip(name, f"{count:,} connections, and {most:,} files may be open")
         return False
 
     def tell(self, name, what, number, unit="", most=None, exactly=None):
@@ -198,9 +198,8 @@ class Run:
         if ran.returncode or any(wrong in ran.stdout for wrong in (b" refused ", b"bad line", b" send [4,")):
             sys.exit(f"replay: status {ran.returncode}, {ran.stderr.decode()}")
         path = os.path.join(self.folder, name)
-        for end in ("", "-wal", "-count"):
-            if os.path.exists(draft + end):
-                shutil.move(draft + end, path + end)
+        copy_database(draft, path)
+        remove_database(draft)
         return path
 
     def started(self, db, room):
@@ -234,9 +233,7 @@ class Run:
         finally:
             server.kill()
             server.wait()
-            for end in ("", "-wal", "-count"):
-                with contextlib.suppress(FileNotFoundError):
-                    os.remove(db + end)
+            remove_database(db)
 
     def watch(self, server):
         return Watch(server, self.patience)
@@ -520,8 +517,7 @@ def main():
                     break
                 print(f"{name:<12}is measured again", flush=True)
                 run.passed, run.failed = before
-    print(f"{run.passed} passed, {run.failed} failed")
-    sys.exit(1 if run.failed else 0)
+    run.end()
 
 
 if __name__ == "__main__":

@@ -1,143 +1,32 @@
 """Checks the built program: its statuses and texts, its databases, and over loopback a charging session of a
-simulated station that an operator watches, restarts and hostile peers. Prints `N passed, M failed`.
+simulated station that an operator watches, restarts and hostile peers. Prints `N passed, M failed`. Its checks are here
+and in databases.py, asking.py, simulated.py and heads.py.
 
     python3 checks/programs.py crates/central/out/central
 """
 
 import contextlib
-import csv
-import os
 import re
-import resource
-import shutil
-import signal
 import socket
-import sqlite3
-import subprocess
 import sys
 import tempfile
 import threading
 import time
-from pathlib import Path
 
+from asking import check_asking
+from databases import check_databases
+from harness import NOT_FOUND, PORT, SESSION, TIME, Checks, connected, listening, memory, spent
 from heads import check_heads
 from peer import BOOT, HEAD, HEARTBEAT, Peer, frame
 from simulated import check_simulated
 
-SCRIPTS = Path(__file__).resolve().parent.parent / "tests" / "check_cases" / "data" / "scripts"
-# The number of the schema, and a file of each earlier one, in SCRIPTS.
-SCHEMA = 5
-EARLIER = {
-    1: "databases/records_in_each_list",
-    2: "databases/records_of_schema_2",
-    3: "databases/records_of_schema_3",
-    4: "databases/records_of_schema_4",
-}
-NUMBER = "SELECT number FROM hub_meta WHERE name = 'schema'"
-# The tables that each schema has beside those of schema 1, by name.
-MORE = {
-    1: [],
-    2: ["hub_report"],
-    3: ["hub_report", "hub_tx_owner", "hub_use"],
-    4: ["hub_meter_value", "hub_report", "hub_tx_owner", "hub_use"],
-    5: ["hub_meter_value", "hub_reader", "hub_report", "hub_tx_owner", "hub_use"],
-}
-
-PORT = 9281
 # What the second lines of faults say, and the warnings of an address and of names.
 NO_NAME = "can't be a name: 1 to 32 letters, digits, - and _"
 IN_USE = "Address already in use (os error 98)"
-NOT_FOUND = f"fault Stream\n127.0.0.1:{PORT}: the handshake was answered 404: no such operator or station is known there\n"
 WARNED = "may be reached from other machines, and the server authenticates nobody (docs/OPERATIONS.md, A TLS proxy)"
 NO_STATION = "has no station on record, and another operator has: a name of --operators may be misspelled"
 NOT_HOSTED = "has stations on record and is not hosted: a name of --operators may be misspelled"
 MOST = 1 << 20
-TIME = re.compile(r"\d{4}-\d\d-\d\dT\d\d:\d\d:\d\dZ")
-
-# What the simulated station prints, with T for each time.
-SESSION = """\
-> [2,"s1","BootNotification",{"chargePointModel":"SimModel","chargePointVendor":"SimVendor"}]
-< [3,"s1",{"currentTime":"T","interval":300,"status":"Accepted"}]
-> [2,"s2","StatusNotification",{"connectorId":0,"errorCode":"NoError","status":"Available"}]
-< [3,"s2",{}]
-> [2,"s3","Authorize",{"idTag":"SIM1"}]
-< [3,"s3",{"idTagInfo":{"status":"Accepted"}}]
-> [2,"s4","StartTransaction",{"connectorId":1,"idTag":"SIM1","meterStart":0,"timestamp":"T"}]
-< [3,"s4",{"idTagInfo":{"status":"Accepted"},"transactionId":1}]
-> [2,"s5","MeterValues",{"connectorId":1,"meterValue":[{"sampledValue":[{"unit":"Wh","value":"500"}],"timestamp":"T"}],"transactionId":1}]
-< [3,"s5",{}]
-> [2,"s6","MeterValues",{"connectorId":1,"meterValue":[{"sampledValue":[{"unit":"Wh","value":"1000"}],"timestamp":"T"}],"transactionId":1}]
-< [3,"s6",{}]
-> [2,"s7","StopTransaction",{"idTag":"SIM1","meterStop":1000,"reason":"Local","timestamp":"T","transactionId":1}]
-< [3,"s7",{"idTagInfo":{"status":"Accepted"}}]
-"""
-
-
-class Checks:
-    port = PORT
-
-    def __init__(self, program, folder):
-        self.program = program
-        self.folder = folder
-        self.files = 0
-        self.passed = self.failed = 0
-
-    def new_file(self):
-        """The path of a database that isn't there yet."""
-        self.files += 1
-        return os.path.join(self.folder, f"{self.files}.db")
-
-    def check(self, what, got, wanted):
-        if got == wanted:
-            self.passed += 1
-        else:
-            self.failed += 1
-            print(f"{what}\n  wanted {wanted!r}\n  got    {got!r}")
-
-    def run(self, *words, lines=b""):
-        """The status of a run on those lines, its output and its errors."""
-        ran = subprocess.run([self.program, *words], input=lines, capture_output=True, timeout=60)
-        return ran.returncode, ran.stdout.decode(), ran.stderr.decode()
-
-    @contextlib.contextmanager
-    def serve(self, *words, db=None, files=4096, errors=None):
-        """A server that listens, over that file or a new one, which is ended afterwards. It may have so many files open."""
-        server = subprocess.Popen(
-            [self.program, "serve", "--port", str(PORT), "--db", db or self.new_file(), *words],
-            stderr=errors or subprocess.DEVNULL,
-            preexec_fn=lambda: prepare(files),
-        )
-        try:
-            wait_for(PORT)
-            yield server
-        finally:
-            server.kill()
-            server.wait()
-
-    def fault(self, what, words, fault, detail):
-        """A run ends with that fault, and with that detail on the line after it."""
-        self.check(what, self.run(*words.split(" ")), (2, "", f"fault {fault}\n{detail}\n"))
-
-    def ends(self, what, words, status, text):
-        code, _, errors = self.run(*words.split(" "))
-        self.check(f"{what}: status", code, status)
-        self.check(f"{what}: {text}", text in errors, True)
-
-
-def prepare(files):
-    """Lets a process that begins have so many files open, and end by SIGINT, which a shell's background jobs ignore."""
-    resource.setrlimit(resource.RLIMIT_NOFILE, (files, files))
-    signal.signal(signal.SIGINT, signal.SIG_DFL)
-
-
-def wait_for(port):
-    for _ in range(200):
-        try:
-            socket.create_connection(("127.0.0.1", port)).close()
-            return
-        except ConnectionRefusedError:
-            time.sleep(0.02)
-    sys.exit("the server doesn't listen")
 
 
 def check_statuses(checks):
@@ -228,188 +117,6 @@ def check_names(checks):
     checks.check("one of the names", checks.run(*serve.split(" "), "ACNE"), (0, "", told))
 
 
-def made(checks, *statements):
-    """A database that SQLite makes by these statements."""
-    path = checks.new_file()
-    database = sqlite3.connect(path)
-    for statement in statements:
-        database.execute(statement)
-    database.commit()
-    database.close()
-    return path
-
-
-def check_databases(checks):
-    """A file that can't be used is named before the operators are looked at, and stays as it is."""
-    meta = "CREATE TABLE hub_meta (name TEXT, number INTEGER)"
-    later = made(checks, meta, f"INSERT INTO hub_meta VALUES ('schema', {SCHEMA + 1})")
-    other = made(checks, "CREATE TABLE hub_tag (op TEXT)")
-    text = checks.new_file()
-    Path(text).write_text("no database\n" * 100)
-    closed = "the file can't be opened"
-    faults = {
-        later: ("a later version of the program made the database", ""),
-        other: ("the database is not one of this program", ""),
-        text: ("the file is no database, or its rows don't obey its schema", ""),
-        checks.folder: (closed, ": it is a folder"),
-        os.path.join(checks.folder, "none", "new.db"): (closed, ": its folder doesn't exist"),
-        os.path.join(text, "new.db"): (closed, ": what should be its folder is a file"),
-    }
-    for path, (fault, why) in faults.items():
-        before = os.path.isfile(path) and Path(path).read_bytes()
-        for command in (["replay"], ["serve", "--port", str(PORT), "--turns", "0"]):
-            got = checks.run(*command, "--operators", "A,A", "--db", path)
-            checks.check(f"{command[0]} over {path}", got, (2, "", f"fault Store: {fault}\n{path}{why}\n"))
-        after = os.path.isfile(path) and Path(path).read_bytes()
-        checks.check(f"{path} stays", before == after, True)
-
-
-def check_earlier_schemas(checks):
-    """A file of each earlier schema is replayed: its records are as they were, and it has this schema then."""
-    for number, name in EARLIER.items():
-        script, db = SCRIPTS / name, checks.new_file()
-        shutil.copy(script.with_suffix(".db"), db)
-        for part in ("opened", "again"):
-            wanted = script.with_suffix(f".{part}_expected").read_text()
-            got = checks.run("replay", "--operators", "ACME,BETA", "--db", db, lines=script.with_suffix(f".{part}").read_bytes())
-            checks.check(f"a file of schema {number}, {part}", got, (0, wanted, ""))
-        with contextlib.closing(sqlite3.connect(db)) as database:
-            checks.check("the number", database.execute(NUMBER).fetchall(), [(SCHEMA,)])
-            checks.check("integrity_check", database.execute("PRAGMA integrity_check").fetchall(), [("ok",)])
-
-
-def check_first_schema(checks):
-    """A file of schema 1 is served: its records are as they were, and it has this schema then."""
-    served = checks.new_file()
-    shutil.copy(SCRIPTS / "databases" / "records_in_each_list.db", served)
-    with checks.serve("--operators", "ACME,BETA", db=served):
-        acme, station = Peer(PORT, "/operator/ACME"), Peer(PORT, "/ocpp/ACME/CP01")
-        checks.check("no reports", acme.ask("list reports CP01"), "ACME ok")
-        report = '[2,"1","FirmwareStatusNotification",{"status":"Installed"}]'
-        checks.check("a report is taken", station.ask(report), '[3,"1",{}]')
-        row = re.sub(r"\d+$", "T", acme.ask("list reports CP01"))
-        checks.check("it is listed", [row, acme.next()], ["ACME row report CP01 Firmware Installed T", "ACME ok"])
-        row = acme.ask("list locallist CP01")
-        checks.check("the version of the local list", row, "ACME row locallist CP01 7")
-    with contextlib.closing(sqlite3.connect(served)) as database:
-        checks.check("the number", database.execute(NUMBER).fetchall(), [(SCHEMA,)])
-        rows = database.execute("SELECT op, station, kind, status FROM hub_report").fetchall()
-        checks.check("the report in SQL", rows, [("ACME", "CP01", "Firmware", "Installed")])
-        checks.check("integrity_check", database.execute("PRAGMA integrity_check").fetchall(), [("ok",)])
-
-
-def check_two_runs(checks):
-    """A replay goes on where the one before it ended."""
-    db = checks.new_file()
-    replay = ["replay", "--operators", "ACME", "--db", db]
-    checks.check("a first run", checks.run(*replay, lines=b"1 ACME tag put K1 - 0 -\n"), (0, "ACME ok\n", ""))
-    row = 'ACME row tag "K1" - 0 -\nACME ok\n'
-    checks.check("a second run", checks.run(*replay, lines=b"2 ACME list tags\n"), (0, row, ""))
-    others = ["replay", "--operators", "BETA", "--db", db]
-    checks.check("another operator's run", checks.run(*others, lines=b"2 BETA list tags\n"), (0, "BETA ok\n", ""))
-
-
-def check_uses(checks):
-    """An owner that isn't hosted gets the uses of its tags all the same, and is shown them once it is hosted again."""
-    db = checks.new_file()
-    begin = 1704067200
-
-    def replay(operators, *lines):
-        words = ["replay", "--operators", operators, "--db", db]
-        return checks.run(*words, lines="".join(f"{begin} {line}\n" for line in lines).encode())
-
-    def start(number):
-        times = f'"meterStart":{number},"timestamp":"2024-01-01T00:00:00Z"'
-        return f'ACME frame CP01 [2,"s{number}","StartTransaction",{{"connectorId":1,"idTag":"K2",{times}}}]'
-
-    def stop(number):
-        times = '"meterStop":1000,"timestamp":"2024-01-01T01:00:00Z"'
-        return f'ACME frame CP01 [2,"e{number}","StopTransaction",{{{times},"transactionId":{number}}}]'
-
-    station = ("ACME station add CP01 Accepted 300", "ACME connect CP01", f"ACME frame CP01 {BOOT}")
-    code, _, errors = replay("ACME,BETA", "BETA tag put K2 - 0 -", "BETA grant K2 ACME -", *station, start(1))
-    checks.check("a start with a granted tag", (code, errors), (0, ""))
-    told = [f'ACME CP01 send [3,"{name}",{{{text}}}]\n' for name, text in (
-        ("e1", ""), ("s2", '"idTagInfo":{"status":"Accepted"},"transactionId":2'), ("e2", ""))]
-    alone = replay("ACME", "ACME connect CP01", stop(1), start(2), stop(2))
-    checks.check("stops while the owner isn't hosted", alone, (0, "".join(told), ""))
-    rows = "".join(f'BETA row use {number} ACME "k2" {begin} {1000 - number}\n' for number in (1, 2))
-    for operators in ("ACME,BETA", "BETA"):
-        checks.check("its uses once it is hosted again", replay(operators, "BETA list uses"), (0, rows + "BETA ok\n", ""))
-    with contextlib.closing(sqlite3.connect(db)) as database:
-        kept = database.execute("SELECT op, number, host, tag_key, moment, wh FROM hub_use ORDER BY number").fetchall()
-        checks.check("the uses in SQL", kept, [("BETA", number, "ACME", "k2", begin, 1000 - number) for number in (1, 2)])
-
-
-def check_restart(checks):
-    """Records outlive a server that is ended, and one that is killed. Two servers have no file in common."""
-    db = checks.new_file()
-    for sign in (signal.SIGTERM, signal.SIGKILL, signal.SIGINT):
-        with checks.serve("--operators", "ACME", db=db) as server:
-            acme, station = connected("CP01")
-            checks.check("a tag is put", acme.ask(f"tag put {sign.name} - 0 -"), "ACME ok")
-            second = checks.run("serve", "--port", "9282", "--db", db, "--operators", "ACME", "--turns", "0")
-            fault = f"fault Store: another process has the database open\n{db}\n"
-            checks.check("a second server", second, (2, "", fault))
-            server.send_signal(sign)
-            server.wait(10)
-            checks.check(f"{sign.name} ends it", server.returncode, -sign)
-    with checks.serve("--operators", "ACME", db=db):
-        acme = Peer(PORT, "/operator/ACME")
-        rows = [acme.ask("list tags")] + [acme.next() for _ in range(3)]
-        wanted = [f'ACME row tag "{name}" - 0 -' for name in ("SIGINT", "SIGKILL", "SIGTERM")]
-        checks.check("all tags are there", rows, [*wanted, "ACME ok"])
-    check_with_sqlite(checks, db)
-
-
-def check_with_sqlite(checks, db):
-    """SQLite itself reads a file that the program wrote, and finds it whole."""
-    database = sqlite3.connect(db)
-    checks.check("integrity_check", database.execute("PRAGMA integrity_check").fetchall(), [("ok",)])
-    checks.check("foreign_key_check", database.execute("PRAGMA foreign_key_check").fetchall(), [])
-    tags = database.execute("SELECT id_tag FROM hub_tag WHERE op = 'ACME' ORDER BY tag_key").fetchall()
-    checks.check("the tags in SQL", tags, [("SIGINT",), ("SIGKILL",), ("SIGTERM",)])
-    database.close()
-
-
-def page_size(db):
-    database = sqlite3.connect(db)
-    size = database.execute("PRAGMA page_size").fetchone()[0]
-    database.close()
-    return size
-
-
-def vacuum(db, *settings):
-    """SQLite writes the file anew, with these settings."""
-    with contextlib.closing(sqlite3.connect(db, isolation_level=None)) as database:
-        for statement in (*settings, "VACUUM", "PRAGMA journal_mode = WAL"):
-            database.execute(statement).fetchall()
-
-
-def schema_in(db):
-    """The names and texts of the tables and indexes, in their order."""
-    with contextlib.closing(sqlite3.connect(db)) as database:
-        return database.execute("SELECT name, sql FROM sqlite_schema ORDER BY rowid").fetchall()
-
-
-def check_vacuum(checks):
-    """After VACUUM a file of an earlier schema is migrated, and one of this schema is taken as it is, each with its rows."""
-    words = ["replay", "--operators", "ACME,BETA", "--db"]
-    new = checks.new_file()
-    checks.check("a new file", checks.run(*words, new), (0, "", ""))
-    for name in EARLIER.values():
-        script, db = SCRIPTS / name, checks.new_file()
-        shutil.copy(script.with_suffix(".db"), db)
-        for part in ("opened", "again"):
-            vacuum(db)
-            wanted = script.with_suffix(f".{part}_expected").read_text()
-            got = checks.run(*words, db, lines=script.with_suffix(f".{part}").read_bytes())
-            checks.check(f"{name} after VACUUM, {part}", got, (0, wanted, ""))
-            checks.check(f"its tables and indexes, {part}", schema_in(db), schema_in(new))
-        vacuum(db)
-        checks.check("the order after VACUUM", schema_in(db), schema_in(new))
-
-
 def check_strict(checks):
     """The status tells of bad lines where that is asked for. An operator and a station may be named as such a line begins."""
     replay, lines = ["replay", "--operators", "bad", "--strict"], b"1 bad list tags\n"
@@ -449,234 +156,6 @@ def check_reasons(checks, replay):
     comments = b"\n".join([b"1 bad frame CP01 " + b"x" * 1000] * 5000)
     late = checks.run(*replay, lines=comments + b"\n1 bad lst tags\n")[2]
     checks.check("after much", late.splitlines(), ["line 5001: 'lst' begins no line; `central ask help` lists the lines"])
-
-
-def check_forms(checks):
-    """A file of either form of schema 3, or of schema 4, is taken, and has the tables, the indexes and the number of a new
-    one then."""
-    words, new = ["replay", "--operators", "ACME", "--db"], checks.new_file()
-    checks.check("a new file", checks.run(*words, new), (0, "", ""))
-    for name in ("third", "third_with_an_earlier_index", "fourth"):
-        db = checks.new_file()
-        shutil.copy(SCRIPTS / "databases" / f"{name}.db", db)
-        checks.check(name, checks.run(*words, db, lines=b"1 ACME list open\n"), (0, "ACME ok\n", ""))
-        checks.check("its tables and indexes", schema_in(db), schema_in(new))
-        with contextlib.closing(sqlite3.connect(db)) as database:
-            checks.check("its number", database.execute(NUMBER).fetchall(), [(SCHEMA,)])
-
-
-def check_pages(checks):
-    """A new file has small pages, and one that is there keeps its own until sqlite3 changes them, as OPERATIONS says."""
-    words = ["replay", "--operators", "ACME", "--db"]
-    put, row = b"1 ACME tag put K1 - 0 -\n", (0, 'ACME row tag "K1" - 0 -\nACME ok\n', "")
-    small, empty, drafted = checks.new_file(), checks.new_file(), checks.new_file()
-    Path(empty).touch()
-    Path(f"{drafted}.new").write_text("left by a crash")
-    for db, size in ((small, 1024), (empty, 4096), (drafted, 4096)):
-        checks.check("a tag is put", checks.run(*words, db, lines=put), (0, "ACME ok\n", ""))
-        checks.check(f"pages of {size}", page_size(db), size)
-    checks.check("no draft is left", os.path.exists(f"{small}.new"), False)
-    checks.check("another's draft stays", Path(f"{drafted}.new").read_text(), "left by a crash")
-    vacuum(empty, "PRAGMA journal_mode = DELETE", "PRAGMA page_size = 1024")
-    checks.check("smaller pages", page_size(empty), 1024)
-    for db in (small, empty, drafted):
-        checks.check("the tag is there", checks.run(*words, db, lines=b"2 ACME list tags\n"), row)
-
-
-# Why a line has no form.
-BAD_LINES = {
-    "list": "a word is missing after 'list'; `central ask help` lists the lines",
-    "#1 list tags": "'#1' begins no line; `central ask help` lists the lines",
-    "list tag": "'tag' doesn't follow 'list'; `central ask help` lists the lines",
-    "list tags now": "the line goes on after its end; expected: list tags",
-    "station add CP01": "POLICY is missing; expected: station add ST POLICY INTERVAL",
-    "station add CP01 Acepted 300": "'Acepted' is no POLICY, which is Accepted, Pending or Rejected; expected: station add ST POLICY INTERVAL",
-    "tag put K1 - 2 -": "'2' is no 0|1, which is 0, or 1 for a tag that is blocked; expected: tag put TAG PARENT 0|1 EXPIRY",
-    "list transactions CP01 x": "'x' is no N, which is the number of a transaction; expected: list transactions ST N",
-    "list transactions CP01 0": "a value is out of its bounds (docs/TABLES.md, Lines); expected: list transactions ST N",
-    "call CP01 Restart {}": "'Restart' is no ACTION, which is a command of the central system, as ClearCache or Reset; expected: call ST ACTION JSON",
-    "call CP01 Reset {}": "the JSON is none, or lacks a member of that command or has one of another type (docs/TABLES.md, Commands); expected: call ST ACTION JSON",
-}
-
-# How a station answers a call, and whether it then did what it was called for.
-OUTCOMES = [
-    ('[3,"%s",{"status":"Rejected"}]', False),
-    ('[3,"%s",{"status":"Perhaps"}]', False),
-    ('[4,"%s","GenericError","",{}]', False),
-    ('[3,"%s",{"status":"Accepted"}]', True),
-]
-
-
-def check_ask(checks):
-    """The operator's tool: a line, lines of standard input, a command that is followed to its end."""
-    ask = ["ask", "--port", str(PORT), "--operator", "ACME"]
-    nobody = f"fault Stream\n127.0.0.1:{PORT}: Connection refused (os error 111)\n"
-    checks.check("nobody listens", checks.run(*ask, "list tags"), (2, "", nobody))
-    with checks.serve("--operators", "ACME"):
-        checks.check("a line", checks.run(*ask, "tag put K1 - 0 -"), (0, "ACME ok\n", ""))
-        checks.check("a listing", checks.run(*ask, "list tags"), (0, 'ACME row tag "K1" - 0 -\nACME ok\n', ""))
-        refused = "ACME refused 7 NotConnected\n"
-        for line, why in BAD_LINES.items():
-            checks.check(line, checks.run(*ask, line), (3, "bad line\n", why + "\n"))
-        lines = "".join(f"tag put K{n} - 0 -\n" for n in range(1000)).encode()
-        checks.check("lines", checks.run(*ask, lines=lines), (0, "ACME ok\n" * 1000, ""))
-        mixed = checks.run(*ask, lines=b"station add CP01 Accepted 300\n\ncall CP01 ClearCache {}\nlist grants\n")
-        checks.check("lines of which one is refused", mixed, (3, "ACME ok\n" + refused + "ACME ok\n", ""))
-        station = Peer(PORT, "/ocpp/ACME/CP01")
-        station.ask(BOOT)
-        waiting = subprocess.Popen(
-            [checks.program, *ask, "--wait", "call CP01 ClearCache {}"], stdout=subprocess.PIPE, text=True
-        )
-        checks.check("its call", station.next(), '[2,"1","ClearCache",{}]')
-        station.send('[3,"1",{"status":"Accepted"}]')
-        told = waiting.communicate(timeout=10)[0].splitlines()
-        checks.check("a command to its end", told, ["ACME ok 1", 'ACME CP01 done 1 Answer {"status":"Accepted"}'])
-        checks.check("its status", waiting.returncode, 0)
-        for sent, taken in OUTCOMES:
-            waiting = subprocess.Popen([checks.program, *ask, "--wait", "call CP01 ClearCache {}"], stdout=subprocess.PIPE)
-            number = re.match(r'\[2,"(\d+)"', station.next())[1]
-            station.send(sent % number)
-            waiting.communicate(timeout=10)
-            checks.check(f"the status after {sent}", waiting.returncode, 0 if taken else 3)
-        checks.check("another path", checks.run(*ask[:-1], "BETA", "list tags"), (2, "", NOT_FOUND))
-
-
-def check_forget(checks):
-    """The history of an operator's stations goes in orders of 1,000 rows, and what was recorded of late stays."""
-    forget = ["forget", "--port", str(PORT), "--operator", "ACME", "--before"]
-    db, begin, at = checks.new_file(), 1704067200, '"timestamp":"2024-01-01T00:00:00Z"'
-    values = ",".join(['{"value":"1"}'] * 300)
-    texts = [
-        BOOT,
-        f'[2,"s","StartTransaction",{{"connectorId":1,"idTag":"=K1","meterStart":0,{at}}}]',
-        *[f'[2,"m{n}","MeterValues",{{"connectorId":1,"transactionId":1,"meterValue":[{{{at},"sampledValue":[{values}]}}]}}]' for n in range(7)],
-        f'[2,"e","StopTransaction",{{"meterStop":1,"transactionId":1,{at}}}]',
-        f'[2,"t","StartTransaction",{{"connectorId":1,"idTag":"K1","meterStart":1,{at}}}]',
-        f'[2,"v","MeterValues",{{"connectorId":1,"transactionId":2,"meterValue":[{{{at},"sampledValue":[{{"value":"1"}}]}}]}}]',
-    ]
-    lines = ["tag put =K1 - 0 -", "station add CP01 Accepted 300", "station add CP02 Accepted 300", "connect CP01", *(f"frame CP01 {text}" for text in texts)]
-    filled = checks.run("replay", "--operators", "ACME,BETA", "--db", db, lines="".join(f"{begin} ACME {line}\n" for line in lines).encode())
-    checks.check("a history of 2024", (filled[0], filled[2]), (0, ""))
-    with checks.serve("--operators", "ACME,BETA", db=db):
-        checks.check("before it", checks.run(*forget, "99999d"), (0, "all 0 0\n", ""))
-        acme, export = Peer(PORT, "/operator/ACME"), os.path.join(checks.folder, "gone")
-        old = acme.lines("old", f"list forgettable CP01 {begin + 1}")
-        checks.check("what the next order takes", (len(old), old[0].split(" ")[2:5], old[-1]), (1001, ["reading", "CP01", "1"], "ACME ok"))
-        gone = "CP01 0 1000\nCP01 0 1000\nCP01 1 100\nall 1 2100\n"
-        checks.check("what is older than 90 days", checks.run(*forget, "90d", "--export", export), (0, gone, ""))
-        written = [f"{export}-{name}.csv" for name in ("transactions", "readings")]
-        transactions, readings = (list(csv.reader(Path(path).read_bytes().decode().splitlines())) for path in written)
-        checks.check("the transactions that went", (len(transactions), transactions[0][:3]), (2, ["station", "number", "connector"]))
-        row = ["CP01", "1", "1", "=K1", "Accepted", "0", str(begin * 1000), "", "1", str(begin * 1000), "Local", ""]
-        checks.check("one of them", transactions[1], ["'=K1" if word == "=K1" else word for word in row])
-        checks.check("the readings that went", [int(row[1]) for row in readings[1:]], list(range(1, 2101)))
-        checks.check("no file for it", checks.run(*forget, "90d", "--export", "/none/gone")[:2], (2, ""))
-        checks.check("nothing is left", checks.run(*forget, "90d"), (0, "all 0 0\n", ""))
-        rows = acme.lines("a", "list transactions CP01")[:-1] + acme.lines("b", "list readings CP01")[:-1]
-        checks.check("the last stay", [row.split(" ")[2:5] for row in rows], [["transaction", "CP01", "2"], ["reading", "CP01", "2101"]])
-        checks.check("no stations", checks.run(*forget[:4], "BETA", "--before", "0d"), (0, "all 0 0\n", ""))
-        checks.check("no such operator", checks.run(*forget[:4], "GAMMA", "--before", "90d"), (2, "", NOT_FOUND))
-    for days in ("90", "d", "-1d", "1.5d", "90days", "100000d"):
-        checks.ends(f"--before {days}", f"{' '.join(forget)}={days}", 1, f"invalid value '{days}' for '--before <DAYS>'")
-    checks.ends("no --before", " ".join(forget[:-1]), 1, "--before")
-
-
-class Between(threading.Thread):
-    """A proxy before the server, for one client. Before it passes a text on that begins so, it does something once."""
-
-    def __init__(self, word, act):
-        super().__init__(daemon=True)
-        self.word, self.act = word.encode(), act
-        self.listener = socket.create_server(("127.0.0.1", 0))
-        self.port = self.listener.getsockname()[1]
-        self.start()
-
-    def run(self):
-        client = self.listener.accept()[0]
-        server = socket.create_connection(("127.0.0.1", PORT))
-        back = threading.Thread(target=self.passes_on, args=(server, client, lambda data: None), daemon=True)
-        back.start()
-        self.passes_on(client, server, self.looks)
-        back.join()
-
-    def passes_on(self, source, target, look):
-        with contextlib.suppress(OSError):
-            while data := source.recv(65536):
-                look(data)
-                target.sendall(data)
-            target.shutdown(socket.SHUT_WR)
-
-    def looks(self, data):
-        """Each text of this client is one frame of its own, under 126 bytes long (RFC 6455, section 5.2)."""
-        if data[0] == 0x81 and self.act:
-            text = bytes(byte ^ data[2 + place % 4] for place, byte in enumerate(data[6:]))
-            if self.word in text:
-                act, self.act = self.act, None
-                act()
-
-
-def check_unwritten(checks):
-    """A reading that comes after its listing and goes with the order is told, where it takes a transaction's place too."""
-    db, begin, at = checks.new_file(), 1704067200, '"timestamp":"2024-01-01T00:00:00Z"'
-    start = f'[2,"s","StartTransaction",{{"connectorId":1,"idTag":"K1","meterStart":0,{at}}}]'
-
-    def values(count, words=""):
-        sampled = ",".join(['{"value":"1"}'] * count)
-        return f'[2,"m","MeterValues",{{"connectorId":1,{words}"meterValue":[{{{at},"sampledValue":[{sampled}]}}]}}]'
-
-    stop = f'[2,"e","StopTransaction",{{"meterStop":1,"transactionId":1,{at}}}]'
-    texts = [BOOT, start, values(999, '"transactionId":1,'), stop, start, values(1, '"transactionId":2,')]
-    lines = ["tag put K1 - 0 -", "station add CP01 Accepted 300", "connect CP01", *(f"frame CP01 {text}" for text in texts)]
-    filled = checks.run("replay", "--operators", "ACME", "--db", db, lines="".join(f"{begin} ACME {line}\n" for line in lines).encode())
-    checks.check("999 readings and a transaction", (filled[0], filled[2]), (0, ""))
-    with checks.serve("--operators", "ACME", db=db):
-        station = Peer(PORT, "/ocpp/ACME/CP01")
-        between = Between("forget CP01", lambda: [station.ask(values(1)) for _ in range(2)])
-        words = ["forget", "--port", str(between.port), "--operator", "ACME", "--before", "90d", "--export", os.path.join(checks.folder, "late")]
-        told = "fault Export\n--export: 1 rows went that were not written\n"
-        checks.check("a reading comes between", checks.run(*words), (2, "", told))
-
-
-def check_ask_beside(checks):
-    """What the operator's other consoles ask for, and how their calls end, is no answer to a line of `ask`."""
-    ask = [checks.program, "ask", "--port", str(PORT), "--operator", "ACME"]
-    pipes = {"stdin": subprocess.PIPE, "stdout": subprocess.PIPE, "stderr": subprocess.DEVNULL, "text": True}
-    with checks.serve("--operators", "ACME"):
-        console, station = connected("CP01")
-        refused = "ACME refused 3 NoSuchTag\n"
-        runs = {"tag drop X\n": (3, refused), "list grants\n": (0, "ACME ok\n"), "list\n": (3, "bad line\n")}
-        asking = [subprocess.Popen(ask, **pipes) for _ in runs]
-        for each, line in zip(asking, runs):
-            each.stdin.write(line * 1000)
-        for each, (line, (status, text)) in zip(asking, runs.items()):
-            told = each.communicate(timeout=60)[0]
-            checks.check(f"{line.strip()}, beside others", (each.returncode, told), (status, text * 1000))
-        heard = [console.next() for _ in range(2000)]
-        checks.check("a console hears all", sorted(set(heard)), ["ACME ok", "ACME refused 3 NoSuchTag"])
-        waiting = subprocess.Popen([*ask, "--wait", "call CP01 ClearCache {}"], **pipes)
-        checks.check("its call", station.next(), '[2,"1","ClearCache",{}]')
-        checks.check("it is taken", console.next(), "ACME ok 1")
-        console.ask("call CP01 UnlockConnector {\"connectorId\":1}")
-        console.ask("list stations")
-        station.send('[3,"1",{"status":"Rejected"}]')
-        told = waiting.communicate(timeout=10)[0].splitlines()
-        checks.check("its end alone", told, ["ACME ok 1", 'ACME CP01 done 1 Answer {"status":"Rejected"}'])
-        checks.check("its status", waiting.returncode, 3)
-
-
-def check_words(checks):
-    """The sender of an order with a word is told where the answer begins and where it ends, and no other console."""
-    with checks.serve("--operators", "ACME"):
-        acme, other = Peer(PORT, "/operator/ACME"), Peer(PORT, "/operator/ACME")
-        for order, answer in (("tag put K1 - 0 -", ["ACME ok"]), ("list tags", ['ACME row tag "K1" - 0 -', "ACME ok"])):
-            acme.send(f"#a-1_Z {order}")
-            wanted = ["#a-1_Z begin", *answer, "#a-1_Z end"]
-            checks.check(f"{order} with a word", [acme.next() for _ in wanted], wanted)
-            checks.check(f"{order}, at another console", [other.next() for _ in answer], answer)
-        acme.send("#2 list everything")
-        checks.check("a bad line with a word", [acme.next() for _ in range(3)], ["#2 begin", "bad line", "#2 end"])
-        checks.check("a bad word", acme.ask(f"#{'x' * 33} list tags"), "bad line")
-        checks.check("none of it at another console", other.ask("list grants"), "ACME ok")
 
 
 def log_of(checks, level, talk):
@@ -866,16 +345,6 @@ def check_arrivals(checks):
         checks.check("the end of a stream", answer, "ACME refused 7 NotConnected")
 
 
-def connected(*stations):
-    """An operator, and stations that have booted."""
-    operator, peers = Peer(PORT, "/operator/ACME"), []
-    for station in stations:
-        operator.ask(f"station add {station} Accepted 300")
-        peers.append(Peer(PORT, f"/ocpp/ACME/{station}"))
-        peers[-1].ask(BOOT)
-    return operator, *peers
-
-
 def slowest_heartbeat(station, seconds):
     """The most seconds that a heartbeat takes, of those sent one after the other for so long."""
     slowest, end = 0.0, time.monotonic() + seconds
@@ -891,11 +360,6 @@ def flood(stream, first, rest):
         stream.sendall(first)
         while True:
             stream.sendall(rest)
-
-
-def memory(server):
-    with open(f"/proc/{server.pid}/status") as status:
-        return next(int(line.split()[1]) for line in status if line.startswith("VmRSS:"))
 
 
 def check_floods(checks):
@@ -959,29 +423,11 @@ def check_idle(checks):
         checks.check("all are there", len(peers), 21)
 
 
-def spent(server):
-    """The seconds of processor time of a server."""
-    with open(f"/proc/{server.pid}/stat") as stat:
-        words = stat.read().rsplit(")", 1)[1].split()
-    return (int(words[11]) + int(words[12])) / os.sysconf("SC_CLK_TCK")
-
-
-def listening(port):
-    """The addresses on which somebody listens at a port."""
-    for table in ("/proc/net/tcp", "/proc/net/tcp6"):
-        with contextlib.suppress(FileNotFoundError), open(table) as rows:
-            for row in list(rows)[1:]:
-                address, at = row.split()[1].split(":")
-                if int(at, 16) == port and row.split()[3] == "0A":
-                    yield address
-
-
 def main():
     with tempfile.TemporaryDirectory() as folder:
         checks = Checks(sys.argv[1], folder)
         check_all(checks)
-    print(f"{checks.passed} passed, {checks.failed} failed")
-    sys.exit(1 if checks.failed else 0)
+    checks.end()
 
 
 def check_all(checks):
@@ -989,21 +435,9 @@ def check_all(checks):
     check_help(checks)
     check_bind(checks)
     check_names(checks)
-    check_databases(checks)
-    check_earlier_schemas(checks)
-    check_first_schema(checks)
-    check_two_runs(checks)
-    check_uses(checks)
-    check_restart(checks)
     check_strict(checks)
-    check_forms(checks)
-    check_pages(checks)
-    check_vacuum(checks)
-    check_ask(checks)
-    check_forget(checks)
-    check_unwritten(checks)
-    check_ask_beside(checks)
-    check_words(checks)
+    check_databases(checks)
+    check_asking(checks)
     check_log(checks)
     check_turns(checks)
     check_session(checks)

@@ -4,12 +4,10 @@
    last that are refused, and how many were refused. It is mapped, so the count of a program that is killed is there
    too, and can be read while the program runs. Without that file it counts and refuses nothing. */
 
+#include "mapped.h"
+
 #include <errno.h>
-#include <fcntl.h>
-#include <stdlib.h>
 #include <stdint.h>
-#include <sys/mman.h>
-#include <unistd.h>
 
 extern void *__libc_malloc(size_t size);
 extern void *__libc_calloc(size_t count, size_t size);
@@ -24,14 +22,7 @@ static struct numbers *numbers;
 
 __attribute__((constructor)) static void map_numbers(void)
 {
-    const char *path = getenv("REFUSING_MALLOC");
-    int file = path ? open(path, O_RDWR | O_CLOEXEC) : -1;
-    if (file < 0)
-        return;
-    void *place = mmap(NULL, sizeof *numbers, PROT_READ | PROT_WRITE, MAP_SHARED, file, 0);
-    close(file);
-    if (place != MAP_FAILED)
-        numbers = place;
+    numbers = mapped("REFUSING_MALLOC", sizeof *numbers);
 }
 
 /* Counts an allocation. Whether it is refused. */

@@ -1,5 +1,5 @@
-"""Checks how the built program tells what it does and how it ends: the metrics, by promtool where that is there, a log that
-nobody reads or that would grow too fast, and the file that ends it. Prints `N passed, M failed`.
+"""Checks how the built program tells what it does and how it ends: the metrics, a log that nobody reads
+or that would grow too fast, and the file that ends it. Prints `N passed, M failed`.
 
     python3 checks/serving.py crates/central/out/central
 """
@@ -8,7 +8,6 @@ import contextlib
 import fcntl
 import os
 import re
-import shutil
 import socket
 import subprocess
 import sys
@@ -17,8 +16,8 @@ import threading
 import time
 from pathlib import Path
 
+from harness import PORT, Checks, memory
 from peer import BOOT, HEAD, HEARTBEAT, Peer, frame
-from programs import PORT, Checks, memory
 
 REQUEST = "{} {} HTTP/1.1\r\nHost: 127.0.0.1\r\n\r\n"
 # The code of a close as the server ends.
@@ -87,10 +86,10 @@ def check_metrics(checks):
 
 
 def check_form(checks, text):
-    """The text is as Prometheus has it, by its own tool where that is there."""
+    """The text is as Prometheus has it, by its own tool too."""
     lines = [line for line in text.splitlines() if not re.fullmatch(r'doxeguir_[a-z_]+(\{[a-z]+="[^"\\]*"(,[a-z]+="[^"\\]*")*\})? [0-9.]+', line)]
     checks.check("other lines", [line for line in lines if not re.match("# (HELP|TYPE) doxeguir_", line)], [])
-    if shutil.which("promtool"):
+    if checks.can("the form of the metrics, by promtool", "promtool"):
         told = subprocess.run(["promtool", "check", "metrics"], input=text, capture_output=True, text=True, timeout=30)
         checks.check("promtool", (told.returncode, told.stdout, told.stderr), (0, "", ""))
 
@@ -281,8 +280,7 @@ def main():
         check_waiting_calls(checks)
         check_long_listings(checks)
         check_stop(checks)
-    print(f"{checks.passed} passed, {checks.failed} failed")
-    sys.exit(checks.failed > 0)
+    checks.end()
 
 
 if __name__ == "__main__":

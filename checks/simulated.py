@@ -8,9 +8,9 @@ import subprocess
 import threading
 import time
 
+from harness import TIME
 from peer import BOOT, Peer
 
-TIME = re.compile(r"\d{4}-\d\d-\d\dT\d\d:\d\d:\d\dZ")
 # A station that has run for so many seconds is ended.
 PATIENCE = 120
 

@@ -13,7 +13,6 @@ import glob
 import os
 import re
 import resource
-import shutil
 import signal
 import socket
 import subprocess
@@ -23,9 +22,9 @@ import threading
 import time
 
 import kills
-from kills import OPERATORS, STATIONS, Checks, listing
+from harness import begun, copy_database, remove_database
+from kills import OPERATORS, STATIONS, Checks
 from peer import BOOT, Peer
-from programs import listening
 
 OPERATOR_LIST = "ACME,BETA"
 # where a server over the follower's file listens
@@ -36,15 +35,6 @@ OF_STATIONS = ("connectors", "transactions", "readings", "reservations", "report
 
 def words(program, port, db, *more):
     return [program, "serve", "--port", str(port), "--db", db, "--operators", OPERATOR_LIST, "--log", "none", *more]
-
-
-def begun(process, port):
-    """The process, once it listens."""
-    while process.poll() is None and not list(listening(port)):
-        time.sleep(0.002)
-    if process.poll() is not None:
-        sys.exit(f"a server ended with {process.returncode}")
-    return process
 
 
 def ended(process):
@@ -163,16 +153,9 @@ class Day(Checks):
         size = ("--journal-size", "100000")
         kills.server_words = lambda program, db: words(program, kills.PORT, db, "--journal", self.journal, *size)
 
-    def copy(self, source, target):
-        for end in ("", "-wal", "-count"):
-            with contextlib.suppress(FileNotFoundError):
-                os.remove(target + end)
-            with contextlib.suppress(FileNotFoundError):
-                shutil.copy(source + end, target + end)
-
     def one_kill(self, number):
         base = os.path.join(self.folder, "base.db")
-        self.copy(self.standby, base)
+        copy_database(self.standby, base)
         follower = Follower(self.program, self.standby, self.journal, self.place) if number > 1 else None
         dies = follower is not None and self.random.random() < 0.3
         killer = threading.Timer(self.random.uniform(0.02, 0.4), follower.kill) if dies else None
@@ -183,7 +166,7 @@ class Day(Checks):
             killer.join()
         if dies or follower is None:
             # it begins again where it began before
-            self.copy(base, self.standby)
+            copy_database(base, self.standby)
             follower = Follower(self.program, self.standby, self.journal, self.place)
         status, says = follower.end()
         # nothing has changed since the last server began
@@ -231,9 +214,7 @@ class Lines:
     def follow(self, data, operators=OPERATOR_LIST):
         """What a follower of these bytes ends with: its status, what it says, and how many rows its stations have."""
         db = self.path("followed.db")
-        for end in ("", "-wal", "-count"):
-            with contextlib.suppress(FileNotFoundError):
-                os.remove(db + end)
+        remove_database(db)
         command = [self.program, "follow", "--db", db, "--operators", operators, "--journal", "-"]
         process = subprocess.run(command, input=data, stderr=subprocess.PIPE, timeout=60)
         return process.returncode, process.stderr.decode()
@@ -510,8 +491,7 @@ def main():
         size = len(whole(day.journal))
         print(f"{count} kills, {steps} changes acknowledged, {day.made} of {day.in_flight} in flight found made")
         print(f"a journal of {size} bytes in {len(files_of(day.journal))} files, {size // max(steps, 1)} a change")
-    print(f"{day.passed} passed, {day.failed} failed")
-    sys.exit(day.failed > 0)
+    day.end()
 
 
 if __name__ == "__main__":

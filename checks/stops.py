@@ -7,23 +7,20 @@ Prints how many stops there were of each, then `N passed, M failed`. With --smal
     python3 checks/stops.py crates/central/out/central [--small]
 """
 
-import contextlib
 import os
 import shutil
-import sqlite3
 import subprocess
 import sys
 import tempfile
 from pathlib import Path
 
 from disk import Disk
-from programs import EARLIER, SCRIPTS, Checks
+from harness import EARLIER, SCRIPTS, Checks, Counts, faults_of, files_of, remove_database
 
 STOPPED = SCRIPTS / "stopped"
 LISTS = (STOPPED / "lists.txt").read_text()
 # A script whose log is copied into the database file under way has so many times the calls of another.
 LONG, OF_LONG = "log_is_copied", 23
-ENDS = ("", "-wal", "-count", ".new")
 KINDS = ("written", "half written", "synced")
 
 
@@ -68,19 +65,8 @@ class Stops(Checks):
         status, listed = self.replay(LISTS, db)
         self.check(f"{what}: status", status, 0)
         self.check(f"{what}: the records", listed in wanted, True)
-        with contextlib.closing(sqlite3.connect(db)) as database:
-            self.check(f"{what}: whole", database.execute("PRAGMA integrity_check").fetchall(), [("ok",)])
-        remove(db)
-
-
-def files_of(db):
-    """The files of a database that there are."""
-    return [path for path in (Path(db + end) for end in ENDS) if path.exists()]
-
-
-def remove(db):
-    for path in (*files_of(db), Path(f"{db}-shm")):
-        path.unlink(missing_ok=True)
+        self.check(f"{what}: whole", faults_of(db), [("ok",)])
+        remove_database(db)
 
 
 def fronts(checks, script):
@@ -110,7 +96,7 @@ def check_script(checks, name, one_in):
     status, _ = checks.replay(script, db, fails=True)
     checks.check(f"{name}: a run that isn't stopped", status, 0)
     count = checks.disk.calls
-    remove(db)
+    remove_database(db)
     for kind in KINDS:
         for calls in range(0, count, one_in):
             what, db = f"{name}, {kind}, after {calls} calls", checks.new_file()
@@ -138,6 +124,9 @@ def check_earlier(checks, schema, one_in):
 
 
 def main():
+    counts = Counts()
+    if not counts.can("what is on record after a stop", "gcc"):
+        counts.end()
     one_in = 4 if "--small" in sys.argv[2:] else 1
     with tempfile.TemporaryDirectory() as folder:
         checks = Stops(os.path.abspath(sys.argv[1]), folder)
@@ -146,8 +135,7 @@ def main():
         for script in sorted(STOPPED.glob("*.script")):
             name = script.stem
             check_script(checks, name, one_in * OF_LONG if name == LONG else one_in)
-    print(f"{checks.passed} passed, {checks.failed} failed")
-    sys.exit(checks.failed > 0)
+    checks.end()
 
 
 if __name__ == "__main__":

@@ -11,6 +11,7 @@ import tempfile
 import time
 from pathlib import Path
 
+CHROMIUM = ("chromium", "chromium-browser", "google-chrome")
 PAGE = Path(__file__).resolve().parent / "index.html"
 KEYS = {"Tab": 9, "Enter": 13, "Escape": 27}
 
@@ -18,10 +19,7 @@ KEYS = {"Tab": 9, "Enter": 13, "Escape": 27}
 class Browser:
     """One page. What goes wrong on it is kept in `faults`, its pictures in a folder."""
 
-    def __init__(self, pictures):
-        program = shutil.which("chromium") or shutil.which("chromium-browser") or shutil.which("google-chrome")
-        if program is None:
-            sys.exit("check.py needs Chromium: apt-get install chromium")
+    def __init__(self, program, pictures):
         self.pictures = pictures
         self.folder = tempfile.mkdtemp(prefix="console-")
         commands, answers = os.pipe(), os.pipe()

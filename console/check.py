@@ -8,6 +8,7 @@
 
 Pictures of the page go to the folder that --pictures names, else to /tmp/console.
 """
+# ruff: noqa: E402
 import argparse
 import base64
 import hashlib
@@ -15,6 +16,9 @@ import re
 import sys
 import time
 from pathlib import Path
+
+# the cases share modules with the checks of the program
+sys.path.append(str(Path(__file__).resolve().parent.parent / "checks"))
 
 import desk_cases
 import duty_cases
@@ -25,7 +29,8 @@ import program_cases
 import reader_cases
 import span_cases
 import tag_cases
-from browser import PAGE, Browser
+from browser import CHROMIUM, PAGE, Browser
+from harness import path_of
 from mock_server import Mock
 from records import many_records, small_records
 from tools import Cases, quoted
@@ -185,24 +190,33 @@ def main():
     options = reader.parse_args()
     if options.write_hash:
         return write_hash()
+    cases = Cases()
+    if not (options.server or options.program):
+        cases.attempt(check_policy)
+    if program := path_of(*CHROMIUM):
+        look(cases, program, options)
+    else:
+        cases.skip("the page", "no chromium (tools/check-tools)")
+    cases.end()
+
+
+def look(cases, program, options):
+    """All cases that need a browser."""
     options.pictures.mkdir(parents=True, exist_ok=True)
-    browser = Browser(options.pictures)
-    cases = Cases(browser)
+    cases.browser = Browser(program, options.pictures)
     try:
         if options.server:
             cases.attempt(check_server, options.server, options.operator)
         elif options.program:
             cases.attempt(program_cases.check_program, options.program)
         else:
-            for case in (check_policy, check_address, *desk_cases.CASES, *duty_cases.CASES, *form_cases.CASES, *reader_cases.CASES, *tag_cases.CASES,
+            for case in (check_address, *desk_cases.CASES, *duty_cases.CASES, *form_cases.CASES, *reader_cases.CASES, *tag_cases.CASES,
                          *span_cases.CASES, *link_cases.CASES, check_loss, check_old, check_many, *hostile_cases.CASES):
                 cases.attempt(case)
-        cases.check("the page has no errors", browser.faults == [], browser.faults)
+        cases.check("the page has no errors", cases.browser.faults == [], cases.browser.faults)
     finally:
-        browser.close()
-    print(f"{cases.passed} passed, {cases.failed} failed")
-    return 1 if cases.failed else 0
+        cases.browser.close()
 
 
 if __name__ == "__main__":
-    sys.exit(main())
+    main()

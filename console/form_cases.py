@@ -10,8 +10,8 @@ from mock_server import NOW, START
 TAKEN = "Taken."
 HELD = "Taken. It, or a tag whose parent it is, is in 1 local list."
 UNHELD = "Taken. It is in no local list of a station."
-DROP = ("Forget its history first. This can't be undone: its connectors, reservations, local list and reports go with it. Its last session and its "
-        "last reading stay on record and aren't listed, so that the numbers of a station that is added again go on.")
+DROP = ("Forget its history first. This can't be undone: its connectors, reservations, local list and reports go with it. Its last session and the "
+        "readings that it sent last stay on record and aren't listed, so that the numbers of a station that is added again go on.")
 NOT_DROPPED = "Refused, NotAllowedNow: the station is connected, or history of it is left to forget."
 ENDS = [
     ('Answer {"status":"Rejected"}', "Done: Rejected"), ("Timeout", "Timeout: no answer within 30 s"),
@@ -207,7 +207,7 @@ def check_forget(cases):
     browser, mock = opened(cases)
     browser.run("{ const pace = document.getElementById('pace'); pace.value = '0'; pace.dispatchEvent(new Event('change')); }")
     for minute in range(2340):
-        mock.records.reading("NORTH-01", 1, START - 7000000 + minute, "SoC", "-", "Percent", 5000000, "5")
+        mock.records.reading("NORTH-01", 1, START - 7000000 + minute // 3, "SoC", "-", "Percent", 5000000, "5")
     mock.records.reading("NORTH-01", 2, NOW, "SoC", "-", "Percent", 6000000, "6")
     cases.go("station/NORTH-01/1")
     cases.check("what is old is shown", len(cases.rows("history")) == 2 and "1–15 of 2,340." in cases.text("readings"), cases.text("readings")[-200:])
@@ -219,10 +219,11 @@ def check_forget(cases):
     said = forgotten(cases, dict(until="2024-01-01T01:00:00"))
     mock.before = []
     cases.check("forget: what the form says", said == "1 session and 2,340 readings are forgotten.", said)
-    wanted = [f"forget NORTH-01 {START // 1000}"] * 4 + ["list readings NORTH-01 1", "list transactions NORTH-01 1"]
+    wanted = [f"forget NORTH-01 {START // 1000}"] * 7 + ["list readings NORTH-01 1", "list transactions NORTH-01 1"]
     cases.check("forget: the lines, and what is listed anew", mock.heard[asked:] == wanted, mock.heard[asked:])
     told = [f"Forgotten so far: {text}. Closing this form stops it." for text in (
-        "0 sessions and 1,000 readings", "0 sessions and 2,000 readings", "1 session and 2,340 readings")]
+        # the 61 meter values of the running session are among the first 250
+        *(f"0 sessions and {count} readings" for count in ("567", "1,134", "1,701", "2,268", "2,340")), "1 session and 2,340 readings")]
     cases.check("forget: what it tells in between", browser.run("told") == ["Sent.", *told, said], browser.run("told"))
     cases.check("forget: the sessions that are left", [row[0] for row in cases.rows("history")] == ["2"], cases.rows("history"))
     cases.check("forget: the readings are gone", cases.rows("readings") == [] and "No readings." in cases.text("readings"), cases.rows("readings"))
@@ -248,6 +249,10 @@ def check_question(cases, mock):
     browser.press("Enter", text="\r")
     cases.check("forget: Enter closes the form", browser.wait("!document.getElementById('form').open"))
     cases.click("others", "Forget its history")
+    cases.fill(dict(until="2024-01-01T01:00:00", reading="7"))
+    cases.check("forget: up to a reading", cases.text("preview") == f"forget NORTH-01 {START // 1000} 7 2147483647", cases.text("preview"))
+    cases.fill(dict(reading="0", transaction="1"))
+    cases.check("forget: up to a session", cases.text("preview") == f"forget NORTH-01 {START // 1000} 0 1", cases.text("preview"))
     cases.fill(dict(until=""))
     browser.run("document.getElementById('send').click()")
     cases.check("forget: the time is required", browser.run("document.querySelector('#fields [name=until]').validity.valueMissing"))

@@ -2,11 +2,9 @@
 
 import csv
 import io
-import time
 from html.parser import HTMLParser
 
 from desk_cases import opened
-from mock_server import Mock
 from records import HEBREW, NASTY, NASTY_WORD, TURNED, nasty_records, turned_records
 from tools import quoted
 

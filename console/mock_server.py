@@ -2,6 +2,7 @@
 
 import base64
 import hashlib
+import itertools
 import json
 import re
 import socket
@@ -180,30 +181,37 @@ class Records:
         self.replace(f"transactions {name}", f"transaction {name} {number} ", f"{' '.join(row[3:9])} {stop}")
         return ["ok"]
 
-    def forget(self, name, until):
+    def forget(self, name, until, reading=None, transaction=None):
         if f"connectors {name}" not in self.rows:
             return ["refused 1 NoSuchStation"]
         if int(until) > time.time():
             return ["refused 12 BadField until"]
-        over, gone = self.forgettable(name, int(until))
+        over, values = self.forgettable(name, int(until))
+        if reading is not None:
+            over = [number for number in over if int(number) <= int(transaction)]
+            values = [numbers for numbers in values if int(numbers[0]) <= int(reading)]
+        gone = [number for numbers in values for number in numbers]
         self.rows[f"readings {name}"] = self.without(f"readings {name}", gone)
         self.rows[f"transactions {name}"] = self.without(f"transactions {name}", over)
         return [f"row forgotten {name} {len(over)} {len(gone)}", "ok"]
 
     def forgettable(self, name, until):
-        """The numbers of the transactions and of the readings that may go, at most 1,000. When a stop came isn't kept here,
-        so its own time stands for that."""
+        """The numbers of the transactions that may go, or those of the readings of each meter value that may, at most 250.
+        Readings of one connector, transaction and time that follow one another stand for a meter value. When a stop came
+        isn't kept here, so its own time stands for that."""
         readings = [row.split(" ") for row in self.rows[f"readings {name}"]]
+        values = [list(rows) for _, rows in itertools.groupby(readings, lambda words: words[3:6])]
         transactions = [row.split(" ") for row in self.rows[f"transactions {name}"]]
         stops = {words[2]: words[10] for words in transactions}
 
         def is_before(at):
             return at != "-" and int(at) < until * 1000
 
-        gone = [words[2] for words in readings[:-1] if is_before(stops.get(words[4], words[5]))][:1000]
-        named = {row.split(" ")[4] for row in self.without(f"readings {name}", gone)}
-        over = [words[2] for words in transactions[:-1] if is_before(words[10]) and words[2] not in named]
-        return over[:1000 - len(gone)], gone
+        old = [rows for rows in values[:-1][:250] if is_before(stops.get(rows[0][4], rows[0][5]))]
+        if old:
+            return [], [[words[2] for words in rows] for rows in old]
+        named = {words[4] for words in readings}
+        return [words[2] for words in transactions[:-1][:250] if is_before(words[10]) and words[2] not in named], []
 
     def without(self, listing, numbers):
         """The rows that have none of these numbers."""

@@ -3,17 +3,13 @@
 import re
 import socket
 import subprocess
-import sys
 import tempfile
 import threading
 import time
-from pathlib import Path
 
 import desk_cases
 import form_cases
-
-sys.path.insert(0, str(Path(__file__).resolve().parent.parent / "checks"))
-from peer import BOOT, Peer  # noqa: E402
+from peer import BOOT, Peer
 
 PORT = 9293
 WORD = re.compile(r"\[2,\"([^\"]*)\",")
@@ -99,7 +95,8 @@ def check_session(cases):
     station.ask("StatusNotification", '{"connectorId":1,"errorCode":"NoError","status":"Charging"}')
     station.ask("StartTransaction", f'{{"connectorId":1,"idTag":"K1","meterStart":1000,"timestamp":"{time_text(-600)}"}}')
     station.ask("MeterValues", f'{{"connectorId":1,"transactionId":1,"meterValue":[{{"timestamp":"{time_text(0)}","sampledValue":'
-                '[{"value":"3500"},{"value":"11","unit":"kW","measurand":"Power.Active.Import"},{"value":"42","unit":"Percent","measurand":"SoC"}]}]}')
+                '[{"value":"3500"},{"value":"11","unit":"kW","measurand":"Power.Active.Import"}]},'
+                f'{{"timestamp":"{time_text(0)}","sampledValue":[{{"value":"42","unit":"Percent","measurand":"SoC"}}]}}]}}')
     cases.go("stations")
     browser.run("poll(true)")
     cases.is_at_rest()
@@ -110,7 +107,8 @@ def check_session(cases):
 
 
 def check_forget(cases):
-    """Of three readings two go. The last one stays, and so does the session, which is the last one too."""
+    """Of two meter values the one of two readings goes. The last one stays, and so does the session, which is the last one
+    too."""
     time.sleep(1)
     for seconds, wanted in ((-86400, "Nothing was so old."), (0, "0 sessions and 2 readings are forgotten."), (0, "Nothing was so old."),
                             (86400, 'Refused, BadField: the field "Before" is out of its limits (until).')):

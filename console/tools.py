@@ -4,12 +4,13 @@ import json
 import time
 import traceback
 
+from harness import Counts
+
 quoted = json.dumps
 
 
-class Cases:
-    def __init__(self, browser):
-        self.browser, self.passed, self.failed = browser, 0, 0
+class Cases(Counts):
+    browser = None
 
     def check(self, name, holds, seen=None):
         if holds:

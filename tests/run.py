@@ -5,11 +5,11 @@
     python3 tests/run.py --show NAME -- ARGS    runs one with these arguments, and shows what it prints
     python3 tests/run.py --format    lays out their sources
 
-Each program is a folder, with a line in programs.txt. Its sources are Rattle. They end in `.rs`, since `rt ci` refuses
-an `.rt` file that it doesn't prove. They are copied as `.rt` into a root beside the crates, where `rt try` builds and
-runs them. A program has to end by itself, with status 0, after no access out of bounds, overflow or failed unwrap. Its
-files in data/ lie in the folder that it runs in. A folder with no src/main.rs has test
-functions, which have to pass.
+Each program is a folder, with a line in programs.txt, and so is each library of theirs, with a line in libraries.txt.
+Their sources are Rattle. They end in `.rs`, since `rt ci` refuses an `.rt` file that it doesn't prove. They are copied
+as `.rt` into a root beside the crates, where `rt try` builds and runs them. A program has to end by itself, with status
+0, after no access out of bounds, overflow or failed unwrap. Its files in data/ lie in the folder that it runs in. A
+folder with no src/main.rs has test functions, which have to pass.
 
 The last line is `N passed, M failed`: a program counts as one, and so does a test function.
 """
@@ -31,10 +31,19 @@ SECONDS = 600
 GIGABYTES = 4
 
 
-def programs():
-    """The names in programs.txt, in its order."""
-    lines = (TESTS / "programs.txt").read_text().splitlines()
+def names_in(file):
+    """The names in a file of lines as those of crates.txt, in its order."""
+    lines = (TESTS / file).read_text().splitlines()
     return [line.partition(":")[0] for line in lines if line and not line.startswith("#")]
+
+
+def programs():
+    return names_in("programs.txt")
+
+
+def folders():
+    """Those of the libraries, then those of the programs."""
+    return names_in("libraries.txt") + programs()
 
 
 def sources_of(name):
@@ -47,14 +56,14 @@ def copy_of(root, source):
 
 
 def make_root(root):
-    """Makes a root of the crates and the test programs."""
-    crates = (ROOT / "crates.txt").read_text() + (TESTS / "programs.txt").read_text()
-    (root / "crates.txt").write_text(crates)
+    """Makes a root of the crates, the test programs and their libraries."""
+    lists = (ROOT / "crates.txt", TESTS / "libraries.txt", TESTS / "programs.txt")
+    (root / "crates.txt").write_text("".join(names.read_text() for names in lists))
     shutil.copy(ROOT / "HANDLES", root)
     for part in (ROOT / "crates").glob("*/s*"):
         if part.name in ("src", "specs"):
             shutil.copytree(part, root / part.relative_to(ROOT))
-    for name in programs():
+    for name in folders():
         for source in sources_of(name):
             copy = copy_of(root, source)
             copy.parent.mkdir(parents=True, exist_ok=True)
@@ -73,17 +82,24 @@ def tried(root, name, words):
 
 
 def format_of(root, name):
-    """Lays out the copies of a program's sources. Those files whose layout was another."""
+    """Lays out the copies of a folder's sources. Those files whose layout was another."""
     subprocess.run(["rt", "fmt"], cwd=root / "crates" / name, check=True, stdout=subprocess.DEVNULL)
     copies = {source: copy_of(root, source) for source in sources_of(name)}
     return {source: copy for source, copy in copies.items() if source.read_bytes() != copy.read_bytes()}
 
 
-def run(root, name):
-    """How many passed of a program, how many failed, and what is said of it."""
+def said_of_layout(root, name):
+    """What is said of files whose layout is another, if there are any."""
     if others := format_of(root, name):
         files = ", ".join(str(file.relative_to(ROOT)) for file in others)
-        return 0, 1, f"{name}: other layout, run tests/run.py --format: {files}\n"
+        return f"{name}: other layout, run tests/run.py --format: {files}\n"
+    return ""
+
+
+def run(root, name):
+    """How many passed of a program, how many failed, and what is said of it."""
+    if said := said_of_layout(root, name):
+        return 0, 1, said
     has_functions = not (TESTS / name / "src" / "main.rs").exists()
     words = ["--seconds", str(SECONDS), *data_of(name), *["--test"] * has_functions]
     ran = tried(root, name, words)
@@ -105,6 +121,9 @@ def run_all(root, names):
     memory = os.sysconf("SC_PAGE_SIZE") * os.sysconf("SC_PHYS_PAGES") >> 30
     lanes = max(1, min(os.cpu_count() or 1, memory // GIGABYTES))
     all_passed = all_failed = 0
+    for said in filter(None, (said_of_layout(root, name) for name in names_in("libraries.txt"))):
+        print(said, end="", flush=True)
+        all_failed += 1
     with concurrent.futures.ThreadPoolExecutor(lanes) as pool:
         for running in concurrent.futures.as_completed([pool.submit(run, root, name) for name in names]):
             passed, failed, said = running.result()
@@ -120,7 +139,7 @@ def main():
         root = Path(folder)
         make_root(root)
         if words == ["--format"]:
-            for name in programs():
+            for name in folders():
                 for source, copy in format_of(root, name).items():
                     shutil.copy(copy, source)
             return 0

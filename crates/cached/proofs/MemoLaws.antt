@@ -1,5 +1,5 @@
 -- Answers that stay.
-use Rattle.std.specs.Prelude.{◌≡◌, ◌≢◌, ℕ, Bool, false, cond, is_some, List, Some, None, Option, Result, Ok, Err, OnOk, OnErr, IfSome, Contains, option_map}
+use Rattle.std.specs.Prelude.{◌≡◌, ◌≢◌, ℕ, Bool, cond, List, Some, None, Option, Result, Ok, Err, OnOk, OnErr, IfSome, Contains, option_map}
 use Rattle.std.proofs.Common.{sym, ◌∙◌, ap, subst, nat_eq, inl, inr, true≢false}
 use Rattle.std.specs.List.{IsDistinct}
 use Rattle.std.specs.Map.{keys_of, lookup, remove_entry}
@@ -68,8 +68,3 @@ removed entries digest distinct e at same =
 pub applied : {A X E : Type 0} (is_right : Rows → ℕ × A → Type 0) (rows after : Rows) (b : List ℕ) (e : Edit) (entries : List (ℕ × A)) (r : Result X E) → All (is_right rows) entries → All (is_right (edit b e rows)) entries → OnOk r (after ≡ edit b e rows) → OnErr r (after ≡ rows) → All (is_right after) entries
 applied is_right rows after b e entries (Ok x) before changed ok err = subst (λ rs. All (is_right rs) entries) (sym ok) changed
 applied is_right rows after b e entries (Err y) before changed ok err = subst (λ rs. All (is_right rs) entries) (sym err) before
-
--- what is said of a value that isn't there
-pub if_none : {A : Type 0} (P : A → Type 0) (o : Option A) → is_some o ≡ false → IfSome o P
-if_none P None none = tt
-if_none P (Some x) none = absurd (true≢false none)

@@ -8,19 +8,19 @@ use Rattle.hub_rows.specs.declared.change.Edit.{Edit}
 use Rattle.hub_rows.specs.declared.change.Edit.TheVariants.{Stations, Tags, Transactions, Holdings}
 use Rattle.hub_rows.specs.declared.change.StationEdit.TheVariants.{StationAdded, BootSeen, PolicySet, StationDropped}
 use Rattle.hub_rows.specs.declared.change.TagEdit.TheVariants.{TagDropped}
-use Rattle.hub_rows.specs.declared.change.TransactionEdit.TheVariants.{ReadingsAdded}
+use Rattle.hub_rows.specs.declared.change.TransactionEdit.TheVariants.{MeterValuesAdded}
 use Rattle.hub_rows.specs.declared.change.HoldingEdit.TheVariants.{ReservationDropped}
 use Rattle.hub_rows.specs.declared.station_row.StationRow.{StationRow}
 use Rattle.hub_rows.specs.Changes.{edit, new_station, with_boot, with_policy}
 use Rattle.hub_rows.specs.Keyed.{by_key, changed, first, put, without}
-use Rattle.hub_rows.specs.Rows.{Rows, registration_at, registration_of, station_in, station_key}
+use Rattle.hub_rows.specs.Rows.{Rows, registration_of, station_in, station_key}
 use Rattle.hub_rows.proofs.GrantLaws.{second}
 use Rattle.hub_rows.proofs.ListLaws.{filter-put_not, head, ties_key, same_text}
 use Rattle.hub_rows.proofs.OrderLaws.{find-first}
 use Rattle.hub_rows.proofs.OwnerLaws.{find-kept}
 use Rattle.cached.specs.declared.station_answer.StationAnswer.{StationAnswer}
 use Rattle.cached.specs.Digests.{station_digest}
-use Rattle.cached.specs.StationAnswers.{changed_station, IsOf, IsRegistered}
+use Rattle.cached.specs.StationAnswers.{changed_station, IsRegistered}
 
 and_first : (p q : Bool) → p && q ≡ true → p ≡ true
 and_first p q e = grind (arith, e)
@@ -83,10 +83,6 @@ kept_station b (Stations (PolicySet station policy interval)) rows answer other 
 kept_station b (Stations (StationDropped station)) rows answer other right =
     right ∙ sym (ap (option_map registration_of) (station-dropped answer.op answer.station b station other rows.stations))
 kept_station b (Tags (TagDropped key)) rows answer other right = right
-kept_station b (Transactions (ReadingsAdded station first readings)) rows answer other right = right
+kept_station b (Transactions (MeterValuesAdded station first values)) rows answer other right = right
 kept_station b (Holdings (ReservationDropped station id)) rows answer other right = right
 kept_station b e rows answer other right = right
-
--- what the rows give of the station that an answer is of
-pub registered_of : (rows : Rows) (answer : StationAnswer) (a name : List ℕ) → IsOf a name answer → registration_at answer.op answer.station rows ≡ registration_at a name rows
-registered_of rows answer a name of = λ i. registration_at (of.op i) (of.station i) rows

@@ -4,14 +4,13 @@ use Rattle.std.proofs.Common.{refl, sym, ◌∙◌, ap, subst, arith}
 use Rattle.std.specs.Char.{to_ascii_lowercase}
 use Rattle.std.specs.List.{AllByRecursion, filter_map, cons_option}
 use Rattle.std.specs.Option.{option_map}
-use Rattle.std.specs.Prelude.{is_some}
 use Rattle.std.specs.Str.{bytes_eq}
 use Rattle.ocpp_types.specs.TagKey.{key_of}
 use Rattle.hub_rows.specs.declared.change.Edit.{Edit}
 use Rattle.hub_rows.specs.declared.change.Edit.TheVariants.{Stations, Tags, Transactions, Holdings}
 use Rattle.hub_rows.specs.declared.change.StationEdit.TheVariants.{ReportSeen}
 use Rattle.hub_rows.specs.declared.change.TagEdit.TheVariants.{TagPut, TagDropped, GrantPut, GrantDropped}
-use Rattle.hub_rows.specs.declared.change.TransactionEdit.TheVariants.{ReadingsAdded}
+use Rattle.hub_rows.specs.declared.change.TransactionEdit.TheVariants.{MeterValuesAdded}
 use Rattle.hub_rows.specs.declared.change.HoldingEdit.TheVariants.{ReservationDropped}
 use Rattle.hub_rows.specs.declared.grant_row.GrantRow.{GrantRow}
 use Rattle.hub_rows.specs.declared.info.Info.{Info}
@@ -29,7 +28,6 @@ use Rattle.cached.specs.declared.tag_answer.TagAnswer.{TagAnswer}
 use Rattle.cached.specs.declared.tag_answer.LookUp.{LookUp}
 use Rattle.cached.specs.declared.tag_answer.LookUp.TheVariants.{Own, Granted}
 use Rattle.cached.specs.TagAnswers.{answered, looked_up, touched, IsAbout, IsApart, IsParentApart, IsRight}
-use Rattle.cached.proofs.MemoLaws.{if_none}
 
 -- ---- letters in any case
 
@@ -151,16 +149,9 @@ kept_right b (Tags (GrantPut k to until)) rows answer apart right =
 kept_right b (Tags (GrantDropped k to)) rows answer apart right =
     right ∙ sym (answered_same k rows.tags rows.tags (λ a j o. refl) answer.look_up answer.op answer.key rows.grants (without (λ r. r.op) b (is_grant k to) rows.grants) (grant-dropped b k to rows.grants) apart.key (apart_by k rows answer apart right))
 kept_right b (Stations (ReportSeen station status moment)) rows answer apart right = right
-kept_right b (Transactions (ReadingsAdded station first readings)) rows answer apart right = right
+kept_right b (Transactions (MeterValuesAdded station first values)) rows answer apart right = right
 kept_right b (Holdings (ReservationDropped station id)) rows answer apart right = right
 kept_right b e rows answer apart right = right
-
-pub unseen_right : (b : List ℕ) (e : Edit) (rows : Rows) (answer : TagAnswer) → is_some (touched e) ≡ false → IsRight rows answer → IsRight (edit b e rows) answer
-unseen_right b e rows answer none right = kept_right b e rows answer (if_none _ (touched e) none) right
-
--- what is right of an answer about a look-up
-pub about_right : (rows : Rows) (answer : TagAnswer) (how : LookUp) (a k : List ℕ) → IsAbout how a k answer → looked_up answer.look_up answer.op answer.key rows ≡ looked_up how a k rows
-about_right rows answer how a k about = λ i. looked_up (about.look_up i) (about.op i) (about.key i) rows
 
 -- an answer about a look-up is right that has what the rows give
 pub right_answer : (how : LookUp) (a k : List ℕ) (rows : Rows) (answer : TagAnswer) (info : Option Info) → IsAbout how a k answer → answer.info ≡ info → info ≡ looked_up how a k rows → IsRight rows answer

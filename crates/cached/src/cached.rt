@@ -4,8 +4,9 @@ ghost use Rattle.std.proofs.Props.{props};
 ghost use Rattle.hub_rows.specs.Reads.{OnlyReads};
 ghost use Rattle.cached.specs.declared.cached.CacheFault.TheVariants as cache_fault;
 ghost use Rattle.hub_rows.specs.Changes.{edit, EditFits};
+ghost use Rattle.hub_rows.specs.MeterValues.{last_reading_in};
 ghost use Rattle.hub_rows.specs.Rows.{Rows, registration_at};
-ghost use Rattle.hub_rows.specs.Transactions.{last_reading_in};
+ghost use Rattle.hub_rows.specs.WellFormed.{WellFormedRows};
 ghost use Rattle.cached.specs.Answers.{most_answers, AreRight};
 ghost use Rattle.cached.specs.ReadingAnswers.{digest_of_reading, IsLast};
 ghost use Rattle.cached.specs.StationAnswers.{digest_of_station, IsRegistered};
@@ -17,9 +18,9 @@ use crate::station_answer::StationAnswer;
 use crate::tag_answer::{LookUp, TagAnswer};
 use crate::{station_answer, tag_answer};
 use hub_rows::{
-    Change, ConnectorRow, GrantRow, GrantedTag, History, Info, LocalList, Reader, ReaderRow,
-    ReadingRow, Registration, ReportRow, ReservationId, ReservationRow, StartKey, StationRow,
-    Store, StoreFault, TagRow, TxKey, TxRow, TxState, UseRow,
+    Change, ConnectorRow, GrantRow, GrantedTag, History, Info, LocalList, MeterValueRow, Reader,
+    ReaderRow, Registration, ReportRow, ReservationId, ReservationRow, StartKey, StationRow, Store,
+    StoreFault, TagRow, TxKey, TxRow, TxState, UseRow,
 };
 use ocpp_types::{Listed, Moment, TagKey};
 use std::alloc::Global;
@@ -88,7 +89,7 @@ impl<S: Store + Drop> Cached<S> {
 
 /// Keeps the number of the last reading that a change adds.
 fn keep_last(alloc: Global, readings: &mut Memo<ReadingAnswer>, change: &Change<'_>)
-    ensures { (rows : Rows) → EditFits change.now.op.now change.now.edit.now rows
+    ensures { (rows : Rows) → WellFormedRows rows → EditFits change.now.op.now change.now.edit.now rows
         → AreRight digest_of_reading IsLast (edit change.now.op.now change.now.edit.now rows) readings.old
         → AreRight digest_of_reading IsLast (edit change.now.op.now change.now.edit.now rows) readings.new }
 {
@@ -162,7 +163,7 @@ impl<S: Store> Cached<S> {
     /// The number of a station's last reading, from the cache if it is there.
     fn last_read(&mut self, op: &str, station: &str) -> Result<u32, StoreFault>
         ensures reads { OnlyReads S.view self.old.store self.new.store result }
-        ensures found { (S.view self.new.store).clean → IfOk result (λ last. last ≡ last_reading_in op.now station.now (S.view self.old.store).rows.readings) }
+        ensures found { (S.view self.new.store).clean → IfOk result (λ last. last ≡ last_reading_in op.now station.now (S.view self.old.store).rows.meter_values) }
     {
         let digest = station_answer::digest(op, station);
         if let Some(answer) = self.readings.find(digest) {
@@ -285,13 +286,13 @@ impl<S: Store> Store for Cached<S> {
         self.store.forgettable(op, station, until)
     }
 
-    fn readings(
+    fn meter_values(
         &mut self,
         op: &str,
         station: &str,
         transaction: Option<u64>,
-    ) -> Result<Listed<ReadingRow>, StoreFault> {
-        self.store.readings(op, station, transaction)
+    ) -> Result<Listed<MeterValueRow>, StoreFault> {
+        self.store.meter_values(op, station, transaction)
     }
 
     fn reservations(

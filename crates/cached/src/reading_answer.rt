@@ -1,11 +1,12 @@
 //! Answers on the numbers of stations' last readings.
-ghost use Rattle.std.specs.Prelude.{◌≡◌, ◌≤◌, ◌+◌, true, IfOk, IfSome, length, option_map};
+ghost use Rattle.std.specs.Prelude.{◌≡◌, ◌<◌, ◌+◌, true, IfOk, IfSome, length, option_map};
+ghost use Rattle.hub_rows.specs.MeterValues.{all_taken};
 ghost use Rattle.cached.specs.ReadingAnswers.{changed_readings, IsAt, IsLastAfter, IsNewLast};
 
 use crate::answer::{Answer, Numbered};
 use crate::station_answer::digest;
-use hub_rows::{Change, Edit, Reading, TransactionEdit};
-use ocpp_types::{Listed, Mem, Text};
+use hub_rows::{Change, Edit, MeterValue, TransactionEdit};
+use ocpp_types::{Mem, Text};
 use std::alloc::Global;
 
 /// The number of a station's last reading, 0 where it has none.
@@ -82,7 +83,7 @@ fn changed_readings(edit: &Edit) -> Option<&Text>
     match edit {
         Edit::Transactions(
             TransactionEdit::TxStopped { station, .. }
-            | TransactionEdit::ReadingsAdded { station, .. }
+            | TransactionEdit::MeterValuesAdded { station, .. }
             | TransactionEdit::Forgotten { station, .. },
         ) => Some(station),
         _ => None,
@@ -97,22 +98,29 @@ fn last_added(edit: &TransactionEdit) -> Option<(&Text, u32)>
         TransactionEdit::TxStopped {
             station,
             first,
-            readings,
+            values,
             ..
-        } => Some((station, last_of(*first, readings)?)),
-        TransactionEdit::ReadingsAdded {
+        } => Some((station, last_of(*first, values.as_slice())?)),
+        TransactionEdit::MeterValuesAdded {
             station,
             first,
-            readings,
-        } => Some((station, last_of(*first, readings)?)),
+            values,
+        } => Some((station, last_of(*first, values.as_slice())?)),
         _ => None,
     }
 }
 
-/// The number of the last of some readings, of which the first has that number. `None` where there is none.
-fn last_of(first: u32, readings: &Listed<Reading>) -> Option<u32>
-    ensures { IfSome result (λ last. (first ≤ last) × (last + 1 ≡ first + length readings.now)) }
+/// The number of the last reading of some meter values, if there are any. Their first reading has that number.
+fn last_of(first: u32, values: &[MeterValue]) -> Option<u32>
+    ensures { IfSome result (λ last. (0 < length values.now) × (last + 1 ≡ first + all_taken values.now)) }
 {
-    let behind = u32::try_from(readings.as_slice().len().checked_sub(1)?).ok()?;
-    first.checked_add(behind)
+    if values.is_empty() {
+        return None;
+    }
+    let mut next = first;
+    for value in values {
+        let taken = u32::try_from(value.sampled.as_slice().len().max(1)).ok()?;
+        next = next.checked_add(taken)?;
+    }
+    next.checked_sub(1)
 }

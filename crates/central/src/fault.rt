@@ -1,148 +1,84 @@
-//! Why a run stops.
+//! Why the program stops.
 
-use crate::hosted::BadOperators;
-use crate::journal_file::JournalProblem;
 use cached::CacheFault;
 use clients::ClientFault;
-use ocpp_types::{NoMemory, Text};
-use replay::ReplayFault;
-use standby::FollowFault;
+use ocpp_types::NoMemory;
+use record_file::OpenFault;
+use runs::RunFault;
 use std::alloc::{AllocError, AllocFailed};
 use std::io;
-use std::net::SocketAddr;
-use store_sql::{MarkFault, PrepareFault};
 use thiserror::Error;
 
-/// Why a run stops.
+/// Why the program stops.
 #[derive(Debug, Drop, Error)]
-pub enum RunFault {
-    /// The database can't be opened, or isn't one of this program; and the path of its file.
-    #[error("Store: {0}")]
-    Database(PrepareFault, Text),
-    /// The database lacks changes that were synced, or its mark can't be used; and the path of the mark.
-    #[error("Store: {0}")]
-    Mark(MarkFault, Text),
-    /// The database failed while it was served, and is shut.
-    #[error("Store: the database failed")]
-    Store,
-    /// The journal at a path can't be kept, or can't be followed.
-    #[error("Journal: {0}")]
-    Journal(JournalProblem, Text),
-    /// A journal can't be followed any further.
-    #[error("Follow: {0}")]
-    Follow(FollowFault),
-    /// A journal is that of a server with other operators.
-    #[error("Follow: Operators")]
-    OtherOperators(Text),
-    /// A replay ended before its input.
+pub enum ProgramFault {
+    /// The file of the records can't be opened.
     #[error("{0}")]
-    Replay(ReplayFault),
-    /// An allocation was refused.
-    #[error("NoMemory")]
-    NoMemory,
-    /// The operators can't be hosted.
-    #[error("BadOperators")]
-    BadOperators(BadOperators),
+    Open(OpenFault),
+    /// A replay, a follower or a server stopped.
+    #[error("{0}")]
+    Run(RunFault),
     /// A client stopped.
     #[error("{0}")]
     Client(ClientFault),
-    /// The socket that listens at that address isn't opened or fails.
-    #[error("Stream")]
-    Listener(SocketAddr, io::Error),
-    /// Standard input or output fails.
-    #[error("Stream")]
-    Console(io::Error),
-    /// The clock gives no moment.
-    #[error("Clock")]
-    Clock,
 }
 
-impl RunFault {
-    /// A call on the socket that listens at that address failed so.
-    pub fn at(address: SocketAddr, error: io::Error) -> RunFault {
-        match error.kind() {
-            io::ErrorKind::OutOfMemory => RunFault::NoMemory,
-            _ => RunFault::Listener(address, error),
-        }
-    }
-
-    /// Writes the line that follows the name of a fault: whose name or which address it is about. Most have none.
+impl ProgramFault {
+    /// Writes the line that follows the name of a fault. Some have none.
     pub fn write_detail(&self, rt: &HostRuntime) -> io::Result<()> {
         match self {
-            RunFault::BadOperators(why) => eprintln!(rt; "{why}"),
-            RunFault::Client(fault) => fault.write_detail(rt),
-            RunFault::Listener(address, error) => eprintln!(rt; "{address}: {error}"),
-            RunFault::Console(error) => eprintln!(rt; "standard input or output: {error}"),
-            RunFault::Database(_, file) | RunFault::Mark(_, file) | RunFault::Journal(_, file) => {
-                eprintln!(rt; "{file}")
-            }
-            RunFault::OtherOperators(names) => {
-                let names = names.as_str().escape_debug();
-                eprintln!(rt; "the journal is of {names}")
-            }
-            RunFault::Store
-            | RunFault::Follow(_)
-            | RunFault::Replay(_)
-            | RunFault::NoMemory
-            | RunFault::Clock => Ok(()),
+            ProgramFault::Open(fault) => fault.write_detail(rt),
+            ProgramFault::Run(fault) => fault.write_detail(rt),
+            ProgramFault::Client(fault) => fault.write_detail(rt),
         }
     }
 }
 
-impl From<CacheFault> for RunFault {
+impl From<OpenFault> for ProgramFault {
+    fn from(fault: OpenFault) -> ProgramFault {
+        ProgramFault::Open(fault)
+    }
+}
+
+impl From<RunFault> for ProgramFault {
+    fn from(fault: RunFault) -> ProgramFault {
+        ProgramFault::Run(fault)
+    }
+}
+
+impl From<ClientFault> for ProgramFault {
+    fn from(fault: ClientFault) -> ProgramFault {
+        ProgramFault::Client(fault)
+    }
+}
+
+impl From<CacheFault> for ProgramFault {
     /// The program's capacity is a good one, so a cache that isn't made found no memory.
-    fn from(_fault: CacheFault) -> RunFault {
-        RunFault::NoMemory
+    fn from(_fault: CacheFault) -> ProgramFault {
+        ProgramFault::Run(RunFault::NoMemory)
     }
 }
 
-impl From<ClientFault> for RunFault {
-    fn from(fault: ClientFault) -> RunFault {
-        match fault {
-            ClientFault::NoMemory => RunFault::NoMemory,
-            other => RunFault::Client(other),
-        }
+impl From<NoMemory> for ProgramFault {
+    fn from(_fault: NoMemory) -> ProgramFault {
+        ProgramFault::Run(RunFault::NoMemory)
     }
 }
 
-impl From<FollowFault> for RunFault {
-    fn from(fault: FollowFault) -> RunFault {
-        match fault {
-            FollowFault::NoMemory => RunFault::NoMemory,
-            other => RunFault::Follow(other),
-        }
+impl From<AllocError> for ProgramFault {
+    fn from(_fault: AllocError) -> ProgramFault {
+        ProgramFault::Run(RunFault::NoMemory)
     }
 }
 
-impl From<ReplayFault> for RunFault {
-    fn from(fault: ReplayFault) -> RunFault {
-        RunFault::Replay(fault)
+impl<T: Drop> From<AllocFailed<T>> for ProgramFault {
+    fn from(_fault: AllocFailed<T>) -> ProgramFault {
+        ProgramFault::Run(RunFault::NoMemory)
     }
 }
 
-impl From<NoMemory> for RunFault {
-    fn from(_fault: NoMemory) -> RunFault {
-        RunFault::NoMemory
-    }
-}
-
-impl From<AllocError> for RunFault {
-    fn from(_fault: AllocError) -> RunFault {
-        RunFault::NoMemory
-    }
-}
-
-impl<T: Drop> From<AllocFailed<T>> for RunFault {
-    fn from(_fault: AllocFailed<T>) -> RunFault {
-        RunFault::NoMemory
-    }
-}
-
-impl From<io::Error> for RunFault {
-    fn from(fault: io::Error) -> RunFault {
-        match fault.kind() {
-            io::ErrorKind::OutOfMemory => RunFault::NoMemory,
-            _ => RunFault::Console(fault),
-        }
+impl From<io::Error> for ProgramFault {
+    fn from(fault: io::Error) -> ProgramFault {
+        ProgramFault::Run(RunFault::from(fault))
     }
 }

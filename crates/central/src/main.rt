@@ -1,47 +1,21 @@
-//! The program: replays lines, serves connections, and simulates stations.
+//! The program: replays lines, serves connections, follows journals, and is a client of a server. This crate names the store
+//! that all run over.
 #![tactic(auto)]
 
-mod arguments;
-mod bad_lines;
-mod causes;
-mod command;
 mod fault;
-mod file_fault;
-mod following;
-mod help;
-mod hosted;
-mod journal_file;
-mod kept_journal;
-mod measured;
-mod metrics;
-mod metrics_page;
-mod new_file;
-mod prepared;
-mod reason;
-mod recent;
 mod records;
-mod repair_log;
-mod replaying;
-mod server;
-mod server_log;
-mod service;
-mod serving;
-mod sim_command;
 mod status;
-mod stderr;
-mod stop_file;
 
 use clap::error::ErrorKind;
 use clients::{FORMS, ask, forget, simulate};
-use command::Plan;
-use fault::RunFault;
-use following::follow_alone;
-use replaying::replay_lines;
-use serving::serve;
+use command_line::{Plan, asks_for_forms, read};
+use fault::ProgramFault;
+use records::{follow, replay, serve};
+use runs::RunFault;
 use station_calls::{Echo, VendorHandler};
 use std::env;
 use std::process::ExitCode;
-use stderr::takes_line;
+use telemetry::takes_line;
 
 /// The milliseconds that the program waits for standard error as it ends.
 const LAST_WAIT: u16 = 1000;
@@ -60,15 +34,17 @@ fn main(rt: HostRuntime) -> anyhow::Result<ExitCode> {
 }
 
 /// Does what the command line asks for, and gives the program's status.
-fn run(rt: &HostRuntime) -> Result<u8, RunFault> {
+fn run(rt: &HostRuntime) -> Result<u8, ProgramFault> {
     let words: Vec<String> = env::args(rt)?.collect(rt.alloc())?;
-    if command::asks_for_forms(words.as_slice()) {
+    if asks_for_forms(words.as_slice()) {
         println!(rt; "{FORMS}")?;
         return Ok(0);
     }
-    match command::read(rt.alloc(), words.as_slice()) {
+    match read(rt.alloc(), words.as_slice()) {
         Ok(plan) => carry_out(rt, &plan),
-        Err(error) if error.kind() == ErrorKind::OutOfMemory => Err(RunFault::NoMemory),
+        Err(error) if error.kind() == ErrorKind::OutOfMemory => {
+            Err(ProgramFault::from(RunFault::NoMemory))
+        }
         Err(error) => {
             error.print(rt)?;
             Ok(status::of_usage(error.use_stderr()))
@@ -77,18 +53,18 @@ fn run(rt: &HostRuntime) -> Result<u8, RunFault> {
 }
 
 /// Does what a plan asks for, and gives the program's status.
-fn carry_out(rt: &HostRuntime, plan: &Plan) -> Result<u8, RunFault> {
+fn carry_out(rt: &HostRuntime, plan: &Plan) -> Result<u8, ProgramFault> {
     let alloc = rt.alloc();
     let mut vendors: Vec<Box<dyn VendorHandler>> = Vec::new(alloc);
     vendors.push(Box::new(alloc, Echo { alloc })?)?;
     let mut all_taken = true;
     match plan {
-        Plan::Replay(options) => all_taken = replay_lines(rt, options, vendors)?,
+        Plan::Replay(options) => all_taken = replay(rt, options, vendors)?,
         Plan::Serve(options) => serve(rt, options, vendors)?,
         Plan::Sim(options) => all_taken = simulate(rt, options)?,
         Plan::Ask(options) => all_taken = ask(rt, options)?,
         Plan::Forget(options) => all_taken = forget(rt, options)?,
-        Plan::Follow(options) => follow_alone(rt, options)?,
+        Plan::Follow(options) => follow(rt, options)?,
     }
     Ok(status::of_lines(all_taken))
 }

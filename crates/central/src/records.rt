@@ -1,62 +1,135 @@
-//! Records in the file of a database.
+//! What a replay, a follower and a server run over: records in a file, behind a cache.
 
-use crate::fault::RunFault;
-use crate::file_fault::detail_of;
-use crate::new_file::make_if_new;
-use ocpp_types::Text;
-use sqlite::{FileFrom, FileStore, Unknown};
-use std::fs;
-use store_sql::{Mark, MarkFault, PrepareFault, SqlStore};
+use crate::fault::ProgramFault;
+use cached::Cached;
+use command_line::{FollowOptions, ReplayOptions, ServeOptions};
+use hub_rows::Store;
+use journal::{Journal, Journaled};
+use record_file::{open, warn_of_strangers};
+use runs::{follow_journal, replay_fresh, replay_over};
+use server::{Begun, Opened, begin};
+use sqlite::Alter;
+use station_calls::VendorHandler;
+use std::rc::Rc;
+use store_sql::SqlStore;
 
 /// How many answers of a kind are kept in front of a database.
-pub const ANSWERS: usize = 1024;
+const ANSWERS: usize = 1024;
 
-/// The size of the file at a path, 0 where there is none.
-pub fn size_of(rt: &HostRuntime, path: &str) -> u64 {
-    match fs::metadata(rt, path) {
-        Ok(found) => found.len(),
-        Err(_) => 0,
+/// Replays the lines of standard input, over records in memory or in a file. Whether none was bad, if that is asked for.
+pub fn replay<V: VendorHandler>(
+    rt: &HostRuntime,
+    options: &ReplayOptions,
+    vendors: Vec<V>,
+) -> Result<bool, ProgramFault> {
+    match &options.db {
+        Some(path) => {
+            let store = open(rt, path.as_str(), options.file)?;
+            replay_database(rt, store, options, vendors)
+        }
+        None => Ok(replay_fresh(rt, options, vendors)?),
     }
 }
 
-/// How a file is opened, or made.
-#[derive(Clone, Copy, Drop)]
-pub struct FileOptions {
-    /// A file that lacks changes is taken.
-    pub accepts_loss: bool,
-    /// The pages of a new file end in sums.
-    pub page_sums: bool,
+/// Replays the lines over the records of a database.
+fn replay_database<A: Alter + Drop, V: VendorHandler>(
+    rt: &HostRuntime,
+    store: SqlStore<A>,
+    options: &ReplayOptions,
+    vendors: Vec<V>,
+) -> Result<bool, ProgramFault> {
+    replay_cached(rt, store, options, vendors)
 }
 
-/// Opens the store in the file at a path, which is made if there is none. Its mark is beside it. A file with fewer changes
-/// than its mark counts is refused, unless the loss is accepted.
-pub fn open(
+/// Replays the lines over the records of a store, behind a cache.
+fn replay_cached<S: Store + Drop, V: VendorHandler>(
     rt: &HostRuntime,
-    path: &str,
-    options: FileOptions,
-) -> Result<SqlStore<FileStore<FileFrom<Unknown>>>, RunFault> {
-    // what was not made here is made below, with larger pages and without sums
-    let _made = make_if_new(rt, path, options.page_sums);
-    let mut store = match SqlStore::open(rt, path, Unknown) {
-        Ok(store) => store,
-        Err(PrepareFault::NoMemory) => return Err(RunFault::NoMemory),
-        Err(fault) => return Err(RunFault::Database(fault, detail_of(rt, path, fault)?)),
-    };
-    store.keep_mark(open_mark(rt, path, store.changes(), options)?);
-    Ok(store)
+    store: S,
+    options: &ReplayOptions,
+    vendors: Vec<V>,
+) -> Result<bool, ProgramFault> {
+    let store = Cached::new(rt.alloc(), store, ANSWERS)?;
+    Ok(replay_over(rt, store, options, vendors)?)
 }
 
-/// Opens the mark beside a file, on which so many changes are on record.
-fn open_mark(
+/// Follows a journal over the records of a file, to its end.
+pub fn follow(rt: &HostRuntime, options: &FollowOptions) -> Result<(), ProgramFault> {
+    let store = open(rt, options.db.as_str(), options.file)?;
+    follow_database(rt, store, options)
+}
+
+/// Follows a journal over the records of a database.
+fn follow_database<A: Alter + Drop>(
     rt: &HostRuntime,
-    path: &str,
+    store: SqlStore<A>,
+    options: &FollowOptions,
+) -> Result<(), ProgramFault> {
+    let changes = store.changes();
+    follow_counted(rt, store, changes, options)
+}
+
+/// Follows a journal over the records of a store, on which so many changes are on record.
+fn follow_counted<S: Store + Drop>(
+    rt: &HostRuntime,
+    store: S,
     changes: u64,
-    options: FileOptions,
-) -> Result<Mark, RunFault> {
-    let place = format!(in rt.alloc(); "{path}-count")?;
-    match Mark::open(rt, place.as_str(), changes, options.accepts_loss) {
-        Ok(mark) => Ok(mark),
-        Err(MarkFault::NoMemory) => Err(RunFault::NoMemory),
-        Err(fault) => Err(RunFault::Mark(fault, Text::from(place))),
-    }
+    options: &FollowOptions,
+) -> Result<(), ProgramFault> {
+    let journal = Rc::new(rt.alloc(), Journal::new(rt.alloc(), changes))?;
+    let store = counted(rt, store, &journal)?;
+    let operators = options.operators.as_slice();
+    let _store = follow_journal(rt, store, &journal, options.journal.as_str(), operators)?;
+    Ok(())
+}
+
+/// Serves by the records of a file, and by those handlers of vendors' messages.
+pub fn serve<V: VendorHandler>(
+    rt: &HostRuntime,
+    options: &ServeOptions,
+    vendors: Vec<V>,
+) -> Result<(), ProgramFault> {
+    let begun = begin(rt, options)?;
+    let store = open(rt, options.db.as_str(), options.file)?;
+    serve_database(rt, store, begun, options, vendors)
+}
+
+/// Serves by the records of a database.
+fn serve_database<A: Alter + Drop, V: VendorHandler>(
+    rt: &HostRuntime,
+    mut store: SqlStore<A>,
+    begun: Begun,
+    options: &ServeOptions,
+    vendors: Vec<V>,
+) -> Result<(), ProgramFault> {
+    let opened = begun.opened(rt, store.changes())?;
+    warn_of_strangers(rt, &mut store, options.operators.as_slice())?;
+    serve_counted(
+        rt,
+        store.with_longest(options.longest),
+        opened,
+        options,
+        vendors,
+    )
+}
+
+/// Serves by the records of a store.
+fn serve_counted<S: Store + Drop, V: VendorHandler>(
+    rt: &HostRuntime,
+    store: S,
+    opened: Opened,
+    options: &ServeOptions,
+    vendors: Vec<V>,
+) -> Result<(), ProgramFault> {
+    let store = counted(rt, store, &opened.journal)?;
+    Ok(server::serve(rt, store, opened, options, vendors)?)
+}
+
+/// A store behind a cache, whose changes a journal counts.
+fn counted<S: Store + Drop>(
+    rt: &HostRuntime,
+    store: S,
+    journal: &Rc<Journal>,
+) -> Result<Cached<Journaled<S>>, ProgramFault> {
+    let journaled = Journaled::new(store, Rc::clone(journal)?);
+    Ok(Cached::new(rt.alloc(), journaled, ANSWERS)?)
 }

@@ -6,7 +6,7 @@ use Rattle.ocpp_types.specs.declared.refusal.Refusal.TheVariants.{BadField, NoSu
 use Rattle.hub_rows.specs.declared.change.Edit.{Edit}
 use Rattle.hub_rows.specs.declared.change.Edit.TheVariants.{Transactions}
 use Rattle.hub_rows.specs.declared.change.TransactionEdit.TheVariants.{TxStopped}
-use Rattle.hub_rows.specs.declared.reading_row.ReadingRow.{ReadingRow}
+use Rattle.hub_rows.specs.declared.meter_value_row.MeterValueRow.{MeterValueRow}
 use Rattle.hub_rows.specs.declared.tx_row.Stop.{Stop}
 use Rattle.hub_rows.specs.declared.tx_row.TxState.{TxState}
 use Rattle.hub_rows.specs.Lookups.{Lookups}
@@ -19,9 +19,9 @@ shown_or meter_start None = meter_start
 shown_or meter_start (Some wh) = pos wh
 
 -- the meter as it was given, or else by its readings
-abbrev pub meter_at_close : Option ℕ → ℤ → List ReadingRow → ℤ
-meter_at_close (Some meter) meter_start readings = pos meter
-meter_at_close None meter_start readings = shown_or meter_start (last_watt_hours readings)
+abbrev pub meter_at_close : Option ℕ → ℤ → List MeterValueRow → ℤ
+meter_at_close (Some meter) meter_start rows = pos meter
+meter_at_close None meter_start rows = shown_or meter_start (last_watt_hours rows)
 
 -- the stop as it is kept: at the moment, for the reason Other, without a tag
 abbrev pub closed_at : ℕ → ℤ → Stop
@@ -32,11 +32,11 @@ abbrev pub is_meter : Option ℕ → Bool
 is_meter None = true
 is_meter (Some meter) = nat_le meter MAX_WATT_HOURS
 
--- by the state of transaction n and the readings that were sent with it
-abbrev pub close_edit : List ℕ → ℕ → Option ℕ → ℕ → List ReadingRow → Option TxState → Result Edit Refusal
-close_edit station n meter m readings None = Err NoSuchTransaction
-close_edit station n meter m readings (Some t) =
-    if t.is_open then (if is_meter meter then Ok (Transactions (TxStopped station n (closed_at m (meter_at_close meter t.meter_start readings)) 0 [])) else Err (BadField (codes "meterStop"))) else Err NoSuchTransaction
+-- by the state of transaction n and the meter values that were sent with it
+abbrev pub close_edit : List ℕ → ℕ → Option ℕ → ℕ → List MeterValueRow → Option TxState → Result Edit Refusal
+close_edit station n meter m rows None = Err NoSuchTransaction
+close_edit station n meter m rows (Some t) =
+    if t.is_open then (if is_meter meter then Ok (Transactions (TxStopped station n (closed_at m (meter_at_close meter t.meter_start rows)) 0 [])) else Err (BadField (codes "meterStop"))) else Err NoSuchTransaction
 
 abbrev pub close_rule : List ℕ → ℕ → Option ℕ → ℕ → Lookups → Result Edit Refusal
-close_rule station n meter m l = if is_some (l.registration station) then close_edit station n meter m (l.readings station (Some n)) (l.tx station n) else Err NoSuchStation
+close_rule station n meter m l = if is_some (l.registration station) then close_edit station n meter m (l.meter_values station (Some n)) (l.tx station n) else Err NoSuchStation

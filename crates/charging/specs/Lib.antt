@@ -2,7 +2,6 @@ pub mod Numbers
 pub mod WattHours
 pub mod Close
 pub mod Forget
-pub mod Readings
 pub mod Start
 pub mod Stop
 pub mod MeterValues

@@ -1,4 +1,4 @@
--- Numbers of transactions and readings.
+-- Numbers of readings.
 use Rattle.std.specs.Prelude.{ℕ, ◌+◌, nat_le, Bool}
 use Rattle.hub_rows.specs.Transactions.{last_of_all}
 

@@ -11,8 +11,8 @@ use Rattle.ocpp_types.specs.declared.unit_of_measure.UnitOfMeasure.TheVariants.{
 use Rattle.ocpp_types.specs.declared.value_format.ValueFormat.{ValueFormat}
 use Rattle.ocpp_types.specs.declared.value_format.ValueFormat.TheVariants.{Raw}
 use Rattle.hub_rows.specs.Keyed.{first}
-use Rattle.hub_rows.specs.declared.reading_row.Reading.{Reading}
-use Rattle.hub_rows.specs.declared.reading_row.ReadingRow.{ReadingRow}
+use Rattle.hub_rows.specs.declared.meter_value_row.MeterValueRow.{MeterValueRow}
+use Rattle.ocpp_types.specs.declared.sampled_value.SampledValue.{SampledValue}
 use Rattle.charging.specs.declared.watt_hours.TheConstants.{MAX_WATT_HOURS}
 
 abbrev pub is_import : Measurand → Bool
@@ -35,7 +35,7 @@ is_watt_hours (Some KWh) = true
 is_watt_hours (Some u) = false
 
 -- the register of the energy that was delivered at the outlet, over all phases
-abbrev pub is_energy : Reading → Bool
+abbrev pub is_energy : SampledValue → Bool
 is_energy r = is_import r.measurand && is_none r.phase && is_outlet r.location && is_raw r.format && is_watt_hours r.unit
 
 -- the whole Wh of a number of millionths, if a meter can show so many
@@ -44,9 +44,13 @@ whole_watt_hours (pos n) = if nat_le (n / 1000000) MAX_WATT_HOURS then Some (n /
 whole_watt_hours (negsuc n) = None
 
 -- the energy that a reading shows, if it shows any
-abbrev pub watt_hours : Reading → Option ℕ
-watt_hours r = if is_energy r then option_and_then whole_watt_hours (micro r.text r.unit) else None
+abbrev pub watt_hours : SampledValue → Option ℕ
+watt_hours r = if is_energy r then option_and_then whole_watt_hours (micro r.value r.unit) else None
 
--- that of the last reading that shows any
-abbrev pub last_watt_hours : List ReadingRow → Option ℕ
-last_watt_hours rows = first (filter_map (λ r. watt_hours r.reading) (reverse rows))
+-- that of the last of some readings that shows any
+abbrev pub last_shown : List SampledValue → Option ℕ
+last_shown sampled = first (filter_map watt_hours (reverse sampled))
+
+-- that of the last of some meter values that shows any
+abbrev pub last_watt_hours : List MeterValueRow → Option ℕ
+last_watt_hours rows = first (filter_map (λ r. last_shown r.value.sampled) (reverse rows))

@@ -13,7 +13,7 @@ use std::alloc::Global;
 /// The edit that stops an open transaction of a station, or the first refusal that applies: NoSuchStation,
 /// NoSuchTransaction where it isn't on record or has stopped, BadField `meterStop` past 999,999,999,999 Wh.
 ///
-/// It stops at the moment, for the reason Other (OCPP 1.6, type Reason), without a tag and without readings. Without a
+/// It stops at the moment, for the reason Other (OCPP 1.6, type Reason), without a tag and without meter values. Without a
 /// meter in Wh it is that of the transaction's last reading that shows energy, or the meter at the start.
 pub fn plan_close<S: Store>(
     alloc: Global,
@@ -49,7 +49,7 @@ pub fn plan_close<S: Store>(
         number,
         stop: closed_at(at.moment, meter_stop),
         first: 0,
-        readings: Listed::new(alloc),
+        values: Listed::new(alloc),
     })))
 }
 
@@ -71,13 +71,13 @@ fn meter_at_close<S: Store>(
     requires { is_meter meter_stop ≡ true }
     ensures reads { OnlyReads S.view store.old store.new result }
     ensures meter { (S.view store.new).clean → IfOk result (λ meter. meter
-        ≡ meter_at_close meter_stop meter_start ((lookups_at at.now.op.now (S.view store.old).rows).readings at.now.station.now (Some number))) }
+        ≡ meter_at_close meter_stop meter_start ((lookups_at at.now.op.now (S.view store.old).rows).meter_values at.now.station.now (Some number))) }
 {
     if let Some(meter) = meter_stop {
         return Ok(meter as i64);
     }
-    let readings = store.readings(at.op.as_str(), at.station.as_str(), Some(u64::from(number)))?;
-    match last_watt_hours(readings.as_slice()) {
+    let rows = store.meter_values(at.op.as_str(), at.station.as_str(), Some(u64::from(number)))?;
+    match last_watt_hours(rows.as_slice()) {
         Some(shown) => Ok(shown as i64),
         None => Ok(meter_start),
     }

@@ -1,18 +1,17 @@
-//! Readings of a connector's meter (OCPP 1.6, section 4.7; docs/RULES.md, Readings).
-ghost use Rattle.std.specs.Prelude.{◌≡◌, Err, IfOk};
+//! Meter values of a connector (OCPP 1.6, section 4.7; docs/RULES.md, Readings).
+ghost use Rattle.std.specs.Prelude.{◌≡◌, Err, IfOk, map};
 ghost use Rattle.hub_rows.specs.Reads.{OnlyReads};
 ghost use Rattle.hub_rows.specs.Lookups.{lookups_at};
-ghost use Rattle.charging.specs.MeterValues.{meter_values_rule, decision_of_readings};
+ghost use Rattle.charging.specs.MeterValues.{meter_values_rule, decision_of_values, kept_value, kept_values};
 
 use crate::numbers::has_room;
-use crate::readings::readings_of;
-use hub_rows::{Edit, Reading, Store, StoreFault, TransactionEdit};
+use hub_rows::{Edit, MeterValue, Store, StoreFault, TransactionEdit};
 use ocpp_payload::{Conf, MeterValues};
 use ocpp_types::{Boxed, Listed, Mem, Text};
 use registry::{Decision, Reply, StationAt, internal_error};
 use std::alloc::Global;
 
-/// The readings of a MeterValues are kept, numbered from the one after the station's last on. A
+/// The meter values of a MeterValues are kept, their readings numbered from the one after the station's last on. A
 /// station that has no numbers left for all of them gets InternalError.
 pub fn on_meter_values<S: Store>(
     alloc: Global,
@@ -26,30 +25,62 @@ pub fn on_meter_values<S: Store>(
 {
     let last = store.last_reading(at.op.as_str(), at.station.as_str())?;
     let station = at.station.clone()?;
-    let readings = readings_of(
+    let values = kept_values(
         alloc,
         request.connector_id,
         request.transaction_id,
         request.meter_value,
     )?;
-    Ok(decision_of_readings(alloc, station, last, readings)?)
+    Ok(decision_of_values(alloc, station, last, values)?)
 }
 
-fn decision_of_readings(
+/// The meter values of a message, as they are kept.
+pub fn kept_values(
+    alloc: Global,
+    connector: u8,
+    transaction: Option<i32>,
+    values: Listed<ocpp_payload::MeterValue>,
+) -> Mem<Listed<MeterValue>>
+    ensures { IfOk result (λ l. l ≡ kept_values connector transaction values) }
+{
+    let kept: Vec<MeterValue> = values
+        .into_vec()
+        .into_iter()
+        .map(|value| kept_value(connector, transaction, value))
+        .collect(alloc)?;
+    Ok(Listed::from(kept))
+}
+
+fn kept_value(
+    connector: u8,
+    transaction: Option<i32>,
+    value: ocpp_payload::MeterValue,
+) -> MeterValue
+    ensures { result ≡ kept_value connector transaction value }
+{
+    MeterValue {
+        connector,
+        transaction,
+        at: value.timestamp,
+        sampled: value.sampled_value,
+    }
+}
+
+fn decision_of_values(
     alloc: Global,
     station: Text,
     last: u32,
-    readings: Listed<Reading>,
+    values: Listed<MeterValue>,
 ) -> Mem<Decision>
-    ensures { IfOk result (λ d. d ≡ decision_of_readings station last readings) }
+    ensures { IfOk result (λ d. d ≡ decision_of_values station last values) }
 {
-    if !has_room(last, readings.as_slice().len()) {
+    if !has_room(last, values.as_slice()) {
         return Ok(internal_error());
     }
-    let edit = Edit::Transactions(TransactionEdit::ReadingsAdded {
+    let edit = Edit::Transactions(TransactionEdit::MeterValuesAdded {
         station,
         first: last + 1,
-        readings,
+        values,
     });
     Ok(Decision {
         reply: Reply::Conf(Conf::Empty),

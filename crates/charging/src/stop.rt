@@ -4,18 +4,18 @@ ghost use Rattle.hub_rows.specs.Reads.{OnlyReads};
 ghost use Rattle.hub_rows.specs.Lookups.{lookups_at};
 ghost use Rattle.charging.specs.Stop.{stop_rule, info_of, edit_of_stop, stop_edit, stop_of, number_of_id};
 
+use crate::meter_values::kept_values;
 use crate::numbers::has_room;
-use crate::readings::readings_of;
-use hub_rows::{Edit, Reading, Stop, Store, StoreFault, TransactionEdit, TxKey, TxState};
+use hub_rows::{Edit, MeterValue, Stop, Store, StoreFault, TransactionEdit, TxKey, TxState};
 use id_tags::{Purpose, judge};
-use ocpp_payload::{Conf, MeterValue, StopTransaction};
+use ocpp_payload::{Conf, StopTransaction};
 use ocpp_types::{Boxed, IdTagInfo, Listed, Mem, Moment, TagKey, Text};
 use registry::{Decision, Reply, StationAt};
 use std::alloc::Global;
 
-/// A stop ends the open transaction that it names, and keeps the readings that were sent with it,
-/// numbered from the one after the station's last on. Where no numbers are left for all of them,
-/// the stop is kept without readings. A stop of any other transaction changes nothing. It is
+/// A stop ends the open transaction that it names, and keeps the meter values that were sent with it,
+/// their readings numbered from the one after the station's last on. Where no numbers are left for all of them,
+/// the stop is kept without them. A stop of any other transaction changes nothing. It is
 /// answered in either case, with the judgement of its tag if one was sent.
 pub fn on_stop<S: Store>(
     alloc: Global,
@@ -87,8 +87,8 @@ fn edit_of_stop<S: Store>(
     let tx = TxKey { station, number };
     let id = Some(request.transaction_id);
     let (stop, values) = parts_of(request, at.moment);
-    let readings = readings_of(alloc, connector, id, values)?;
-    let edit = stop_edit(alloc, tx, stop, last, readings);
+    let values = kept_values(alloc, connector, id, values)?;
+    let edit = stop_edit(alloc, tx, stop, last, values);
     Ok(Some(Boxed::new(alloc, edit)?))
 }
 
@@ -100,7 +100,7 @@ fn number_of_id(id: i32) -> Option<u32>
 }
 
 /// A stop as it is kept, and what was sent with it.
-fn parts_of(request: StopTransaction, moment: Moment) -> (Stop, Listed<MeterValue>)
+fn parts_of(request: StopTransaction, moment: Moment) -> (Stop, Listed<ocpp_payload::MeterValue>)
     ensures { result ≡ (stop_of request moment, request.transaction_data) }
 {
     let stop = Stop {
@@ -113,13 +113,13 @@ fn parts_of(request: StopTransaction, moment: Moment) -> (Stop, Listed<MeterValu
     (stop, request.transaction_data)
 }
 
-/// The edit that keeps a stop and its readings, unless no numbers are left for all of them.
-fn stop_edit(alloc: Global, tx: TxKey, stop: Stop, last: u32, readings: Listed<Reading>) -> Edit
-    ensures { result ≡ stop_edit tx.station tx.number stop last readings }
+/// The edit that keeps a stop and its meter values, unless no numbers are left for all of their readings.
+fn stop_edit(alloc: Global, tx: TxKey, stop: Stop, last: u32, values: Listed<MeterValue>) -> Edit
+    ensures { result ≡ stop_edit tx.station tx.number stop last values }
 {
-    let has_room = has_room(last, readings.as_slice().len());
-    let (first, readings) = if has_room {
-        (last + 1, readings)
+    let has_room = has_room(last, values.as_slice());
+    let (first, values) = if has_room {
+        (last + 1, values)
     } else {
         (0, Listed::new(alloc))
     };
@@ -128,6 +128,6 @@ fn stop_edit(alloc: Global, tx: TxKey, stop: Stop, last: u32, readings: Listed<R
         number: tx.number,
         stop,
         first,
-        readings,
+        values,
     })
 }

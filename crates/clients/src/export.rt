@@ -1,7 +1,7 @@
 //! Rows of a station's history, written as CSV before they go (RFC 4180).
 
 use crate::fault::ClientFault;
-use crate::reply::{Forgotten, row_of_station};
+use crate::reply::{leading_number, row_of_station};
 use csv::{Error, ErrorKind, Terminator, Writer, WriterBuilder};
 use serde_json::Value;
 use std::alloc::Global;
@@ -41,6 +41,13 @@ const READINGS: &[&str] = &[
     "text",
 ];
 
+/// The numbers of the last reading and the last transaction that were written of a station, 0 where there is none.
+#[derive(Clone, Copy, Debug, Default, PartialEq, Eq, Drop)]
+pub struct Written {
+    pub reading: u64,
+    pub transaction: u64,
+}
+
 /// Two files, one of transactions and one of readings.
 #[derive(Drop)]
 pub struct Export {
@@ -60,24 +67,24 @@ impl Export {
         })
     }
 
-    /// Writes the row of a text `OP row transaction ST ..` or `OP row reading ST ..`. Other texts are passed over. How
-    /// many rows were written.
+    /// Writes the row of a text `OP row transaction ST ..` or `OP row reading ST ..`, and notes its number. Other texts
+    /// are passed over.
     pub fn add(
         &mut self,
         alloc: Global,
         operator: &str,
         station: &str,
         text: &str,
-    ) -> Result<Forgotten, ClientFault> {
-        let mut written = Forgotten::default();
+        written: &mut Written,
+    ) -> Result<(), ClientFault> {
         if let Some(row) = row_of_station(operator, "transaction", station, text) {
             write_row(alloc, &mut self.transactions, station, row)?;
-            written.transactions = 1;
+            written.transaction = leading_number(row).unwrap_or(0);
         } else if let Some(row) = row_of_station(operator, "reading", station, text) {
             write_row(alloc, &mut self.readings, station, row)?;
-            written.readings = 1;
+            written.reading = leading_number(row).unwrap_or(0);
         }
-        Ok(written)
+        Ok(())
     }
 
     /// Ends once what was written is on the disk.

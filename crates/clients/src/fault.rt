@@ -61,9 +61,6 @@ pub enum ClientFault {
     /// The files of an export can't be opened or written.
     #[error("Export")]
     Export(io::Error),
-    /// So many rows went that weren't written to the files of the export: they came after the listing.
-    #[error("Export")]
-    Unwritten(u64),
     /// The script of a station is out of its bounds.
     #[error("Script")]
     Script,
@@ -93,9 +90,6 @@ impl ClientFault {
             ClientFault::Stream(address, lost) => eprintln!(rt; "{address}: {lost}"),
             ClientFault::Console(error) => eprintln!(rt; "standard input or output: {error}"),
             ClientFault::Export(error) => eprintln!(rt; "--export: {error}"),
-            ClientFault::Unwritten(rows) => {
-                eprintln!(rt; "--export: {rows} rows went that were not written")
-            }
             ClientFault::NoMemory | ClientFault::Script | ClientFault::Clock => Ok(()),
         }
     }

@@ -3,7 +3,7 @@ ghost use Rattle.std.specs.Prelude.{◌≡◌};
 ghost use Rattle.clients.specs.Days.{days_of};
 
 use crate::clock::now;
-use crate::export::Export;
+use crate::export::{Export, Written};
 use crate::fault::ClientFault;
 use crate::orders::Orders;
 use crate::reply::{Forgotten, Reply, forgotten_of, reply_of, station_of};
@@ -21,7 +21,7 @@ pub struct ForgetOptions {
     pub operator: Text,
     /// What is older than so many days goes.
     pub days: u64,
-    /// The name of two files to which what goes is written before.
+    /// The name of two files to which rows are written before they go.
     pub export: Option<Text>,
 }
 
@@ -108,17 +108,18 @@ impl Forgetting<'_> {
         Ok(all_taken)
     }
 
-    /// Gives the order at one station until nothing is left to go. Whether it was taken.
+    /// Gives orders at one station until nothing is left to go. Whether each was taken.
     fn at(&mut self, station: &str) -> Result<bool, ClientFault> {
+        if self.export.is_some() {
+            return self.export_all(station);
+        }
         let until = self.until;
         let line = format!(in self.rt.alloc(); "forget {station} {until}")?;
         for _ in 0..u64::MAX {
-            let written = self.write(station)?;
             let Some(gone) = self.order(station, line.as_str())? else {
                 return Ok(false);
             };
-            self.compare(written, gone)?;
-            if gone.transactions == 0 && gone.readings == 0 {
+            if gone == Forgotten::default() {
                 return Ok(true);
             }
             self.add(station, gone)?;
@@ -126,38 +127,59 @@ impl Forgetting<'_> {
         Err(self.orders.silent())
     }
 
-    /// Writes what the next order takes to the files of the export, if there are any, and on the disk. How many rows.
-    fn write(&mut self, station: &str) -> Result<Forgotten, ClientFault> {
-        let mut written = Forgotten::default();
-        let Some(export) = &mut self.export else {
-            return Ok(written);
-        };
-        let alloc = self.rt.alloc();
+    /// The same. Each order takes only rows that were written before.
+    fn export_all(&mut self, station: &str) -> Result<bool, ClientFault> {
         let until = self.until;
-        let line = format!(in alloc; "list forgettable {station} {until}")?;
-        self.orders.send(line.as_str())?;
         for _ in 0..u64::MAX {
-            let Some(text) = self.orders.answer()? else {
-                export.sync()?;
-                return Ok(written);
+            let Some(written) = self.write(station)? else {
+                return Ok(false);
             };
-            let rows = export.add(alloc, self.operator.as_str(), station, text.as_str())?;
-            written = written.with(rows);
+            if written == Written::default() {
+                return Ok(true);
+            }
+            let Written {
+                reading,
+                transaction,
+            } = written;
+            let line = format!(in self.rt.alloc();
+                "forget {station} {until} {reading} {transaction}"
+            )?;
+            let Some(gone) = self.order(station, line.as_str())? else {
+                return Ok(false);
+            };
+            self.add(station, gone)?;
         }
         Err(self.orders.silent())
     }
 
-    /// A reading that the station sent after the listing, and that is old by its own time, went unwritten. Where an order
-    /// takes as many rows as it may, a transaction that was written stays in its place.
-    fn compare(&self, written: Forgotten, gone: Forgotten) -> Result<(), ClientFault> {
-        let unwritten = gone.beyond(written);
-        if self.export.is_some() && unwritten > 0 {
-            return Err(ClientFault::Unwritten(unwritten));
+    /// Writes what may go to the files of the export and to the disk. `None` where the listing was refused, which is
+    /// printed.
+    fn write(&mut self, station: &str) -> Result<Option<Written>, ClientFault> {
+        let Some(export) = &mut self.export else {
+            return Ok(None);
+        };
+        let alloc = self.rt.alloc();
+        let until = self.until;
+        let line = format!(in alloc; "list forgettable {station} {until}")?;
+        let operator = self.operator.as_str();
+        let mut written = Written::default();
+        let mut is_taken = true;
+        self.orders.send(line.as_str())?;
+        for _ in 0..u64::MAX {
+            let Some(text) = self.orders.answer()? else {
+                export.sync()?;
+                return Ok(is_taken.then_some(written));
+            };
+            if is_refusal(operator, text.as_str()) {
+                println!(self.rt; "{text}")?;
+                is_taken = false;
+            }
+            export.add(alloc, operator, station, text.as_str(), &mut written)?;
         }
-        Ok(())
+        Err(self.orders.silent())
     }
 
-    /// Gives the order once. What went; `None` where it was refused, which is printed.
+    /// Gives an order once. What went; `None` where it was refused, which is printed.
     fn order(&mut self, station: &str, line: &str) -> Result<Option<Forgotten>, ClientFault> {
         let operator = self.operator.as_str();
         let mut gone = None;
@@ -166,10 +188,7 @@ impl Forgetting<'_> {
             let Some(text) = self.orders.answer()? else {
                 return Ok(gone);
             };
-            if matches!(
-                reply_of(operator, text.as_str()),
-                Reply::Refused | Reply::Bad
-            ) {
+            if is_refusal(operator, text.as_str()) {
                 println!(self.rt; "{text}")?;
             }
             if let Some(rows) = forgotten_of(operator, station, text.as_str()) {
@@ -189,4 +208,9 @@ impl Forgetting<'_> {
         println!(self.rt; "{station} {transactions} {readings}")?;
         Ok(())
     }
+}
+
+/// Whether a text says that the operator's line isn't taken.
+fn is_refusal(operator: &str, text: &str) -> bool {
+    matches!(reply_of(operator, text), Reply::Refused | Reply::Bad)
 }

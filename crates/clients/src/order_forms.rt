@@ -17,6 +17,7 @@ revoke TAG OPERATOR
 call ST ACTION JSON
 transaction close ST N METERSTOP
 forget ST BEFORE
+forget ST BEFORE READING TRANSACTION
 list stations
 list connections
 list tags
@@ -214,7 +215,7 @@ fn is_value(wanted: &str, word: &str) -> bool {
         "ACTION" => ACTIONS.contains(&word),
         "0|1" => matches!(word, "0" | "1"),
         "strict|tolerant" => matches!(word, "strict" | "tolerant"),
-        "INTERVAL" | "BEFORE" | "N" => is_number(word),
+        "INTERVAL" | "BEFORE" | "N" | "READING" | "TRANSACTION" => is_number(word),
         "EXPIRY" | "UNTIL" => word == "-" || is_number(word),
         "METERSTOP" => is_number(word.strip_prefix('-').unwrap_or(word)) || word == "-",
         "JSON" => word.starts_with('{'),
@@ -238,7 +239,8 @@ fn meaning(wanted: &str) -> &'static str {
         "BEFORE" => "a number of seconds since 1970",
         "EXPIRY" | "UNTIL" => "a number of seconds since 1970, or - for none",
         "METERSTOP" => "a number of Wh, or - for that of the readings",
-        "N" => "the number of a transaction",
+        "N" | "TRANSACTION" => "the number of a transaction",
+        "READING" => "the number of a reading",
         "JSON" => "an object as {}",
         "TEXT" => "what the station sends",
         _ => "a word",

@@ -37,12 +37,6 @@ impl Forgotten {
             readings: self.readings.saturating_add(more.readings),
         }
     }
-
-    /// How many of these rows are more than those of their kind.
-    pub fn beyond(self, rows: Forgotten) -> u64 {
-        let transactions = self.transactions.saturating_sub(rows.transactions);
-        transactions.saturating_add(self.readings.saturating_sub(rows.readings))
-    }
 }
 
 /// The number of the line whose answer follows, by the text `#N begin`.
@@ -171,7 +165,7 @@ fn after_word<'a>(word: &str, text: &'a str) -> Option<&'a str>
 }
 
 /// The number before the first space.
-fn leading_number(text: &str) -> Option<u64>
+pub fn leading_number(text: &str) -> Option<u64>
     ensures { result ≡ leading_number text.now }
 {
     let (word, _rest) = at_space(text)?;

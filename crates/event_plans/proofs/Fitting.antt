@@ -1,5 +1,5 @@
 -- What the table changes fits the records.
-use Rattle.std.specs.Prelude.{◌≡◌, ◌≢◌, ◌⊎◌, ℕ, ◌+◌, length, nat_le, List, [], ◌++◌, codes, cond, Option, None, Some, option_map, option_and_then, unwrap_or, Bool, true, false, Result, Ok, Err, is_some, IsSome, IfSome}
+use Rattle.std.specs.Prelude.{◌≡◌, ◌≢◌, ◌⊎◌, ℕ, ◌+◌, nat_le, List, [], ◌∷◌, ◌++◌, filter, map, codes, cond, Option, None, Some, option_map, option_and_then, unwrap_or, Bool, true, false, Result, Ok, Err, is_some, IsSome, IfSome}
 use Rattle.std.specs.Option.{ForSome}
 use Rattle.std.proofs.lemmas.Bool.{leb-true, leb-false, true≢false}
 use Rattle.std.specs.Str.{bytes_eq}
@@ -23,20 +23,22 @@ use Rattle.hub_rows.specs.declared.change.Edit.{Edit}
 use Rattle.hub_rows.specs.declared.change.Edit.TheVariants.{Stations, Tags, Transactions, Holdings}
 use Rattle.hub_rows.specs.declared.change.StationEdit.TheVariants.{StationAdded, BootSeen, PolicySet, ReaderSet, StationDropped, ConnectorSeen, ReportSeen}
 use Rattle.hub_rows.specs.declared.change.TagEdit.TheVariants.{TagPut, TagDropped, GrantPut, GrantDropped}
-use Rattle.hub_rows.specs.declared.change.TransactionEdit.TheVariants.{TxStarted, TxStopped, ReadingsAdded, Forgotten}
+use Rattle.hub_rows.specs.declared.change.TransactionEdit.TheVariants.{TxStarted, TxStopped, MeterValuesAdded, Forgotten}
 use Rattle.hub_rows.specs.declared.change.HoldingEdit.TheVariants.{ReservationPut, ReservationDropped, ListSet}
 use Rattle.hub_rows.specs.declared.change.StationEdit.TheVariants as station_edit
 use Rattle.hub_rows.specs.declared.change.TagEdit.TheVariants as tag_edit
-use Rattle.hub_rows.specs.declared.reading_row.ReadingRow.{ReadingRow}
+use Rattle.hub_rows.specs.declared.meter_value_row.MeterValue.{MeterValue}
+use Rattle.hub_rows.specs.declared.meter_value_row.MeterValueRow.{MeterValueRow}
 use Rattle.hub_rows.specs.declared.station_row.Registration.{Registration}
 use Rattle.hub_rows.specs.declared.tx_row.TxState.{TxState}
-use Rattle.hub_rows.specs.Lookups.{Lookups, lookups_at}
+use Rattle.hub_rows.specs.Lookups.{Lookups, forgettable_in, lookups_at}
 use Rattle.ocpp_types.specs.declared.authorization_status.AuthorizationStatus.{AuthorizationStatus}
 use Rattle.ocpp_types.specs.declared.authorization_status.AuthorizationStatus.TheVariants.{Accepted, Blocked, Expired, Invalid, ConcurrentTx}
 use Rattle.std.specs.List.{AllByRecursion}
 use Rattle.hub_rows.proofs.ForgetLaws.{forgettable-stopped}
 use Rattle.hub_rows.specs.declared.forgettable.Forgettable.{Forgettable}
-use Rattle.hub_rows.specs.Forgetting.{has_no_rows, numbers_of}
+use Rattle.hub_rows.specs.Forgetting.{has_no_rows, numbers_of, up_to}
+use Rattle.hub_rows.specs.MeterValues.{all_taken}
 use Rattle.hub_rows.specs.Changes.{EditFits, IsAnother, IsOpen, IsStopped}
 use Rattle.hub_rows.specs.Grants.{granted_tag_in}
 use Rattle.hub_rows.specs.Tags.{own_tag_in}
@@ -44,12 +46,11 @@ use Rattle.hub_rows.specs.WellFormed.{WellFormedRows}
 use Rattle.hub_rows.specs.declared.info.Info.{Info}
 use Rattle.hub_rows.proofs.GrantLaws.{granted_tag-owner, own_tag-owner}
 use Rattle.hub_rows.specs.Transactions.{AreNext, last_of_all, tx_in}
-use Rattle.hub_rows.specs.declared.reading_row.Reading.{Reading}
 use Rattle.hub_rows.specs.declared.tx_row.StartKey.{StartKey}
 use Rattle.ocpp_payload.specs.declared.conf.Conf.TheVariants as conf
 use Rattle.ocpp_payload.specs.declared.request.StartTransaction.{StartTransaction as StartRequest}
 use Rattle.ocpp_payload.specs.declared.request.StopTransaction.{StopTransaction as StopRequest}
-use Rattle.ocpp_payload.specs.declared.request.MeterValues.{MeterValues as ReadingsRequest}
+use Rattle.ocpp_payload.specs.declared.request.MeterValues.{MeterValues as MeterValuesRequest}
 use Rattle.registry.specs.declared.decision.Reply.TheVariants.{Conf}
 use Rattle.id_tags.specs.Judge.{found_tag, judge_rule, judge_with_owner, kept_owner, own_or_granted, owner_of}
 use Rattle.id_tags.specs.declared.judgement.Purpose.TheVariants as purpose
@@ -58,8 +59,7 @@ use Rattle.registry.specs.declared.station_added.TheConstants.{MAX_INTERVAL}
 use Rattle.charging.specs.Close.{close_edit, close_rule, closed_at, is_meter, meter_at_close}
 use Rattle.charging.specs.Forget.{forget_rule}
 use Rattle.charging.specs.Numbers.{has_room}
-use Rattle.charging.specs.Readings.{readings_of}
-use Rattle.charging.specs.MeterValues.{meter_values_rule}
+use Rattle.charging.specs.MeterValues.{kept_values, meter_values_rule}
 use Rattle.charging.specs.Start.{start_rule, start_key, start_by_number, begin_judged}
 use Rattle.charging.specs.Stop.{stop_rule, stop_of, number_of_id, edit_by_number, edit_by_state, end_edit}
 use Rattle.hub_rows.specs.Rows.{Rows}
@@ -73,6 +73,7 @@ use Rattle.registry.specs.PolicySet.{policy_rule, policy_edit, is_kept_from}
 use Rattle.registry.specs.ReaderSet.{reader_rule, reader_edit}
 use Rattle.registry.specs.StationDropped.{station_drop_rule, dropped_edit, is_needed}
 use Rattle.registry.specs.StationAdded.{add_rule, new_station_edit, is_station_name}
+use Rattle.hub_events.specs.declared.event.HistoryEnds.{HistoryEnds}
 use Rattle.hub_events.specs.declared.event.What.{What}
 use Rattle.hub_events.specs.declared.event.What.TheVariants as what
 use Rattle.hub_events.specs.declared.event.Admin.{Admin}
@@ -97,15 +98,19 @@ use Rattle.hub_rows.specs.LocalLists.{AreEntries}
 use Rattle.hub_rows.specs.declared.list_row.LocalTag.{LocalTag}
 use Rattle.hub_events.specs.declared.out.Outcome.{Outcome}
 use Rattle.hub_events.specs.declared.out.Outcome.TheVariants as outcome
-use Rattle.event_plans.specs.declared.plan.Effect.{Effect}
-use Rattle.event_plans.specs.declared.plan.Effect.TheVariants as effect
-use Rattle.event_plans.specs.declared.plan.Plan.{Plan}
+use Rattle.plans.specs.declared.plan.Effect.{Effect}
+use Rattle.plans.specs.declared.plan.Effect.TheVariants as effect
+use Rattle.plans.specs.declared.plan.Plan.{Plan}
 use Rattle.pending_calls.specs.Slot.{answered_command}
-use Rattle.event_plans.specs.Commands.{command_plan, command_rule, edit_by, end_plan, result_edit, result_outcome}
-use Rattle.event_plans.specs.Effects.{edit_effect}
-use Rattle.event_plans.specs.Plans.{connect_plan, error_plan, edit_plan, forget_plan, list_plan, turned_plan}
-use Rattle.event_plans.specs.Table.{Facts, plan, frame_plan, call_plan, as_read, state_plan, payload_plan, admin_rule}
-use Rattle.event_plans.specs.Listing.{rows_rule}
+use Rattle.operator_plans.specs.Commands.{command_plan, command_rule}
+use Rattle.frame_plans.specs.Answers.{edit_by, end_plan, result_edit, result_outcome}
+use Rattle.plans.specs.Effects.{edit_effect}
+use Rattle.plans.specs.Plans.{connect_plan, error_plan, edit_plan, forget_plan, list_plan, turned_plan, up_to_ends}
+use Rattle.plans.specs.Facts.{Facts}
+use Rattle.event_plans.specs.Table.{plan}
+use Rattle.frame_plans.specs.Frames.{frame_plan, call_plan, as_read, state_plan, payload_plan}
+use Rattle.operator_plans.specs.Requests.{admin_rule}
+use Rattle.listing_plans.specs.Listing.{rows_rule}
 
 -- the tag of a key, as it is looked up, has that owner
 abbrev pub IsOwner : Lookups → List ℕ → List ℕ → Type 0
@@ -128,9 +133,9 @@ FitsLookups k m l (Tags (TagDropped key)) = Unit {0}
 FitsLookups k m l (Tags (GrantPut key to until)) = IsSome (l.own_tag key) × (to ≢ l.op)
 FitsLookups k m l (Tags (GrantDropped key to)) = Unit {0}
 FitsLookups k m l (Transactions (TxStarted station number start owner)) = IsSome (l.registration station) × AreNext (l.last_tx station) number 1 × (start.id.key ≡ key_of start.tag) × IfSome owner (IsOwner l start.id.key) × IfSome owner (λ a. start.status ≡ Accepted)
-FitsLookups k m l (Transactions (TxStopped station number stop first readings)) = IsOpen (l.tx station number) × AreNext (l.last_reading station) first (length readings) × (stop.moment ≡ m)
-FitsLookups k m l (Transactions (ReadingsAdded station first readings)) = IsSome (l.registration station) × AreNext (l.last_reading station) first (length readings)
-FitsLookups k m l (Transactions (Forgotten station gone)) = (until : ℕ) × (gone ≡ numbers_of (l.forgettable station until))
+FitsLookups k m l (Transactions (TxStopped station number stop first values)) = IsOpen (l.tx station number) × AreNext (l.last_reading station) first (all_taken values) × (stop.moment ≡ m)
+FitsLookups k m l (Transactions (MeterValuesAdded station first values)) = IsSome (l.registration station) × AreNext (l.last_reading station) first (all_taken values)
+FitsLookups k m l (Transactions (Forgotten station gone)) = (until : ℕ) × (ends : Option HistoryEnds) × (gone ≡ numbers_of (up_to_ends ends (l.forgettable station until)))
 FitsLookups k m l (Holdings (ReservationPut station id reservation)) = IsSome (l.registration station)
 FitsLookups k m l (Holdings (ReservationDropped station id)) = Unit {0}
 FitsLookups k m l (Holdings (ListSet station list)) = IsSome (l.registration station) × AreEntries list.entries
@@ -193,12 +198,12 @@ start_fits k station r m l here =
       | Some n ↦ tt
     ]
 
-meter_values_fit : (k : List ℕ → Bool) → (m : ℕ) (station : List ℕ) (r : ReadingsRequest) (l : Lookups) → IsSome (l.registration station) → IfSome (meter_values_rule station r l).edit (FitsLookups k m l)
+meter_values_fit : (k : List ℕ → Bool) → (m : ℕ) (station : List ℕ) (r : MeterValuesRequest) (l : Lookups) → IsSome (l.registration station) → IfSome (meter_values_rule station r l).edit (FitsLookups k m l)
 meter_values_fit k m station r l here =
-    let readings : List Reading = readings_of r.connector_id r.transaction_id r.meter_value in
+    let values : List MeterValue = kept_values r.connector_id r.transaction_id r.meter_value in
     let last = (l.last_reading station) in
-    elim (has_room last (length readings)) as (λ b. has_room last (length readings) ≡ b → IfSome (cond b (record { reply = Conf conf.Empty; edit = Some (Transactions (ReadingsAdded station (last + 1) readings)) }) internal_error).edit (FitsLookups k m l)) [
-      | true ↦ λ room. (here, room_fits last (length readings) room)
+    elim (has_room last (all_taken values)) as (λ b. has_room last (all_taken values) ≡ b → IfSome (cond b (record { reply = Conf conf.Empty; edit = Some (Transactions (MeterValuesAdded station (last + 1) values)) }) internal_error).edit (FitsLookups k m l)) [
+      | true ↦ λ room. (here, room_fits last (all_taken values) room)
       | false ↦ λ full. tt
     ] refl
 
@@ -210,12 +215,12 @@ stop_fits k station r m l =
       | Some n ↦ elim (l.tx station n) as (λ o. l.tx station n ≡ o → IfSome (edit_by_state station r m l n o) (FitsLookups k m l)) [
         | None ↦ λ e. tt
         | Some t ↦ λ e.
-            let readings : List Reading = readings_of t.connector (Some r.transaction_id) r.transaction_data in
+            let values : List MeterValue = kept_values t.connector (Some r.transaction_id) r.transaction_data in
             elim t.is_open as (λ b. t.is_open ≡ b → IfSome (cond b (Some (end_edit station r m n t.connector last)) None) (FitsLookups k m l)) [
               | true ↦ λ open_now.
                   let fits : IsOpen (l.tx station n) = subst IsOpen (sym e) open_now in
-                  elim (has_room last (length readings)) as (λ b. has_room last (length readings) ≡ b → FitsLookups k m l (cond b (Transactions (TxStopped station n (stop_of r m) (last + 1) readings)) (Transactions (TxStopped station n (stop_of r m) 0 [])))) [
-                    | true ↦ λ room. (fits, room_fits last (length readings) room, refl)
+                  elim (has_room last (all_taken values)) as (λ b. has_room last (all_taken values) ≡ b → FitsLookups k m l (cond b (Transactions (TxStopped station n (stop_of r m) (last + 1) values)) (Transactions (TxStopped station n (stop_of r m) 0 [])))) [
+                    | true ↦ λ room. (fits, room_fits last (all_taken values) room, refl)
                     | false ↦ λ full. (fits, inl refl, refl)
                   ] refl
               | false ↦ λ closed. tt
@@ -368,9 +373,9 @@ grant_fits m is_hosted g f =
 revoke_fits : (m : ℕ) (tag to : List ℕ) (f : Facts) → PlanFits m f (edit_plan (revoke_rule tag to f.lookups))
 revoke_fits m tag to f = elim (f.lookups.has_grant (key_of tag) to) as (λ h. PlanFits m f (edit_plan (cond h (Ok (Tags (GrantDropped (key_of tag) to))) (Err NoSuchGrant)))) [ true ↦ tt | false ↦ tt ]
 
-closed_fits : (station : List ℕ) (number : ℕ) (meter : Option ℕ) (m : ℕ) (readings : List ReadingRow) (t : TxState) (f : Facts) → f.lookups.tx station number ≡ Some t → PlanFits m f (edit_plan (close_edit station number meter m readings (Some t)))
-closed_fits station number meter m readings t f at =
-    let stopped = Transactions (TxStopped station number (closed_at m (meter_at_close meter t.meter_start readings)) 0 []) in
+closed_fits : (station : List ℕ) (number : ℕ) (meter : Option ℕ) (m : ℕ) (rows : List MeterValueRow) (t : TxState) (f : Facts) → f.lookups.tx station number ≡ Some t → PlanFits m f (edit_plan (close_edit station number meter m rows (Some t)))
+closed_fits station number meter m rows t f at =
+    let stopped = Transactions (TxStopped station number (closed_at m (meter_at_close meter t.meter_start rows)) 0 []) in
     elim t.is_open as (λ b. t.is_open ≡ b → PlanFits m f (edit_plan (cond b (cond (is_meter meter) (Ok stopped) (Err (BadField (codes "meterStop")))) (Err NoSuchTransaction)))) [
       | true ↦ λ is-open. elim (is_meter meter) as (λ b. PlanFits m f (edit_plan (cond b (Ok stopped) (Err (BadField (codes "meterStop")))))) [
         | true ↦ (subst IsOpen (sym at) is-open, inl refl, refl)
@@ -381,10 +386,10 @@ closed_fits station number meter m readings t f at =
 
 close_fits : (station : List ℕ) (number : ℕ) (meter : Option ℕ) (m : ℕ) (f : Facts) → PlanFits m f (edit_plan (close_rule station number meter m f.lookups))
 close_fits station number meter m f =
-    elim (is_some (f.lookups.registration station)) as (λ b. PlanFits m f (edit_plan (cond b (close_edit station number meter m (f.lookups.readings station (Some number)) (f.lookups.tx station number)) (Err NoSuchStation)))) [
-      | true ↦ elim (f.lookups.tx station number) as (λ o. f.lookups.tx station number ≡ o → PlanFits m f (edit_plan (close_edit station number meter m (f.lookups.readings station (Some number)) o))) [
+    elim (is_some (f.lookups.registration station)) as (λ b. PlanFits m f (edit_plan (cond b (close_edit station number meter m (f.lookups.meter_values station (Some number)) (f.lookups.tx station number)) (Err NoSuchStation)))) [
+      | true ↦ elim (f.lookups.tx station number) as (λ o. f.lookups.tx station number ≡ o → PlanFits m f (edit_plan (close_edit station number meter m (f.lookups.meter_values station (Some number)) o))) [
         | None ↦ λ e. tt
-        | Some t ↦ λ e. closed_fits station number meter m (f.lookups.readings station (Some number)) t f e
+        | Some t ↦ λ e. closed_fits station number meter m (f.lookups.meter_values station (Some number)) t f e
       ] refl
       | false ↦ tt
     ]
@@ -399,12 +404,13 @@ admin_fits is_hosted (admin.Grant grant) m f = grant_fits m is_hosted grant f
 admin_fits is_hosted (admin.Revoke tag to) m f = revoke_fits m tag to f
 admin_fits is_hosted (admin.TransactionClose station number meter_stop) m f = close_fits station number meter_stop m f
 
-forget_fits : (station : List ℕ) (until m : ℕ) (f : Facts) → PlanFits m f (forget_plan station (forget_rule station until m f.lookups))
-forget_fits station until m f =
-    let gone = f.lookups.forgettable station until in
-    elim (is_some (f.lookups.registration station)) as (λ b. PlanFits m f (forget_plan station (cond b (cond (nat_le until m) (Ok gone) (Err (BadField (codes "until")))) (Err NoSuchStation)))) [
-      | true ↦ elim (nat_le until m) as (λ b. PlanFits m f (forget_plan station (cond b (Ok gone) (Err (BadField (codes "until")))))) [
-        | true ↦ elim (has_no_rows gone) as (λ b. EffectFits m f (cond b effect.Nothing (effect.Edit (Transactions (Forgotten station (numbers_of gone)))))) [ true ↦ tt | false ↦ (until, refl) ]
+forget_fits : (station : List ℕ) (until : ℕ) (ends : Option HistoryEnds) (m : ℕ) (f : Facts) → PlanFits m f (forget_plan station ends (forget_rule station until m f.lookups))
+forget_fits station until ends m f =
+    let old = f.lookups.forgettable station until in
+    let gone = up_to_ends ends old in
+    elim (is_some (f.lookups.registration station)) as (λ b. PlanFits m f (forget_plan station ends (cond b (cond (nat_le until m) (Ok old) (Err (BadField (codes "until")))) (Err NoSuchStation)))) [
+      | true ↦ elim (nat_le until m) as (λ b. PlanFits m f (forget_plan station ends (cond b (Ok old) (Err (BadField (codes "until")))))) [
+        | true ↦ elim (has_no_rows gone) as (λ b. EffectFits m f (cond b effect.Nothing (effect.Edit (Transactions (Forgotten station (numbers_of gone)))))) [ true ↦ tt | false ↦ (until, ends, refl) ]
         | false ↦ tt
       ]
       | false ↦ tt
@@ -432,7 +438,7 @@ plan_fits is_hosted answers (what.Do station command) m f = command_fits m stati
 plan_fits is_hosted answers (what.Admin a) m f = admin_fits is_hosted a m f
 plan_fits is_hosted answers what.Connections m f = tt
 plan_fits is_hosted answers (what.DropStation station) m f = station_drop_fits station m f
-plan_fits is_hosted answers (what.Forget station until) m f = forget_fits station until m f
+plan_fits is_hosted answers (what.Forget station until ends) m f = forget_fits station until ends m f
 plan_fits is_hosted answers (what.List listing) m f = elim (rows_rule listing m f.lookups) as (λ r. PlanFits m f (list_plan r)) [ Ok rows ↦ tt | Err refusal ↦ tt ]
 
 -- the owner of a granted tag is another operator
@@ -451,6 +457,17 @@ owner_apart b key rows good (Some a) fits = elim fits [
     theirs None is has = absurd (cc)
     theirs (Some info) is has = subst (IsAnother b) has (granted_tag-owner b key rows good info is)
 
+-- what holds of all holds of those that pass
+of_those : {R : Type 0} (P : ℕ → Type 0) (f : R → ℕ) (q : R → Bool) (rs : List R) → AllByRecursion P (map f rs) → AllByRecursion P (map f (filter q rs))
+of_those P f q [] all = tt
+of_those P f q (r ∷ rs) all = elim (q r) as (λ b. AllByRecursion P (map f (cond b (r ∷ filter q rs) (filter q rs)))) [ true ↦ (all.0, of_those P f q rs all.1) | false ↦ of_those P f q rs all.1 ]
+
+-- what goes up to ends is stopped
+ended-stopped : (b station : List ℕ) (until : ℕ) (ends : Option HistoryEnds) (rows : Rows) → WellFormedRows rows → AllByRecursion (λ n. IsStopped (tx_in b station n rows.transactions)) (numbers_of (up_to_ends ends (forgettable_in b station until rows))).transactions
+ended-stopped b station until None rows good = forgettable-stopped b station until rows good
+ended-stopped b station until (Some ends) rows good =
+    of_those (λ n. IsStopped (tx_in b station n rows.transactions)) (λ t. t.number) (λ t. nat_le t.number ends.transaction) (forgettable_in b station until rows).transactions (forgettable-stopped b station until rows good)
+
 -- what the look-ups over the rows allow, the rows allow
 pub edit_fits : (k : List ℕ → Bool) (m : ℕ) (b : List ℕ) (rows : Rows) → WellFormedRows rows → (e : Edit) → FitsLookups k m (lookups_at b rows) e → EditFits b e rows
 edit_fits k m b rows good (Stations (StationAdded station policy interval)) fits = fits
@@ -464,9 +481,9 @@ edit_fits k m b rows good (Tags (TagDropped key)) fits = tt
 edit_fits k m b rows good (Tags (GrantPut key to until)) fits = fits
 edit_fits k m b rows good (Tags (GrantDropped key to)) fits = tt
 edit_fits k m b rows good (Transactions (TxStarted station number start owner)) fits = (fits.0, fits.1, fits.2, owner_apart b start.id.key rows good owner fits.3, fits.4)
-edit_fits k m b rows good (Transactions (TxStopped station number stop first readings)) fits = (fits.0, fits.1)
-edit_fits k m b rows good (Transactions (ReadingsAdded station first readings)) fits = fits
-edit_fits k m b rows good (Transactions (Forgotten station gone)) fits = subst (λ (g : Forgettable). AllByRecursion (λ n. IsStopped (tx_in b station n rows.transactions)) g.transactions) (sym fits.1) (forgettable-stopped b station fits.0 rows good)
+edit_fits k m b rows good (Transactions (TxStopped station number stop first values)) fits = (fits.0, fits.1)
+edit_fits k m b rows good (Transactions (MeterValuesAdded station first values)) fits = fits
+edit_fits k m b rows good (Transactions (Forgotten station gone)) fits = subst (λ (g : Forgettable). AllByRecursion (λ n. IsStopped (tx_in b station n rows.transactions)) g.transactions) (sym fits.2) (ended-stopped b station fits.0 fits.1 rows good)
 edit_fits k m b rows good (Holdings (ReservationPut station id reservation)) fits = fits
 edit_fits k m b rows good (Holdings (ReservationDropped station id)) fits = tt
 edit_fits k m b rows good (Holdings (ListSet station list)) fits = fits

@@ -1,5 +1,1 @@
-pub mod Effects
-pub mod Plans
-pub mod Listing
-pub mod Commands
 pub mod Table

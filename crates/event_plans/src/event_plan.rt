@@ -4,23 +4,21 @@ ghost use Rattle.hub_rows.specs.Reads.{OnlyReads};
 ghost use Rattle.hub_rows.specs.Operators.{is_hosted};
 ghost use Rattle.pending_calls.specs.Slots.{slot_at};
 ghost use Rattle.station_calls.specs.Book.{book_view, book_rows, book_answers, IsCleanBook};
-ghost use Rattle.event_plans.specs.Effects.{IsReady};
-ghost use Rattle.event_plans.specs.Table.{facts_of, plan, text_plan};
+ghost use Rattle.plans.specs.Effects.{IsReady};
+ghost use Rattle.plans.specs.Facts.{facts_of};
+ghost use Rattle.event_plans.specs.Table.{plan};
 
-use crate::admin::decide_admin;
-use crate::commands::plan_command;
-use crate::connections::plan_connections;
-use crate::frames::plan_frame;
-use crate::list::plan_list;
-use crate::plan::Plan;
-use crate::short_plans::{connect_plan, disconnect_plan, edit_plan, forget_plan, turned_plan};
 use charging::plan_forget;
+use frame_plans::plan_text;
 use hub_events::{OperatorEvent, What};
 use hub_rows::{Store, StoreFault};
+use listing_plans::{plan_connections, plan_list};
 use ocpp_frame::FrameReader;
 use ocpp_types::{Boxed, Text};
 use operator_cmds::Command;
+use operator_plans::{decide_admin, plan_command};
 use pending_calls::Slots;
+use plans::{Plan, connect_plan, disconnect_plan, edit_plan, forget_plan};
 use registry::{StationAt, plan_station_drop};
 use station_calls::{Book, VendorHandler};
 use std::alloc::Global;
@@ -54,31 +52,9 @@ pub fn plan_event<S: Store, V: VendorHandler>(
     }
 }
 
-/// The plan for a text of a station: one that isn't connected is turned away.
-fn plan_text<S: Store, V: VendorHandler>(
-    alloc: Global,
-    reader: &mut FrameReader,
-    book: &mut Book<S, V>,
-    slots: &Slots<Boxed<Command>>,
-    at: &StationAt<'_>,
-    text: &Text,
-) -> Result<Plan, StoreFault>
-    ensures reads { OnlyReads (book_view S.view) book.old book.new result }
-    ensures plan { IsCleanBook S.view book.new → IfOk result (λ p. p
-        ≡ text_plan (book_answers V.view book.old) at.now.station.now text.now at.now.moment
-        (facts_of at.now.op.now (book_rows S.view book.old) slots.now)) }
-    ensures answers { book_answers V.view book.new ≡ book_answers V.view book.old }
-    ensures ready { IfOk result (λ p. IsReady (λ st. slot_at at.now.op.now st slots.now) p.effect) }
-{
-    match slots.place_if_connected(at.op.as_str(), at.station.as_str()) {
-        Some(near) => plan_frame(alloc, reader, book, slots, at, text, near),
-        None => Ok(turned_plan(alloc, at.station)?),
-    }
-}
-
-/// The same. An event of another kind than a text is rare, and what it needs isn't cleared for each text.
+/// The plan for an event of any kind. Those other than a text are rare, and what they need isn't cleared for each text.
 #[inline(never)]
-#[tactic(auto, using(crate::proofs::Readiness::connect_ready, crate::proofs::Readiness::edit_ready, crate::proofs::Readiness::forget_ready, crate::proofs::Readiness::list_ready))]
+#[tactic(auto, using(plans::proofs::Readiness::connect_ready, plans::proofs::Readiness::edit_ready, plans::proofs::Readiness::forget_ready, plans::proofs::Readiness::list_ready))]
 fn plan_any<S: Store, V: VendorHandler>(
     alloc: Global,
     reader: &mut FrameReader,
@@ -132,14 +108,18 @@ fn plan_any<S: Store, V: VendorHandler>(
         }
         What::List(listing) => plan_list(alloc, &mut book.store, op, listing, moment),
         What::Connections => Ok(plan_connections(alloc, slots, op.as_str())?),
-        What::Forget { station, until } => {
+        What::Forget {
+            station,
+            until,
+            ends,
+        } => {
             let at = StationAt {
                 op,
                 station,
                 moment,
             };
             let answer = plan_forget(&mut book.store, &at, *until)?;
-            Ok(forget_plan(alloc, station, answer)?)
+            Ok(forget_plan(alloc, station, *ends, answer)?)
         }
     }
 }

@@ -1,11 +1,11 @@
 //! How many bytes the values on an event's way take at most. Each is moved from call to call, and a
 //! call clears its locals as it begins, so what is wide and rare is in a box.
 
-use crate::plan::{Effect, Plan};
 use hub_rows::Edit;
 use ocpp_frame::Frame;
 use ocpp_payload::{Conf, Request};
 use operator_cmds::Command;
+use plans::{Effect, Plan};
 use registry::Decision;
 
 const _: () = prove!(size_of::<Frame>() <= 128);

@@ -5,9 +5,9 @@ use Rattle.hub_rows.specs.Changes.{EditFits}
 use Rattle.hub_rows.specs.WellFormed.{WellFormedRows}
 use Rattle.station_calls.specs.Vendors.{Answers}
 use Rattle.hub_events.specs.declared.event.What.{What}
-use Rattle.event_plans.specs.declared.plan.Effect.{Effect}
-use Rattle.event_plans.specs.declared.plan.Effect.TheVariants as effect
-use Rattle.event_plans.specs.declared.plan.Plan.{Plan}
+use Rattle.plans.specs.declared.plan.Effect.{Effect}
+use Rattle.plans.specs.declared.plan.Effect.TheVariants as effect
+use Rattle.plans.specs.declared.plan.Plan.{Plan}
 use Rattle.hub.specs.Effects.{edit_of}
 use Rattle.event_plans.specs.Table.{plan}
 use Rattle.hub.specs.World.{World, facts_at}

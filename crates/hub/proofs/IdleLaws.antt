@@ -8,7 +8,7 @@ use Rattle.hub_events.specs.declared.out.Out.{Out}
 use Rattle.hub_events.specs.declared.out.Outcome.TheVariants.{Timeout}
 use Rattle.hub.specs.Effects.{moved_outputs, tick_outputs}
 use Rattle.hub.specs.World.{Setting, World, world_outputs, world_step}
-use Rattle.event_plans.specs.Effects.{StationSlot}
+use Rattle.plans.specs.Effects.{StationSlot}
 use Rattle.operator_cmds.specs.declared.command.Command.{Command}
 use Rattle.pending_calls.specs.Slot.{Flight, expiry, is_late, move_of, moved_on}
 use Rattle.pending_calls.specs.Tick.{tick}

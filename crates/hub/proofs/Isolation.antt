@@ -26,9 +26,10 @@ use Rattle.hub_events.specs.declared.event.Event.TheVariants.{At, Tick}
 use Rattle.hub_events.specs.declared.event.What.{What}
 use Rattle.hub_events.specs.declared.out.Out.{Out}
 use Rattle.hub_events.specs.declared.out.Said.{Said}
-use Rattle.event_plans.specs.declared.plan.Plan.{Plan}
+use Rattle.plans.specs.declared.plan.Plan.{Plan}
 use Rattle.hub.specs.Effects.{edit_of, effect_outputs, tick_outputs}
-use Rattle.event_plans.specs.Table.{Facts, plan}
+use Rattle.plans.specs.Facts.{Facts}
+use Rattle.event_plans.specs.Table.{plan}
 use Rattle.hub.specs.World.{Setting, World, said_to, outputs_of, facts_at, rows_after, plan_at, plan_outputs, world_outputs, world_step, run_outputs, world_run}
 use Rattle.hub.specs.Others.{settled_by}
 use Rattle.hub.specs.View.{View, granted_to, uses_of, news, more_uses, shown_by, view, own_facts, own_rows_after, own_slots_after, Item, Own, Granted, Use, operator_outputs, operator_step, operator_run_outputs, operator_run, seen_of, seen}

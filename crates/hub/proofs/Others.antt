@@ -7,7 +7,7 @@ use Rattle.hub_rows.specs.declared.change.Edit.{Edit}
 use Rattle.hub_rows.specs.declared.change.Edit.TheVariants.{Stations, Tags, Transactions, Holdings}
 use Rattle.hub_rows.specs.declared.change.StationEdit.TheVariants.{StationAdded}
 use Rattle.hub_rows.specs.declared.change.TagEdit.TheVariants.{TagDropped}
-use Rattle.hub_rows.specs.declared.change.TransactionEdit.TheVariants.{ReadingsAdded, TxStopped}
+use Rattle.hub_rows.specs.declared.change.TransactionEdit.TheVariants.{MeterValuesAdded, TxStopped}
 use Rattle.hub_rows.specs.declared.change.HoldingEdit.TheVariants.{ReservationDropped}
 use Rattle.hub_rows.specs.declared.info.GrantedTag.{GrantedTag}
 use Rattle.hub_rows.specs.declared.use_row.UseRow.{UseRow}
@@ -24,9 +24,9 @@ use Rattle.hub_events.specs.declared.event.Event.TheVariants.{At, Tick}
 use Rattle.hub_events.specs.declared.event.What.{What}
 use Rattle.hub_events.specs.declared.out.Out.{Out}
 use Rattle.hub.specs.Effects.{edit_of}
-use Rattle.event_plans.specs.declared.plan.Effect.{Effect}
-use Rattle.event_plans.specs.declared.plan.Effect.TheVariants as effect
-use Rattle.event_plans.specs.Table.{Facts}
+use Rattle.plans.specs.declared.plan.Effect.{Effect}
+use Rattle.plans.specs.declared.plan.Effect.TheVariants as effect
+use Rattle.plans.specs.Facts.{Facts}
 use Rattle.event_plans.proofs.Fitting.{EffectFits, FitsLookups, connected_in, plan_fits}
 use Rattle.hub.specs.Others.{AddsUse, IsOfAnother, LeavesAlone, edits_tags, is_of_tags}
 use Rattle.hub.specs.View.{Granted, Own, Use, granted_to, uses_of, news, more_uses, shown_by, seen_of}
@@ -41,7 +41,7 @@ use Rattle.hub.proofs.Tells.{AddsTo, edit-adds, tags-tell}
 granted-edit : (a b : List ℕ) (e : Edit) (rows : Rows) → is_of_tags e ≡ false → granted_in a (edit b e rows).tags (edit b e rows).grants ≡ granted_in a rows.tags rows.grants
 granted-edit a b (Tags e) rows none = absurd (true≢false none)
 granted-edit a b (Stations (StationAdded station policy interval)) rows none = refl
-granted-edit a b (Transactions (ReadingsAdded station first readings)) rows none = refl
+granted-edit a b (Transactions (MeterValuesAdded station first values)) rows none = refl
 granted-edit a b (Holdings (ReservationDropped station id)) rows none = refl
 granted-edit a b e rows none = refl
 
@@ -66,7 +66,7 @@ seen-other setting a w (Tick m) other granted uses = absurd other
 
 -- an edit changes the tags and grants, or adds a use, or neither
 either-edit : (a b : List ℕ) (e : Edit) (rows : Rows) → (granted_in a (edit b e rows).tags (edit b e rows).grants ≡ granted_in a rows.tags rows.grants) ⊎ (own (λ r. r.op) a (edit b e rows).uses ≡ own (λ r. r.op) a rows.uses)
-either-edit a b (Transactions (TxStopped station number stop first readings)) rows = inl refl
+either-edit a b (Transactions (TxStopped station number stop first values)) rows = inl refl
 either-edit a b (Stations (StationAdded station policy interval)) rows = inr refl
 either-edit a b (Tags (TagDropped key)) rows = inr refl
 either-edit a b (Holdings (ReservationDropped station id)) rows = inr refl

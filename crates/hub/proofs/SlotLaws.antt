@@ -17,9 +17,9 @@ use Rattle.pending_calls.proofs.Places.{answered_key}
 use Rattle.hub_events.specs.declared.out.Out.{Out}
 use Rattle.hub_events.specs.declared.out.Outcome.{Outcome}
 use Rattle.hub_events.specs.declared.out.Outcome.TheVariants.{Disconnected, Timeout}
-use Rattle.event_plans.specs.declared.plan.Effect.{Effect}
-use Rattle.event_plans.specs.declared.plan.Effect.TheVariants as effect
-use Rattle.event_plans.specs.Effects.{StationSlot}
+use Rattle.plans.specs.declared.plan.Effect.{Effect}
+use Rattle.plans.specs.declared.plan.Effect.TheVariants as effect
+use Rattle.plans.specs.Effects.{StationSlot}
 use Rattle.hub.specs.Effects.{done, sent, moved_outputs, effect_outputs, slots_after, tick_outputs}
 use Rattle.hub.specs.View.{own_slots_after}
 use Rattle.hub.specs.World.{outputs_of}

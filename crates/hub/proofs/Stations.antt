@@ -8,7 +8,7 @@ use Rattle.hub_rows.specs.declared.change.Edit.{Edit}
 use Rattle.hub_rows.specs.declared.change.Edit.TheVariants.{Stations, Tags, Transactions, Holdings}
 use Rattle.hub_rows.specs.declared.change.StationEdit.TheVariants.{StationAdded, StationDropped}
 use Rattle.hub_rows.specs.declared.change.TagEdit.TheVariants.{TagDropped}
-use Rattle.hub_rows.specs.declared.change.TransactionEdit.TheVariants.{ReadingsAdded}
+use Rattle.hub_rows.specs.declared.change.TransactionEdit.TheVariants.{MeterValuesAdded}
 use Rattle.hub_rows.specs.declared.change.HoldingEdit.TheVariants.{ReservationDropped}
 use Rattle.hub_rows.specs.declared.station_row.StationRow.{StationRow}
 use Rattle.hub_rows.specs.Keyed.{by_key, found}
@@ -24,9 +24,9 @@ use Rattle.pending_calls.proofs.OwnSlots.{slot_of-op, slot_of-station}
 use Rattle.pending_calls.proofs.Places.{answered_key, expired_key}
 use Rattle.hub_events.specs.declared.event.Event.{Event}
 use Rattle.hub_events.specs.declared.event.Event.TheVariants.{At, Tick}
-use Rattle.event_plans.specs.declared.plan.Effect.{Effect}
-use Rattle.event_plans.specs.declared.plan.Effect.TheVariants as effect
-use Rattle.event_plans.specs.Effects.{StationSlot}
+use Rattle.plans.specs.declared.plan.Effect.{Effect}
+use Rattle.plans.specs.declared.plan.Effect.TheVariants as effect
+use Rattle.plans.specs.Effects.{StationSlot}
 use Rattle.event_plans.proofs.Fitting.{EffectFits, FitsLookups, connected_in, plan_fits}
 use Rattle.hub.specs.Effects.{edit_of, slots_after}
 use Rattle.hub.specs.WellFormed.{ConnectedAreOnRecord, WellFormed}
@@ -77,7 +77,7 @@ spares k b m l (Stations (StationDropped station)) fits s at is =
     ] refl
 spares k b m l (Stations (StationAdded station policy interval)) fits s at is = refl
 spares k b m l (Tags (TagDropped key)) fits s at is = refl
-spares k b m l (Transactions (ReadingsAdded station first readings)) fits s at is = refl
+spares k b m l (Transactions (MeterValuesAdded station first values)) fits s at is = refl
 spares k b m l (Holdings (ReservationDropped station id)) fits s at is = refl
 spares k b m l e fits s at is = refl
 

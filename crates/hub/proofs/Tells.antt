@@ -18,7 +18,7 @@ use Rattle.hub_rows.specs.declared.change.HoldingEdit.TheVariants.{ReservationDr
 use Rattle.hub_rows.specs.declared.grant_row.GrantRow.{GrantRow}
 use Rattle.hub_rows.specs.declared.info.GrantedTag.{GrantedTag}
 use Rattle.hub_rows.specs.declared.info.Info.{Info}
-use Rattle.hub_rows.specs.declared.reading_row.Reading.{Reading}
+use Rattle.hub_rows.specs.declared.meter_value_row.MeterValue.{MeterValue}
 use Rattle.hub_rows.specs.declared.tag_row.TagRow.{TagRow}
 use Rattle.hub_rows.specs.declared.tx_row.Stop.{Stop}
 use Rattle.hub_rows.specs.declared.tx_row.TxOwnerRow.{TxOwnerRow}
@@ -72,9 +72,9 @@ accepted_is ConcurrentTx is = absurd (cc)
 abbrev pub AddsTo : List ℕ → List ℕ → ℕ → Rows → Option Edit → List UseRow → Type 0
 AddsTo a b m rows e uses = (uses ≡ own (λ r. r.op) a rows.uses) ⊎ ((u : UseRow) × (uses ≡ own (λ r. r.op) a rows.uses ++ u ∷ []) × TellsOfUse a b m rows e u)
 
-module _ (a b : List ℕ) (m : ℕ) (rows : Rows) (good : WellFormedRows rows) (station : List ℕ) (number : ℕ) (stop : Stop) (first : ℕ) (readings : List Reading) (at_m : stop.moment ≡ m) where
+module _ (a b : List ℕ) (m : ℕ) (rows : Rows) (good : WellFormedRows rows) (station : List ℕ) (number : ℕ) (stop : Stop) (first : ℕ) (values : List MeterValue) (at_m : stop.moment ≡ m) where
   abbrev stopping : Edit
-  stopping = Transactions (TxStopped station number stop first readings)
+  stopping = Transactions (TxStopped station number stop first values)
 
   -- the use of a transaction that is on record with its owner
   use-tells : (c : TxOwnerRow) (r : TxRow) → found (λ x. x.op) b (is_owner_of station number) rows.tx_owners ≡ Some c → found (λ x. x.op) b (is_tx station number) rows.transactions ≡ Some r
@@ -96,8 +96,8 @@ module _ (a b : List ℕ) (m : ℕ) (rows : Rows) (good : WellFormedRows rows) (
         tx = r;
         stop = stop;
         first_reading = first;
-        readings = readings;
-        stopped = λ i. Some (Transactions (TxStopped (sym same_station i) (sym same_number i) stop first readings));
+        values = values;
+        stopped = λ i. Some (Transactions (TxStopped (sym same_station i) (sym same_number i) stop first values));
         on_record = found_in (λ x. bytes_eq x.op b && is_tx station number x) rows.transactions r at;
         of_host = same_op;
         is_open = none_is r.stop (subst (λ o. IsOpen (option_map state_of o)) at is_open);
@@ -140,7 +140,7 @@ module _ (a b : List ℕ) (m : ℕ) (rows : Rows) (good : WellFormedRows rows) (
           ] refl grown
 
 pub edit-adds : (k : List ℕ → Bool) (a b : List ℕ) (m : ℕ) (rows : Rows) → WellFormedRows rows → (e : Edit) → FitsLookups k m (lookups_at b rows) e → AddsTo a b m rows (Some e) (own (λ r. r.op) a (edit b e rows).uses)
-edit-adds k a b m rows good (Transactions (TxStopped station number stop first readings)) fits = stop-adds a b m rows good station number stop first readings fits.2 fits.0
+edit-adds k a b m rows good (Transactions (TxStopped station number stop first values)) fits = stop-adds a b m rows good station number stop first values fits.2 fits.0
 edit-adds k a b m rows good (Stations (StationAdded station policy interval)) fits = inl refl
 edit-adds k a b m rows good (Tags (TagDropped key)) fits = inl refl
 edit-adds k a b m rows good (Holdings (ReservationDropped station id)) fits = inl refl

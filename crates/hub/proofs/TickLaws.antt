@@ -9,7 +9,7 @@ use Rattle.pending_calls.specs.Tick.{tick_moves}
 use Rattle.pending_calls.proofs.Ticks.{IsDone, IsStep}
 use Rattle.hub_events.specs.declared.out.Out.{Out}
 use Rattle.hub_events.specs.declared.out.Outcome.TheVariants.{Timeout}
-use Rattle.event_plans.specs.Effects.{StationSlot}
+use Rattle.plans.specs.Effects.{StationSlot}
 use Rattle.hub.specs.Effects.{moved_outputs, tick_outputs}
 
 abbrev timed_out : Moved Command → List Out

@@ -8,9 +8,9 @@ use Rattle.hub_rows.specs.StoreView.{StoreView}
 use Rattle.operator_cmds.specs.declared.command.Command.{Command}
 use Rattle.pending_calls.specs.declared.slots.Slots.{Slots}
 use Rattle.pending_calls.specs.Slots.{all_slots, first_number}
-use Rattle.event_plans.specs.declared.plan.Effect.{Effect}
-use Rattle.hub.specs.declared.fault.Fault.{Fault}
-use Rattle.hub.specs.declared.fault.Fault.TheVariants as fault
+use Rattle.plans.specs.declared.plan.Effect.{Effect}
+use Rattle.hub_events.specs.declared.fault.Fault.{Fault}
+use Rattle.hub_events.specs.declared.fault.Fault.TheVariants as fault
 use Rattle.hub.specs.Effects.{slots_after}
 use Rattle.hub.specs.World.{rows_after}
 

@@ -1,4 +1,3 @@
-pub mod Fault
 pub mod Effects
 pub mod World
 pub mod Commits

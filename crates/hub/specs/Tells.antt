@@ -9,7 +9,7 @@ use Rattle.hub_rows.specs.declared.change.Edit.TheVariants.{Transactions}
 use Rattle.hub_rows.specs.declared.change.TransactionEdit.TheVariants.{TxStopped}
 use Rattle.hub_rows.specs.declared.grant_row.GrantRow.{GrantRow}
 use Rattle.hub_rows.specs.declared.info.GrantedTag.{GrantedTag}
-use Rattle.hub_rows.specs.declared.reading_row.Reading.{Reading}
+use Rattle.hub_rows.specs.declared.meter_value_row.MeterValue.{MeterValue}
 use Rattle.hub_rows.specs.declared.tag_row.TagRow.{TagRow}
 use Rattle.hub_rows.specs.declared.tx_row.Stop.{Stop}
 use Rattle.hub_rows.specs.declared.tx_row.TxRow.{TxRow}
@@ -28,8 +28,8 @@ pub record TellsOfUse (a b : List ℕ) (m : ℕ) (rows : Rows) (e : Option Edit)
   pub tx : TxRow
   pub stop : Stop
   pub first_reading : ℕ
-  pub readings : List Reading
-  pub stopped : e ≡ Some (Transactions (TxStopped tx.station tx.number stop first_reading readings))
+  pub values : List MeterValue
+  pub stopped : e ≡ Some (Transactions (TxStopped tx.station tx.number stop first_reading values))
   pub on_record : Contains rows.transactions tx
   pub of_host : tx.op ≡ b
   pub is_open : tx.stop ≡ None

@@ -14,13 +14,14 @@ use Rattle.hub_events.specs.declared.event.Event.{Event}
 use Rattle.hub_events.specs.declared.event.Event.TheVariants.{At, Tick}
 use Rattle.hub_events.specs.declared.event.What.{What}
 use Rattle.hub_events.specs.declared.out.Out.{Out}
-use Rattle.event_plans.specs.declared.plan.Effect.{Effect}
-use Rattle.event_plans.specs.declared.plan.Effect.TheVariants as effect
-use Rattle.event_plans.specs.declared.plan.Plan.{Plan}
-use Rattle.event_plans.specs.Effects.{StationSlot}
+use Rattle.plans.specs.declared.plan.Effect.{Effect}
+use Rattle.plans.specs.declared.plan.Effect.TheVariants as effect
+use Rattle.plans.specs.declared.plan.Plan.{Plan}
+use Rattle.plans.specs.Effects.{StationSlot}
 use Rattle.hub.specs.GrantedTags.{are_same}
 use Rattle.hub.specs.Effects.{edit_of, tick_outputs}
-use Rattle.event_plans.specs.Table.{Facts, plan}
+use Rattle.plans.specs.Facts.{Facts}
+use Rattle.event_plans.specs.Table.{plan}
 use Rattle.hub.specs.World.{Setting, World, plan_outputs, world_step}
 use Rattle.pending_calls.specs.OwnSlots.{own_slots, slot_in, changed_in}
 use Rattle.pending_calls.specs.Slot.{answered, cut, submitted, with_connection}

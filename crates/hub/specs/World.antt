@@ -11,11 +11,12 @@ use Rattle.hub_events.specs.declared.event.Event.TheVariants.{At, Tick}
 use Rattle.hub_events.specs.declared.event.What.{What}
 use Rattle.hub_events.specs.declared.out.Out.{Out}
 use Rattle.hub_events.specs.declared.out.Said.{Said}
-use Rattle.event_plans.specs.declared.plan.Plan.{Plan}
-use Rattle.event_plans.specs.declared.plan.Effect.{Effect}
-use Rattle.event_plans.specs.Effects.{StationSlot}
+use Rattle.plans.specs.declared.plan.Plan.{Plan}
+use Rattle.plans.specs.declared.plan.Effect.{Effect}
+use Rattle.plans.specs.Effects.{StationSlot}
 use Rattle.hub.specs.Effects.{edit_of, effect_outputs, slots_after, tick_outputs}
-use Rattle.event_plans.specs.Table.{Facts, plan}
+use Rattle.plans.specs.Facts.{Facts}
+use Rattle.event_plans.specs.Table.{plan}
 use Rattle.pending_calls.specs.OwnSlots.{own_slots}
 use Rattle.pending_calls.specs.SlotList.{slot_of}
 use Rattle.pending_calls.specs.Tick.{tick}

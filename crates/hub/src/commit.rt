@@ -3,19 +3,18 @@ ghost use Rattle.std.specs.Prelude.{◌≡◌, Some, ◌+◌, ◌≤◌, ◌++�
 ghost use Rattle.std.specs.Option.{ForSome};
 ghost use Rattle.hub_rows.specs.Changes.{EditFits};
 ghost use Rattle.pending_calls.specs.Slots.{slot_at};
-ghost use Rattle.event_plans.specs.Effects.{IsReady};
+ghost use Rattle.plans.specs.Effects.{IsReady};
 ghost use Rattle.hub.specs.Commits.{Edits, Moves};
 ghost use Rattle.hub.specs.Effects.{edit_of, effect_outputs, room_of};
 ghost use Rattle.hub.specs.World.{said_to};
 
 use crate::call_outputs::{push_ended, push_message, push_moved};
-use crate::fault::Fault;
-use event_plans::{Effect, Plan};
-use hub_events::{OperatorEvent, Out, Said};
+use hub_events::{Fault, OperatorEvent, Out, Said};
 use hub_rows::{Change, Edit, Store};
 use ocpp_types::{Boxed, Listed, Mem, Text};
 use operator_cmds::Command;
 use pending_calls::{NewCall, Slots};
+use plans::{Effect, Plan};
 
 /// How many outputs an effect may add.
 fn room_of(effect: &Effect) -> usize

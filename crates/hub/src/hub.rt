@@ -7,10 +7,9 @@ ghost use Rattle.hub_rows.specs.Readers.{reader_in};
 ghost use Rattle.hub_rows.specs.Rows.{registration_at};
 
 use crate::commit::commit;
-use crate::fault::Fault;
 use crate::tick::expire_all;
 use event_plans::plan_event;
-use hub_events::{Event, OperatorEvent, Out};
+use hub_events::{Event, Fault, OperatorEvent, Out};
 use hub_rows::{Reader, Store, are_operators, is_hosted};
 use ocpp_frame::FrameReader;
 use ocpp_types::{Boxed, Text};

@@ -3,7 +3,6 @@
 
 mod call_outputs;
 mod commit;
-mod fault;
 mod hub;
 mod idle;
 mod in_flight;
@@ -11,8 +10,7 @@ mod stop;
 mod tick;
 pub mod worlds;
 
-pub use fault::Fault;
 pub use hub::{BadOperators, Hub};
-pub use hub_events::{Admin, Event, Listing, Out, Outcome, Row, Said, What};
+pub use hub_events::{Admin, Event, Fault, Listing, Out, Outcome, Row, Said, What};
 pub use idle::is_idle;
 pub use stop::run_and_stop;

@@ -4,9 +4,8 @@ ghost use Rattle.hub_rows.specs.Stops.{IsKept};
 ghost use Rattle.hub.specs.Hub.{hub_view, world, setting};
 ghost use Rattle.hub.specs.World.{world_run};
 
-use crate::fault::Fault;
 use crate::hub::Hub;
-use hub_events::Event;
+use hub_events::{Event, Fault};
 use hub_rows::Reopens;
 use station_calls::VendorHandler;
 use std::alloc::Global;

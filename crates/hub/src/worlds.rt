@@ -16,9 +16,8 @@ ghost use Rattle.hub_events.specs.declared.event.Event.{Event};
 ghost use Rattle.hub_events.specs.declared.event.Event.TheVariants.{At};
 ghost use Rattle.hub_events.specs.declared.event.What.{What};
 
-use crate::fault::Fault;
 use crate::hub::Hub;
-use hub_events::{Event, Out};
+use hub_events::{Event, Fault, Out};
 use hub_rows::Store;
 use station_calls::VendorHandler;
 

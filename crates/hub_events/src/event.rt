@@ -63,11 +63,19 @@ pub enum What {
     DropStation {
         station: Text,
     },
-    /// The operator forgets the history of a station before a moment.
+    /// The operator forgets the history of a station before a moment, with ends no more of it than up to these.
     Forget {
         station: Text,
         until: Moment,
+        ends: Option<HistoryEnds>,
     },
+}
+
+/// How far a station's history goes: up to the reading of a number, and up to the transaction of a number.
+#[derive(Clone, Copy, Drop)]
+pub struct HistoryEnds {
+    pub reading: u32,
+    pub transaction: u32,
 }
 
 /// An operator's edit of its records.

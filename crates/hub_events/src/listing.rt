@@ -3,9 +3,10 @@ ghost use Rattle.std.specs.Prelude.{◌≡◌};
 ghost use Rattle.hub_events.specs.declared.listing.Row.{Row};
 ghost use Rattle.hub_events.specs.declared.listing.Row.TheVariants as shown;
 
+use crate::reading_row::ReadingRow;
 use hub_rows::{
-    ConnectorRow, GrantRow, GrantedTag, LocalTag, ReaderRow, ReadingRow, ReportRow, ReservationRow,
-    StationRow, TagRow, TxRow, UseRow,
+    ConnectorRow, GrantRow, GrantedTag, LocalTag, ReaderRow, ReportRow, ReservationRow, StationRow,
+    TagRow, TxRow, UseRow,
 };
 use ocpp_types::{Moment, Text};
 
@@ -95,7 +96,7 @@ pub enum Row {
     Forgotten {
         station: Text,
         transactions: usize,
-        readings: usize,
+        readings: u128,
     },
 }
 
@@ -161,14 +162,6 @@ impl Shown for TxRow {
 
     fn into_row(self) -> Row {
         Row::Transaction(self)
-    }
-}
-
-impl Shown for ReadingRow {
-    ghost as_row = { shown.Reading };
-
-    fn into_row(self) -> Row {
-        Row::Reading(self)
     }
 }
 

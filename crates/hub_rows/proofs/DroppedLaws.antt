@@ -84,7 +84,8 @@ station-dropped b rows good station none =
       tags = good.tags;
       grants = good.grants;
       transactions = record { sorted = good.transactions.sorted; each = txs-kept b station rows.stations rows.transactions none good.transactions.each };
-      readings = good.readings;
+      meter_values = good.meter_values;
+      apart = good.apart;
       reservations = good-others (λ r. r.op) (λ r. r.station) reservation_key (IsGoodReservation rows.stations) (IsGoodReservation left) b station (λ r. kept r.op r.station) rows.reservations good.reservations;
       local_lists = good-others (λ r. r.op) (λ r. r.station) list_key (IsGoodList rows.stations) (IsGoodList left) b station (λ r other it. record { station = kept r.op r.station other it.station; entries = it.entries }) rows.local_lists good.local_lists;
       reports = good-others (λ r. r.op) (λ r. r.station) report_key (IsGoodReport rows.stations) (IsGoodReport left) b station (λ r. kept r.op r.station) rows.reports good.reports;

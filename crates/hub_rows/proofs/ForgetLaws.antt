@@ -1,22 +1,27 @@
--- What may be forgotten has been stopped.
-use Rattle.std.specs.Prelude.{◌≡◌, ◌&&◌, ℕ, List, [], ◌∷◌, map, find, take, Bool, true, false, cond, not, Option, None, Some, is_none, suc, zero}
-use Rattle.std.proofs.Common.{refl, sym, ◌∙◌, ap, subst}
+-- What a meter value names, and that what may be forgotten has been stopped.
+use Rattle.std.specs.Prelude.{◌≡◌, ◌&&◌, ◌==◌, ℕ, ℤ, pos, negsuc, unsigned_abs, ◌-◌, min, List, [], ◌∷◌, length, map, find, take, Bool, true, false, cond, Option, None, Some, is_none, suc, zero}
+use Rattle.std.proofs.Common.{refl, sym, ◌∙◌, ap, subst, arith}
 use Rattle.std.proofs.lemmas.Bool.{and_parts, true≢false}
+use Rattle.std.proofs.lemmas.Bool.Decides.{Decides-eqb, Decides-int_eq}
 use Rattle.std.proofs.lemmas.Cmp.{tied_itself}
 use Rattle.std.specs.List.{AllByRecursion}
 use Rattle.std.specs.List.Sorted.{IsStrictlySortedBy}
+use Rattle.std.specs.Int.{is_negative}
 use Rattle.std.specs.Option.{option_map}
-use Rattle.std.specs.Ordering.{is_eq}
+use Rattle.std.specs.Ordering.{int_eq, is_eq}
 use Rattle.std.specs.Str.{bytes_eq}
 use Rattle.std.specs.declared.cmp.Ordering.TheVariants.{Less}
+use Rattle.hub_rows.specs.declared.forgettable.TheConstants.{MAX_FORGOTTEN}
+use Rattle.hub_rows.specs.declared.meter_value_row.MeterValueRow.{MeterValueRow}
 use Rattle.hub_rows.specs.declared.tx_row.Stop.{Stop}
 use Rattle.hub_rows.specs.declared.tx_row.TxRow.{TxRow}
 use Rattle.hub_rows.specs.Changes.{IsStopped}
-use Rattle.hub_rows.specs.Forgetting.{but_last, is_before, is_left, is_over, numbers_of}
+use Rattle.hub_rows.specs.Forgetting.{is_before, is_over, named_tx, numbers_of, oldest, old_meter_values, old_rows, old_txs, tx_goes}
 use Rattle.hub_rows.specs.Keyed.{by_key, key_cmp}
 use Rattle.hub_rows.specs.Lookups.{forgettable_in}
+use Rattle.hub_rows.specs.MeterValues.{meter_values_in}
 use Rattle.hub_rows.specs.Rows.{Rows, tx_key}
-use Rattle.hub_rows.specs.Transactions.{is_tx, readings_in, state_of, tx_in, txs_in}
+use Rattle.hub_rows.specs.Transactions.{is_tx, state_of, tx_in, txs_in}
 use Rattle.hub_rows.specs.WellFormed.{WellFormedRows}
 use Rattle.hub_rows.proofs.FilterLaws.{all-passed}
 use Rattle.hub_rows.proofs.ListLaws.{all-weaker, keys_total, same_text, three_parts}
@@ -27,6 +32,18 @@ all-take : {R : Type 0} (P : R → Type 0) (n : ℕ) (rs : List R) → AllByRecu
 all-take P zero rs all = tt
 all-take P (suc n) [] all = tt
 all-take P (suc n) (x ∷ xs) all = (all.0, all-take P n xs all.1)
+
+-- no more are taken than are there
+pub take-least : {R : Type 0} (n : ℕ) (rs : List R) → take (min (length rs) n) rs ≡ take n rs
+take-least zero rs =
+    let none : min (length rs) 0 ≡ 0 = omega arith in
+    ap (λ m. take m rs) none
+take-least (suc n) [] =
+    let none : min 0 (suc n) ≡ 0 = omega arith in
+    ap (λ m. take m []) none
+take-least (suc n) (x ∷ xs) =
+    let less : min (suc (length xs)) (suc n) ≡ suc (min (length xs) n) = omega arith in
+    ap (λ m. take m (x ∷ xs)) less ∙ ap (λ ys. x ∷ ys) (take-least n xs)
 
 all-map : {R S : Type 0} (P : S → Type 0) (f : R → S) (rs : List R) → AllByRecursion (λ r. P (f r)) rs → AllByRecursion P (map f rs)
 all-map P f [] all = tt
@@ -60,20 +77,61 @@ has_stop until None is = absurd (true≢false (sym is))
 has_stop until (Some stop) is = refl
 
 -- the transactions that may go are stopped
-pub forgettable-stopped : (b station : List ℕ) (until : ℕ) (rows : Rows) → WellFormedRows rows → AllByRecursion (λ n. IsStopped (tx_in b station n rows.transactions)) (numbers_of (forgettable_in b station until rows)).transactions
-forgettable-stopped b station until rows good =
+old-stopped : (b station : List ℕ) (until : ℕ) (rows : Rows) → WellFormedRows rows → AllByRecursion (λ t. IsStopped (tx_in b station t.number rows.transactions)) (old_txs until (txs_in b station rows.transactions) (meter_values_in b station None rows.meter_values))
+old-stopped b station until rows good =
     let txs = rows.transactions in
-    let gone = map (λ r. r.number) (forgettable_in b station until rows).readings in
-    let left : TxRow → Bool = λ t. is_over until t && not (is_left (readings_in b station None rows.readings) gone t) in
+    let mine = txs_in b station txs in
+    let values = meter_values_in b station None rows.meter_values in
     let Here : TxRow → Type 0 = λ t. (find (has_key_of t) txs ≡ Some t) × (bytes_eq t.op b && bytes_eq t.station station ≡ true) in
-    let here : AllByRecursion Here (txs_in b station txs) = all-passed (λ t. find (has_key_of t) txs ≡ Some t) (λ t. bytes_eq t.op b && bytes_eq t.station station) txs (each-found tx_key has_key_of by_its_key txs good.transactions.sorted) in
-    all-map (λ n. IsStopped (tx_in b station n txs)) (λ t. t.number) _
-    (all-take (λ t. IsStopped (tx_in b station t.number txs)) _ _
-    (all-weaker (λ t. Here t × (left t ≡ true)) (λ t. IsStopped (tx_in b station t.number txs))
+    let here : AllByRecursion Here mine = all-passed (λ t. find (has_key_of t) txs ≡ Some t) (λ t. bytes_eq t.op b && bytes_eq t.station station) txs (each-found tx_key has_key_of by_its_key txs good.transactions.sorted) in
+    all-weaker (λ t. Here t × (tx_goes until values t ≡ true)) (λ t. IsStopped (tx_in b station t.number txs))
     (λ t it.
     let of_station = and_parts (bytes_eq t.op b) (bytes_eq t.station station) it.0.1 in
     let over = and_parts (is_over until t) _ it.1 in
     subst (λ o. IsStopped (tx_in o station t.number txs)) (same_text t.op b of_station.0)
     (subst (λ s. IsStopped (tx_in t.op s t.number txs)) (same_text t.station station of_station.1)
-    (subst (λ o. IsStopped (option_map state_of o)) (sym it.0.0) (has_stop until t.stop over.0)))) _
-    (all-passed Here left (but_last (txs_in b station txs)) (all-take Here _ (txs_in b station txs) here))))
+    (subst (λ o. IsStopped (option_map state_of o)) (sym it.0.0) (has_stop until t.stop over.0)))) (old_txs until mine values)
+    (all-passed Here (tx_goes until values) (oldest mine) (all-take Here MAX_FORGOTTEN (take (length mine - 1) mine) (all-take Here (length mine - 1) mine here)))
+
+pub forgettable-stopped : (b station : List ℕ) (until : ℕ) (rows : Rows) → WellFormedRows rows → AllByRecursion (λ n. IsStopped (tx_in b station n rows.transactions)) (numbers_of (forgettable_in b station until rows)).transactions
+forgettable-stopped b station until rows good = go (old_meter_values until (txs_in b station rows.transactions) values)
+  where
+    values : List MeterValueRow
+    values = meter_values_in b station None rows.meter_values
+
+    go : (gone : List MeterValueRow) → AllByRecursion (λ n. IsStopped (tx_in b station n rows.transactions)) (numbers_of (old_rows until (txs_in b station rows.transactions) values gone)).transactions
+    go [] = all-map (λ n. IsStopped (tx_in b station n rows.transactions)) (λ t. t.number) (old_txs until (txs_in b station rows.transactions) values) (old-stopped b station until rows good)
+    go (v ∷ vs) = tt
+
+-- ---- what a reading names
+
+-- a number as it is sent names the row with that number
+sent-number : (n m : ℕ) → int_eq (pos n) (pos m) ≡ (m == n)
+sent-number n m = both-or-none (int_eq (pos n) (pos m)) (m == n)
+    (λ e. (Decides-eqb m n).1 (sym (same-pos n m ((Decides-int_eq (pos n) (pos m)).0 e))))
+    (λ e. (Decides-int_eq (pos n) (pos m)).1 (ap pos (sym ((Decides-eqb m n).0 e))))
+  where
+    same-pos : (n m : ℕ) → pos n ≡ pos m → n ≡ m
+    same-pos n m e = cc
+
+    both-or-none : (a b : Bool) → (a ≡ true → b ≡ true) → (b ≡ true → a ≡ true) → a ≡ b
+    both-or-none true b to from = sym (to refl)
+    both-or-none false true to from = from refl
+    both-or-none false false to from = refl
+
+named-number : (n : ℕ) (txs : List TxRow) → named_tx (Some (pos n)) txs ≡ find (λ t. t.number == n) txs
+named-number n [] = refl
+named-number n (t ∷ txs) = λ i. cond (sent-number n t.number i) (Some t) (named-number n txs i)
+
+not-negative : (n : ℕ) → is_negative (pos n) ≡ false
+not-negative n = grind arith
+
+pub named-some : (id : ℤ) (txs : List TxRow) → is_negative id ≡ false → named_tx (Some id) txs ≡ find (λ t. t.number == unsigned_abs id) txs
+named-some (pos n) txs sign = named-number n txs
+named-some (negsuc n) txs sign = absurd (true≢false sign)
+
+-- a negative number names none
+pub named-none : (id : ℤ) (txs : List TxRow) → is_negative id ≡ true → named_tx (Some id) txs ≡ None
+named-none (pos n) txs sign = absurd (true≢false (sym sign ∙ not-negative n))
+named-none (negsuc n) [] sign = refl
+named-none (negsuc n) (t ∷ txs) sign = named-none (negsuc n) txs sign

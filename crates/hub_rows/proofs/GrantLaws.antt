@@ -13,7 +13,7 @@ use Rattle.std.proofs.lemmas.Cmp.{tied_itself, nat_list_cmp_total}
 use Rattle.hub_rows.specs.declared.change.Edit.{Edit}
 use Rattle.hub_rows.specs.declared.change.Edit.TheVariants.{Stations, Tags, Transactions, Holdings}
 use Rattle.hub_rows.specs.declared.change.StationEdit.TheVariants.{StationAdded}
-use Rattle.hub_rows.specs.declared.change.TransactionEdit.TheVariants.{ReadingsAdded}
+use Rattle.hub_rows.specs.declared.change.TransactionEdit.TheVariants.{MeterValuesAdded}
 use Rattle.hub_rows.specs.declared.change.HoldingEdit.TheVariants.{ReservationDropped}
 use Rattle.hub_rows.specs.declared.change.TagEdit.TheVariants.{TagPut, TagDropped, GrantPut, GrantDropped}
 use Rattle.hub_rows.specs.declared.grant_row.GrantRow.{GrantRow}
@@ -92,7 +92,7 @@ granted-edit a (Tags (GrantPut key to until)) rows good fits =
 granted-edit a (Tags (GrantDropped key to)) rows good fits =
     granted-same a rows good rows.tags (edit a (Tags (GrantDropped key to)) rows).grants (grants_to-without a (is_grant key to) rows.grants (receivers rows good)) (λ b differ. refl)
 granted-edit a (Stations (StationAdded station policy interval)) rows good fits = refl
-granted-edit a (Transactions (ReadingsAdded station first readings)) rows good fits = refl
+granted-edit a (Transactions (MeterValuesAdded station first values)) rows good fits = refl
 granted-edit a (Holdings (ReservationDropped station id)) rows good fits = refl
 granted-edit a e rows good fits = refl
 

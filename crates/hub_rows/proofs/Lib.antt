@@ -9,9 +9,9 @@ pub mod OwnLaws
 pub mod OwnerLaws
 pub mod UseLaws
 pub mod DroppedLaws
+pub mod ApartLaws
 pub mod WellFormedLaws
 pub mod NameLaws
 pub mod ForgetLaws
 pub mod NumberLaws
-pub mod LastReadingLaws
 pub mod NameOrder

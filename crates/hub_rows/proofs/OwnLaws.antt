@@ -1,5 +1,5 @@
 -- What a change does to the rows of each operator.
-use Rattle.std.specs.Prelude.{◌≡◌, ◌≢◌, ℕ, max, ℤ, pos, negsuc, ◌+◌, List, [], ◌∷◌, Option, None, Some, true, false, cond, ◌≤◌, ◌++◌, nat_le, nat_lt, ◌&&◌, ◌==◌, not, is_none, filter, map}
+use Rattle.std.specs.Prelude.{◌≡◌, ◌≢◌, ℕ, max, ℤ, pos, negsuc, ◌+◌, ◌-◌, List, [], ◌∷◌, length, Option, None, Some, true, false, cond, ◌≤◌, ◌++◌, nat_le, nat_lt, ◌&&◌, ◌==◌, not, is_none, filter, map}
 use Rattle.std.proofs.Common.{refl, sym, subst, ap, ◌∙◌, arith}
 use Rattle.std.proofs.lemmas.Int.{ints}
 use Rattle.std.proofs.lemmas.Bool.Decides.{nat_tests}
@@ -10,54 +10,57 @@ use Rattle.hub_rows.specs.declared.change.Edit.{Edit}
 use Rattle.hub_rows.specs.declared.change.Edit.TheVariants.{Stations, Tags, Transactions, Holdings}
 use Rattle.hub_rows.specs.declared.change.StationEdit.TheVariants.{StationAdded, BootSeen, PolicySet, ReaderSet, StationDropped, ConnectorSeen, ReportSeen}
 use Rattle.hub_rows.specs.declared.change.TagEdit.TheVariants.{TagPut, TagDropped, GrantPut, GrantDropped}
-use Rattle.hub_rows.specs.declared.change.TransactionEdit.TheVariants.{TxStarted, TxStopped, ReadingsAdded, Forgotten}
+use Rattle.hub_rows.specs.declared.change.TransactionEdit.TheVariants.{TxStarted, TxStopped, MeterValuesAdded, Forgotten}
 use Rattle.hub_rows.specs.declared.change.HoldingEdit.TheVariants.{ReservationPut, ReservationDropped, ListSet}
-use Rattle.hub_rows.specs.Rows.{Rows, station_rest, connector_rest, tag_rest, grant_rest, tx_rest, reading_rest, reservation_rest, list_rest, report_rest, reader_rest, tx_owner_rest, use_rest, use_key}
+use Rattle.hub_rows.specs.Rows.{Rows, station_rest, connector_rest, tag_rest, grant_rest, tx_rest, meter_value_rest, reservation_rest, list_rest, report_rest, reader_rest, tx_owner_rest, use_rest, use_key}
 use Rattle.hub_rows.specs.declared.tx_row.TxRow.{TxRow}
 use Rattle.hub_rows.specs.declared.tx_row.TxKey.{TxKey}
-use Rattle.hub_rows.specs.declared.reading_row.Reading.{Reading}
-use Rattle.hub_rows.specs.declared.reading_row.ReadingRow.{ReadingRow}
+use Rattle.hub_rows.specs.declared.meter_value_row.MeterValue.{MeterValue}
+use Rattle.hub_rows.specs.declared.meter_value_row.MeterValueRow.{MeterValueRow}
 use Rattle.hub_rows.specs.declared.reservation_row.ReservationRow.{ReservationRow}
 use Rattle.ocpp_types.specs.declared.authorization_status.AuthorizationStatus.{AuthorizationStatus}
 use Rattle.ocpp_types.specs.declared.authorization_status.AuthorizationStatus.TheVariants.{Accepted, Blocked, Expired, Invalid, ConcurrentTx}
 use Rattle.hub_rows.specs.Keyed.{by_key, found, put_all, own, those, greatest}
-use Rattle.hub_rows.specs.WellFormed.{WellFormedRows}
-use Rattle.hub_rows.specs.Changes.{edit, new_station, with_boot, with_policy, connector_row, tag_row, grant_row, tx_row, with_stop, with_readings, reservation_row, list_row, report_row, reader_row}
+use Rattle.hub_rows.specs.WellFormed.{IsGoodMeterValue, WellFormedRows}
+use Rattle.hub_rows.specs.Changes.{edit, new_station, with_boot, with_policy, connector_row, tag_row, grant_row, tx_row, with_stop, with_meter_values, reservation_row, list_row, report_row, reader_row}
 use Rattle.hub_rows.specs.Forgetting.{forgettable, is_one_of}
 use Rattle.hub_rows.specs.Grants.{granted_in, is_grant}
-use Rattle.hub_rows.specs.Own.{own_rows, own_edit, own_named, own_readings, own_shifted, own_with_owner}
+use Rattle.hub_rows.specs.Own.{own_rows, own_edit, own_named, own_meter_values, own_shifted, own_with_owner}
 use Rattle.hub_rows.specs.declared.use_row.UseRow.{UseRow}
+use Rattle.hub_rows.specs.MeterValues.{is_sent_with, is_meter_value, meter_values_in, meter_value_rows, number_of_last, numbers_taken}
 use Rattle.hub_rows.specs.Readers.{chosen}
 use Rattle.hub_rows.specs.Uses.{with_owner, settled_use, with_use, use_by, uses_settled, if_of, owner_in, last_use_in, use_row}
 use Rattle.hub_rows.proofs.WellFormedLaws.{IsSettled, is_settled}
 use Rattle.hub_rows.specs.Reservations.{is_named, is_reservation, shifted, without_named}
-use Rattle.hub_rows.specs.Transactions.{last_of_all, is_accepted, is_left_out, is_use, is_tx, is_sent_with, is_reading, is_used_in, readings_in, reading_rows}
-use Rattle.hub_rows.specs.Lookups.{lookups_at, own_is_accepted, own_is_left_out, own_use, own_start, own_tx, own_state, own_is_sent_with, own_last, own_reading, own_registration, own_lookups}
+use Rattle.hub_rows.specs.Transactions.{last_of_all, is_accepted, is_left_out, is_use, is_tx, is_used_in}
+use Rattle.hub_rows.specs.Lookups.{lookups_at, own_is_accepted, own_is_left_out, own_use, own_start, own_tx, own_state, own_is_sent_with, own_last, own_last_reading, own_meter_value, own_registration, own_lookups}
 use Rattle.hub_rows.proofs.GrantLaws.{granted_tag-own}
 use Rattle.hub_rows.proofs.TagLaws.{same_tag}
 use Rattle.std.proofs.lemmas.Bool.{true≢false}
 use Rattle.std.proofs.lemmas.List.{append-nil}
 use Rattle.std.specs.List.Sorted.{IsStrictlySortedBy}
 use Rattle.std.specs.declared.cmp.Ordering.TheVariants.{Greater}
-use Rattle.hub_rows.proofs.ListLaws.{all-weaker, number_after, put-last, under_greatest, same_text, text_itself, own-put, own-put_other, own-without, own-without_other, own-changed, own-changed_other, own-put_all, own-put_all_other, found-own, those-own, any_of-own, and-true}
+use Rattle.hub_rows.proofs.ListLaws.{all-filter, all-weaker, number_after, put-last, under_greatest, same_text, text_itself, own-put, own-put_other, own-without, own-without_other, own-changed, own-changed_other, own-put_all, own-put_all_other, found-own, those-own, any_of-own, and-true}
 
--- the readings of operator b are its own
-rows_of : (b station : List ℕ) (first : ℕ) (readings : List Reading) (P : List ℕ → Type 0) → P b → AllByRecursion (λ r. P r.op) (reading_rows b station first readings)
+-- the meter values of operator b are its own
+rows_of : (b station : List ℕ) (first : ℕ) (values : List MeterValue) (P : List ℕ → Type 0) → P b → AllByRecursion (λ r. P r.op) (meter_value_rows b station first values)
 rows_of b station first [] P here = tt
-rows_of b station first (r ∷ rs) P here = (here, rows_of b station (first + 1) rs P here)
+rows_of b station first (v ∷ vs) P here = (here, rows_of b station (first + numbers_taken v) vs P here)
 
 -- its own machine numbers them alike
-same_readings : (a station : List ℕ) (first : ℕ) (readings : List Reading) → reading_rows a station first readings ≡ own_readings a station first readings
-same_readings a station first [] = refl
-same_readings a station first (r ∷ rs) = ap (λ rows. record { op = a; station = station; number = first; reading = r } ∷ rows) (same_readings a station (first + 1) rs)
+same_meter_values : (a station : List ℕ) (first : ℕ) (values : List MeterValue) → meter_value_rows a station first values ≡ own_meter_values a station first values
+same_meter_values a station first [] = refl
+same_meter_values a station first (v ∷ vs) =
+    let next : first + numbers_taken v ≡ (first + 1) + (length v.sampled - 1) = omega arith in
+    ap (λ rows. record { op = a; station = station; first = first; value = v } ∷ rows) (ap (λ n. meter_value_rows a station n vs) next ∙ same_meter_values a station ((first + 1) + (length v.sampled - 1)) vs)
 
-own-readings : (a station : List ℕ) (first : ℕ) (readings : List Reading) (rows : Rows) → WellFormedRows rows → own (λ r. r.op) a (with_readings a station first readings rows.readings) ≡ put_all (by_key reading_rest) (own_readings a station first readings) (own (λ r. r.op) a rows.readings)
-own-readings a station first readings rows good =
-    own-put_all (λ r. r.op) reading_rest a (reading_rows a station first readings) rows.readings good.readings.sorted (rows_of a station first readings (λ o. o ≡ a) refl)
-    ∙ ap (λ more. put_all (by_key reading_rest) more (own (λ r. r.op) a rows.readings)) (same_readings a station first readings)
+own-values : (a station : List ℕ) (first : ℕ) (values : List MeterValue) (rows : Rows) → WellFormedRows rows → own (λ r. r.op) a (with_meter_values a station first values rows.meter_values) ≡ put_all (by_key meter_value_rest) (own_meter_values a station first values) (own (λ r. r.op) a rows.meter_values)
+own-values a station first values rows good =
+    own-put_all (λ r. r.op) meter_value_rest a (meter_value_rows a station first values) rows.meter_values good.meter_values.sorted (rows_of a station first values (λ o. o ≡ a) refl)
+    ∙ ap (λ more. put_all (by_key meter_value_rest) more (own (λ r. r.op) a rows.meter_values)) (same_meter_values a station first values)
 
-own-readings_other : (a b station : List ℕ) (first : ℕ) (readings : List Reading) (rows : Rows) → b ≢ a → own (λ r. r.op) a (with_readings b station first readings rows.readings) ≡ own (λ r. r.op) a rows.readings
-own-readings_other a b station first readings rows other = own-put_all_other (λ r. r.op) reading_rest a (reading_rows b station first readings) rows.readings (rows_of b station first readings (λ o. o ≢ a) other)
+own-values_other : (a b station : List ℕ) (first : ℕ) (values : List MeterValue) (rows : Rows) → b ≢ a → own (λ r. r.op) a (with_meter_values b station first values rows.meter_values) ≡ own (λ r. r.op) a rows.meter_values
+own-values_other a b station first values rows other = own-put_all_other (λ r. r.op) meter_value_rest a (meter_value_rows b station first values) rows.meter_values (rows_of b station first values (λ o. o ≢ a) other)
 
 -- the reservation that a start names is looked for alike
 same_shifted : (id : ℤ) → shifted id ≡ own_shifted id
@@ -114,12 +117,12 @@ own_rows-edit a (Tags (GrantDropped key to)) rows good =
     λ i. record (own_rows a rows) { grants = own-without (λ r. r.op) a (is_grant key to) rows.grants i }
 own_rows-edit a (Transactions (TxStarted station number start owner)) rows good =
     λ i. record (own_rows a rows) { transactions = own-put (λ r. r.op) tx_rest a (tx_row a station number start) rows.transactions good.transactions.sorted refl i; reservations = own-named a station start.reservation rows.reservations i; tx_owners = own-with_owner a station number owner rows good i }
-own_rows-edit a (Transactions (TxStopped station number stop first readings)) rows good =
-    λ i. record (own_rows a rows) { transactions = own-changed (λ r. r.op) a (is_tx station number) (with_stop stop) rows.transactions (λ r. refl) i; readings = own-readings a station first readings rows good i; uses = own-with_use a (settled_use a station number stop rows) rows.uses (is_settled a station number stop rows good) i }
-own_rows-edit a (Transactions (ReadingsAdded station first readings)) rows good =
-    λ i. record (own_rows a rows) { readings = own-readings a station first readings rows good i }
+own_rows-edit a (Transactions (TxStopped station number stop first values)) rows good =
+    λ i. record (own_rows a rows) { transactions = own-changed (λ r. r.op) a (is_tx station number) (with_stop stop) rows.transactions (λ r. refl) i; meter_values = own-values a station first values rows good i; uses = own-with_use a (settled_use a station number stop rows) rows.uses (is_settled a station number stop rows good) i }
+own_rows-edit a (Transactions (MeterValuesAdded station first values)) rows good =
+    λ i. record (own_rows a rows) { meter_values = own-values a station first values rows good i }
 own_rows-edit a (Transactions (Forgotten station gone)) rows good =
-    λ i. record (own_rows a rows) { transactions = own-without (λ r. r.op) a (is_one_of (λ r. r.station) (λ r. r.number) station gone.transactions) rows.transactions i; readings = own-without (λ r. r.op) a (is_one_of (λ r. r.station) (λ r. r.number) station gone.readings) rows.readings i; tx_owners = own-without (λ r. r.op) a (is_one_of (λ r. r.station) (λ r. r.number) station gone.transactions) rows.tx_owners i }
+    λ i. record (own_rows a rows) { transactions = own-without (λ r. r.op) a (is_one_of (λ r. r.station) (λ r. r.number) station gone.transactions) rows.transactions i; meter_values = own-without (λ r. r.op) a (is_one_of (λ r. r.station) (λ r. r.first) station gone.meter_values) rows.meter_values i; tx_owners = own-without (λ r. r.op) a (is_one_of (λ r. r.station) (λ r. r.number) station gone.transactions) rows.tx_owners i }
 own_rows-edit a (Holdings (ReservationPut station id reservation)) rows good =
     λ i. record (own_rows a rows) { reservations = own-put (λ r. r.op) reservation_rest a (reservation_row a station id reservation) rows.reservations good.reservations.sorted refl i }
 own_rows-edit a (Holdings (ReservationDropped station id)) rows good =
@@ -160,12 +163,12 @@ own_rows-edit_other a b (Tags (GrantDropped key to)) rows other =
     λ i. record (own_rows a rows) { grants = own-without_other (λ r. r.op) a b (is_grant key to) rows.grants other i }
 own_rows-edit_other a b (Transactions (TxStarted station number start owner)) rows other =
     λ i. record (own_rows a rows) { transactions = own-put_other (λ r. r.op) tx_rest a (tx_row b station number start) rows.transactions other i; reservations = own-without_other (λ r. r.op) a b (is_named station start.reservation) rows.reservations other i; tx_owners = own-with_owner_other a b station number owner rows other i }
-own_rows-edit_other a b (Transactions (TxStopped station number stop first readings)) rows other =
-    λ i. record (own_rows a rows) { transactions = own-changed_other (λ r. r.op) a b (is_tx station number) (with_stop stop) rows.transactions (λ r. refl) other i; readings = own-readings_other a b station first readings rows other i; uses = own (λ r. r.op) a (edit b (Transactions (TxStopped station number stop first readings)) rows).uses }
-own_rows-edit_other a b (Transactions (ReadingsAdded station first readings)) rows other =
-    λ i. record (own_rows a rows) { readings = own-readings_other a b station first readings rows other i }
+own_rows-edit_other a b (Transactions (TxStopped station number stop first values)) rows other =
+    λ i. record (own_rows a rows) { transactions = own-changed_other (λ r. r.op) a b (is_tx station number) (with_stop stop) rows.transactions (λ r. refl) other i; meter_values = own-values_other a b station first values rows other i; uses = own (λ r. r.op) a (edit b (Transactions (TxStopped station number stop first values)) rows).uses }
+own_rows-edit_other a b (Transactions (MeterValuesAdded station first values)) rows other =
+    λ i. record (own_rows a rows) { meter_values = own-values_other a b station first values rows other i }
 own_rows-edit_other a b (Transactions (Forgotten station gone)) rows other =
-    λ i. record (own_rows a rows) { transactions = own-without_other (λ r. r.op) a b (is_one_of (λ r. r.station) (λ r. r.number) station gone.transactions) rows.transactions other i; readings = own-without_other (λ r. r.op) a b (is_one_of (λ r. r.station) (λ r. r.number) station gone.readings) rows.readings other i; tx_owners = own-without_other (λ r. r.op) a b (is_one_of (λ r. r.station) (λ r. r.number) station gone.transactions) rows.tx_owners other i }
+    λ i. record (own_rows a rows) { transactions = own-without_other (λ r. r.op) a b (is_one_of (λ r. r.station) (λ r. r.number) station gone.transactions) rows.transactions other i; meter_values = own-without_other (λ r. r.op) a b (is_one_of (λ r. r.station) (λ r. r.first) station gone.meter_values) rows.meter_values other i; tx_owners = own-without_other (λ r. r.op) a b (is_one_of (λ r. r.station) (λ r. r.number) station gone.transactions) rows.tx_owners other i }
 own_rows-edit_other a b (Holdings (ReservationPut station id reservation)) rows other =
     λ i. record (own_rows a rows) { reservations = own-put_other (λ r. r.op) reservation_rest a (reservation_row b station id reservation) rows.reservations other i }
 own_rows-edit_other a b (Holdings (ReservationDropped station id)) rows other =
@@ -197,7 +200,7 @@ own-next_use r uses sorted next =
 
 -- an owner's uses gain what an edit of another settles
 pub uses-edit : (a b : List ℕ) (e : Edit) (rows : Rows) → WellFormedRows rows → own (λ r. r.op) a (edit b e rows).uses ≡ own (λ r. r.op) a rows.uses ++ uses_settled a b e rows
-uses-edit a b (Transactions (TxStopped station number stop first readings)) rows good = go (owner_in b station number rows.tx_owners) (found (λ r. r.op) b (is_tx station number) rows.transactions)
+uses-edit a b (Transactions (TxStopped station number stop first values)) rows good = go (owner_in b station number rows.tx_owners) (found (λ r. r.op) b (is_tx station number) rows.transactions)
   where
     uses : List UseRow
     uses = rows.uses
@@ -245,25 +248,32 @@ same_sent_with None transaction = refl
 same_sent_with (Some n) None = refl
 same_sent_with (Some n) (Some transaction) = refl
 
-same_reading : (station : List ℕ) (n : Option ℕ) (r : ReadingRow) → is_reading station n r ≡ own_reading station n r
-same_reading station n r = ap (λ t. bytes_eq r.station station && t) (same_sent_with n r.reading.transaction)
+same_meter_value : (station : List ℕ) (n : Option ℕ) (r : MeterValueRow) → is_meter_value station n r ≡ own_meter_value station n r
+same_meter_value station n r = ap (λ t. bytes_eq r.station station && t) (same_sent_with n r.value.transaction)
 
 -- the last number is found alike
 same_last : (ns : List ℕ) → greatest ns ≡ own_last ns
 same_last [] = refl
 same_last (n ∷ ns) = ap (λ last. max n last) (same_last ns) ∙ grind (arith, nat_tests)
 
+same_last_reading : (rows : List MeterValueRow) → AllByRecursion IsGoodMeterValue rows → number_of_last rows ≡ own_last_reading rows
+same_last_reading [] all = refl
+same_last_reading (r ∷ []) all = let from = all.0.0 in omega (arith, from)
+same_last_reading (r ∷ s ∷ rs) all = same_last_reading (s ∷ rs) all.1
+
 -- what an operator looks up is what it finds among its own rows and what is granted to it
 pub same_lookups : (a : List ℕ) (rows : Rows) → WellFormedRows rows → lookups_at a rows ≡ own_lookups a (own_rows a rows) (granted_in a rows.tags rows.grants)
 same_lookups a rows good =
     let txs : List TxRow = own (λ r. r.op) a rows.transactions in
-    let readings : List ReadingRow = own (λ r. r.op) a rows.readings in
+    let values : List MeterValueRow = own (λ r. r.op) a rows.meter_values in
     let used : (key : List ℕ) (except : Option TxKey) → is_used_in a key except rows.transactions ≡ list_any (own_use key except) txs
     = (λ key except. any_of-own (λ r. r.op) a (is_use key except) rows.transactions ∙ (λ i. list_any (λ r. same_use key except r i) txs)) in
-    let those_readings : (station : List ℕ) (n : Option ℕ) → readings_in a station n rows.readings ≡ filter (own_reading station n) readings
-    = (λ station n. those-own (λ r. r.op) a (is_reading station n) rows.readings ∙ (λ i. filter (λ r. same_reading station n r i) readings)) in
-    let all_readings : (station : List ℕ) → readings_in a station None rows.readings ≡ filter (λ r. bytes_eq r.station station) readings
-    = (λ station. those-own (λ r. r.op) a (is_reading station None) rows.readings ∙ (λ i. filter (λ r. and-true (bytes_eq r.station station) i) readings)) in
+    let those_values : (station : List ℕ) (n : Option ℕ) → meter_values_in a station n rows.meter_values ≡ filter (own_meter_value station n) values
+    = (λ station n. those-own (λ r. r.op) a (is_meter_value station n) rows.meter_values ∙ (λ i. filter (λ r. same_meter_value station n r i) values)) in
+    let all_values : (station : List ℕ) → meter_values_in a station None rows.meter_values ≡ filter (λ r. bytes_eq r.station station) values
+    = (λ station. those-own (λ r. r.op) a (is_meter_value station None) rows.meter_values ∙ (λ i. filter (λ r. and-true (bytes_eq r.station station) i) values)) in
+    let good_values : (station : List ℕ) → AllByRecursion IsGoodMeterValue (filter (λ r. bytes_eq r.station station) values)
+    = (λ station. all-filter IsGoodMeterValue (λ r. bytes_eq r.station station) values (all-filter IsGoodMeterValue (λ r. bytes_eq r.op a) rows.meter_values good.meter_values.each)) in
     λ i. record {
       op = a;
       registration = λ station. option_map own_registration (found-own (λ r. r.op) a (λ r. bytes_eq r.station station) rows.stations i);
@@ -275,7 +285,7 @@ same_lookups a rows good =
       tx = λ station number. option_map own_state (found-own (λ r. r.op) a (own_tx station number) rows.transactions i);
       has_open = λ station. any_of-own (λ r. r.op) a (λ r. bytes_eq r.station station && is_none r.stop) rows.transactions i;
       last_tx = λ station. (ap (λ rs. greatest (map (λ r. r.number) rs)) (those-own (λ r. r.op) a (λ r. bytes_eq r.station station) rows.transactions) ∙ same_last (map (λ r. r.number) (filter (λ r. bytes_eq r.station station) txs))) i;
-      last_reading = λ station. (ap (λ rs. greatest (map (λ r. r.number) rs)) (all_readings station) ∙ same_last (map (λ r. r.number) (filter (λ r. bytes_eq r.station station) readings))) i;
+      last_reading = λ station. (ap number_of_last (all_values station) ∙ same_last_reading (filter (λ r. bytes_eq r.station station) values) (good_values station)) i;
       reserved_until = λ station id. option_map (λ r. r.reservation.expiry) (found-own (λ r. r.op) a (is_reservation station id) rows.reservations i);
       local_list = λ station. option_map (λ r. r.list) (found-own (λ r. r.op) a (λ r. bytes_eq r.station station) rows.local_lists i);
       stations = own-those (λ r. r.op) a rows.stations i;
@@ -285,9 +295,9 @@ same_lookups a rows good =
       connectors = λ station. those-own (λ r. r.op) a (λ r. bytes_eq r.station station) rows.connectors i;
       txs = λ station first. those-own (λ r. r.op) a (λ r. bytes_eq r.station station && nat_le first r.number) rows.transactions i;
       open_txs = those-own (λ r. r.op) a (λ r. is_none r.stop) rows.transactions i;
-      readings = λ station n. those_readings station n i;
+      meter_values = λ station n. those_values station n i;
       reservations = λ station. those-own (λ r. r.op) a (λ r. bytes_eq r.station station) rows.reservations i;
-      forgettable = λ station until. forgettable until (those-own (λ r. r.op) a (λ r. bytes_eq r.station station) rows.transactions i) (all_readings station i);
+      forgettable = λ station until. forgettable until (those-own (λ r. r.op) a (λ r. bytes_eq r.station station) rows.transactions i) (all_values station i);
       reports = λ station. those-own (λ r. r.op) a (λ r. bytes_eq r.station station) rows.reports i;
       uses = own-those (λ r. r.op) a rows.uses i;
       reader = λ station. chosen (found-own (λ r. r.op) a (λ r. bytes_eq r.station station) rows.readers i);

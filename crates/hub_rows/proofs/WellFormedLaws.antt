@@ -1,5 +1,5 @@
 -- What a change leaves of well formed rows.
-use Rattle.std.specs.Prelude.{◌≡◌, ◌≢◌, nat_lt, ℕ, ◌+◌, ◌<◌, ◌≤◌, List, [], ◌∷◌, length, Bool, ◌&&◌, cond, not, true, false, filter, Option, None, Some, is_some, IsSome, IfSome}
+use Rattle.std.specs.Prelude.{◌≡◌, ◌≢◌, nat_lt, ℕ, ◌+◌, ◌<◌, ◌≤◌, List, [], ◌∷◌, Bool, ◌&&◌, cond, not, true, false, filter, Option, None, Some, is_some, IsSome, IfSome}
 use Rattle.std.proofs.Common.{refl, sym, ◌∙◌, ap, subst, arith, ⊎_elim}
 use Rattle.std.specs.List.{AllByRecursion}
 use Rattle.std.specs.List.Sorted.{IsStrictlySortedBy}
@@ -13,7 +13,7 @@ use Rattle.hub_rows.specs.declared.change.Edit.{Edit}
 use Rattle.hub_rows.specs.declared.change.Edit.TheVariants.{Stations, Tags, Transactions, Holdings}
 use Rattle.hub_rows.specs.declared.change.StationEdit.TheVariants.{StationAdded, BootSeen, PolicySet, ReaderSet, StationDropped, ConnectorSeen, ReportSeen}
 use Rattle.hub_rows.specs.declared.change.TagEdit.TheVariants.{TagPut, TagDropped, GrantPut, GrantDropped}
-use Rattle.hub_rows.specs.declared.change.TransactionEdit.TheVariants.{TxStarted, TxStopped, ReadingsAdded, Forgotten}
+use Rattle.hub_rows.specs.declared.change.TransactionEdit.TheVariants.{TxStarted, TxStopped, MeterValuesAdded, Forgotten}
 use Rattle.hub_rows.specs.declared.change.HoldingEdit.TheVariants.{ReservationPut, ReservationDropped, ListSet}
 use Rattle.hub_rows.specs.declared.station_row.StationRow.{StationRow}
 use Rattle.hub_rows.specs.declared.connector_row.ConnectorRow.{ConnectorRow}
@@ -26,22 +26,24 @@ use Rattle.hub_rows.specs.Grants.{is_grant}
 use Rattle.hub_rows.specs.Tags.{tag_in}
 use Rattle.hub_rows.specs.declared.tx_row.TxRow.{TxRow}
 use Rattle.hub_rows.specs.declared.tx_row.Stop.{Stop}
-use Rattle.hub_rows.specs.declared.reading_row.Reading.{Reading}
-use Rattle.hub_rows.specs.declared.reading_row.ReadingRow.{ReadingRow}
+use Rattle.hub_rows.specs.declared.meter_value_row.MeterValue.{MeterValue}
+use Rattle.hub_rows.specs.declared.meter_value_row.MeterValueRow.{MeterValueRow}
 use Rattle.hub_rows.specs.declared.reservation_row.ReservationRow.{ReservationRow}
 use Rattle.hub_rows.specs.declared.list_row.ListRow.{ListRow}
 use Rattle.hub_rows.specs.declared.reader_row.ReaderRow.{ReaderRow}
 use Rattle.hub_rows.specs.declared.report_row.ReportRow.{ReportRow}
 use Rattle.hub_rows.specs.declared.tx_row.TxOwnerRow.{TxOwnerRow}
 use Rattle.hub_rows.specs.declared.use_row.UseRow.{UseRow}
-use Rattle.hub_rows.specs.Rows.{Rows, no_rows, station_in, registration_in, registration_of, station_key, connector_key, tag_key, grant_key, tx_key, reading_key, reservation_key, list_key, report_key, reader_key, tx_owner_key, use_key}
+use Rattle.hub_rows.specs.Rows.{Rows, no_rows, station_in, registration_in, registration_of, station_key, connector_key, tag_key, grant_key, tx_key, meter_value_key, reservation_key, list_key, report_key, reader_key, tx_owner_key, use_key}
 use Rattle.hub_rows.specs.Keyed.{key_cmp, by_key, found, put, put_all, changed, without}
-use Rattle.hub_rows.specs.Transactions.{is_accepted, is_tx, reading_rows, AreNext, last_of_all, last_tx_in}
-use Rattle.hub_rows.specs.WellFormed.{IsOnRecord, IsNumber, IsGoodConnector, IsGoodTag, IsGoodGrant, IsGoodTx, IsGoodReading, IsGoodReservation, IsGoodList, IsGoodReport, IsGoodReader, IsGoodTxOwner, AreGood, WellFormedRows}
-use Rattle.hub_rows.specs.Changes.{edit, new_station, with_boot, with_policy, connector_row, tag_row, grant_row, tx_row, with_stop, with_readings, reservation_row, list_row, report_row, reader_row, IsAnother, EditFits}
+use Rattle.hub_rows.specs.Transactions.{is_accepted, is_tx, AreNext, last_of_all, last_tx_in}
+use Rattle.hub_rows.specs.WellFormed.{IsOnRecord, IsNumber, IsGoodConnector, IsGoodTag, IsGoodGrant, IsGoodTx, IsGoodMeterValue, IsGoodReservation, IsGoodList, IsGoodReport, IsGoodReader, IsGoodTxOwner, AreGood, WellFormedRows, end_cmp}
+use Rattle.hub_rows.specs.Changes.{edit, new_station, with_boot, with_policy, connector_row, tag_row, grant_row, tx_row, with_stop, with_meter_values, reservation_row, list_row, report_row, reader_row, IsAnother, EditFits}
+use Rattle.hub_rows.specs.MeterValues.{all_taken, last_reading_in, meter_value_rows, numbers_taken}
 use Rattle.hub_rows.specs.Reservations.{is_named, is_reservation, without_named}
 use Rattle.hub_rows.specs.Uses.{is_owner_of, owner_in, with_owner, use_by, settled_use, use_row, with_use, last_use_in}
 use Rattle.hub_rows.proofs.ListLaws.{by_key_total, same_key, same_text, two_parts, all-put, all-put_all, all-filter, all-changed, all-weaker, sorted-put, sorted-put_all, sorted-changed, some-put, some-map, found_is}
+use Rattle.hub_rows.proofs.ApartLaws.{apart-added}
 use Rattle.hub_rows.proofs.DroppedLaws.{all-kept, kept_station, station-dropped}
 use Rattle.hub_rows.proofs.OwnerLaws.{BeganAccepted, KeepsBegun, began-kept, find-kept, found-new, keeps-new, keeps-stopped, next-above}
 use Rattle.hub_rows.proofs.UseLaws.{good-next}
@@ -105,7 +107,7 @@ keeps-edit b (Stations (BootSeen station boot state)) rows c s other = keeps-cha
 keeps-edit b (Stations (PolicySet station policy interval)) rows c s other = keeps-changed b (λ r. bytes_eq r.station station) (with_policy policy interval) (λ r. (refl, refl)) rows.stations c s
 keeps-edit b (Stations (StationDropped station)) rows c s other = kept_station b station rows.stations c s other
 keeps-edit b (Tags (TagDropped key)) rows c s other = λ on. on
-keeps-edit b (Transactions (ReadingsAdded station first readings)) rows c s other = λ on. on
+keeps-edit b (Transactions (MeterValuesAdded station first values)) rows c s other = λ on. on
 keeps-edit b (Holdings (ReservationDropped station id)) rows c s other = λ on. on
 keeps-edit b e rows c s other = λ on. on
 
@@ -147,7 +149,8 @@ module _ (rows : Rows) (good : WellFormedRows rows) where
     tags = good.tags;
     grants = good.grants;
     transactions = good-weaker tx_key (IsGoodTx rows.stations) (IsGoodTx rs) (λ r g. record { station = λ is. keeps r.op r.station (g.station is); number = g.number; key = g.key }) rows.transactions good.transactions;
-    readings = good.readings;
+    meter_values = good.meter_values;
+    apart = good.apart;
     reservations = good-weaker reservation_key (IsGoodReservation rows.stations) (IsGoodReservation rs) (λ r on. keeps r.op r.station on) rows.reservations good.reservations;
     local_lists = good-weaker list_key (IsGoodList rows.stations) (IsGoodList rs) (λ r g. record { station = keeps r.op r.station g.station; entries = g.entries }) rows.local_lists good.local_lists;
     reports = good-weaker report_key (IsGoodReport rows.stations) (IsGoodReport rs) (λ r on. keeps r.op r.station on) rows.reports good.reports;
@@ -157,13 +160,13 @@ module _ (rows : Rows) (good : WellFormedRows rows) where
   }
 
   pub well_formed-connectors : (rs : List ConnectorRow) → AreGood connector_key (IsGoodConnector rows.stations) rs → WellFormedRows (record rows { connectors = rs })
-  well_formed-connectors rs new = record { stations = good.stations; connectors = new; tags = good.tags; grants = good.grants; transactions = good.transactions; readings = good.readings; reservations = good.reservations; local_lists = good.local_lists; reports = good.reports; tx_owners = good.tx_owners; uses = good.uses; readers = good.readers }
+  well_formed-connectors rs new = record { stations = good.stations; connectors = new; tags = good.tags; grants = good.grants; transactions = good.transactions; meter_values = good.meter_values; apart = good.apart; reservations = good.reservations; local_lists = good.local_lists; reports = good.reports; tx_owners = good.tx_owners; uses = good.uses; readers = good.readers }
 
   pub well_formed-tags : (rs : List TagRow) (gs : List GrantRow) → AreGood tag_key IsGoodTag rs → AreGood grant_key (IsGoodGrant rs) gs → WellFormedRows (record rows { tags = rs; grants = gs })
-  well_formed-tags rs gs new granted = record { stations = good.stations; connectors = good.connectors; tags = new; grants = granted; transactions = good.transactions; readings = good.readings; reservations = good.reservations; local_lists = good.local_lists; reports = good.reports; tx_owners = good.tx_owners; uses = good.uses; readers = good.readers }
+  well_formed-tags rs gs new granted = record { stations = good.stations; connectors = good.connectors; tags = new; grants = granted; transactions = good.transactions; meter_values = good.meter_values; apart = good.apart; reservations = good.reservations; local_lists = good.local_lists; reports = good.reports; tx_owners = good.tx_owners; uses = good.uses; readers = good.readers }
 
   pub well_formed-grants : (gs : List GrantRow) → AreGood grant_key (IsGoodGrant rows.tags) gs → WellFormedRows (record rows { grants = gs })
-  well_formed-grants gs new = record { stations = good.stations; connectors = good.connectors; tags = good.tags; grants = new; transactions = good.transactions; readings = good.readings; reservations = good.reservations; local_lists = good.local_lists; reports = good.reports; tx_owners = good.tx_owners; uses = good.uses; readers = good.readers }
+  well_formed-grants gs new = record { stations = good.stations; connectors = good.connectors; tags = good.tags; grants = new; transactions = good.transactions; meter_values = good.meter_values; apart = good.apart; reservations = good.reservations; local_lists = good.local_lists; reports = good.reports; tx_owners = good.tx_owners; uses = good.uses; readers = good.readers }
 
   -- each transaction that was on record and began Accepted still is
   pub well_formed-transactions : (rs : List TxRow) → AreGood tx_key (IsGoodTx rows.stations) rs → KeepsBegun rows.transactions rs → WellFormedRows (record rows { transactions = rs })
@@ -173,7 +176,8 @@ module _ (rows : Rows) (good : WellFormedRows rows) where
     tags = good.tags;
     grants = good.grants;
     transactions = new;
-    readings = good.readings;
+    meter_values = good.meter_values;
+    apart = good.apart;
     reservations = good.reservations;
     local_lists = good.local_lists;
     reports = good.reports;
@@ -182,34 +186,34 @@ module _ (rows : Rows) (good : WellFormedRows rows) where
     readers = good.readers;
   }
 
-  pub well_formed-readings : (rs : List ReadingRow) → AreGood reading_key IsGoodReading rs → WellFormedRows (record rows { readings = rs })
-  well_formed-readings rs new = record { stations = good.stations; connectors = good.connectors; tags = good.tags; grants = good.grants; transactions = good.transactions; readings = new; reservations = good.reservations; local_lists = good.local_lists; reports = good.reports; tx_owners = good.tx_owners; uses = good.uses; readers = good.readers }
+  pub well_formed-meter_values : (rs : List MeterValueRow) → AreGood meter_value_key IsGoodMeterValue rs → IsStrictlySortedBy end_cmp rs → WellFormedRows (record rows { meter_values = rs })
+  well_formed-meter_values rs new apart = record { stations = good.stations; connectors = good.connectors; tags = good.tags; grants = good.grants; transactions = good.transactions; meter_values = new; apart = apart; reservations = good.reservations; local_lists = good.local_lists; reports = good.reports; tx_owners = good.tx_owners; uses = good.uses; readers = good.readers }
 
   pub well_formed-reservations : (rs : List ReservationRow) → AreGood reservation_key (IsGoodReservation rows.stations) rs → WellFormedRows (record rows { reservations = rs })
-  well_formed-reservations rs new = record { stations = good.stations; connectors = good.connectors; tags = good.tags; grants = good.grants; transactions = good.transactions; readings = good.readings; reservations = new; local_lists = good.local_lists; reports = good.reports; tx_owners = good.tx_owners; uses = good.uses; readers = good.readers }
+  well_formed-reservations rs new = record { stations = good.stations; connectors = good.connectors; tags = good.tags; grants = good.grants; transactions = good.transactions; meter_values = good.meter_values; apart = good.apart; reservations = new; local_lists = good.local_lists; reports = good.reports; tx_owners = good.tx_owners; uses = good.uses; readers = good.readers }
 
   pub well_formed-local_lists : (rs : List ListRow) → AreGood list_key (IsGoodList rows.stations) rs → WellFormedRows (record rows { local_lists = rs })
-  well_formed-local_lists rs new = record { stations = good.stations; connectors = good.connectors; tags = good.tags; grants = good.grants; transactions = good.transactions; readings = good.readings; reservations = good.reservations; local_lists = new; reports = good.reports; tx_owners = good.tx_owners; uses = good.uses; readers = good.readers }
+  well_formed-local_lists rs new = record { stations = good.stations; connectors = good.connectors; tags = good.tags; grants = good.grants; transactions = good.transactions; meter_values = good.meter_values; apart = good.apart; reservations = good.reservations; local_lists = new; reports = good.reports; tx_owners = good.tx_owners; uses = good.uses; readers = good.readers }
 
   pub well_formed-reports : (rs : List ReportRow) → AreGood report_key (IsGoodReport rows.stations) rs → WellFormedRows (record rows { reports = rs })
-  well_formed-reports rs new = record { stations = good.stations; connectors = good.connectors; tags = good.tags; grants = good.grants; transactions = good.transactions; readings = good.readings; reservations = good.reservations; local_lists = good.local_lists; reports = new; tx_owners = good.tx_owners; uses = good.uses; readers = good.readers }
+  well_formed-reports rs new = record { stations = good.stations; connectors = good.connectors; tags = good.tags; grants = good.grants; transactions = good.transactions; meter_values = good.meter_values; apart = good.apart; reservations = good.reservations; local_lists = good.local_lists; reports = new; tx_owners = good.tx_owners; uses = good.uses; readers = good.readers }
 
   pub well_formed-readers : (rs : List ReaderRow) → AreGood reader_key (IsGoodReader rows.stations) rs → WellFormedRows (record rows { readers = rs })
-  well_formed-readers rs new = record { stations = good.stations; connectors = good.connectors; tags = good.tags; grants = good.grants; transactions = good.transactions; readings = good.readings; reservations = good.reservations; local_lists = good.local_lists; reports = good.reports; tx_owners = good.tx_owners; uses = good.uses; readers = new }
+  well_formed-readers rs new = record { stations = good.stations; connectors = good.connectors; tags = good.tags; grants = good.grants; transactions = good.transactions; meter_values = good.meter_values; apart = good.apart; reservations = good.reservations; local_lists = good.local_lists; reports = good.reports; tx_owners = good.tx_owners; uses = good.uses; readers = new }
 
 -- ---- new numbers
 
 number_of : (last first : ℕ) → AreNext last first 1 → IsNumber first
 number_of last first next = ⊎_elim (λ none. absurd (omega (arith, none))) (λ follow. (follow.from_one, let to = follow.to_the_end in omega (arith, to))) next
 
-readings_from : (b station : List ℕ) (first : ℕ) (readings : List Reading) → 1 ≤ first → first + length readings ≤ last_of_all + 1 → AllByRecursion IsGoodReading (reading_rows b station first readings)
-readings_from b station first [] from to = tt
-readings_from b station first (r ∷ rs) from to = ((from, omega (arith, to)), readings_from b station (first + 1) rs (omega (arith, from)) (omega (arith, to)))
+meter_values_from : (b station : List ℕ) (first : ℕ) (values : List MeterValue) → 1 ≤ first → first + all_taken values ≤ last_of_all + 1 → AllByRecursion IsGoodMeterValue (meter_value_rows b station first values)
+meter_values_from b station first [] from to = tt
+meter_values_from b station first (v ∷ vs) from to = ((from, omega (arith, to)), meter_values_from b station (first + numbers_taken v) vs (omega (arith, from)) (omega (arith, to)))
 
-good_readings : (b station : List ℕ) (last first : ℕ) (readings : List Reading) → AreNext last first (length readings) → AllByRecursion IsGoodReading (reading_rows b station first readings)
-good_readings b station last first [] next = tt
-good_readings b station last first (r ∷ rs) next =
-    ⊎_elim (λ none. absurd (omega (arith, none))) (λ follow. readings_from b station first (r ∷ rs) follow.from_one follow.to_the_end) next
+good_meter_values : (b station : List ℕ) (last first : ℕ) (values : List MeterValue) → AreNext last first (all_taken values) → AllByRecursion IsGoodMeterValue (meter_value_rows b station first values)
+good_meter_values b station last first [] next = tt
+good_meter_values b station last first (v ∷ vs) next =
+    ⊎_elim (λ none. absurd (omega (arith, none))) (λ follow. meter_values_from b station first (v ∷ vs) follow.from_one follow.to_the_end) next
 
 -- ---- changes
 
@@ -249,9 +253,10 @@ module _ (b : List ℕ) (rows : Rows) (good : WellFormedRows rows) where
   tx-stopped station number stop = well_formed-transactions rows good _
       (good-changed tx_key (IsGoodTx rows.stations) (λ r. r.op) b (is_tx station number) (with_stop stop) (λ r. refl) (λ r g. record { station = λ is. absurd (true≢false (sym is)); number = g.number; key = g.key }) rows.transactions good.transactions) (keeps-stopped b (is_tx station number) stop rows.transactions)
 
-  pub readings-put : (station : List ℕ) (last first : ℕ) (readings : List Reading) → AreNext last first (length readings) → WellFormedRows (record rows { readings = with_readings b station first readings rows.readings })
-  readings-put station last first readings next = well_formed-readings rows good _
-      (good-put_all reading_key IsGoodReading (reading_rows b station first readings) rows.readings (good_readings b station last first readings next) good.readings)
+  pub meter_values-put : (station : List ℕ) (first : ℕ) (values : List MeterValue) → AreNext (last_reading_in b station rows.meter_values) first (all_taken values) → WellFormedRows (record rows { meter_values = with_meter_values b station first values rows.meter_values })
+  meter_values-put station first values next = well_formed-meter_values rows good _
+      (good-put_all meter_value_key IsGoodMeterValue (meter_value_rows b station first values) rows.meter_values (good_meter_values b station _ first values next) good.meter_values)
+      (apart-added b station first values rows.meter_values next good.apart)
 
   pub reservation-put : (r : ReservationRow) → IsGoodReservation rows.stations r → WellFormedRows (record rows { reservations = put (by_key reservation_key) r rows.reservations })
   reservation-put r new = well_formed-reservations rows good _ (good-put reservation_key (IsGoodReservation rows.stations) r rows.reservations new good.reservations)
@@ -278,7 +283,8 @@ module _ (b : List ℕ) (rows : Rows) (good : WellFormedRows rows) where
     tags = good.tags;
     grants = good.grants;
     transactions = good.transactions;
-    readings = good.readings;
+    meter_values = good.meter_values;
+    apart = good.apart;
     reservations = good.reservations;
     local_lists = good.local_lists;
     reports = good.reports;
@@ -296,7 +302,8 @@ module _ (b : List ℕ) (rows : Rows) (good : WellFormedRows rows) where
         tags = good.tags;
         grants = good.grants;
         transactions = good-filter tx_key (IsGoodTx rows.stations) (λ r. not (bytes_eq r.op b && is_one_of (λ r. r.station) (λ r. r.number) station gone.transactions r)) rows.transactions good.transactions;
-        readings = good-filter reading_key IsGoodReading (λ r. not (bytes_eq r.op b && is_one_of (λ r. r.station) (λ r. r.number) station gone.readings r)) rows.readings good.readings;
+        meter_values = good-filter meter_value_key IsGoodMeterValue (λ r. not (bytes_eq r.op b && is_one_of (λ r. r.station) (λ r. r.first) station gone.meter_values r)) rows.meter_values good.meter_values;
+        apart = IsStrictlySortedBy-filter end_cmp (λ r. not (bytes_eq r.op b && is_one_of (λ r. r.station) (λ r. r.first) station gone.meter_values r)) rows.meter_values good.apart;
         reservations = good.reservations;
         local_lists = good.local_lists;
         reports = good.reports;
@@ -317,7 +324,8 @@ module _ (b : List ℕ) (rows : Rows) (good : WellFormedRows rows) where
     tags = good.tags;
     grants = good.grants;
     transactions = good.transactions;
-    readings = good.readings;
+    meter_values = good.meter_values;
+    apart = good.apart;
     reservations = good.reservations;
     local_lists = good.local_lists;
     reports = good.reports;
@@ -381,11 +389,11 @@ well_formed-edit b (Transactions (TxStarted station number start owner)) rows go
     = tx-put b rows good r (record { station = λ is. on_record b station rows.stations fits.0; number = number_of _ number fits.1; key = fits.2 }) above in
     let freed = reservations-without b (record rows { transactions = put (by_key tx_key) r rows.transactions }) begun (is_named station start.reservation) in
     owner-put b (record rows { transactions = put (by_key tx_key) r rows.transactions; reservations = without_named b station start.reservation rows.reservations }) freed station number owner fits.3 (if_some owner (λ status. subst BeganAccepted (sym (found-new r rows.transactions above)) (ap is_accepted status)) fits.4)
-well_formed-edit b (Transactions (TxStopped station number stop first readings)) rows good fits =
+well_formed-edit b (Transactions (TxStopped station number stop first values)) rows good fits =
     let ended : WellFormedRows (record rows { transactions = changed (λ r. r.op) b (is_tx station number) (with_stop stop) rows.transactions }) = tx-stopped b rows good station number stop in
-    let read = readings-put b (record rows { transactions = changed (λ r. r.op) b (is_tx station number) (with_stop stop) rows.transactions }) ended station _ first readings fits.1 in
-    use-settled b (record rows { transactions = changed (λ r. r.op) b (is_tx station number) (with_stop stop) rows.transactions; readings = with_readings b station first readings rows.readings }) read (settled_use b station number stop rows) (is_settled b station number stop rows good)
-well_formed-edit b (Transactions (ReadingsAdded station first readings)) rows good fits = readings-put b rows good station _ first readings fits.1
+    let read = meter_values-put b (record rows { transactions = changed (λ r. r.op) b (is_tx station number) (with_stop stop) rows.transactions }) ended station first values fits.1 in
+    use-settled b (record rows { transactions = changed (λ r. r.op) b (is_tx station number) (with_stop stop) rows.transactions; meter_values = with_meter_values b station first values rows.meter_values }) read (settled_use b station number stop rows) (is_settled b station number stop rows good)
+well_formed-edit b (Transactions (MeterValuesAdded station first values)) rows good fits = meter_values-put b rows good station first values fits.1
 well_formed-edit b (Transactions (Forgotten station gone)) rows good fits = forgotten b rows good station gone
 well_formed-edit b (Holdings (ReservationPut station id reservation)) rows good fits = reservation-put b rows good (reservation_row b station id reservation) (on_record b station rows.stations fits)
 well_formed-edit b (Holdings (ReservationDropped station id)) rows good fits = reservations-without b rows good (is_reservation station id)
@@ -401,7 +409,8 @@ well_formed-no_rows = record {
   tags = record { sorted = tt; each = tt };
   grants = record { sorted = tt; each = tt };
   transactions = record { sorted = tt; each = tt };
-  readings = record { sorted = tt; each = tt };
+  meter_values = record { sorted = tt; each = tt };
+  apart = tt;
   reservations = record { sorted = tt; each = tt };
   local_lists = record { sorted = tt; each = tt };
   reports = record { sorted = tt; each = tt };

@@ -1,5 +1,5 @@
 -- What a change does to the rows of all operators.
-use Rattle.std.specs.Prelude.{◌≡◌, ◌≢◌, ℕ, List, length, Option, Some, None, IsSome, IfSome, true, false}
+use Rattle.std.specs.Prelude.{◌≡◌, ◌≢◌, ℕ, List, Option, Some, None, IsSome, IfSome, true, false}
 use Rattle.std.specs.List.{AllByRecursion}
 use Rattle.std.specs.Str.{bytes_eq}
 use Rattle.ocpp_types.specs.TagKey.{key_of}
@@ -18,8 +18,8 @@ use Rattle.hub_rows.specs.declared.tx_row.TxRow.{TxRow}
 use Rattle.hub_rows.specs.declared.tx_row.TxState.{TxState}
 use Rattle.hub_rows.specs.declared.tx_row.Start.{Start}
 use Rattle.hub_rows.specs.declared.tx_row.Stop.{Stop}
-use Rattle.hub_rows.specs.declared.reading_row.Reading.{Reading}
-use Rattle.hub_rows.specs.declared.reading_row.ReadingRow.{ReadingRow}
+use Rattle.hub_rows.specs.declared.meter_value_row.MeterValue.{MeterValue}
+use Rattle.hub_rows.specs.declared.meter_value_row.MeterValueRow.{MeterValueRow}
 use Rattle.hub_rows.specs.declared.reservation_row.Reservation.{Reservation}
 use Rattle.hub_rows.specs.declared.reservation_row.ReservationRow.{ReservationRow}
 use Rattle.hub_rows.specs.declared.list_row.ListRow.{ListRow}
@@ -32,16 +32,17 @@ use Rattle.hub_rows.specs.declared.change.Edit.{Edit}
 use Rattle.hub_rows.specs.declared.change.Edit.TheVariants.{Stations, Tags, Transactions, Holdings}
 use Rattle.hub_rows.specs.declared.change.StationEdit.TheVariants.{StationAdded, BootSeen, PolicySet, ReaderSet, StationDropped, ConnectorSeen, ReportSeen}
 use Rattle.hub_rows.specs.declared.change.TagEdit.TheVariants.{TagPut, TagDropped, GrantPut, GrantDropped}
-use Rattle.hub_rows.specs.declared.change.TransactionEdit.TheVariants.{TxStarted, TxStopped, ReadingsAdded, Forgotten}
+use Rattle.hub_rows.specs.declared.change.TransactionEdit.TheVariants.{TxStarted, TxStopped, MeterValuesAdded, Forgotten}
 use Rattle.hub_rows.specs.declared.change.HoldingEdit.TheVariants.{ReservationPut, ReservationDropped, ListSet}
 use Rattle.hub_rows.specs.Keyed.{put, put_all, by_key, changed, without}
 use Rattle.hub_rows.specs.Forgetting.{is_one_of}
 use Rattle.hub_rows.specs.Grants.{is_grant}
 use Rattle.hub_rows.specs.LocalLists.{AreEntries}
+use Rattle.hub_rows.specs.MeterValues.{all_taken, last_reading_in, meter_value_rows}
 use Rattle.hub_rows.specs.Reservations.{is_reservation, without_named}
-use Rattle.hub_rows.specs.Rows.{Rows, station_key, connector_key, tag_key, grant_key, tx_key, reading_key, reservation_key, list_key, report_key, reader_key, registration_at}
+use Rattle.hub_rows.specs.Rows.{Rows, station_key, connector_key, tag_key, grant_key, tx_key, meter_value_key, reservation_key, list_key, report_key, reader_key, registration_at}
 use Rattle.hub_rows.specs.Tags.{own_tag_in}
-use Rattle.hub_rows.specs.Transactions.{is_tx, tx_in, has_open_in, reading_rows, last_tx_in, last_reading_in, AreNext}
+use Rattle.hub_rows.specs.Transactions.{is_tx, tx_in, has_open_in, last_tx_in, AreNext}
 use Rattle.hub_rows.specs.Uses.{with_owner, settled_use, with_use}
 
 -- a station that is new
@@ -76,9 +77,9 @@ tx_row b station number start = record { op = b; station = station; number = num
 abbrev pub with_stop : Stop → TxRow → TxRow
 with_stop stop r = record r { stop = Some stop }
 
--- readings of a station after those of its rows
-abbrev pub with_readings : List ℕ → List ℕ → ℕ → List Reading → List ReadingRow → List ReadingRow
-with_readings b station first readings rows = put_all (by_key reading_key) (reading_rows b station first readings) rows
+-- meter values of a station after those of its rows
+abbrev pub with_meter_values : List ℕ → List ℕ → ℕ → List MeterValue → List MeterValueRow → List MeterValueRow
+with_meter_values b station first values rows = put_all (by_key meter_value_key) (meter_value_rows b station first values) rows
 
 -- a reservation at a station
 abbrev pub reservation_row : List ℕ → List ℕ → ℕ → Reservation → ReservationRow
@@ -117,11 +118,11 @@ edit b (Tags (TagDropped key)) rows = record rows { tags = without (λ r. r.op) 
 edit b (Tags (GrantPut key to until)) rows = record rows { grants = put (by_key grant_key) (grant_row b key to until) rows.grants }
 edit b (Tags (GrantDropped key to)) rows = record rows { grants = without (λ r. r.op) b (is_grant key to) rows.grants }
 edit b (Transactions (TxStarted station number start owner)) rows = record rows { transactions = put (by_key tx_key) (tx_row b station number start) rows.transactions; reservations = without_named b station start.reservation rows.reservations; tx_owners = with_owner b station number owner rows.tx_owners }
-edit b (Transactions (TxStopped station number stop first readings)) rows = record rows { transactions = changed (λ r. r.op) b (is_tx station number) (with_stop stop) rows.transactions; readings = with_readings b station first readings rows.readings; uses = with_use (settled_use b station number stop rows) rows.uses }
-edit b (Transactions (ReadingsAdded station first readings)) rows = record rows { readings = with_readings b station first readings rows.readings }
+edit b (Transactions (TxStopped station number stop first values)) rows = record rows { transactions = changed (λ r. r.op) b (is_tx station number) (with_stop stop) rows.transactions; meter_values = with_meter_values b station first values rows.meter_values; uses = with_use (settled_use b station number stop rows) rows.uses }
+edit b (Transactions (MeterValuesAdded station first values)) rows = record rows { meter_values = with_meter_values b station first values rows.meter_values }
 edit b (Transactions (Forgotten station gone)) rows = record rows {
   transactions = without (λ r. r.op) b (is_one_of (λ r. r.station) (λ r. r.number) station gone.transactions) rows.transactions;
-  readings = without (λ r. r.op) b (is_one_of (λ r. r.station) (λ r. r.number) station gone.readings) rows.readings;
+  meter_values = without (λ r. r.op) b (is_one_of (λ r. r.station) (λ r. r.first) station gone.meter_values) rows.meter_values;
   tx_owners = without (λ r. r.op) b (is_one_of (λ r. r.station) (λ r. r.number) station gone.transactions) rows.tx_owners;
 }
 edit b (Holdings (ReservationPut station id reservation)) rows = record rows { reservations = put (by_key reservation_key) (reservation_row b station id reservation) rows.reservations }
@@ -160,8 +161,8 @@ EditFits b (Tags (TagDropped key)) rows = Unit {0}
 EditFits b (Tags (GrantPut key to until)) rows = IsSome (own_tag_in b key rows.tags) × (to ≢ b)
 EditFits b (Tags (GrantDropped key to)) rows = Unit {0}
 EditFits b (Transactions (TxStarted station number start owner)) rows = IsSome (registration_at b station rows) × AreNext (last_tx_in b station rows.transactions) number 1 × (start.id.key ≡ key_of start.tag) × IsAnother b owner × IfSome owner (λ a. start.status ≡ Accepted)
-EditFits b (Transactions (TxStopped station number stop first readings)) rows = IsOpen (tx_in b station number rows.transactions) × AreNext (last_reading_in b station rows.readings) first (length readings)
-EditFits b (Transactions (ReadingsAdded station first readings)) rows = IsSome (registration_at b station rows) × AreNext (last_reading_in b station rows.readings) first (length readings)
+EditFits b (Transactions (TxStopped station number stop first values)) rows = IsOpen (tx_in b station number rows.transactions) × AreNext (last_reading_in b station rows.meter_values) first (all_taken values)
+EditFits b (Transactions (MeterValuesAdded station first values)) rows = IsSome (registration_at b station rows) × AreNext (last_reading_in b station rows.meter_values) first (all_taken values)
 EditFits b (Transactions (Forgotten station gone)) rows = AllByRecursion (λ n. IsStopped (tx_in b station n rows.transactions)) gone.transactions
 EditFits b (Holdings (ReservationPut station id reservation)) rows = IsSome (registration_at b station rows)
 EditFits b (Holdings (ReservationDropped station id)) rows = Unit {0}

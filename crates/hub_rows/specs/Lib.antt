@@ -9,6 +9,7 @@ pub mod Rows
 pub mod Tags
 pub mod Grants
 pub mod Transactions
+pub mod MeterValues
 pub mod Reservations
 pub mod Forgetting
 pub mod LocalLists

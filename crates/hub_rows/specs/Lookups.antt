@@ -1,7 +1,7 @@
 -- What rules may ask of one operator's records: over the rows of all operators, then over the rows of that
 -- operator alone and the tags that are granted to it. The two parts share `Lookups`, `key_of`, and `forgettable` with
 -- what it takes.
-use Rattle.std.specs.Prelude.{ℕ, nat_le, ℤ, pos, List, [], ◌∷◌, Bool, true, false, if◌then◌else◌, not, ◌&&◌, ◌||◌, ◌==◌, is_none, Option, Some, None, map, filter, find}
+use Rattle.std.specs.Prelude.{ℕ, ◌+◌, ◌-◌, max, nat_le, ℤ, pos, List, [], ◌∷◌, length, Bool, true, false, if◌then◌else◌, not, ◌&&◌, ◌||◌, ◌==◌, is_none, Option, Some, None, map, filter, find}
 use Rattle.std.specs.List.{list_any}
 use Rattle.std.specs.Option.{option_map}
 use Rattle.std.specs.Ordering.{int_eq}
@@ -20,7 +20,7 @@ use Rattle.hub_rows.specs.declared.tx_row.TxRow.{TxRow}
 use Rattle.hub_rows.specs.declared.tx_row.TxKey.{TxKey}
 use Rattle.hub_rows.specs.declared.tx_row.TxState.{TxState}
 use Rattle.hub_rows.specs.declared.tx_row.StartKey.{StartKey}
-use Rattle.hub_rows.specs.declared.reading_row.ReadingRow.{ReadingRow}
+use Rattle.hub_rows.specs.declared.meter_value_row.MeterValueRow.{MeterValueRow}
 use Rattle.hub_rows.specs.declared.reservation_row.ReservationRow.{ReservationRow}
 use Rattle.hub_rows.specs.declared.list_row.ListRow.{ListRow}
 use Rattle.hub_rows.specs.declared.list_row.LocalList.{LocalList}
@@ -35,8 +35,9 @@ use Rattle.hub_rows.specs.Reservations.{reservations_in, reserved_until_in}
 use Rattle.hub_rows.specs.Rows.{Rows, registration_at}
 use Rattle.hub_rows.specs.Tags.{own_tag_in}
 use Rattle.hub_rows.specs.Forgetting.{forgettable}
+use Rattle.hub_rows.specs.MeterValues.{last_reading_in, meter_values_in}
 use Rattle.hub_rows.specs.declared.forgettable.History.{History}
-use Rattle.hub_rows.specs.Transactions.{is_used_in, same_start_in, tx_in, txs_in, has_open_in, open_txs_in, txs_from_in, readings_in, last_tx_in, last_reading_in}
+use Rattle.hub_rows.specs.Transactions.{is_used_in, same_start_in, tx_in, txs_in, has_open_in, open_txs_in, txs_from_in, last_tx_in}
 use Rattle.hub_rows.specs.Uses.{uses_in}
 
 pub record Lookups : Type 0 where
@@ -77,7 +78,7 @@ pub record Lookups : Type 0 where
   -- the open ones of all stations
   pub open_txs : List TxRow
   -- of all transactions, or of those sent with a number
-  pub readings : List ℕ → Option ℕ → List ReadingRow
+  pub meter_values : List ℕ → Option ℕ → List MeterValueRow
   pub reservations : List ℕ → List ReservationRow
   -- what of a station's history may go before a moment
   pub forgettable : List ℕ → ℕ → History
@@ -111,7 +112,7 @@ reports_in b station rows = those (λ r. r.op) b (λ r. bytes_eq r.station stati
 
 -- what of the history of a station of operator b may go, among the rows of all
 abbrev pub forgettable_in : List ℕ → List ℕ → ℕ → Rows → History
-forgettable_in b station until rows = forgettable until (txs_in b station rows.transactions) (readings_in b station None rows.readings)
+forgettable_in b station until rows = forgettable until (txs_in b station rows.transactions) (meter_values_in b station None rows.meter_values)
 
 -- over the rows of all operators, with the operator in each condition
 abbrev pub lookups_at : List ℕ → Rows → Lookups
@@ -126,7 +127,7 @@ lookups_at b rows = record {
   tx = λ station number. tx_in b station number rows.transactions;
   has_open = λ station. has_open_in b station rows.transactions;
   last_tx = λ station. last_tx_in b station rows.transactions;
-  last_reading = λ station. last_reading_in b station rows.readings;
+  last_reading = λ station. last_reading_in b station rows.meter_values;
   reserved_until = λ station id. reserved_until_in b station id rows.reservations;
   local_list = λ station. local_list_in b station rows.local_lists;
   stations = stations_in b rows.stations;
@@ -136,7 +137,7 @@ lookups_at b rows = record {
   connectors = λ station. connectors_in b station rows.connectors;
   txs = λ station first. txs_from_in b station first rows.transactions;
   open_txs = open_txs_in b rows.transactions;
-  readings = λ station n. readings_in b station n rows.readings;
+  meter_values = λ station n. meter_values_in b station n rows.meter_values;
   reservations = λ station. reservations_in b station rows.reservations;
   forgettable = λ station until. forgettable_in b station until rows;
   reports = λ station. reports_in b station rows.reports;
@@ -210,8 +211,14 @@ own_is_sent_with None transaction = true
 own_is_sent_with (Some n) None = false
 own_is_sent_with (Some n) (Some transaction) = int_eq transaction (pos n)
 
-abbrev pub own_reading : List ℕ → Option ℕ → ReadingRow → Bool
-own_reading station n r = bytes_eq r.station station && own_is_sent_with n r.reading.transaction
+abbrev pub own_meter_value : List ℕ → Option ℕ → MeterValueRow → Bool
+own_meter_value station n r = bytes_eq r.station station && own_is_sent_with n r.value.transaction
+
+-- the number of the last reading of some meter values, 0 where there are none
+abbrev pub own_last_reading : List MeterValueRow → ℕ
+own_last_reading [] = 0
+own_last_reading (r ∷ []) = (r.first - 1) + max 1 (length r.value.sampled)
+own_last_reading (r ∷ s ∷ rs) = own_last_reading (s ∷ rs)
 
 -- over the rows of one operator alone, and the tags that are granted to it
 abbrev pub own_lookups : List ℕ → Rows → List GrantedTag → Lookups
@@ -226,7 +233,7 @@ own_lookups a rows granted = record {
   tx = λ station number. option_map own_state (find (own_tx station number) rows.transactions);
   has_open = λ station. list_any (λ r. bytes_eq r.station station && is_none r.stop) rows.transactions;
   last_tx = λ station. own_last (map (λ r. r.number) (filter (λ r. bytes_eq r.station station) rows.transactions));
-  last_reading = λ station. own_last (map (λ r. r.number) (filter (λ r. bytes_eq r.station station) rows.readings));
+  last_reading = λ station. own_last_reading (filter (λ r. bytes_eq r.station station) rows.meter_values);
   reserved_until = λ station id. option_map (λ r. r.reservation.expiry) (find (λ r. bytes_eq r.station station && r.id == id) rows.reservations);
   local_list = λ station. option_map (λ r. r.list) (find (λ r. bytes_eq r.station station) rows.local_lists);
   stations = rows.stations;
@@ -236,9 +243,9 @@ own_lookups a rows granted = record {
   connectors = λ station. filter (λ r. bytes_eq r.station station) rows.connectors;
   txs = λ station first. filter (λ r. bytes_eq r.station station && nat_le first r.number) rows.transactions;
   open_txs = filter (λ r. is_none r.stop) rows.transactions;
-  readings = λ station n. filter (own_reading station n) rows.readings;
+  meter_values = λ station n. filter (own_meter_value station n) rows.meter_values;
   reservations = λ station. filter (λ r. bytes_eq r.station station) rows.reservations;
-  forgettable = λ station until. forgettable until (filter (λ r. bytes_eq r.station station) rows.transactions) (filter (λ r. bytes_eq r.station station) rows.readings);
+  forgettable = λ station until. forgettable until (filter (λ r. bytes_eq r.station station) rows.transactions) (filter (λ r. bytes_eq r.station station) rows.meter_values);
   reports = λ station. filter (λ r. bytes_eq r.station station) rows.reports;
   uses = rows.uses;
   reader = λ station. chosen (find (λ r. bytes_eq r.station station) rows.readers);

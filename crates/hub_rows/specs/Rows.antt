@@ -8,7 +8,7 @@ use Rattle.hub_rows.specs.declared.connector_row.ConnectorRow.{ConnectorRow}
 use Rattle.hub_rows.specs.declared.tag_row.TagRow.{TagRow}
 use Rattle.hub_rows.specs.declared.grant_row.GrantRow.{GrantRow}
 use Rattle.hub_rows.specs.declared.tx_row.TxRow.{TxRow}
-use Rattle.hub_rows.specs.declared.reading_row.ReadingRow.{ReadingRow}
+use Rattle.hub_rows.specs.declared.meter_value_row.MeterValueRow.{MeterValueRow}
 use Rattle.hub_rows.specs.declared.reservation_row.ReservationRow.{ReservationRow}
 use Rattle.hub_rows.specs.declared.list_row.ListRow.{ListRow}
 use Rattle.hub_rows.specs.declared.reader_row.ReaderRow.{ReaderRow}
@@ -25,7 +25,7 @@ pub record Rows : Type 0 where
   pub tags : List TagRow
   pub grants : List GrantRow
   pub transactions : List TxRow
-  pub readings : List ReadingRow
+  pub meter_values : List MeterValueRow
   pub reservations : List ReservationRow
   pub local_lists : List ListRow
   pub reports : List ReportRow
@@ -35,7 +35,7 @@ pub record Rows : Type 0 where
 
 -- no rows
 abbrev pub no_rows : Rows
-no_rows = record { stations = []; connectors = []; tags = []; grants = []; transactions = []; readings = []; reservations = []; local_lists = []; reports = []; tx_owners = []; uses = []; readers = [] }
+no_rows = record { stations = []; connectors = []; tags = []; grants = []; transactions = []; meter_values = []; reservations = []; local_lists = []; reports = []; tx_owners = []; uses = []; readers = [] }
 
 -- what tells an operator's rows of a kind apart, and the key
 abbrev pub station_rest : StationRow → List (List ℕ)
@@ -68,11 +68,11 @@ tx_rest r = r.station ∷ (r.number ∷ []) ∷ []
 abbrev pub tx_key : TxRow → List (List ℕ)
 tx_key r = r.op ∷ tx_rest r
 
-abbrev pub reading_rest : ReadingRow → List (List ℕ)
-reading_rest r = r.station ∷ (r.number ∷ []) ∷ []
+abbrev pub meter_value_rest : MeterValueRow → List (List ℕ)
+meter_value_rest r = r.station ∷ (r.first ∷ []) ∷ []
 
-abbrev pub reading_key : ReadingRow → List (List ℕ)
-reading_key r = r.op ∷ reading_rest r
+abbrev pub meter_value_key : MeterValueRow → List (List ℕ)
+meter_value_key r = r.op ∷ meter_value_rest r
 
 abbrev pub reservation_rest : ReservationRow → List (List ℕ)
 reservation_rest r = r.station ∷ (r.id ∷ []) ∷ []

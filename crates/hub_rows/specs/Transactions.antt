@@ -1,5 +1,5 @@
--- Transactions and meter readings, and what rules ask of them.
-use Rattle.std.specs.Prelude.{◌≡◌, ℕ, nat_le, ℤ, pos, ◌+◌, ◌≤◌, ◌⊎◌, List, [], ◌∷◌, map, Bool, true, false, not, ◌&&◌, ◌==◌, is_none, Option, Some, None}
+-- Transactions, and what rules ask of them.
+use Rattle.std.specs.Prelude.{◌≡◌, ℕ, nat_le, ◌+◌, ◌≤◌, ◌⊎◌, List, map, Bool, true, false, not, ◌&&◌, ◌==◌, is_none, Option, Some, None}
 use Rattle.std.specs.Option.{option_map}
 use Rattle.std.specs.Ordering.{int_eq}
 use Rattle.std.specs.Str.{bytes_eq}
@@ -10,8 +10,6 @@ use Rattle.hub_rows.specs.declared.tx_row.TxKey.{TxKey}
 use Rattle.hub_rows.specs.declared.tx_row.TxState.{TxState}
 use Rattle.hub_rows.specs.declared.tx_row.StartKey.{StartKey}
 use Rattle.hub_rows.specs.declared.tx_row.TheConstants.{LAST_NUMBER}
-use Rattle.hub_rows.specs.declared.reading_row.Reading.{Reading}
-use Rattle.hub_rows.specs.declared.reading_row.ReadingRow.{ReadingRow}
 use Rattle.hub_rows.specs.Keyed.{found, those, any_of, greatest}
 
 -- ---- one transaction
@@ -81,25 +79,6 @@ txs_from_in b station first txs = those (λ r. r.op) b (λ r. bytes_eq r.station
 abbrev pub open_txs_in : List ℕ → List TxRow → List TxRow
 open_txs_in b txs = those (λ r. r.op) b is_open txs
 
--- ---- readings
-
--- a reading of a station, of all or of those that were sent with the number of a transaction
-abbrev pub is_sent_with : Option ℕ → Option ℤ → Bool
-is_sent_with None transaction = true
-is_sent_with (Some n) None = false
-is_sent_with (Some n) (Some transaction) = int_eq transaction (pos n)
-
-abbrev pub is_reading : List ℕ → Option ℕ → ReadingRow → Bool
-is_reading station n r = bytes_eq r.station station && is_sent_with n r.reading.transaction
-
-abbrev pub readings_in : List ℕ → List ℕ → Option ℕ → List ReadingRow → List ReadingRow
-readings_in b station n readings = those (λ r. r.op) b (is_reading station n) readings
-
--- readings of a station, numbered from the first number on
-abbrev pub reading_rows : List ℕ → List ℕ → ℕ → List Reading → List ReadingRow
-reading_rows b station first [] = []
-reading_rows b station first (r ∷ rs) = record { op = b; station = station; number = first; reading = r } ∷ reading_rows b station (first + 1) rs
-
 -- ---- numbers
 
 abbrev pub numbers_of : {R : Type 0} → (R → ℕ) → List R → List ℕ
@@ -108,10 +87,6 @@ numbers_of number rows = map number rows
 -- the last number of a station's transactions, 0 where it has none
 abbrev pub last_tx_in : List ℕ → List ℕ → List TxRow → ℕ
 last_tx_in b station txs = greatest (numbers_of (λ r. r.number) (txs_in b station txs))
-
--- the last number of a station's readings, 0 where it has none
-abbrev pub last_reading_in : List ℕ → List ℕ → List ReadingRow → ℕ
-last_reading_in b station readings = greatest (numbers_of (λ r. r.number) (readings_in b station None readings))
 
 -- the last number of a transaction, a reading, a use or a call
 abbrev pub last_of_all : ℕ

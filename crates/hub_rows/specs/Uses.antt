@@ -76,5 +76,5 @@ if_of a (Some r) = if bytes_eq r.op a then r ∷ [] else []
 -- the uses of owner a that an edit of operator b settles: one where it stops a transaction that began with a
 -- tag that a granted
 abbrev pub uses_settled : List ℕ → List ℕ → Edit → Rows → List UseRow
-uses_settled a b (Transactions (TxStopped station number stop first readings)) rows = if_of a (settled_use b station number stop rows)
+uses_settled a b (Transactions (TxStopped station number stop first values)) rows = if_of a (settled_use b station number stop rows)
 uses_settled a b e rows = []

@@ -1,23 +1,25 @@
 -- What holds of the rows of all operators.
-use Rattle.std.specs.Prelude.{◌≡◌, ◌≢◌, ℕ, ◌≤◌, ◌==◌, List, Bool, true, false, Option, None, Some, IsSome}
+use Rattle.std.specs.Prelude.{◌≡◌, ◌≢◌, ℕ, ◌≤◌, ◌==◌, List, [], ◌∷◌, Bool, true, false, Option, None, Some, IsSome}
 use Rattle.std.specs.List.{AllByRecursion}
 use Rattle.std.specs.List.Sorted.{IsStrictlySortedBy}
+use Rattle.std.specs.declared.cmp.Ordering.{Ordering}
 use Rattle.ocpp_types.specs.TagKey.{key_of}
 use Rattle.hub_rows.specs.declared.station_row.StationRow.{StationRow}
 use Rattle.hub_rows.specs.declared.connector_row.ConnectorRow.{ConnectorRow}
 use Rattle.hub_rows.specs.declared.tag_row.TagRow.{TagRow}
 use Rattle.hub_rows.specs.declared.grant_row.GrantRow.{GrantRow}
 use Rattle.hub_rows.specs.declared.tx_row.TxRow.{TxRow}
-use Rattle.hub_rows.specs.declared.reading_row.ReadingRow.{ReadingRow}
+use Rattle.hub_rows.specs.declared.meter_value_row.MeterValueRow.{MeterValueRow}
 use Rattle.hub_rows.specs.declared.reservation_row.ReservationRow.{ReservationRow}
 use Rattle.hub_rows.specs.declared.list_row.ListRow.{ListRow}
 use Rattle.hub_rows.specs.declared.reader_row.ReaderRow.{ReaderRow}
 use Rattle.hub_rows.specs.declared.report_row.ReportRow.{ReportRow}
 use Rattle.hub_rows.specs.declared.tx_row.TxOwnerRow.{TxOwnerRow}
 use Rattle.hub_rows.specs.declared.use_row.UseRow.{UseRow}
-use Rattle.hub_rows.specs.Keyed.{by_key, found}
+use Rattle.hub_rows.specs.Keyed.{by_key, found, key_cmp}
 use Rattle.hub_rows.specs.LocalLists.{AreEntries}
-use Rattle.hub_rows.specs.Rows.{Rows, station_in, station_key, connector_key, tag_key, grant_key, tx_key, reading_key, reservation_key, list_key, report_key, reader_key, tx_owner_key, use_key}
+use Rattle.hub_rows.specs.MeterValues.{last_number}
+use Rattle.hub_rows.specs.Rows.{Rows, station_in, station_key, connector_key, tag_key, grant_key, tx_key, meter_value_key, reservation_key, list_key, report_key, reader_key, tx_owner_key, use_key}
 use Rattle.hub_rows.specs.Tags.{tag_in}
 use Rattle.hub_rows.specs.Transactions.{is_accepted, is_open, is_tx, last_of_all}
 
@@ -51,9 +53,9 @@ pub record IsGoodTx (stations : List StationRow) (r : TxRow) : Type 0 where
   -- its tag's key is that of the tag as it was sent
   pub key : r.start.id.key ≡ key_of r.start.tag
 
--- with a number in range
-abbrev pub IsGoodReading : ReadingRow → Type 0
-IsGoodReading r = IsNumber r.number
+-- its readings have numbers in range
+abbrev pub IsGoodMeterValue : MeterValueRow → Type 0
+IsGoodMeterValue r = (1 ≤ r.first) × (last_number r ≤ last_of_all)
 
 abbrev pub IsGoodReservation : List StationRow → ReservationRow → Type 0
 IsGoodReservation stations r = IsOnRecord r.op r.station stations
@@ -85,6 +87,14 @@ pub record IsGoodUse (uses : List UseRow) (r : UseRow) : Type 0 where
   pub host : r.host ≢ r.op
   pub earlier : (n : ℕ) → 1 ≤ n → n ≤ r.number → IsSome (found (λ u. u.op) r.op (λ u. u.number == n) uses)
 
+-- the key that the number of its last reading makes
+abbrev pub end_key : MeterValueRow → List (List ℕ)
+end_key r = r.op ∷ r.station ∷ (last_number r ∷ []) ∷ []
+
+-- how the end of a meter value compares with where another begins
+abbrev pub end_cmp : MeterValueRow → MeterValueRow → Ordering
+end_cmp r s = key_cmp (end_key r) (meter_value_key s)
+
 -- ---- the lists
 
 -- rows in the order of their keys, each key once, and each row good
@@ -99,7 +109,9 @@ pub record WellFormedRows (rows : Rows) : Type 0 where
   pub tags : AreGood tag_key IsGoodTag rows.tags
   pub grants : AreGood grant_key (IsGoodGrant rows.tags) rows.grants
   pub transactions : AreGood tx_key (IsGoodTx rows.stations) rows.transactions
-  pub readings : AreGood reading_key IsGoodReading rows.readings
+  pub meter_values : AreGood meter_value_key IsGoodMeterValue rows.meter_values
+  -- each ends before the next begins, so that no two readings of a station have one number
+  pub apart : IsStrictlySortedBy end_cmp rows.meter_values
   pub reservations : AreGood reservation_key (IsGoodReservation rows.stations) rows.reservations
   pub local_lists : AreGood list_key (IsGoodList rows.stations) rows.local_lists
   pub reports : AreGood report_key (IsGoodReport rows.stations) rows.reports

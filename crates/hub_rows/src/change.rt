@@ -3,8 +3,8 @@
 use crate::connector_row::ConnectorReport;
 use crate::forgettable::Forgettable;
 use crate::list_row::LocalList;
+use crate::meter_value_row::MeterValue;
 use crate::reader_row::Reader;
-use crate::reading_row::Reading;
 use crate::report_row::ReportedStatus;
 use crate::reservation_row::{Reservation, ReservationId};
 use crate::station_row::Boot;
@@ -97,7 +97,7 @@ pub enum TagEdit {
     },
 }
 
-/// What changes of transactions, or of readings.
+/// What changes of transactions, or of meter values.
 #[derive(Drop)]
 pub enum TransactionEdit {
     /// A new transaction, and the operator that granted the tag with which it began. The reservation that it names
@@ -108,20 +108,20 @@ pub enum TransactionEdit {
         start: Start,
         owner: Option<Text>,
     },
-    /// The stop of an open transaction, and the readings that came with it, numbered from `first`. Where another
-    /// operator granted the tag with which it began, that operator's uses gain one.
+    /// The stop of an open transaction, and the meter values that came with it, their readings numbered from `first`.
+    /// Where another operator granted the tag with which it began, that operator's uses gain one.
     TxStopped {
         station: Text,
         number: u32,
         stop: Stop,
         first: u32,
-        readings: Listed<Reading>,
+        values: Listed<MeterValue>,
     },
-    /// New readings of a station, numbered from `first`.
-    ReadingsAdded {
+    /// New meter values of a station, their readings numbered from `first`.
+    MeterValuesAdded {
         station: Text,
         first: u32,
-        readings: Listed<Reading>,
+        values: Listed<MeterValue>,
     },
     /// These rows of a station are gone, and the owners of these transactions' tags.
     Forgotten {

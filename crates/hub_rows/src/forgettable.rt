@@ -1,26 +1,26 @@
 //! What of a station's history may go.
-ghost use Rattle.std.specs.Prelude.{◌≡◌, map, IfOk};
-ghost use Rattle.hub_rows.specs.Forgetting.{has_no_rows, numbers_of};
+ghost use Rattle.std.specs.Prelude.{◌≡◌, map, IfOk, IfSome};
+ghost use Rattle.hub_rows.specs.Forgetting.{count_readings, has_no_rows, numbers_of, up_to};
 
-use crate::reading_row::ReadingRow;
+use crate::meter_value_row::MeterValueRow;
 use crate::tx_row::TxRow;
 use ocpp_types::{Listed, Mem};
 use std::alloc::Global;
 
 /// The most rows that go at once.
-pub const MAX_FORGOTTEN: usize = 1000;
+pub const MAX_FORGOTTEN: usize = 250;
 
 /// Rows of a station's history.
 #[derive(Drop)]
 pub struct History {
-    pub readings: Listed<ReadingRow>,
+    pub meter_values: Listed<MeterValueRow>,
     pub transactions: Listed<TxRow>,
 }
 
-/// Readings and transactions of a station, by their numbers.
+/// Meter values of a station by the numbers of their first readings, and transactions by their numbers.
 #[derive(Drop)]
 pub struct Forgettable {
-    pub readings: Listed<u32>,
+    pub meter_values: Listed<u32>,
     pub transactions: Listed<u32>,
 }
 
@@ -29,7 +29,32 @@ impl History {
     pub fn is_empty(&self) -> bool
         ensures { result ≡ has_no_rows self.now }
     {
-        self.readings.as_slice().is_empty() && self.transactions.as_slice().is_empty()
+        self.meter_values.as_slice().is_empty() && self.transactions.as_slice().is_empty()
+    }
+
+    /// How many readings it has.
+    pub fn count_readings(&self) -> u128
+        ensures { result ≡ count_readings self.now.meter_values }
+    {
+        let mut count = 0;
+        for row in self.meter_values.as_slice() {
+            count += row.value.sampled.as_slice().len() as u128;
+        }
+        count
+    }
+
+    /// Those of its meter values that begin at or before that reading, and its transactions up to that number.
+    pub fn up_to(self, reading: u32, transaction: u32) -> History
+        ensures { result ≡ up_to reading transaction self }
+    {
+        let mut meter_values = self.meter_values.into_vec();
+        meter_values.retain(|row| row.first <= reading);
+        let mut transactions = self.transactions.into_vec();
+        transactions.retain(|row| row.number <= transaction);
+        History {
+            meter_values: Listed::from(meter_values),
+            transactions: Listed::from(transactions),
+        }
     }
 
     /// The numbers of the rows.
@@ -37,17 +62,16 @@ impl History {
         ensures { IfOk result (λ f. f ≡ numbers_of self.now) }
     {
         Ok(Forgettable {
-            readings: reading_numbers(alloc, self.readings.as_slice())?,
+            meter_values: first_numbers(alloc, self.meter_values.as_slice())?,
             transactions: tx_numbers(alloc, self.transactions.as_slice())?,
         })
     }
 }
 
-/// The numbers of readings.
-pub fn reading_numbers(alloc: Global, rows: &[ReadingRow]) -> Mem<Listed<u32>>
-    ensures { IfOk result (λ l. l ≡ map (λ r. r.number) rows.now) }
+fn first_numbers(alloc: Global, rows: &[MeterValueRow]) -> Mem<Listed<u32>>
+    ensures { IfOk result (λ l. l ≡ map (λ r. r.first) rows.now) }
 {
-    let numbers: Vec<u32> = rows.iter().map(|row| row.number).collect(alloc)?;
+    let numbers: Vec<u32> = rows.iter().map(|row| row.first).collect(alloc)?;
     Ok(Listed::from(numbers))
 }
 

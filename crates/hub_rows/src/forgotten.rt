@@ -1,8 +1,8 @@
 //! Whether a row of a station's history may go.
 ghost use Rattle.std.specs.Prelude.{◌≡◌, option_map};
-ghost use Rattle.hub_rows.specs.Forgetting.{goes_with, has_number, is_left, is_over, is_one_left, tx_goes};
+ghost use Rattle.hub_rows.specs.Forgetting.{goes_with, is_over, oldest};
 
-use crate::reading_row::{ReadingRow, is_sent_with};
+use crate::forgettable::MAX_FORGOTTEN;
 use crate::tx_row::TxRow;
 use ocpp_types::Moment;
 
@@ -18,7 +18,7 @@ impl TxRow {
     }
 }
 
-/// Whether a reading of that time may go: with its transaction, or by its own time where it names none on record.
+/// Whether a meter value of that time may go: with its transaction, or by its own time where it names none on record.
 pub fn goes_with(until: Moment, at: i64, tx: Option<&TxRow>) -> bool
     ensures { result ≡ goes_with until at (option_map (λ t. t.now) tx.entry) }
 {
@@ -28,30 +28,11 @@ pub fn goes_with(until: Moment, at: i64, tx: Option<&TxRow>) -> bool
     }
 }
 
-/// Whether a number is one of some.
-pub fn has_number(numbers: &[u32], number: u32) -> bool
-    ensures { result ≡ has_number numbers.now number }
+/// The first of a station's rows, at most `MAX_FORGOTTEN`, but the last of all.
+pub fn oldest<R>(rows: &[R]) -> &[R]
+    ensures { result.now ≡ oldest rows.now }
 {
-    numbers.iter().any(|one| *one == number)
-}
-
-/// Whether a transaction may go once the readings with those numbers are gone.
-pub fn tx_goes(until: Moment, readings: &[ReadingRow], gone: &[u32], tx: &TxRow) -> bool
-    ensures { result ≡ tx_goes until readings.now gone.now tx.now }
-{
-    tx.is_over(until) && !is_left(readings, gone, tx)
-}
-
-/// Whether a reading that was sent with the number of the transaction is left.
-fn is_left(readings: &[ReadingRow], gone: &[u32], tx: &TxRow) -> bool
-    ensures { result ≡ is_left readings.now gone.now tx.now }
-{
-    readings.iter().any(|row| is_one_left(row, gone, tx))
-}
-
-fn is_one_left(row: &ReadingRow, gone: &[u32], tx: &TxRow) -> bool
-    ensures { result ≡ is_one_left gone.now tx.now row.now }
-{
-    let number = tx.number as u64;
-    is_sent_with(Some(number), row.reading.transaction) && !has_number(gone, row.number)
+    let (but_last, _) = rows.split_at(rows.len().saturating_sub(1));
+    let (oldest, _) = but_last.split_at(but_last.len().min(MAX_FORGOTTEN));
+    oldest
 }

@@ -8,11 +8,11 @@ mod forgotten;
 mod grant_row;
 mod info;
 mod list_row;
+mod meter_value_row;
 mod named_row;
 mod operators;
 mod ordered;
 mod reader_row;
-mod reading_row;
 mod reopens;
 mod report_row;
 mod reservation_row;
@@ -24,18 +24,18 @@ mod use_row;
 
 pub use change::{Change, Edit, HoldingEdit, StationEdit, TagEdit, TransactionEdit};
 pub use connector_row::{ConnectorReport, ConnectorRow};
-pub use forgettable::{Forgettable, History, MAX_FORGOTTEN, reading_numbers};
-pub use forgotten::{goes_with, has_number, tx_goes};
+pub use forgettable::{Forgettable, History, MAX_FORGOTTEN};
+pub use forgotten::{goes_with, oldest};
 pub use grant_row::GrantRow;
 pub use info::{GrantedTag, Info};
 pub use list_row::{ListRow, LocalList, LocalTag};
+pub use meter_value_row::{MeterValue, MeterValueRow, is_sent_with};
 pub use named_row::{
     NamedRow, name_digest, place_near, place_of_name, remove_row, row_near, row_of,
 };
 pub use operators::{MAX_OPERATOR, are_operators, is_hosted, is_operator_name};
 pub use ordered::{Keyed, put_ready, put_row};
 pub use reader_row::{Reader, ReaderRow};
-pub use reading_row::{Reading, ReadingRow, is_sent_with};
 pub use reopens::Reopens;
 pub use report_row::{ReportRow, ReportedStatus};
 pub use reservation_row::{Reservation, ReservationId, ReservationRow};

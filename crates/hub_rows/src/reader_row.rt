@@ -31,19 +31,12 @@ impl Named for Reader {
 
     ghost names = { readers };
 
-    fn of(name: &str) -> Option<Reader> {
-        match name {
-            "strict" => Some(Reader::Strict),
-            "tolerant" => Some(Reader::Tolerant),
-            _ => None,
-        }
+    fn table() -> &'static [(&'static str, Self)] {
+        &[("strict", Self::Strict), ("tolerant", Self::Tolerant)]
     }
 
-    fn name(&self) -> &'static str {
-        match self {
-            Reader::Strict => "strict",
-            Reader::Tolerant => "tolerant",
-        }
+    fn index(&self) -> usize {
+        *self as usize
     }
 }
 

@@ -4,9 +4,10 @@ ghost use Rattle.hub_rows.specs.Rows.{registration_at};
 ghost use Rattle.hub_rows.specs.WellFormed.{WellFormedRows};
 ghost use Rattle.hub_rows.specs.Tags.{own_tag_in};
 ghost use Rattle.hub_rows.specs.Lookups.{stations_in, tags_in, connectors_in, local_list_in, reports_in, forgettable_in};
-ghost use Rattle.hub_rows.specs.Transactions.{is_used_in, same_start_in, tx_in, has_open_in, open_txs_in, txs_from_in, readings_in, last_tx_in, last_reading_in};
+ghost use Rattle.hub_rows.specs.Transactions.{is_used_in, same_start_in, tx_in, has_open_in, open_txs_in, txs_from_in, last_tx_in};
 ghost use Rattle.hub_rows.specs.Changes.{edit, EditFits};
 ghost use Rattle.hub_rows.specs.Grants.{granted_in, granted_tag_in, grants_in, has_grant_in};
+ghost use Rattle.hub_rows.specs.MeterValues.{last_reading_in, meter_values_in};
 ghost use Rattle.hub_rows.specs.Readers.{reader_in, readers_in};
 ghost use Rattle.hub_rows.specs.Reservations.{reservations_in, reserved_until_in};
 ghost use Rattle.hub_rows.specs.Reads.{OnlyReads, IsCounted};
@@ -20,8 +21,8 @@ use crate::forgettable::History;
 use crate::grant_row::GrantRow;
 use crate::info::{GrantedTag, Info};
 use crate::list_row::LocalList;
+use crate::meter_value_row::MeterValueRow;
 use crate::reader_row::{Reader, ReaderRow};
-use crate::reading_row::ReadingRow;
 use crate::report_row::ReportRow;
 use crate::reservation_row::{ReservationId, ReservationRow};
 use crate::station_row::{Registration, StationRow};
@@ -172,7 +173,7 @@ pub trait Store {
     fn last_reading(&mut self, op: &str, station: &str) -> Result<u32, StoreFault>
         ensures reads { OnlyReads view self.old self.new result }
         ensures found { (view self.new).clean
-            → IfOk result (λ r. r ≡ last_reading_in op.now station.now (view self.old).rows.readings) };
+            → IfOk result (λ r. r ≡ last_reading_in op.now station.now (view self.old).rows.meter_values) };
 
     /// When the reservation of an id at a station expires.
     fn reserved_until(
@@ -233,24 +234,24 @@ pub trait Store {
         ensures found { (view self.new).clean
             → IfOk result (λ r. r ≡ open_txs_in op.now (view self.old).rows.transactions) };
 
-    /// What of a station's history may go before a moment: its first readings and transactions that may, at most
-    /// `MAX_FORGOTTEN`.
+    /// What of a station's history may go before a moment: of its first `MAX_FORGOTTEN` meter values those that may, or else
+    /// of as many transactions.
     fn forgettable(&mut self, op: &str, station: &str, until: Moment) -> Result<History, StoreFault>
         ensures reads { OnlyReads view self.old self.new result }
         ensures found { (view self.new).clean
             → IfOk result (λ r. r ≡ forgettable_in op.now station.now until (view self.old).rows) };
 
-    /// The readings of a station in the order of their numbers: all, or those that were sent with
+    /// The meter values of a station in the order of their numbers: all, or those that were sent with
     /// the number of a transaction.
-    fn readings(
+    fn meter_values(
         &mut self,
         op: &str,
         station: &str,
         transaction: Option<u64>,
-    ) -> Result<Listed<ReadingRow>, StoreFault>
+    ) -> Result<Listed<MeterValueRow>, StoreFault>
         ensures reads { OnlyReads view self.old self.new result }
         ensures found { (view self.new).clean
-            → IfOk result (λ r. r ≡ readings_in op.now station.now transaction (view self.old).rows.readings) };
+            → IfOk result (λ r. r ≡ meter_values_in op.now station.now transaction (view self.old).rows.meter_values) };
 
     /// The reservations at a station, in the order of their ids.
     fn reservations(

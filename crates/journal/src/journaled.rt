@@ -4,9 +4,9 @@ ghost use Rattle.hub_rows.specs.Failures.{Rose};
 
 use crate::journal::Journal;
 use hub_rows::{
-    Change, ConnectorRow, GrantRow, GrantedTag, History, Info, LocalList, Reader, ReaderRow,
-    ReadingRow, Registration, ReportRow, ReservationId, ReservationRow, StartKey, StationRow,
-    Store, StoreFault, TagRow, TxKey, TxRow, TxState, UseRow,
+    Change, ConnectorRow, GrantRow, GrantedTag, History, Info, LocalList, MeterValueRow, Reader,
+    ReaderRow, Registration, ReportRow, ReservationId, ReservationRow, StartKey, StationRow, Store,
+    StoreFault, TagRow, TxKey, TxRow, TxState, UseRow,
 };
 use ocpp_types::{Listed, Moment, TagKey};
 use std::rc::Rc;
@@ -155,13 +155,13 @@ impl<S: Store> Store for Journaled<S> {
         self.store.forgettable(op, station, until)
     }
 
-    fn readings(
+    fn meter_values(
         &mut self,
         op: &str,
         station: &str,
         transaction: Option<u64>,
-    ) -> Result<Listed<ReadingRow>, StoreFault> {
-        self.store.readings(op, station, transaction)
+    ) -> Result<Listed<MeterValueRow>, StoreFault> {
+        self.store.meter_values(op, station, transaction)
     }
 
     fn reservations(

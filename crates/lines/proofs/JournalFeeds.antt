@@ -137,7 +137,7 @@ of_what (Admin admin) op m order says = of_order op m order _ says
 of_what (Listing listing) op m order says = of_order op m order _ says
 of_what Connections op m order says = of_order op m order _ says
 of_what (DropStation station) op m order says = of_order op m order _ says
-of_what (Forget station until) op m order says = of_order op m order _ says
+of_what (Forget station until ends) op m order says = of_order op m order _ says
 
 pub tick_one : (m : ℕ) → m ≤ last_moment → list_any is_feed (decimal m ++ codes " * tick") ≡ false
 tick_one m within = joined (decimal m) (codes " * tick") (of_moment m within) refl

@@ -161,7 +161,7 @@ order_what (Admin admin) op m order is says = order_said op m order (Admin admin
 order_what (Listing listing) op m order is says = order_said op m order (Listing listing) says
 order_what Connections op m order is says = order_said op m order Connections says
 order_what (DropStation station) op m order is says = order_said op m order (DropStation station) says
-order_what (Forget station until) op m order is says = order_said op m order (Forget station until) says
+order_what (Forget station until ends) op m order is says = order_said op m order (Forget station until ends) says
 
 -- ---- the moment and the operator
 

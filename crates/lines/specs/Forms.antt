@@ -1,5 +1,6 @@
 -- What the forms of an operator's lines say.
 use Rattle.std.specs.Prelude.{option_and_then, ℕ, List, [], ◌∷◌, codes, Bool, true, false, if◌then◌else◌, Option, Some, None}
+use Rattle.hub_events.specs.declared.event.HistoryEnds.{HistoryEnds}
 use Rattle.hub_events.specs.declared.event.What.{What}
 use Rattle.hub_events.specs.declared.event.What.TheVariants as what
 use Rattle.hub_events.specs.declared.event.Admin.TheVariants as admin
@@ -12,7 +13,7 @@ use Rattle.ocpp_types.specs.declared.policy.Policy.{Policy}
 use Rattle.serde_json.specs.Data.{Data}
 use Rattle.serde_json.specs.Find.{as_str}
 use Rattle.serde_json.specs.Read.{read}
-use Rattle.lines.specs.Words.{first_word, only_word, number_of, transaction_number, meter_of, moment_at, parent_of, is_expiry, expiry_of, ◌>>=◌}
+use Rattle.lines.specs.Words.{first_word, only_word, number_of, transaction_number, end_number, meter_of, moment_at, parent_of, is_expiry, expiry_of, ◌>>=◌}
 
 -- `connect ST`
 abbrev pub connect_form : List ℕ → Option What
@@ -105,12 +106,32 @@ tag_drop_form rest = do
   tag ← only_word rest
   Some (what.Admin (admin.TagDrop tag))
 
--- `forget ST UNTIL`
+-- `READING TRANSACTION`
+abbrev pub history_ends : List ℕ → Option HistoryEnds
+history_ends rest = do
+  reading_word ← first_word rest
+  reading ← end_number reading_word.0
+  transaction ← end_number reading_word.1
+  Some (record { reading = reading; transaction = transaction })
+
+-- `UNTIL READING TRANSACTION`
+abbrev pub ended_forget_form : List ℕ → List ℕ → Option What
+ended_forget_form station rest = do
+  until_word ← first_word rest
+  until ← moment_at until_word.0
+  ends ← history_ends until_word.1
+  Some (what.Forget station until (Some ends))
+
+-- `UNTIL`, or with ends
+abbrev pub forget_by_words : List ℕ → Option ℕ → List ℕ → Option What
+forget_by_words station (Some until) rest = Some (what.Forget station until None)
+forget_by_words station None rest = ended_forget_form station rest
+
+-- `forget ST UNTIL`, or `forget ST UNTIL READING TRANSACTION`
 abbrev pub forget_form : List ℕ → Option What
 forget_form rest = do
   station ← first_word rest
-  until ← moment_at station.1
-  Some (what.Forget station.0 until)
+  forget_by_words station.0 (moment_at station.1) station.1
 
 -- `grant TAG OP2 UNTIL|-`
 abbrev pub grant_form : List ℕ → Option What

@@ -20,7 +20,7 @@ is_order (Admin admin) = true
 is_order (Listing listing) = true
 is_order Connections = true
 is_order (DropStation station) = true
-is_order (Forget station until) = true
+is_order (Forget station until ends) = true
 
 abbrev pub has_line_feed : List ℕ → Bool
 has_line_feed text = nat_lt (position_or_len (λ byte. byte == 10) text) (length text)

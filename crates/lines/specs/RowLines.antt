@@ -18,6 +18,7 @@ use Rattle.ocpp_types.specs.UnitOfMeasure.{unit_of_measure_name}
 use Rattle.ocpp_types.specs.ValueFormat.{value_format_name}
 use Rattle.ocpp_types.specs.declared.value_format.ValueFormat.{ValueFormat}
 use Rattle.ocpp_types.specs.declared.value_format.ValueFormat.TheVariants.{Raw, SignedData}
+use Rattle.ocpp_types.specs.declared.sampled_value.SampledValue.{SampledValue}
 use Rattle.ocpp_types.specs.declared.unit_of_measure.UnitOfMeasure.{UnitOfMeasure}
 use Rattle.ocpp_payload.specs.Boot.{boot_data}
 use Rattle.ocpp_payload.specs.Table.{written}
@@ -33,8 +34,6 @@ use Rattle.hub_rows.specs.declared.tx_row.Start.{Start}
 use Rattle.hub_rows.specs.declared.tx_row.Stop.{Stop}
 use Rattle.hub_rows.specs.declared.tx_row.TxRow.{TxRow}
 use Rattle.hub_rows.specs.declared.use_row.UseRow.{UseRow}
-use Rattle.hub_rows.specs.declared.reading_row.Reading.{Reading}
-use Rattle.hub_rows.specs.declared.reading_row.ReadingRow.{ReadingRow}
 use Rattle.hub_rows.specs.Reports.{kind_of, reported_name}
 use Rattle.hub_rows.specs.Reservations.{unshifted}
 use Rattle.hub_rows.specs.declared.reader_row.ReaderRow.{ReaderRow}
@@ -45,6 +44,7 @@ use Rattle.hub_rows.specs.declared.reservation_row.Reservation.{Reservation}
 use Rattle.hub_rows.specs.declared.reservation_row.ReservationRow.{ReservationRow}
 use Rattle.hub_events.specs.declared.listing.Row.{Row}
 use Rattle.hub_events.specs.declared.listing.Row.TheVariants as row
+use Rattle.hub_events.specs.declared.reading_row.ReadingRow.{ReadingRow}
 
 -- ---- fields: `-` stands for none, and a text of a peer is a JSON string
 
@@ -126,23 +126,23 @@ abbrev pub tx_line : List ℕ → TxRow → List ℕ
 tx_line op r = op ++ (codes " row transaction " ++ (r.station ++ (codes " " ++ (decimal r.number ++ (codes " " ++ (start_fields r.start ++ (codes " " ++ stop_fields r.stop)))))))
 
 -- whose reading it is, and when
-abbrev pub taken_fields : Reading → List ℕ
+abbrev pub taken_fields : ReadingRow → List ℕ
 taken_fields r = decimal r.connector ++ (codes " " ++ (signed_field r.transaction ++ (codes " " ++ signed_decimal r.at)))
 
 -- what was sampled, and how
-abbrev pub sampled_fields : Reading → List ℕ
-sampled_fields r = reading_context_name r.context ++ (codes " " ++ (value_format_name r.format ++ (codes " " ++ (measurand_name r.measurand ++ (codes " " ++ (name_field (option_map phase_name r.phase) ++ (codes " " ++ (location_name r.location ++ (codes " " ++ name_field (option_map unit_of_measure_name r.unit))))))))))
+abbrev pub meaning_fields : SampledValue → List ℕ
+meaning_fields s = reading_context_name s.context ++ (codes " " ++ (value_format_name s.format ++ (codes " " ++ (measurand_name s.measurand ++ (codes " " ++ (name_field (option_map phase_name s.phase) ++ (codes " " ++ (location_name s.location ++ (codes " " ++ name_field (option_map unit_of_measure_name s.unit))))))))))
 
 -- what it shows
-abbrev pub value_fields : Reading → List ℕ
-value_fields r = signed_field (micro_of r.format r.text r.unit) ++ (codes " " ++ quoted r.text)
+abbrev pub value_fields : SampledValue → List ℕ
+value_fields s = signed_field (micro_of s.format s.value s.unit) ++ (codes " " ++ quoted s.value)
 
-unfoldable pub reading_fields : Reading → List ℕ
-reading_fields r = taken_fields r ++ (codes " " ++ (sampled_fields r ++ (codes " " ++ value_fields r)))
+unfoldable pub sampled_fields : SampledValue → List ℕ
+sampled_fields s = meaning_fields s ++ (codes " " ++ value_fields s)
 
 -- `OP row reading ST NUMBER C TX AT CONTEXT FORMAT MEASURAND PHASE LOCATION UNIT MICRO TEXT`
 abbrev pub reading_line : List ℕ → ReadingRow → List ℕ
-reading_line op r = op ++ (codes " row reading " ++ (r.station ++ (codes " " ++ (decimal r.number ++ (codes " " ++ reading_fields r.reading)))))
+reading_line op r = op ++ (codes " row reading " ++ (r.station ++ (codes " " ++ (decimal r.number ++ (codes " " ++ (taken_fields r ++ (codes " " ++ sampled_fields r.sampled)))))))
 
 -- what is reserved, for whom and until when
 abbrev pub reservation_fields : Reservation → List ℕ

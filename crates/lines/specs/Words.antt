@@ -1,5 +1,5 @@
 -- Words that are separated by one space.
-use Rattle.std.specs.Prelude.{ℕ, nat_le, nat_lt, ◌==◌, slice_index, Bool, ◌&&◌, ◌||◌, is_some, List, length, Option, Some, None, codes, if◌then◌else◌, option_and_then, option_map}
+use Rattle.std.specs.Prelude.{ℕ, nat_le, nat_lt, ◌==◌, slice_index, Bool, ◌&&◌, ◌||◌, is_some, List, length, min, Option, Some, None, codes, if◌then◌else◌, option_and_then, option_map}
 use Rattle.std.specs.List.{position_or_len, before_first, after_first}
 use Rattle.std.specs.Str.{bytes_eq}
 use Rattle.hub_rows.specs.Transactions.{last_of_all}
@@ -28,6 +28,10 @@ begins_with_0 text = slice_index text 0 == 48
 -- the number from 1 to 2147483647 that decimal digits without a 0 in front are
 abbrev pub transaction_number : List ℕ → Option ℕ
 transaction_number text = if begins_with_0 text then None else option_and_then (λ n. if nat_le n last_of_all then Some n else None) (number_of text)
+
+-- how far numbers go: no number is past 2147483647
+abbrev pub end_number : List ℕ → Option ℕ
+end_number text = option_map (λ n. min n last_of_all) (number_of text)
 
 -- the moment of that number of seconds
 abbrev pub moment_at : List ℕ → Option ℕ

@@ -1,15 +1,15 @@
 //! The forms of the lines of an operator (docs/RULES.md, Lines).
 ghost use Rattle.std.specs.Prelude.{◌≡◌, IfOk, option_map};
 ghost use Rattle.lines.specs.Words.{only_word, parent_of};
-ghost use Rattle.lines.specs.Forms.{what_of, connect_form, disconnect_form, frame_form, quoted_form, call_form, station_form, station_add_form, station_policy_form, station_reader_form, station_drop_form, policy_words, tag_form, tag_put_form, tag_drop_form, transaction_form, transaction_close_form, forget_form, grant_form, revoke_form, mark_of};
+ghost use Rattle.lines.specs.Forms.{what_of, connect_form, disconnect_form, frame_form, quoted_form, call_form, station_form, station_add_form, station_policy_form, station_reader_form, station_drop_form, policy_words, tag_form, tag_put_form, tag_drop_form, transaction_form, transaction_close_form, forget_form, ended_forget_form, history_ends, grant_form, revoke_form, mark_of};
 
 use crate::json_texts::{command_in, string_in};
 use crate::list_forms::list;
 use crate::words::{
-    expiry_of, first_word, is_expiry, meter_of, moment_at, name_of, number_of, only_word,
-    transaction_number,
+    end_number, expiry_of, first_word, is_expiry, meter_of, moment_at, name_of, number_of,
+    only_word, transaction_number,
 };
-use hub_events::{Admin, What};
+use hub_events::{Admin, HistoryEnds, What};
 use hub_rows::{Reader, Tag};
 use id_tags::Grant;
 use ocpp_types::{Boxed, Mem, Named, Policy, Text};
@@ -273,14 +273,48 @@ fn transaction_close(alloc: Global, rest: &str) -> Mem<Option<What>>
 fn forget(alloc: Global, rest: &str) -> Mem<Option<What>>
     ensures { IfOk result (λ w. w ≡ forget_form rest.now) }
 {
-    let Some((station, until)) = first_word(rest) else {
+    let Some((station, rest)) = first_word(rest) else {
+        return Ok(None);
+    };
+    let Some(until) = moment_at(rest) else {
+        return ended_forget(alloc, station, rest);
+    };
+    Ok(Some(What::Forget {
+        station: Text::copy_of(alloc, station)?,
+        until,
+        ends: None,
+    }))
+}
+
+/// `UNTIL READING TRANSACTION`
+fn ended_forget(alloc: Global, station: &str, rest: &str) -> Mem<Option<What>>
+    ensures { IfOk result (λ w. w ≡ ended_forget_form station.now rest.now) }
+{
+    let Some((until, rest)) = first_word(rest) else {
         return Ok(None);
     };
     let Some(until) = moment_at(until) else {
         return Ok(None);
     };
-    let station = Text::copy_of(alloc, station)?;
-    Ok(Some(What::Forget { station, until }))
+    let Some(ends) = history_ends(rest) else {
+        return Ok(None);
+    };
+    Ok(Some(What::Forget {
+        station: Text::copy_of(alloc, station)?,
+        until,
+        ends: Some(ends),
+    }))
+}
+
+/// `READING TRANSACTION`
+fn history_ends(rest: &str) -> Option<HistoryEnds>
+    ensures { result ≡ history_ends rest.now }
+{
+    let (reading, transaction) = first_word(rest)?;
+    Some(HistoryEnds {
+        reading: end_number(reading)?,
+        transaction: end_number(transaction)?,
+    })
 }
 
 fn grant(alloc: Global, rest: &str) -> Mem<Option<What>>

@@ -6,19 +6,18 @@ ghost use Rattle.serde_json.specs.Written.{has_float};
 ghost use Rattle.ocpp_types.specs.Phase.{phase_name};
 ghost use Rattle.ocpp_types.specs.UnitOfMeasure.{unit_of_measure_name};
 ghost use Rattle.hub_rows.specs.Reservations.{unshifted};
-ghost use Rattle.lines.specs.RowLines.{row_line, station_line, tag_line, grant_line, granted_line, use_line, connector_line, tx_line, reading_line, reservation_line, local_tag_line, report_line, reader_line, entry_data, reading_fields, report_fields, reservation_fields, start_fields, stop_fields, taken_fields, sampled_fields, value_fields, name_field, micro_of};
+ghost use Rattle.lines.specs.RowLines.{row_line, station_line, tag_line, grant_line, granted_line, use_line, connector_line, tx_line, reading_line, reservation_line, local_tag_line, report_line, reader_line, entry_data, report_fields, reservation_fields, start_fields, stop_fields, taken_fields, sampled_fields, meaning_fields, value_fields, name_field, micro_of};
 
 use crate::fields::{
     Signed, boot_field, mark, moment_field, quoted, signed_field, text_field, widened,
 };
-use hub_events::Row;
+use hub_events::{ReadingRow, Row};
 use hub_rows::{
-    ConnectorReport, ConnectorRow, GrantRow, GrantedTag, LocalTag, ReaderRow, Reading, ReadingRow,
-    ReportRow, Reservation, ReservationId, ReservationRow, Start, StationRow, Stop, TagRow, TxRow,
-    UseRow,
+    ConnectorReport, ConnectorRow, GrantRow, GrantedTag, LocalTag, ReaderRow, ReportRow,
+    Reservation, ReservationId, ReservationRow, Start, StationRow, Stop, TagRow, TxRow, UseRow,
 };
 use ocpp_payload::Tabled;
-use ocpp_types::{Mem, Named, Phase, Text, UnitOfMeasure, ValueFormat, read_micro};
+use ocpp_types::{Mem, Named, Phase, SampledValue, Text, UnitOfMeasure, ValueFormat, read_micro};
 use serde_json::{Map, Value, put};
 use std::alloc::Global;
 use std::fmt;
@@ -167,24 +166,14 @@ fn print_reading(alloc: Global, op: &Text, row: &ReadingRow) -> Mem<String>
 {
     let station = row.station.as_str();
     let number = row.number;
-    let reading = print_fields(alloc, &row.reading)?;
-    Ok(format!(in alloc; "{op} row reading {station} {number} {reading}")?)
-}
-
-#[tactic(auto, unfolding(crate::specs::RowLines::reading_fields))]
-fn print_fields(alloc: Global, reading: &Reading) -> Mem<String>
-    ensures { IfOk result (λ s. string_bytes s ≡ reading_fields reading.now) }
-{
-    let taken = Taken(reading);
-    let sampled = Sampled(reading);
-    let micro = Signed(micro_of(reading));
-    let text = quoted(alloc, reading.text.as_str())?;
-    Ok(format!(in alloc; "{taken} {sampled} {micro} {text}")?)
+    let taken = Taken(row);
+    let sampled = print_sampled(alloc, &row.sampled)?;
+    Ok(format!(in alloc; "{op} row reading {station} {number} {taken} {sampled}")?)
 }
 
 /// Of what a reading was taken, and when.
 #[derive(Drop)]
-struct Taken<'a>(&'a Reading);
+struct Taken<'a>(&'a ReadingRow);
 
 impl fmt::Display for Taken<'_> {
     ghost output = { λ taken. Some (taken_fields taken.0.now) };
@@ -197,12 +186,22 @@ impl fmt::Display for Taken<'_> {
     }
 }
 
+#[tactic(auto, unfolding(crate::specs::RowLines::sampled_fields))]
+fn print_sampled(alloc: Global, sampled: &SampledValue) -> Mem<String>
+    ensures { IfOk result (λ s. string_bytes s ≡ sampled_fields sampled.now) }
+{
+    let meaning = Meaning(sampled);
+    let micro = Signed(micro_of(sampled));
+    let text = quoted(alloc, sampled.value.as_str())?;
+    Ok(format!(in alloc; "{meaning} {micro} {text}")?)
+}
+
 /// What the number of a reading means.
 #[derive(Drop)]
-struct Sampled<'a>(&'a Reading);
+struct Meaning<'a>(&'a SampledValue);
 
-impl fmt::Display for Sampled<'_> {
-    ghost output = { λ sampled. Some (sampled_fields sampled.0.now) };
+impl fmt::Display for Meaning<'_> {
+    ghost output = { λ meaning. Some (meaning_fields meaning.0.now) };
 
     fn fmt<W: fmt::Write>(&self, f: &mut fmt::Formatter<W>) -> fmt::Result {
         let context = self.0.context.name();
@@ -237,11 +236,11 @@ fn unit_field(unit: Option<UnitOfMeasure>) -> &'static str
 }
 
 /// The number of a reading, which signed data has none of.
-fn micro_of(reading: &Reading) -> Option<i128>
-    ensures { result ≡ micro_of reading.now.format reading.now.text reading.now.unit }
+fn micro_of(sampled: &SampledValue) -> Option<i128>
+    ensures { result ≡ micro_of sampled.now.format sampled.now.value sampled.now.unit }
 {
-    match reading.format {
-        ValueFormat::Raw => read_micro(reading.text.as_str(), reading.unit),
+    match sampled.format {
+        ValueFormat::Raw => read_micro(sampled.value.as_str(), sampled.unit),
         ValueFormat::SignedData => None,
     }
 }

@@ -1,6 +1,6 @@
 //! The words of a line.
 ghost use Rattle.std.specs.Prelude.{◌≡◌, IfOk, option_map};
-ghost use Rattle.lines.specs.Words.{first_word, only_word, number_of, begins_with_0, transaction_number, moment_at, is_expiry, expiry_of, meter_of};
+ghost use Rattle.lines.specs.Words.{first_word, only_word, number_of, begins_with_0, transaction_number, end_number, moment_at, is_expiry, expiry_of, meter_of};
 
 use hub_rows::LAST_NUMBER;
 use ocpp_types::{Mem, Moment, Text, number_of_digits};
@@ -91,6 +91,13 @@ pub fn transaction_number(text: &str) -> Option<u32>
         Ok(number) if number <= LAST_NUMBER => Some(number),
         _ => None,
     }
+}
+
+/// How far numbers go, by 1 to 12 decimal digits: no number is past 2147483647.
+pub fn end_number(text: &str) -> Option<u32>
+    ensures { result ≡ end_number text.now }
+{
+    Some(number_of(text)?.min(u64::from(LAST_NUMBER)) as u32)
 }
 
 fn begins_with_0(text: &str) -> bool

@@ -1,4 +1,3 @@
-pub mod GroupLaws
 pub mod TokenLaws
 pub mod ReadAgain
 pub mod EachLaws

@@ -26,7 +26,7 @@ use Rattle.ocpp_types.specs.declared.location.Location.{Location}
 use Rattle.ocpp_types.specs.declared.location.Location.TheVariants as location
 use Rattle.ocpp_types.specs.declared.unit_of_measure.UnitOfMeasure.{UnitOfMeasure}
 use Rattle.ocpp_types.specs.declared.unit_of_measure.UnitOfMeasure.TheVariants as unit
-use Rattle.meter_values.specs.declared.meter_value.Sampled.{Sampled}
+use Rattle.ocpp_types.specs.declared.sampled_value.SampledValue.{SampledValue}
 use Rattle.meter_values.specs.Written.{unless, rows_of, members_by, object_of, text_of}
 use Rattle.meter_values.specs.Read.{◌>>=◌, or_default, if_any, sampled_with, sampled_of_json, each_sampled, sampled_in}
 
@@ -101,7 +101,7 @@ get-members_by name ((k, None) ∷ rows) = get-members_by name rows ∙ ap (opti
 get-members_by name ((k, Some text) ∷ rows) =
     ap (λ o. later_or o (cond (bytes_eq k name) (Some (string text)) None)) (get-members_by name rows) ∙ one_row (last_row name rows) (bytes_eq k name) text
 
-found : (s : Sampled) (name : List ℕ) (o : Option (List ℕ)) → last_row name (rows_of s) ≡ o → get name (object_of s) ≡ option_map string o
+found : (s : SampledValue) (name : List ℕ) (o : Option (List ℕ)) → last_row name (rows_of s) ≡ o → get name (object_of s) ≡ option_map string o
 found s name o e = get-members_by name (rows_of s) ∙ ap (option_map string) e
 
 -- the rows before that one have other names
@@ -128,7 +128,7 @@ after_6 o = later_none _ ∙ after_5 o
 in_turn : {A B : Type 0} (r : Option A) (x : A) (rest : A → Option B) (y : B) → r ≡ Some x → rest x ≡ Some y → (r >>= rest) ≡ Some y
 in_turn r x rest y e h = ap (λ r. r >>= rest) e ∙ h
 
-members_again : (s : Sampled) → sampled_with s.text (object_of s) ≡ Some s
+members_again : (s : SampledValue) → sampled_with s.value (object_of s) ≡ Some s
 members_again s =
     in_turn _ s.context _ s (ap (or_default context.SamplePeriodic reading_contexts) (found s (codes "context") _ (after_1 _)) ∙ default_again reading_contexts reading_context_name context_again context.SamplePeriodic s.context)
     (in_turn _ s.format _ s (ap (or_default format.Raw value_formats) (found s (codes "format") _ (after_2 _)) ∙ default_again value_formats value_format_name format_again format.Raw s.format)
@@ -138,10 +138,10 @@ members_again s =
     (in_turn _ s.unit _ s (ap (if_any units_of_measure) (found s (codes "unit") _ (after_6 _)) ∙ any_again units_of_measure unit_of_measure_name unit_again s.unit)
     refl)))))
 
-one_again : (s : Sampled) → sampled_of_json (object_of s) ≡ Some s
-one_again s = in_turn _ s.text _ s (ap (λ o. o >>= as_str) (found s (codes "value") (Some s.text) refl)) (members_again s)
+one_again : (s : SampledValue) → sampled_of_json (object_of s) ≡ Some s
+one_again s = in_turn _ s.value _ s (ap (λ o. o >>= as_str) (found s (codes "value") (Some s.value) refl)) (members_again s)
 
-each_again : (sampled : List Sampled) → each_sampled (items_of (map object_of sampled)) ≡ Some sampled
+each_again : (sampled : List SampledValue) → each_sampled (items_of (map object_of sampled)) ≡ Some sampled
 each_again [] = refl
 each_again (s ∷ rest) = in_turn _ s _ (s ∷ rest) (one_again s) (in_turn _ rest _ (s ∷ rest) (each_again rest) refl)
 
@@ -152,7 +152,7 @@ members_have_numbers [] = tt
 members_have_numbers ((k, None) ∷ rows) = members_have_numbers rows
 members_have_numbers ((k, Some text) ∷ rows) = (tt, members_have_numbers rows)
 
-items_have_numbers : (sampled : List Sampled) → ItemsHaveNumbers (items_of (map object_of sampled))
+items_have_numbers : (sampled : List SampledValue) → ItemsHaveNumbers (items_of (map object_of sampled))
 items_have_numbers [] = tt
 items_have_numbers (s ∷ rest) = (members_have_numbers (rows_of s), items_have_numbers rest)
 
@@ -161,11 +161,11 @@ members_flat [] = refl
 members_flat ((k, None) ∷ rows) = members_flat rows
 members_flat ((k, Some text) ∷ rows) = omega (arith, members_flat rows)
 
-items_flat : (sampled : List Sampled) → items_depth (items_of (map object_of sampled)) ≤ 1
+items_flat : (sampled : List SampledValue) → items_depth (items_of (map object_of sampled)) ≤ 1
 items_flat [] = omega arith
 items_flat (s ∷ rest) = omega (arith, members_flat (rows_of s), items_flat rest)
 
-pub read_again : (sampled : List Sampled) → sampled_in (text_of sampled) ≡ Some sampled
+pub read_again : (sampled : List SampledValue) → sampled_in (text_of sampled) ≡ Some sampled
 read_again sampled =
     ap (λ o. (o >>= as_array) >>= each_sampled)
     (document-print (array (items_of (map object_of sampled))) (items_have_numbers sampled) (omega (arith, items_flat sampled)))

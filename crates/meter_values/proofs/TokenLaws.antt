@@ -8,7 +8,7 @@ use Rattle.json.specs.Value.{items_of}
 use Rattle.json.specs.Written.{Written, Writes}
 use Rattle.meter_values.specs.Tokens.{row_tokens, Adds}
 use Rattle.meter_values.specs.Written.{members_by, object_of}
-use Rattle.meter_values.specs.declared.meter_value.Sampled.{Sampled}
+use Rattle.ocpp_types.specs.declared.sampled_value.SampledValue.{SampledValue}
 
 both : (a b c : Written) (xs ys : List Token) → Adds a b xs → Adds b c ys → Adds a c (xs ++ ys)
 both a b c xs ys first last = record {
@@ -36,10 +36,10 @@ adds_token x a b t writes = record { before = writes.room.0; tokens = writes.ok 
 -- ---- the array
 
 -- what is left to write when these are left
-abbrev pub left : List Sampled → List Token
+abbrev pub left : List SampledValue → List Token
 left sampled = items_tokens (items_of (map object_of sampled))
 
-pub one_written : (ts us : List Token) (sampled : List Sampled) (i : ℕ) (s : Sampled) → i < length sampled → s ≡ get_or sampled i s
+pub one_written : (ts us : List Token) (sampled : List SampledValue) (i : ℕ) (s : SampledValue) → i < length sampled → s ≡ get_or sampled i s
     → us ≡ ts ++ json_tokens (object_of s) → us ++ left (drop (i + 1) sampled) ≡ ts ++ left (drop i sampled)
 one_written ts us sampled i s within is e =
     ap (λ t. t ++ left (drop (i + 1) sampled)) e
@@ -48,5 +48,5 @@ one_written ts us sampled i s within is e =
     ∙ ap (λ x. ts ++ left (x ∷ drop (suc i) sampled)) is
     ∙ ap (λ xs. ts ++ left xs) (sym (drop-cons sampled i s within))
 
-pub all_written : (ts us : List Token) (sampled : List Sampled) (i : ℕ) → length sampled ≤ i → us ≡ ts ++ Token.end_array ∷ [] → us ≡ ts ++ left (drop i sampled)
+pub all_written : (ts us : List Token) (sampled : List SampledValue) (i : ℕ) → length sampled ≤ i → us ≡ ts ++ Token.end_array ∷ [] → us ≡ ts ++ left (drop i sampled)
 all_written ts us sampled i past e = e ∙ ap (λ xs. ts ++ left xs) (sym (drop_all i sampled past))

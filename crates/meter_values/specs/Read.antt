@@ -13,7 +13,7 @@ use Rattle.ocpp_types.specs.declared.reading_context.ReadingContext.TheVariants 
 use Rattle.ocpp_types.specs.declared.value_format.ValueFormat.TheVariants as format
 use Rattle.ocpp_types.specs.declared.measurand.Measurand.TheVariants as measurand
 use Rattle.ocpp_types.specs.declared.location.Location.TheVariants as location
-use Rattle.meter_values.specs.declared.meter_value.Sampled.{Sampled}
+use Rattle.ocpp_types.specs.declared.sampled_value.SampledValue.{SampledValue}
 
 infixl 10 ◌>>=◌
 abbrev pub ◌>>=◌ : {A B : Type 0} → Option A → (A → Option B) → Option B
@@ -35,7 +35,7 @@ if_any names None = Some None
 if_any names (Some j) = choice names j >>= (λ x. Some (Some x))
 
 -- a sampled value, by its text and its other members
-abbrev pub sampled_with : List ℕ → Json → Option Sampled
+abbrev pub sampled_with : List ℕ → Json → Option SampledValue
 sampled_with text j =
     or_default context.SamplePeriodic reading_contexts (get (codes "context") j) >>= (λ context.
     or_default format.Raw value_formats (get (codes "format") j) >>= (λ format.
@@ -50,17 +50,17 @@ sampled_with text j =
       phase = phase;
       location = location;
       unit = unit;
-      text = text;
+      value = text;
     })))))))
 
 -- an object with a value; members of other names aren't read
-abbrev pub sampled_of_json : Json → Option Sampled
+abbrev pub sampled_of_json : Json → Option SampledValue
 sampled_of_json j = (get (codes "value") j >>= as_str) >>= (λ text. sampled_with text j)
 
-abbrev pub each_sampled : Items → Option (List Sampled)
+abbrev pub each_sampled : Items → Option (List SampledValue)
 each_sampled no_items = Some []
 each_sampled (item j js) = sampled_of_json j >>= (λ s. each_sampled js >>= (λ rest. Some (s ∷ rest)))
 
 -- the sampled values that a text is, if it is an array of them
-abbrev pub sampled_in : List ℕ → Option (List Sampled)
+abbrev pub sampled_in : List ℕ → Option (List SampledValue)
 sampled_in text = (document text >>= as_array) >>= each_sampled

@@ -14,16 +14,16 @@ use Rattle.ocpp_types.specs.declared.reading_context.ReadingContext.TheVariants 
 use Rattle.ocpp_types.specs.declared.value_format.ValueFormat.TheVariants as format
 use Rattle.ocpp_types.specs.declared.measurand.Measurand.TheVariants as measurand
 use Rattle.ocpp_types.specs.declared.location.Location.TheVariants as location
-use Rattle.meter_values.specs.declared.meter_value.Sampled.{Sampled}
+use Rattle.ocpp_types.specs.declared.sampled_value.SampledValue.{SampledValue}
 
 -- the name of a value, unless it is the default
 abbrev pub unless : {A : Type 0} → (A → List ℕ) → A → A → Option (List ℕ)
 unless name default x = if bytes_eq (name x) (name default) then None else Some (name x)
 
 -- the members of a sampled value in their order; None is left out
-abbrev pub rows_of : Sampled → List (List ℕ × Option (List ℕ))
+abbrev pub rows_of : SampledValue → List (List ℕ × Option (List ℕ))
 rows_of s =
-    (codes "value", Some s.text)
+    (codes "value", Some s.value)
     ∷ (codes "context", unless reading_context_name context.SamplePeriodic s.context)
     ∷ (codes "format", unless value_format_name format.Raw s.format)
     ∷ (codes "measurand", unless measurand_name measurand.EnergyActiveImportRegister s.measurand)
@@ -41,9 +41,9 @@ abbrev pub members_by : List (List ℕ × Option (List ℕ)) → Members
 members_by [] = no_members
 members_by (row ∷ rows) = some_member row.0 row.1 (members_by rows)
 
-abbrev pub object_of : Sampled → Json
+abbrev pub object_of : SampledValue → Json
 object_of s = object (members_by (rows_of s))
 
 -- the text of sampled values, with no blanks
-abbrev pub text_of : List Sampled → List ℕ
+abbrev pub text_of : List SampledValue → List ℕ
 text_of sampled = print (json_tokens (array (items_of (map object_of sampled))))

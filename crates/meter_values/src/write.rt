@@ -6,15 +6,16 @@ ghost use Rattle.meter_values.specs.Read.{sampled_in};
 ghost use Rattle.meter_values.specs.Tokens.{row_tokens, Adds};
 ghost use Rattle.meter_values.specs.Written.{object_of, text_of, unless};
 
-use crate::meter_value::Sampled;
 use json::Writer;
-use ocpp_types::{Location, Measurand, Mem, Named, ReadingContext, Text, ValueFormat};
+use ocpp_types::{
+    Location, Measurand, Mem, Named, ReadingContext, SampledValue, Text, ValueFormat,
+};
 use std::alloc::Global;
 
 /// The text of sampled values: a compact JSON array of objects, each with the members of OCPP 1.6
 /// (section 7.43, SampledValue) in that order. A member that has the standard's default is left
 /// out, and so is one that is none; `value` always stands. It is read again as the same values.
-pub fn write_sampled(alloc: Global, sampled: &[Sampled]) -> Mem<Text>
+pub fn write_sampled(alloc: Global, sampled: &[SampledValue]) -> Mem<Text>
     ensures text { IfOk result (λ text. text ≡ text_of sampled.now) }
     ensures read_back { IfOk result (λ text. sampled_in text ≡ Some sampled.now) }
 {
@@ -37,7 +38,7 @@ fn into_text(out: Writer) -> Text
 }
 
 /// Writes one sampled value, as an object.
-fn write_one(out: &mut Writer, one: &Sampled) -> Mem<()>
+fn write_one(out: &mut Writer, one: &SampledValue) -> Mem<()>
     ensures { OnOk result (Adds out.old out.new (json_tokens (object_of one.now))) }
 {
     let context = unless(one.context, ReadingContext::SamplePeriodic);
@@ -45,7 +46,7 @@ fn write_one(out: &mut Writer, one: &Sampled) -> Mem<()>
     let measurand = unless(one.measurand, Measurand::EnergyActiveImportRegister);
     let location = unless(one.location, Location::Outlet);
     out.begin_object()?;
-    write_member(out, "value", Some(one.text.as_str()))?;
+    write_member(out, "value", Some(one.value.as_str()))?;
     write_member(out, "context", context)?;
     write_member(out, "format", format)?;
     write_member(out, "measurand", measurand)?;

@@ -1,5 +1,5 @@
--- Readings of a meter: their tables, and what is made of their members.
-use Rattle.std.specs.Prelude.{codes, Result}
+-- Readings of a meter: their members, and what is made of them.
+use Rattle.std.specs.Prelude.{codes, Result, Ok}
 use Rattle.serde_json.specs.Data.{Data}
 use Rattle.ocpp_types.specs.ReadingContext.{reading_contexts}
 use Rattle.ocpp_types.specs.ValueFormat.{value_formats}
@@ -12,40 +12,25 @@ use Rattle.ocpp_types.specs.declared.value_format.ValueFormat.TheVariants as for
 use Rattle.ocpp_types.specs.declared.measurand.Measurand.TheVariants as measurand
 use Rattle.ocpp_types.specs.declared.location.Location.TheVariants as location
 use Rattle.ocpp_payload.specs.declared.fault.FieldFault.{FieldFault}
-use Rattle.ocpp_payload.specs.declared.readings.SampledValue.{SampledValue}
+use Rattle.ocpp_types.specs.declared.sampled_value.SampledValue.{SampledValue}
 use Rattle.ocpp_payload.specs.declared.readings.MeterValue.{MeterValue}
-use Rattle.ocpp_payload.specs.Kind.{any_text, choice, time}
-use Rattle.ocpp_payload.specs.Fields.{Fields, end, field, reads, required, optional, with_default}
+use Rattle.ocpp_payload.specs.Kind.{◌>>=◌, any_text, choice, time}
+use Rattle.ocpp_payload.specs.Fields.{required, optional, with_default}
 use Rattle.ocpp_payload.specs.Lists.{object_of, some_of}
 
-abbrev pub sampled_value_fields : Fields
-sampled_value_fields =
-    field (codes "value") (required any_text)
-    (field (codes "context") (with_default context.SamplePeriodic (choice reading_contexts))
-    (field (codes "format") (with_default format.Raw (choice value_formats))
-    (field (codes "measurand") (with_default measurand.EnergyActiveImportRegister (choice measurands))
-    (field (codes "phase") (optional (choice phases))
-    (field (codes "location") (with_default location.Outlet (choice locations))
-    (field (codes "unit") (optional (choice units_of_measure))
-    end))))))
-
 abbrev pub sampled_value : Data → Result SampledValue FieldFault
-sampled_value = reads sampled_value_fields
-    (λ value context format measurand phase location unit. record {
-      value = value;
-      context = context;
-      format = format;
-      measurand = measurand;
-      phase = phase;
-      location = location;
-      unit = unit;
-    })
-
-abbrev pub meter_value_fields : Fields
-meter_value_fields =
-    field (codes "timestamp") (required time)
-    (field (codes "sampledValue") (required (some_of (object_of sampled_value)))
-    end)
+sampled_value d = do
+  value ← required any_text (codes "value") d
+  context ← with_default context.SamplePeriodic (choice reading_contexts) (codes "context") d
+  format ← with_default format.Raw (choice value_formats) (codes "format") d
+  measurand ← with_default measurand.EnergyActiveImportRegister (choice measurands) (codes "measurand") d
+  phase ← optional (choice phases) (codes "phase") d
+  location ← with_default location.Outlet (choice locations) (codes "location") d
+  unit ← optional (choice units_of_measure) (codes "unit") d
+  Ok (record { value = value; context = context; format = format; measurand = measurand; phase = phase; location = location; unit = unit })
 
 abbrev pub meter_value : Data → Result MeterValue FieldFault
-meter_value = reads meter_value_fields (λ timestamp sampled. record { timestamp = timestamp; sampled_value = sampled })
+meter_value d = do
+  timestamp ← required time (codes "timestamp") d
+  sampled ← required (some_of (object_of sampled_value)) (codes "sampledValue") d
+  Ok (record { timestamp = timestamp; sampled_value = sampled })

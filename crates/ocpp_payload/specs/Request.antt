@@ -1,4 +1,4 @@
--- The requests of a station: the table of each, and what is made of its members.
+-- The requests of a station: the members of each, and what is made of them.
 use Rattle.std.specs.Prelude.{[], codes, Result, Ok}
 use Rattle.serde_json.specs.Data.{Data}
 use Rattle.ocpp_types.specs.ChargePointErrorCode.{charge_point_error_codes}
@@ -22,161 +22,99 @@ use Rattle.ocpp_payload.specs.declared.request.StopTransaction.{StopTransaction}
 use Rattle.ocpp_payload.specs.declared.request.Request.{Request}
 use Rattle.ocpp_payload.specs.declared.request.Request.TheVariants as request_of
 use Rattle.ocpp_payload.specs.Kind.{◌>>=◌, any_text, text, int_32, int_64, connector_from, choice, time}
-use Rattle.ocpp_payload.specs.Fields.{Fields, end, field, reads, required, optional, with_default}
+use Rattle.ocpp_payload.specs.Fields.{required, optional, with_default}
 use Rattle.ocpp_payload.specs.Lists.{object_of, list_of, some_of}
 use Rattle.ocpp_payload.specs.Readings.{meter_value}
 
--- ---- Authorize
-
-abbrev pub authorize_fields : Fields
-authorize_fields =
-    field (codes "idTag") (required (text 20))
-    end
-
 abbrev pub authorize : Data → Result Authorize FieldFault
-authorize = reads authorize_fields (λ id_tag. record { id_tag = id_tag })
-
--- ---- BootNotification
-
-abbrev pub boot_notification_fields : Fields
-boot_notification_fields =
-    field (codes "chargeBoxSerialNumber") (optional (text 25))
-    (field (codes "chargePointModel") (required (text 20))
-    (field (codes "chargePointSerialNumber") (optional (text 25))
-    (field (codes "chargePointVendor") (required (text 20))
-    (field (codes "firmwareVersion") (optional (text 50))
-    (field (codes "iccid") (optional (text 20))
-    (field (codes "imsi") (optional (text 20))
-    (field (codes "meterSerialNumber") (optional (text 25))
-    (field (codes "meterType") (optional (text 25))
-    end))))))))
+authorize d = do
+  id_tag ← required (text 20) (codes "idTag") d
+  Ok (record { id_tag = id_tag })
 
 abbrev pub boot_notification : Data → Result BootNotification FieldFault
-boot_notification = reads boot_notification_fields
-    (λ box_serial model point_serial vendor firmware iccid imsi meter_serial meter_type. record {
-      charge_box_serial_number = box_serial;
-      charge_point_model = model;
-      charge_point_serial_number = point_serial;
-      charge_point_vendor = vendor;
-      firmware_version = firmware;
-      iccid = iccid;
-      imsi = imsi;
-      meter_serial_number = meter_serial;
-      meter_type = meter_type;
-    })
-
--- ---- DataTransfer
-
-abbrev pub data_transfer_fields : Fields
-data_transfer_fields =
-    field (codes "vendorId") (required (text 255))
-    (field (codes "messageId") (optional (text 50))
-    (field (codes "data") (optional any_text)
-    end))
+boot_notification d = do
+  box_serial ← optional (text 25) (codes "chargeBoxSerialNumber") d
+  model ← required (text 20) (codes "chargePointModel") d
+  point_serial ← optional (text 25) (codes "chargePointSerialNumber") d
+  vendor ← required (text 20) (codes "chargePointVendor") d
+  firmware ← optional (text 50) (codes "firmwareVersion") d
+  iccid ← optional (text 20) (codes "iccid") d
+  imsi ← optional (text 20) (codes "imsi") d
+  meter_serial ← optional (text 25) (codes "meterSerialNumber") d
+  meter_type ← optional (text 25) (codes "meterType") d
+  Ok (record {
+    charge_box_serial_number = box_serial;
+    charge_point_model = model;
+    charge_point_serial_number = point_serial;
+    charge_point_vendor = vendor;
+    firmware_version = firmware;
+    iccid = iccid;
+    imsi = imsi;
+    meter_serial_number = meter_serial;
+    meter_type = meter_type;
+  })
 
 abbrev pub data_transfer : Data → Result DataTransfer FieldFault
-data_transfer = reads data_transfer_fields
-    (λ vendor message content. record { vendor_id = vendor; message_id = message; content = content })
-
--- ---- DiagnosticsStatusNotification and FirmwareStatusNotification
-
-abbrev pub diagnostics_status_notification_fields : Fields
-diagnostics_status_notification_fields =
-    field (codes "status") (required (choice diagnostics_statuses))
-    end
+data_transfer d = do
+  vendor ← required (text 255) (codes "vendorId") d
+  message ← optional (text 50) (codes "messageId") d
+  content ← optional any_text (codes "data") d
+  Ok (record { vendor_id = vendor; message_id = message; content = content })
 
 abbrev pub diagnostics_status_notification : Data → Result DiagnosticsStatusNotification FieldFault
-diagnostics_status_notification = reads diagnostics_status_notification_fields (λ status. record { status = status })
-
-abbrev pub firmware_status_notification_fields : Fields
-firmware_status_notification_fields =
-    field (codes "status") (required (choice firmware_statuses))
-    end
+diagnostics_status_notification d = do
+  status ← required (choice diagnostics_statuses) (codes "status") d
+  Ok (record { status = status })
 
 abbrev pub firmware_status_notification : Data → Result FirmwareStatusNotification FieldFault
-firmware_status_notification = reads firmware_status_notification_fields (λ status. record { status = status })
-
--- ---- MeterValues
-
-abbrev pub meter_values_fields : Fields
-meter_values_fields =
-    field (codes "connectorId") (required (connector_from 0))
-    (field (codes "transactionId") (optional int_32)
-    (field (codes "meterValue") (required (some_of (object_of meter_value)))
-    end))
+firmware_status_notification d = do
+  status ← required (choice firmware_statuses) (codes "status") d
+  Ok (record { status = status })
 
 abbrev pub meter_values : Data → Result MeterValues FieldFault
-meter_values = reads meter_values_fields
-    (λ connector transaction values. record { connector_id = connector; transaction_id = transaction; meter_value = values })
-
--- ---- StartTransaction
-
-abbrev pub start_transaction_fields : Fields
-start_transaction_fields =
-    field (codes "connectorId") (required (connector_from 1))
-    (field (codes "idTag") (required (text 20))
-    (field (codes "meterStart") (required int_64)
-    (field (codes "reservationId") (optional int_32)
-    (field (codes "timestamp") (required time)
-    end))))
+meter_values d = do
+  connector ← required (connector_from 0) (codes "connectorId") d
+  transaction ← optional int_32 (codes "transactionId") d
+  values ← required (some_of (object_of meter_value)) (codes "meterValue") d
+  Ok (record { connector_id = connector; transaction_id = transaction; meter_value = values })
 
 abbrev pub start_transaction : Data → Result StartTransaction FieldFault
-start_transaction = reads start_transaction_fields
-    (λ connector tag meter reservation timestamp. record {
-      connector_id = connector;
-      id_tag = tag;
-      meter_start = meter;
-      reservation_id = reservation;
-      timestamp = timestamp;
-    })
-
--- ---- StatusNotification
-
-abbrev pub status_notification_fields : Fields
-status_notification_fields =
-    field (codes "connectorId") (required (connector_from 0))
-    (field (codes "errorCode") (required (choice charge_point_error_codes))
-    (field (codes "info") (optional (text 50))
-    (field (codes "status") (required (choice charge_point_statuses))
-    (field (codes "timestamp") (optional time)
-    (field (codes "vendorId") (optional (text 255))
-    (field (codes "vendorErrorCode") (optional (text 50))
-    end))))))
+start_transaction d = do
+  connector ← required (connector_from 1) (codes "connectorId") d
+  tag ← required (text 20) (codes "idTag") d
+  meter ← required int_64 (codes "meterStart") d
+  reservation ← optional int_32 (codes "reservationId") d
+  timestamp ← required time (codes "timestamp") d
+  Ok (record { connector_id = connector; id_tag = tag; meter_start = meter; reservation_id = reservation; timestamp = timestamp })
 
 abbrev pub status_notification : Data → Result StatusNotification FieldFault
-status_notification = reads status_notification_fields
-    (λ connector error info status timestamp vendor vendor_error. record {
-      connector_id = connector;
-      error_code = error;
-      info = info;
-      status = status;
-      timestamp = timestamp;
-      vendor_id = vendor;
-      vendor_error_code = vendor_error;
-    })
-
--- ---- StopTransaction
-
-abbrev pub stop_transaction_fields : Fields
-stop_transaction_fields =
-    field (codes "idTag") (optional (text 20))
-    (field (codes "meterStop") (required int_64)
-    (field (codes "timestamp") (required time)
-    (field (codes "transactionId") (required int_32)
-    (field (codes "reason") (with_default reason.Local (choice reasons))
-    (field (codes "transactionData") (with_default [] (list_of (object_of meter_value)))
-    end)))))
+status_notification d = do
+  connector ← required (connector_from 0) (codes "connectorId") d
+  error ← required (choice charge_point_error_codes) (codes "errorCode") d
+  info ← optional (text 50) (codes "info") d
+  status ← required (choice charge_point_statuses) (codes "status") d
+  timestamp ← optional time (codes "timestamp") d
+  vendor ← optional (text 255) (codes "vendorId") d
+  vendor_error ← optional (text 50) (codes "vendorErrorCode") d
+  Ok (record {
+    connector_id = connector;
+    error_code = error;
+    info = info;
+    status = status;
+    timestamp = timestamp;
+    vendor_id = vendor;
+    vendor_error_code = vendor_error;
+  })
 
 abbrev pub stop_transaction : Data → Result StopTransaction FieldFault
-stop_transaction = reads stop_transaction_fields
-    (λ tag meter timestamp transaction why values. record {
-      id_tag = tag;
-      meter_stop = meter;
-      timestamp = timestamp;
-      transaction_id = transaction;
-      reason = why;
-      transaction_data = values;
-    })
+stop_transaction d = do
+  tag ← optional (text 20) (codes "idTag") d
+  meter ← required int_64 (codes "meterStop") d
+  timestamp ← required time (codes "timestamp") d
+  transaction ← required int_32 (codes "transactionId") d
+  why ← with_default reason.Local (choice reasons) (codes "reason") d
+  values ← with_default [] (list_of (object_of meter_value)) (codes "transactionData") d
+  Ok (record { id_tag = tag; meter_stop = meter; timestamp = timestamp; transaction_id = transaction; reason = why; transaction_data = values })
 
 -- ---- the request of an action; a heartbeat has no members
 

@@ -63,7 +63,7 @@ put_some_plain : {A : Type 0} → (name : List ℕ) (holds : Holds A) (x : Optio
 put_some_plain name holds None ms plain = plain
 put_some_plain name holds (Some x) ms plain = put_plain name (holds.json x) ms (holds.plain x) plain
 
-put_members_plain : {C : Type 0} → (t : Table C) (c : C) (ms : Members) → members_have_float ms ≡ false → members_have_float (put_members t c ms) ≡ false
+pub put_members_plain : {C : Type 0} → (t : Table C) (c : C) (ms : Members) → members_have_float ms ≡ false → members_have_float (put_members t c ms) ≡ false
 put_members_plain end c ms plain = plain
 put_members_plain (must name holds at rest) c ms plain = put_members_plain rest c _ (put_plain name (holds.json (at c)) ms (holds.plain (at c)) plain)
 put_members_plain (may name holds at rest) c ms plain = put_members_plain rest c _ (put_some_plain name holds (at c) ms plain)

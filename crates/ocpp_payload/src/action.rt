@@ -24,34 +24,28 @@ impl Named for Action {
 
     ghost names = { actions };
 
-    fn of(name: &str) -> Option<Action> {
-        match name {
-            "Authorize" => Some(Action::Authorize),
-            "BootNotification" => Some(Action::BootNotification),
-            "DataTransfer" => Some(Action::DataTransfer),
-            "DiagnosticsStatusNotification" => { Some(Action::DiagnosticsStatusNotification) }
-            "FirmwareStatusNotification" => Some(Action::FirmwareStatusNotification),
-            "Heartbeat" => Some(Action::Heartbeat),
-            "MeterValues" => Some(Action::MeterValues),
-            "StartTransaction" => Some(Action::StartTransaction),
-            "StatusNotification" => Some(Action::StatusNotification),
-            "StopTransaction" => Some(Action::StopTransaction),
-            _ => None,
-        }
+    fn table() -> &'static [(&'static str, Self)] {
+        &[
+            ("Authorize", Self::Authorize),
+            ("BootNotification", Self::BootNotification),
+            ("DataTransfer", Self::DataTransfer),
+            (
+                "DiagnosticsStatusNotification",
+                Self::DiagnosticsStatusNotification,
+            ),
+            (
+                "FirmwareStatusNotification",
+                Self::FirmwareStatusNotification,
+            ),
+            ("Heartbeat", Self::Heartbeat),
+            ("MeterValues", Self::MeterValues),
+            ("StartTransaction", Self::StartTransaction),
+            ("StatusNotification", Self::StatusNotification),
+            ("StopTransaction", Self::StopTransaction),
+        ]
     }
 
-    fn name(&self) -> &'static str {
-        match self {
-            Action::Authorize => "Authorize",
-            Action::BootNotification => "BootNotification",
-            Action::DataTransfer => "DataTransfer",
-            Action::DiagnosticsStatusNotification => "DiagnosticsStatusNotification",
-            Action::FirmwareStatusNotification => "FirmwareStatusNotification",
-            Action::Heartbeat => "Heartbeat",
-            Action::MeterValues => "MeterValues",
-            Action::StartTransaction => "StartTransaction",
-            Action::StatusNotification => "StatusNotification",
-            Action::StopTransaction => "StopTransaction",
-        }
+    fn index(&self) -> usize {
+        *self as usize
     }
 }

@@ -21,6 +21,9 @@ pub enum ReadError {
     Fault(FieldFault),
 }
 
+/// The result of reading a part of a payload.
+pub type ReadResult<T> = Result<T, ReadError>;
+
 impl From<NoMemory> for ReadError {
     ghost use Rattle.ocpp_payload.specs.declared.fault.ReadError.TheVariants as read_error;
 
@@ -52,7 +55,7 @@ impl<T: Drop> From<AllocFailed<T>> for ReadError {
 }
 
 /// The answer to a faulty member.
-pub(crate) fn refused<T>(code: ErrorCode, field: &'static str) -> Result<T, ReadError>
+pub(crate) fn refused<T>(code: ErrorCode, field: &'static str) -> ReadResult<T>
     ensures { result ≡ Err (ReadError.Fault (record { code = code; field = field.now })) }
 {
     Err(ReadError::Fault(FieldFault {

@@ -5,7 +5,7 @@ ghost use Rattle.json_data.specs.View.{view};
 ghost use Rattle.ocpp_payload.specs.Fields.{present, required, optional, with_default};
 ghost use Rattle.ocpp_payload.specs.Gives.{Gives};
 
-use crate::fault::{ReadError, refused};
+use crate::fault::{ReadResult, refused};
 use crate::kind::Kind;
 use json::Value;
 use json_data::{is_null, member_of};
@@ -18,7 +18,7 @@ pub fn required<K: Kind>(
     object: &Value<'_>,
     field: &'static str,
     kind: K,
-) -> Result<K::Out, ReadError>
+) -> ReadResult<K::Out>
     ensures { Gives result (required (K.reads kind) field.now (view object.now)) }
 {
     match present(object, field) {
@@ -33,7 +33,7 @@ pub fn optional<K: Kind>(
     object: &Value<'_>,
     field: &'static str,
     kind: K,
-) -> Result<Option<K::Out>, ReadError>
+) -> ReadResult<Option<K::Out>>
     ensures { Gives result (optional (K.reads kind) field.now (view object.now)) }
 {
     match present(object, field) {
@@ -49,7 +49,7 @@ pub fn with_default<K: Kind>(
     field: &'static str,
     kind: K,
     default: K::Out,
-) -> Result<K::Out, ReadError>
+) -> ReadResult<K::Out>
     ensures { Gives result (with_default default (K.reads kind) field.now (view object.now)) }
 {
     Ok(optional(alloc, object, field, kind)?.unwrap_or(default))

@@ -7,7 +7,7 @@ ghost use Rattle.ocpp_payload.specs.Gives.{Gives};
 ghost use Rattle.ocpp_payload.specs.Kind.{moment_at, typed};
 ghost use Rattle.ocpp_payload.specs.declared.fault.FieldFault.{FieldFault};
 
-use crate::fault::{ReadError, refused};
+use crate::fault::{ReadResult, refused};
 use json::Value;
 use json_data::{integer_of, text_of, truth_of};
 use ocpp_types::{ErrorCode, Moment, Named, Text, count_characters, parse_time};
@@ -23,12 +23,7 @@ pub trait Kind: Drop {
     ghost reads: { Self → List ℕ → Data → Result Self.Out FieldFault };
 
     /// Reads the value of the member of that name.
-    fn read(
-        &self,
-        alloc: Global,
-        field: &'static str,
-        value: &Value<'_>,
-    ) -> Result<Self::Out, ReadError>
+    fn read(&self, alloc: Global, field: &'static str, value: &Value<'_>) -> ReadResult<Self::Out>
         ensures { Gives result (reads self.now field.now (view value.now)) };
 }
 
@@ -43,12 +38,7 @@ impl Kind for TextOf {
 
     ghost reads = { λ kind. text kind.0 };
 
-    fn read(
-        &self,
-        alloc: Global,
-        field: &'static str,
-        value: &Value<'_>,
-    ) -> Result<Text, ReadError> {
+    fn read(&self, alloc: Global, field: &'static str, value: &Value<'_>) -> ReadResult<Text> {
         let Some(text) = text_of(value) else {
             return refused(ErrorCode::TypeConstraintViolation, field);
         };
@@ -70,12 +60,7 @@ impl Kind for AnyText {
 
     ghost reads = { λ _. any_text };
 
-    fn read(
-        &self,
-        alloc: Global,
-        field: &'static str,
-        value: &Value<'_>,
-    ) -> Result<Text, ReadError> {
+    fn read(&self, alloc: Global, field: &'static str, value: &Value<'_>) -> ReadResult<Text> {
         let Some(text) = text_of(value) else {
             return refused(ErrorCode::TypeConstraintViolation, field);
         };
@@ -95,12 +80,7 @@ impl Kind for ConnectorFrom {
 
     ghost reads = { λ kind. connector_from kind.0 };
 
-    fn read(
-        &self,
-        _alloc: Global,
-        field: &'static str,
-        value: &Value<'_>,
-    ) -> Result<u8, ReadError> {
+    fn read(&self, _alloc: Global, field: &'static str, value: &Value<'_>) -> ReadResult<u8> {
         let number = integer(field, value)?;
         if number < self.0 as i128 || 255 < number {
             return refused(ErrorCode::PropertyConstraintViolation, field);
@@ -120,12 +100,7 @@ impl Kind for Int32 {
 
     ghost reads = { λ _. int_32 };
 
-    fn read(
-        &self,
-        _alloc: Global,
-        field: &'static str,
-        value: &Value<'_>,
-    ) -> Result<i32, ReadError> {
+    fn read(&self, _alloc: Global, field: &'static str, value: &Value<'_>) -> ReadResult<i32> {
         let number = integer(field, value)?;
         if number < i32::MIN as i128 || (i32::MAX as i128) < number {
             return refused(ErrorCode::PropertyConstraintViolation, field);
@@ -145,12 +120,7 @@ impl Kind for Int64 {
 
     ghost reads = { λ _. int_64 };
 
-    fn read(
-        &self,
-        _alloc: Global,
-        field: &'static str,
-        value: &Value<'_>,
-    ) -> Result<i64, ReadError> {
+    fn read(&self, _alloc: Global, field: &'static str, value: &Value<'_>) -> ReadResult<i64> {
         let number = integer(field, value)?;
         if number < i64::MIN as i128 || (i64::MAX as i128) < number {
             return refused(ErrorCode::PropertyConstraintViolation, field);
@@ -160,7 +130,7 @@ impl Kind for Int64 {
 }
 
 /// The integer that a value is.
-fn integer(field: &'static str, value: &Value<'_>) -> Result<i128, ReadError>
+fn integer(field: &'static str, value: &Value<'_>) -> ReadResult<i128>
     ensures { Gives result (typed field.now (option_and_then as_integer (as_number (view value.now)))) }
 {
     match integer_of(value) {
@@ -187,7 +157,7 @@ impl<E: Named + Drop> Kind for NameOf<E> {
 
     ghost reads = { λ _. choice E.names };
 
-    fn read(&self, _alloc: Global, field: &'static str, value: &Value<'_>) -> Result<E, ReadError> {
+    fn read(&self, _alloc: Global, field: &'static str, value: &Value<'_>) -> ReadResult<E> {
         let Some(name) = text_of(value) else {
             return refused(ErrorCode::TypeConstraintViolation, field);
         };
@@ -209,12 +179,7 @@ impl Kind for Boolean {
 
     ghost reads = { λ _. boolean };
 
-    fn read(
-        &self,
-        _alloc: Global,
-        field: &'static str,
-        value: &Value<'_>,
-    ) -> Result<bool, ReadError> {
+    fn read(&self, _alloc: Global, field: &'static str, value: &Value<'_>) -> ReadResult<bool> {
         match truth_of(value) {
             Some(truth) => Ok(truth),
             None => refused(ErrorCode::TypeConstraintViolation, field),
@@ -233,12 +198,7 @@ impl Kind for Time {
 
     ghost reads = { λ _. time };
 
-    fn read(
-        &self,
-        _alloc: Global,
-        field: &'static str,
-        value: &Value<'_>,
-    ) -> Result<i64, ReadError> {
+    fn read(&self, _alloc: Global, field: &'static str, value: &Value<'_>) -> ReadResult<i64> {
         let Some(time) = text_of(value).and_then(|text| parse_time(text)) else {
             return refused(ErrorCode::TypeConstraintViolation, field);
         };
@@ -257,12 +217,7 @@ impl Kind for WholeSecond {
 
     ghost reads = { λ _. moment };
 
-    fn read(
-        &self,
-        alloc: Global,
-        field: &'static str,
-        value: &Value<'_>,
-    ) -> Result<Moment, ReadError> {
+    fn read(&self, alloc: Global, field: &'static str, value: &Value<'_>) -> ReadResult<Moment> {
         let time = Time.read(alloc, field, value)?;
         match moment_at(time.div_euclid(1000)) {
             Some(moment) => Ok(moment),

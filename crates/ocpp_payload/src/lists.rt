@@ -6,7 +6,7 @@ ghost use Rattle.ocpp_payload.specs.Gives.{Gives};
 ghost use Rattle.ocpp_payload.specs.Lists.{each};
 ghost use Rattle.ocpp_payload.specs.declared.fault.FieldFault.{FieldFault};
 
-use crate::fault::{ReadError, refused};
+use crate::fault::{ReadResult, refused};
 use crate::kind::Kind;
 use json::Value;
 use json_data::{is_object, items_of};
@@ -20,7 +20,7 @@ pub trait Readable: Drop {
     ghost reads_as: { Data → Result Self FieldFault };
 
     /// Reads it.
-    fn read_from(alloc: Global, object: &Value<'_>) -> Result<Self, ReadError>
+    fn read_from(alloc: Global, object: &Value<'_>) -> ReadResult<Self>
         ensures { Gives result (reads_as (view object.now)) };
 }
 
@@ -42,7 +42,7 @@ impl<T: Readable> Kind for ObjectOf<T> {
 
     ghost reads = { λ _. object_of T.reads_as };
 
-    fn read(&self, alloc: Global, field: &'static str, value: &Value<'_>) -> Result<T, ReadError> {
+    fn read(&self, alloc: Global, field: &'static str, value: &Value<'_>) -> ReadResult<T> {
         if !is_object(value) {
             return refused(ErrorCode::TypeConstraintViolation, field);
         }
@@ -66,7 +66,7 @@ impl<K: Kind> Kind for ListOf<K> {
         alloc: Global,
         field: &'static str,
         value: &Value<'_>,
-    ) -> Result<Listed<K::Out>, ReadError> {
+    ) -> ReadResult<Listed<K::Out>> {
         let Some(items) = items_of(value) else {
             return refused(ErrorCode::TypeConstraintViolation, field);
         };
@@ -90,7 +90,7 @@ impl<K: Kind> Kind for SomeOf<K> {
         alloc: Global,
         field: &'static str,
         value: &Value<'_>,
-    ) -> Result<Listed<K::Out>, ReadError> {
+    ) -> ReadResult<Listed<K::Out>> {
         let Some(items) = items_of(value) else {
             return refused(ErrorCode::TypeConstraintViolation, field);
         };
@@ -107,7 +107,7 @@ fn each<K: Kind>(
     field: &'static str,
     items: &[Value<'_>],
     kind: &K,
-) -> Result<Listed<K::Out>, ReadError>
+) -> ReadResult<Listed<K::Out>>
     ensures { Gives result (each (K.reads kind.now field.now) (items_view items.now)) }
 {
     let mut found = Listed::new(alloc);

@@ -3,35 +3,20 @@ ghost use Rattle.std.specs.Prelude.{◌≡◌};
 ghost use Rattle.json_data.specs.View.{view};
 ghost use Rattle.ocpp_payload.specs.Gives.{Gives};
 
-use crate::fault::ReadError;
+use crate::fault::ReadResult;
 use crate::fields::{optional, required, with_default};
 use crate::kind::{AnyText, NameOf, Time};
 use crate::lists::{ObjectOf, Readable, SomeOf};
 use json::Value;
-use ocpp_types::{
-    Listed, Location, Measurand, Phase, ReadingContext, Text, UnitOfMeasure, ValueFormat,
-};
+use ocpp_types::{Listed, Location, Measurand, ReadingContext, SampledValue, ValueFormat};
 use std::alloc::Global;
-
-/// One reading (OCPP 1.6, type SampledValue). A member that the station left out has the standard's
-/// default, except the unit, which is none.
-#[derive(Drop)]
-pub struct SampledValue {
-    pub value: Text,
-    pub context: ReadingContext,
-    pub format: ValueFormat,
-    pub measurand: Measurand,
-    pub phase: Option<Phase>,
-    pub location: Location,
-    pub unit: Option<UnitOfMeasure>,
-}
 
 impl Readable for SampledValue {
     ghost use Rattle.ocpp_payload.specs.Readings.{sampled_value};
 
     ghost reads_as = { sampled_value };
 
-    fn read_from(alloc: Global, object: &Value<'_>) -> Result<SampledValue, ReadError> {
+    fn read_from(alloc: Global, object: &Value<'_>) -> ReadResult<SampledValue> {
         Ok(SampledValue {
             value: required(alloc, object, "value", AnyText)?,
             context: with_default(
@@ -70,7 +55,7 @@ impl Readable for MeterValue {
 
     ghost reads_as = { meter_value };
 
-    fn read_from(alloc: Global, object: &Value<'_>) -> Result<MeterValue, ReadError> {
+    fn read_from(alloc: Global, object: &Value<'_>) -> ReadResult<MeterValue> {
         Ok(MeterValue {
             timestamp: required(alloc, object, "timestamp", Time)?,
             sampled_value: required(alloc, object, "sampledValue", SomeOf(ObjectOf::new()))?,

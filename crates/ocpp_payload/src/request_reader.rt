@@ -5,7 +5,7 @@ ghost use Rattle.ocpp_payload.specs.Gives.{Gives};
 ghost use Rattle.ocpp_payload.specs.Request.{authorize, boot_notification, data_transfer, diagnostics_status_notification, firmware_status_notification, meter_values, start_transaction, status_notification, stop_transaction, request};
 
 use crate::action::Action;
-use crate::fault::{FieldFault, ReadError};
+use crate::fault::{FieldFault, ReadError, ReadResult};
 use crate::fields::{optional, required, with_default};
 use crate::kind::{AnyText, ConnectorFrom, Int32, Int64, NameOf, TextOf, Time};
 use crate::lists::{ListOf, ObjectOf, SomeOf};
@@ -33,7 +33,7 @@ pub fn read_request(
     }
 }
 
-fn read_any(alloc: Global, action: Action, payload: &Value<'_>) -> Result<Request, ReadError>
+fn read_any(alloc: Global, action: Action, payload: &Value<'_>) -> ReadResult<Request>
     ensures { Gives result (request action (view payload.now)) }
 {
     Ok(match action {
@@ -56,17 +56,14 @@ fn read_any(alloc: Global, action: Action, payload: &Value<'_>) -> Result<Reques
     })
 }
 
-fn authorize(alloc: Global, payload: &Value<'_>) -> Result<Authorize, ReadError>
+fn authorize(alloc: Global, payload: &Value<'_>) -> ReadResult<Authorize>
     ensures { Gives result (authorize (view payload.now)) }
 {
     let id_tag = required(alloc, payload, "idTag", TextOf(20))?;
     Ok(Authorize { id_tag })
 }
 
-fn boot_notification(
-    alloc: Global,
-    payload: &Value<'_>,
-) -> Result<Boxed<BootNotification>, ReadError>
+fn boot_notification(alloc: Global, payload: &Value<'_>) -> ReadResult<Boxed<BootNotification>>
     ensures { Gives result (boot_notification (view payload.now)) }
 {
     let boot = BootNotification {
@@ -88,7 +85,7 @@ fn boot_notification(
     Ok(Boxed::new(alloc, boot)?)
 }
 
-fn data_transfer(alloc: Global, payload: &Value<'_>) -> Result<DataTransfer, ReadError>
+fn data_transfer(alloc: Global, payload: &Value<'_>) -> ReadResult<DataTransfer>
     ensures { Gives result (data_transfer (view payload.now)) }
 {
     Ok(DataTransfer {
@@ -101,7 +98,7 @@ fn data_transfer(alloc: Global, payload: &Value<'_>) -> Result<DataTransfer, Rea
 fn diagnostics_status_notification(
     alloc: Global,
     payload: &Value<'_>,
-) -> Result<DiagnosticsStatusNotification, ReadError>
+) -> ReadResult<DiagnosticsStatusNotification>
     ensures { Gives result (diagnostics_status_notification (view payload.now)) }
 {
     let status = required(alloc, payload, "status", NameOf::new())?;
@@ -111,14 +108,14 @@ fn diagnostics_status_notification(
 fn firmware_status_notification(
     alloc: Global,
     payload: &Value<'_>,
-) -> Result<FirmwareStatusNotification, ReadError>
+) -> ReadResult<FirmwareStatusNotification>
     ensures { Gives result (firmware_status_notification (view payload.now)) }
 {
     let status = required(alloc, payload, "status", NameOf::new())?;
     Ok(FirmwareStatusNotification { status })
 }
 
-fn meter_values(alloc: Global, payload: &Value<'_>) -> Result<MeterValues, ReadError>
+fn meter_values(alloc: Global, payload: &Value<'_>) -> ReadResult<MeterValues>
     ensures { Gives result (meter_values (view payload.now)) }
 {
     Ok(MeterValues {
@@ -128,7 +125,7 @@ fn meter_values(alloc: Global, payload: &Value<'_>) -> Result<MeterValues, ReadE
     })
 }
 
-fn start_transaction(alloc: Global, payload: &Value<'_>) -> Result<StartTransaction, ReadError>
+fn start_transaction(alloc: Global, payload: &Value<'_>) -> ReadResult<StartTransaction>
     ensures { Gives result (start_transaction (view payload.now)) }
 {
     Ok(StartTransaction {
@@ -140,10 +137,7 @@ fn start_transaction(alloc: Global, payload: &Value<'_>) -> Result<StartTransact
     })
 }
 
-fn status_notification(
-    alloc: Global,
-    payload: &Value<'_>,
-) -> Result<Boxed<StatusNotification>, ReadError>
+fn status_notification(alloc: Global, payload: &Value<'_>) -> ReadResult<Boxed<StatusNotification>>
     ensures { Gives result (status_notification (view payload.now)) }
 {
     let report = StatusNotification {
@@ -158,7 +152,7 @@ fn status_notification(
     Ok(Boxed::new(alloc, report)?)
 }
 
-fn stop_transaction(alloc: Global, payload: &Value<'_>) -> Result<StopTransaction, ReadError>
+fn stop_transaction(alloc: Global, payload: &Value<'_>) -> ReadResult<StopTransaction>
     ensures { Gives result (stop_transaction (view payload.now)) }
 {
     Ok(StopTransaction {

@@ -1,13 +1,12 @@
 //! The kinds of value that are written as well as read.
 ghost use Rattle.std.specs.Prelude.{◌≡◌, IfOk, map};
-ghost use Rattle.serde_json.specs.Data.{array};
+ghost use Rattle.serde_json.specs.Data.{array, string};
 ghost use Rattle.serde_json.specs.View.{view, items_of};
 ghost use Rattle.ocpp_payload.specs.Holds.{first_bad};
 
-use crate::fault::ReadError;
+use crate::fault::ReadResult;
 use crate::kind::{AnyText, Boolean, Int32, Int64, Kind, NameOf, TextOf, WholeSecond};
 use crate::lists::{ListOf, ObjectOf};
-use crate::members::text_value;
 use crate::written::{Bounded, Checked, Tabled, Written};
 use ocpp_types::{FieldName, Listed, Mem, Moment, Named, Text, count_characters, print_time};
 use serde_json::Value;
@@ -75,6 +74,12 @@ impl Written for WholeSecond {
     }
 }
 
+fn text_value(alloc: Global, text: &str) -> Mem<Value>
+    ensures { IfOk result (λ v. view v ≡ string text.now) }
+{
+    Ok(Value::String(String::from_str(alloc, text)?))
+}
+
 /// A text of which one of more characters is bad.
 #[derive(Clone, Copy, Drop)]
 pub struct TextWithin(pub usize);
@@ -91,7 +96,7 @@ impl Kind for TextWithin {
         alloc: Global,
         field: &'static str,
         value: &json::Value<'_>,
-    ) -> Result<Text, ReadError> {
+    ) -> ReadResult<Text> {
         AnyText.read(alloc, field, value)
     }
 }
@@ -127,12 +132,7 @@ impl Kind for IntegerWithin {
 
     ghost reads = { λ _. int_64 };
 
-    fn read(
-        &self,
-        alloc: Global,
-        field: &'static str,
-        value: &json::Value<'_>,
-    ) -> Result<i64, ReadError> {
+    fn read(&self, alloc: Global, field: &'static str, value: &json::Value<'_>) -> ReadResult<i64> {
         Int64.read(alloc, field, value)
     }
 }

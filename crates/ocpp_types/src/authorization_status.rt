@@ -24,24 +24,17 @@ impl Named for AuthorizationStatus {
 
     ghost names = { authorization_statuses };
 
-    fn of(name: &str) -> Option<AuthorizationStatus> {
-        match name {
-            "Accepted" => Some(AuthorizationStatus::Accepted),
-            "Blocked" => Some(AuthorizationStatus::Blocked),
-            "Expired" => Some(AuthorizationStatus::Expired),
-            "Invalid" => Some(AuthorizationStatus::Invalid),
-            "ConcurrentTx" => Some(AuthorizationStatus::ConcurrentTx),
-            _ => None,
-        }
+    fn table() -> &'static [(&'static str, Self)] {
+        &[
+            ("Accepted", Self::Accepted),
+            ("Blocked", Self::Blocked),
+            ("Expired", Self::Expired),
+            ("Invalid", Self::Invalid),
+            ("ConcurrentTx", Self::ConcurrentTx),
+        ]
     }
 
-    fn name(&self) -> &'static str {
-        match self {
-            AuthorizationStatus::Accepted => "Accepted",
-            AuthorizationStatus::Blocked => "Blocked",
-            AuthorizationStatus::Expired => "Expired",
-            AuthorizationStatus::Invalid => "Invalid",
-            AuthorizationStatus::ConcurrentTx => "ConcurrentTx",
-        }
+    fn index(&self) -> usize {
+        *self as usize
     }
 }

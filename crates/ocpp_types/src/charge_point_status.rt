@@ -1,6 +1,5 @@
 //! States of a connector.
 
-use crate::enumerated::Enumerated;
 use crate::named::Named;
 
 /// The status of a connector (OCPP 1.6, type ChargePointStatus).
@@ -24,48 +23,21 @@ impl Named for ChargePointStatus {
 
     ghost names = { charge_point_statuses };
 
-    fn of(name: &str) -> Option<ChargePointStatus> {
-        match name {
-            "Available" => Some(ChargePointStatus::Available),
-            "Preparing" => Some(ChargePointStatus::Preparing),
-            "Charging" => Some(ChargePointStatus::Charging),
-            "SuspendedEVSE" => Some(ChargePointStatus::SuspendedEVSE),
-            "SuspendedEV" => Some(ChargePointStatus::SuspendedEV),
-            "Finishing" => Some(ChargePointStatus::Finishing),
-            "Reserved" => Some(ChargePointStatus::Reserved),
-            "Unavailable" => Some(ChargePointStatus::Unavailable),
-            "Faulted" => Some(ChargePointStatus::Faulted),
-            _ => None,
-        }
-    }
-
-    fn name(&self) -> &'static str {
-        match self {
-            ChargePointStatus::Available => "Available",
-            ChargePointStatus::Preparing => "Preparing",
-            ChargePointStatus::Charging => "Charging",
-            ChargePointStatus::SuspendedEVSE => "SuspendedEVSE",
-            ChargePointStatus::SuspendedEV => "SuspendedEV",
-            ChargePointStatus::Finishing => "Finishing",
-            ChargePointStatus::Reserved => "Reserved",
-            ChargePointStatus::Unavailable => "Unavailable",
-            ChargePointStatus::Faulted => "Faulted",
-        }
-    }
-}
-
-impl Enumerated for ChargePointStatus {
-    fn all_names() -> &'static [&'static str] {
+    fn table() -> &'static [(&'static str, Self)] {
         &[
-            "Available",
-            "Preparing",
-            "Charging",
-            "SuspendedEVSE",
-            "SuspendedEV",
-            "Finishing",
-            "Reserved",
-            "Unavailable",
-            "Faulted",
+            ("Available", Self::Available),
+            ("Preparing", Self::Preparing),
+            ("Charging", Self::Charging),
+            ("SuspendedEVSE", Self::SuspendedEVSE),
+            ("SuspendedEV", Self::SuspendedEV),
+            ("Finishing", Self::Finishing),
+            ("Reserved", Self::Reserved),
+            ("Unavailable", Self::Unavailable),
+            ("Faulted", Self::Faulted),
         ]
+    }
+
+    fn index(&self) -> usize {
+        *self as usize
     }
 }

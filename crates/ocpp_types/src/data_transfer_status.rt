@@ -22,22 +22,16 @@ impl Named for DataTransferStatus {
 
     ghost names = { data_transfer_statuses };
 
-    fn of(name: &str) -> Option<DataTransferStatus> {
-        match name {
-            "Accepted" => Some(DataTransferStatus::Accepted),
-            "Rejected" => Some(DataTransferStatus::Rejected),
-            "UnknownMessageId" => Some(DataTransferStatus::UnknownMessageId),
-            "UnknownVendorId" => Some(DataTransferStatus::UnknownVendorId),
-            _ => None,
-        }
+    fn table() -> &'static [(&'static str, Self)] {
+        &[
+            ("Accepted", Self::Accepted),
+            ("Rejected", Self::Rejected),
+            ("UnknownMessageId", Self::UnknownMessageId),
+            ("UnknownVendorId", Self::UnknownVendorId),
+        ]
     }
 
-    fn name(&self) -> &'static str {
-        match self {
-            DataTransferStatus::Accepted => "Accepted",
-            DataTransferStatus::Rejected => "Rejected",
-            DataTransferStatus::UnknownMessageId => "UnknownMessageId",
-            DataTransferStatus::UnknownVendorId => "UnknownVendorId",
-        }
+    fn index(&self) -> usize {
+        *self as usize
     }
 }

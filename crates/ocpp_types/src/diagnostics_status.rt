@@ -1,6 +1,5 @@
 //! States of an upload of diagnostics.
 
-use crate::enumerated::Enumerated;
 use crate::named::Named;
 
 /// The status of an upload of diagnostics (OCPP 1.6, type DiagnosticsStatus).
@@ -19,28 +18,16 @@ impl Named for DiagnosticsStatus {
 
     ghost names = { diagnostics_statuses };
 
-    fn of(name: &str) -> Option<DiagnosticsStatus> {
-        match name {
-            "Idle" => Some(DiagnosticsStatus::Idle),
-            "Uploaded" => Some(DiagnosticsStatus::Uploaded),
-            "UploadFailed" => Some(DiagnosticsStatus::UploadFailed),
-            "Uploading" => Some(DiagnosticsStatus::Uploading),
-            _ => None,
-        }
+    fn table() -> &'static [(&'static str, Self)] {
+        &[
+            ("Idle", Self::Idle),
+            ("Uploaded", Self::Uploaded),
+            ("UploadFailed", Self::UploadFailed),
+            ("Uploading", Self::Uploading),
+        ]
     }
 
-    fn name(&self) -> &'static str {
-        match self {
-            DiagnosticsStatus::Idle => "Idle",
-            DiagnosticsStatus::Uploaded => "Uploaded",
-            DiagnosticsStatus::UploadFailed => "UploadFailed",
-            DiagnosticsStatus::Uploading => "Uploading",
-        }
-    }
-}
-
-impl Enumerated for DiagnosticsStatus {
-    fn all_names() -> &'static [&'static str] {
-        &["Idle", "Uploaded", "UploadFailed", "Uploading"]
+    fn index(&self) -> usize {
+        *self as usize
     }
 }

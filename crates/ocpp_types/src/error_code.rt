@@ -34,34 +34,28 @@ impl Named for ErrorCode {
 
     ghost names = { error_codes };
 
-    fn of(name: &str) -> Option<ErrorCode> {
-        match name {
-            "NotImplemented" => Some(ErrorCode::NotImplemented),
-            "NotSupported" => Some(ErrorCode::NotSupported),
-            "InternalError" => Some(ErrorCode::InternalError),
-            "ProtocolError" => Some(ErrorCode::ProtocolError),
-            "SecurityError" => Some(ErrorCode::SecurityError),
-            "FormationViolation" => Some(ErrorCode::FormationViolation),
-            "PropertyConstraintViolation" => Some(ErrorCode::PropertyConstraintViolation),
-            "OccurenceConstraintViolation" => Some(ErrorCode::OccurenceConstraintViolation),
-            "TypeConstraintViolation" => Some(ErrorCode::TypeConstraintViolation),
-            "GenericError" => Some(ErrorCode::GenericError),
-            _ => None,
-        }
+    fn table() -> &'static [(&'static str, Self)] {
+        &[
+            ("NotImplemented", Self::NotImplemented),
+            ("NotSupported", Self::NotSupported),
+            ("InternalError", Self::InternalError),
+            ("ProtocolError", Self::ProtocolError),
+            ("SecurityError", Self::SecurityError),
+            ("FormationViolation", Self::FormationViolation),
+            (
+                "PropertyConstraintViolation",
+                Self::PropertyConstraintViolation,
+            ),
+            (
+                "OccurenceConstraintViolation",
+                Self::OccurenceConstraintViolation,
+            ),
+            ("TypeConstraintViolation", Self::TypeConstraintViolation),
+            ("GenericError", Self::GenericError),
+        ]
     }
 
-    fn name(&self) -> &'static str {
-        match self {
-            ErrorCode::NotImplemented => "NotImplemented",
-            ErrorCode::NotSupported => "NotSupported",
-            ErrorCode::InternalError => "InternalError",
-            ErrorCode::ProtocolError => "ProtocolError",
-            ErrorCode::SecurityError => "SecurityError",
-            ErrorCode::FormationViolation => "FormationViolation",
-            ErrorCode::PropertyConstraintViolation => "PropertyConstraintViolation",
-            ErrorCode::OccurenceConstraintViolation => "OccurenceConstraintViolation",
-            ErrorCode::TypeConstraintViolation => "TypeConstraintViolation",
-            ErrorCode::GenericError => "GenericError",
-        }
+    fn index(&self) -> usize {
+        *self as usize
     }
 }

@@ -1,6 +1,5 @@
 //! States of a firmware update.
 
-use crate::enumerated::Enumerated;
 use crate::named::Named;
 
 /// The status of a firmware update (OCPP 1.6, type FirmwareStatus).
@@ -22,42 +21,19 @@ impl Named for FirmwareStatus {
 
     ghost names = { firmware_statuses };
 
-    fn of(name: &str) -> Option<FirmwareStatus> {
-        match name {
-            "Downloaded" => Some(FirmwareStatus::Downloaded),
-            "DownloadFailed" => Some(FirmwareStatus::DownloadFailed),
-            "Downloading" => Some(FirmwareStatus::Downloading),
-            "Idle" => Some(FirmwareStatus::Idle),
-            "InstallationFailed" => Some(FirmwareStatus::InstallationFailed),
-            "Installing" => Some(FirmwareStatus::Installing),
-            "Installed" => Some(FirmwareStatus::Installed),
-            _ => None,
-        }
-    }
-
-    fn name(&self) -> &'static str {
-        match self {
-            FirmwareStatus::Downloaded => "Downloaded",
-            FirmwareStatus::DownloadFailed => "DownloadFailed",
-            FirmwareStatus::Downloading => "Downloading",
-            FirmwareStatus::Idle => "Idle",
-            FirmwareStatus::InstallationFailed => "InstallationFailed",
-            FirmwareStatus::Installing => "Installing",
-            FirmwareStatus::Installed => "Installed",
-        }
-    }
-}
-
-impl Enumerated for FirmwareStatus {
-    fn all_names() -> &'static [&'static str] {
+    fn table() -> &'static [(&'static str, Self)] {
         &[
-            "Downloaded",
-            "DownloadFailed",
-            "Downloading",
-            "Idle",
-            "InstallationFailed",
-            "Installing",
-            "Installed",
+            ("Downloaded", Self::Downloaded),
+            ("DownloadFailed", Self::DownloadFailed),
+            ("Downloading", Self::Downloading),
+            ("Idle", Self::Idle),
+            ("InstallationFailed", Self::InstallationFailed),
+            ("Installing", Self::Installing),
+            ("Installed", Self::Installed),
         ]
+    }
+
+    fn index(&self) -> usize {
+        *self as usize
     }
 }

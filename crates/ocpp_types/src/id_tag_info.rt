@@ -5,7 +5,7 @@ use crate::moment::Moment;
 use crate::text::Text;
 
 /// What is said of an id tag (OCPP 1.6, type IdTagInfo).
-#[derive(Drop)]
+#[derive(Clone, Drop)]
 pub struct IdTagInfo {
     /// When the tag expires, or expired.
     pub expiry_date: Option<Moment>,

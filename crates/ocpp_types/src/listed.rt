@@ -2,7 +2,7 @@
 ghost use Rattle.std.specs.Prelude.{◌≡◌, [], ◌∷◌, ◌++◌, IfOk, OnOk, OnErr};
 
 use crate::memory::Mem;
-use std::alloc::Global;
+use std::alloc::{AllocError, Global};
 use std::marker::Model;
 
 /// A list. A contract sees it as its items, in order.
@@ -61,6 +61,17 @@ impl<T: Drop> Listed<T> {
     {
         self.listed.push(item)?;
         Ok(())
+    }
+}
+
+/// The clone has the same items, where an item's clone is the item.
+impl<T: Clone> Clone for Listed<T> {
+    ghost is_clone = { λ list copy. ((item twin : T) → T.is_clone item twin → twin ≡ item) → copy ≡ list };
+
+    fn clone(&self) -> Result<Listed<T>, AllocError> {
+        Ok(Listed {
+            listed: self.listed.clone()?,
+        })
     }
 }
 

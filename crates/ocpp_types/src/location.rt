@@ -1,6 +1,5 @@
 //! Where readings are taken.
 
-use crate::enumerated::Enumerated;
 use crate::named::Named;
 
 /// Where a reading was taken (OCPP 1.6, type Location).
@@ -20,30 +19,17 @@ impl Named for Location {
 
     ghost names = { locations };
 
-    fn of(name: &str) -> Option<Location> {
-        match name {
-            "Body" => Some(Location::Body),
-            "Cable" => Some(Location::Cable),
-            "EV" => Some(Location::EV),
-            "Inlet" => Some(Location::Inlet),
-            "Outlet" => Some(Location::Outlet),
-            _ => None,
-        }
+    fn table() -> &'static [(&'static str, Self)] {
+        &[
+            ("Body", Self::Body),
+            ("Cable", Self::Cable),
+            ("EV", Self::EV),
+            ("Inlet", Self::Inlet),
+            ("Outlet", Self::Outlet),
+        ]
     }
 
-    fn name(&self) -> &'static str {
-        match self {
-            Location::Body => "Body",
-            Location::Cable => "Cable",
-            Location::EV => "EV",
-            Location::Inlet => "Inlet",
-            Location::Outlet => "Outlet",
-        }
-    }
-}
-
-impl Enumerated for Location {
-    fn all_names() -> &'static [&'static str] {
-        &["Body", "Cable", "EV", "Inlet", "Outlet"]
+    fn index(&self) -> usize {
+        *self as usize
     }
 }

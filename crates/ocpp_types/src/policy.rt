@@ -21,20 +21,15 @@ impl Named for Policy {
 
     ghost names = { policies };
 
-    fn of(name: &str) -> Option<Policy> {
-        match name {
-            "Accepted" => Some(Policy::Accepted),
-            "Pending" => Some(Policy::Pending),
-            "Rejected" => Some(Policy::Rejected),
-            _ => None,
-        }
+    fn table() -> &'static [(&'static str, Self)] {
+        &[
+            ("Accepted", Self::Accepted),
+            ("Pending", Self::Pending),
+            ("Rejected", Self::Rejected),
+        ]
     }
 
-    fn name(&self) -> &'static str {
-        match self {
-            Policy::Accepted => "Accepted",
-            Policy::Pending => "Pending",
-            Policy::Rejected => "Rejected",
-        }
+    fn index(&self) -> usize {
+        *self as usize
     }
 }

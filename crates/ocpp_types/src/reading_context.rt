@@ -1,6 +1,5 @@
 //! When a reading was taken.
 
-use crate::enumerated::Enumerated;
 use crate::named::Named;
 
 /// When a reading was taken (OCPP 1.6, type ReadingContext).
@@ -23,45 +22,20 @@ impl Named for ReadingContext {
 
     ghost names = { reading_contexts };
 
-    fn of(name: &str) -> Option<ReadingContext> {
-        match name {
-            "Interruption.Begin" => Some(ReadingContext::InterruptionBegin),
-            "Interruption.End" => Some(ReadingContext::InterruptionEnd),
-            "Other" => Some(ReadingContext::Other),
-            "Sample.Clock" => Some(ReadingContext::SampleClock),
-            "Sample.Periodic" => Some(ReadingContext::SamplePeriodic),
-            "Transaction.Begin" => Some(ReadingContext::TransactionBegin),
-            "Transaction.End" => Some(ReadingContext::TransactionEnd),
-            "Trigger" => Some(ReadingContext::Trigger),
-            _ => None,
-        }
-    }
-
-    fn name(&self) -> &'static str {
-        match self {
-            ReadingContext::InterruptionBegin => "Interruption.Begin",
-            ReadingContext::InterruptionEnd => "Interruption.End",
-            ReadingContext::Other => "Other",
-            ReadingContext::SampleClock => "Sample.Clock",
-            ReadingContext::SamplePeriodic => "Sample.Periodic",
-            ReadingContext::TransactionBegin => "Transaction.Begin",
-            ReadingContext::TransactionEnd => "Transaction.End",
-            ReadingContext::Trigger => "Trigger",
-        }
-    }
-}
-
-impl Enumerated for ReadingContext {
-    fn all_names() -> &'static [&'static str] {
+    fn table() -> &'static [(&'static str, Self)] {
         &[
-            "Interruption.Begin",
-            "Interruption.End",
-            "Other",
-            "Sample.Clock",
-            "Sample.Periodic",
-            "Transaction.Begin",
-            "Transaction.End",
-            "Trigger",
+            ("Interruption.Begin", Self::InterruptionBegin),
+            ("Interruption.End", Self::InterruptionEnd),
+            ("Other", Self::Other),
+            ("Sample.Clock", Self::SampleClock),
+            ("Sample.Periodic", Self::SamplePeriodic),
+            ("Transaction.Begin", Self::TransactionBegin),
+            ("Transaction.End", Self::TransactionEnd),
+            ("Trigger", Self::Trigger),
         ]
+    }
+
+    fn index(&self) -> usize {
+        *self as usize
     }
 }

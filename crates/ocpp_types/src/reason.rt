@@ -1,6 +1,5 @@
 //! Why transactions end.
 
-use crate::enumerated::Enumerated;
 use crate::named::Named;
 
 /// Why a transaction ended (OCPP 1.6, type Reason).
@@ -26,54 +25,23 @@ impl Named for Reason {
 
     ghost names = { reasons };
 
-    fn of(name: &str) -> Option<Reason> {
-        match name {
-            "DeAuthorized" => Some(Reason::DeAuthorized),
-            "EmergencyStop" => Some(Reason::EmergencyStop),
-            "EVDisconnected" => Some(Reason::EVDisconnected),
-            "HardReset" => Some(Reason::HardReset),
-            "Local" => Some(Reason::Local),
-            "Other" => Some(Reason::Other),
-            "PowerLoss" => Some(Reason::PowerLoss),
-            "Reboot" => Some(Reason::Reboot),
-            "Remote" => Some(Reason::Remote),
-            "SoftReset" => Some(Reason::SoftReset),
-            "UnlockCommand" => Some(Reason::UnlockCommand),
-            _ => None,
-        }
-    }
-
-    fn name(&self) -> &'static str {
-        match self {
-            Reason::DeAuthorized => "DeAuthorized",
-            Reason::EmergencyStop => "EmergencyStop",
-            Reason::EVDisconnected => "EVDisconnected",
-            Reason::HardReset => "HardReset",
-            Reason::Local => "Local",
-            Reason::Other => "Other",
-            Reason::PowerLoss => "PowerLoss",
-            Reason::Reboot => "Reboot",
-            Reason::Remote => "Remote",
-            Reason::SoftReset => "SoftReset",
-            Reason::UnlockCommand => "UnlockCommand",
-        }
-    }
-}
-
-impl Enumerated for Reason {
-    fn all_names() -> &'static [&'static str] {
+    fn table() -> &'static [(&'static str, Self)] {
         &[
-            "DeAuthorized",
-            "EmergencyStop",
-            "EVDisconnected",
-            "HardReset",
-            "Local",
-            "Other",
-            "PowerLoss",
-            "Reboot",
-            "Remote",
-            "SoftReset",
-            "UnlockCommand",
+            ("DeAuthorized", Self::DeAuthorized),
+            ("EmergencyStop", Self::EmergencyStop),
+            ("EVDisconnected", Self::EVDisconnected),
+            ("HardReset", Self::HardReset),
+            ("Local", Self::Local),
+            ("Other", Self::Other),
+            ("PowerLoss", Self::PowerLoss),
+            ("Reboot", Self::Reboot),
+            ("Remote", Self::Remote),
+            ("SoftReset", Self::SoftReset),
+            ("UnlockCommand", Self::UnlockCommand),
         ]
+    }
+
+    fn index(&self) -> usize {
+        *self as usize
     }
 }

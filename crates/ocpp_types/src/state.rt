@@ -23,22 +23,16 @@ impl Named for State {
 
     ghost names = { states };
 
-    fn of(name: &str) -> Option<State> {
-        match name {
-            "Fresh" => Some(State::Fresh),
-            "Accepted" => Some(State::Accepted),
-            "Pending" => Some(State::Pending),
-            "Rejected" => Some(State::Rejected),
-            _ => None,
-        }
+    fn table() -> &'static [(&'static str, Self)] {
+        &[
+            ("Fresh", Self::Fresh),
+            ("Accepted", Self::Accepted),
+            ("Pending", Self::Pending),
+            ("Rejected", Self::Rejected),
+        ]
     }
 
-    fn name(&self) -> &'static str {
-        match self {
-            State::Fresh => "Fresh",
-            State::Accepted => "Accepted",
-            State::Pending => "Pending",
-            State::Rejected => "Rejected",
-        }
+    fn index(&self) -> usize {
+        *self as usize
     }
 }

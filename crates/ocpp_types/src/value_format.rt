@@ -1,6 +1,5 @@
 //! Forms of a reading.
 
-use crate::enumerated::Enumerated;
 use crate::named::Named;
 
 /// How a reading is written (OCPP 1.6, type ValueFormat).
@@ -19,24 +18,11 @@ impl Named for ValueFormat {
 
     ghost names = { value_formats };
 
-    fn of(name: &str) -> Option<ValueFormat> {
-        match name {
-            "Raw" => Some(ValueFormat::Raw),
-            "SignedData" => Some(ValueFormat::SignedData),
-            _ => None,
-        }
+    fn table() -> &'static [(&'static str, Self)] {
+        &[("Raw", Self::Raw), ("SignedData", Self::SignedData)]
     }
 
-    fn name(&self) -> &'static str {
-        match self {
-            ValueFormat::Raw => "Raw",
-            ValueFormat::SignedData => "SignedData",
-        }
-    }
-}
-
-impl Enumerated for ValueFormat {
-    fn all_names() -> &'static [&'static str] {
-        &["Raw", "SignedData"]
+    fn index(&self) -> usize {
+        *self as usize
     }
 }

@@ -15,7 +15,7 @@ use crate::statuses::{
     TriggerMessageStatus, UnlockStatus, UpdateStatus,
 };
 use json::Value;
-use ocpp_payload::{FieldFault, ReadError, Tabled};
+use ocpp_payload::{FieldFault, ReadError, ReadResult, Tabled};
 use ocpp_types::{Mem, NoMemory};
 use std::alloc::Global;
 
@@ -48,11 +48,7 @@ fn read_known(
     }
 }
 
-fn sent_members(
-    alloc: Global,
-    command: &Command,
-    payload: &Value<'_>,
-) -> Result<KnownMembers, ReadError>
+fn sent_members(alloc: Global, command: &Command, payload: &Value<'_>) -> ReadResult<KnownMembers>
     ensures { Gives result (known_members command.now (view payload.now)) }
 {
     match command {
@@ -73,7 +69,7 @@ fn sent_members(
     }
 }
 
-fn as_sent<T: Tabled>(alloc: Global, payload: &Value<'_>) -> Result<KnownMembers, ReadError>
+fn as_sent<T: Tabled>(alloc: Global, payload: &Value<'_>) -> ReadResult<KnownMembers>
     ensures { Gives result (as_sent T.reads_as T.form (view payload.now)) }
 {
     let known = T::read_from(alloc, payload)?.write(alloc)?;

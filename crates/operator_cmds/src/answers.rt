@@ -3,11 +3,10 @@ ghost use Rattle.ocpp_payload.specs.Table.{read_by};
 ghost use Rattle.operator_cmds.specs.AnswerForms.{data_transfer_answer, get_configuration_answer, get_local_list_version_answer, key_value, status_of};
 
 use ocpp_payload::{
-    AnyText, Boolean, Int32, ListOf, NameOf, ObjectOf, ReadError, Readable, Tabled, TextOf,
-    optional, put_may, put_must, required,
+    AnyText, Boolean, Int32, ListOf, NameOf, ObjectOf, ObjectWriter, ReadResult, Readable, Tabled,
+    TextOf, optional, required,
 };
 use ocpp_types::{DataTransferStatus, Listed, Mem, Named, Text};
-use serde_json::{Map, Value};
 use std::alloc::Global;
 
 /// An answer of a status alone.
@@ -19,7 +18,7 @@ pub struct Status<E> {
 impl<E: Named + Drop> Readable for Status<E> {
     ghost reads_as = { read_by (status_of E.names E.name_of) };
 
-    fn read_from(alloc: Global, object: &json::Value<'_>) -> Result<Status<E>, ReadError> {
+    fn read_from(alloc: Global, object: &json::Value<'_>) -> ReadResult<Status<E>> {
         let status = required(alloc, object, "status", NameOf::new())?;
         Ok(Status { status })
     }
@@ -28,10 +27,8 @@ impl<E: Named + Drop> Readable for Status<E> {
 impl<E: Named + Drop> Tabled for Status<E> {
     ghost form = { status_of E.names E.name_of };
 
-    fn write(&self, alloc: Global) -> Mem<Value> {
-        let mut members = Map::new(alloc);
-        put_must(alloc, &mut members, "status", NameOf::new(), &self.status)?;
-        Ok(Value::Object(members))
+    fn write_members(&self, object: ObjectWriter) -> Mem<ObjectWriter> {
+        object.must("status", NameOf::new(), &self.status)
     }
 }
 
@@ -46,7 +43,7 @@ pub struct DataTransferAnswer {
 impl Readable for DataTransferAnswer {
     ghost reads_as = { read_by data_transfer_answer };
 
-    fn read_from(alloc: Global, object: &json::Value<'_>) -> Result<DataTransferAnswer, ReadError> {
+    fn read_from(alloc: Global, object: &json::Value<'_>) -> ReadResult<DataTransferAnswer> {
         Ok(DataTransferAnswer {
             status: required(alloc, object, "status", NameOf::new())?,
             content: optional(alloc, object, "data", AnyText)?,
@@ -57,11 +54,10 @@ impl Readable for DataTransferAnswer {
 impl Tabled for DataTransferAnswer {
     ghost form = { data_transfer_answer };
 
-    fn write(&self, alloc: Global) -> Mem<Value> {
-        let mut members = Map::new(alloc);
-        put_must(alloc, &mut members, "status", NameOf::new(), &self.status)?;
-        put_may(alloc, &mut members, "data", AnyText, &self.content)?;
-        Ok(Value::Object(members))
+    fn write_members(&self, object: ObjectWriter) -> Mem<ObjectWriter> {
+        object
+            .must("status", NameOf::new(), &self.status)?
+            .may("data", AnyText, &self.content)
     }
 }
 
@@ -76,7 +72,7 @@ pub struct KeyValue {
 impl Readable for KeyValue {
     ghost reads_as = { read_by key_value };
 
-    fn read_from(alloc: Global, object: &json::Value<'_>) -> Result<KeyValue, ReadError> {
+    fn read_from(alloc: Global, object: &json::Value<'_>) -> ReadResult<KeyValue> {
         Ok(KeyValue {
             key: required(alloc, object, "key", TextOf(50))?,
             readonly: required(alloc, object, "readonly", Boolean)?,
@@ -88,12 +84,11 @@ impl Readable for KeyValue {
 impl Tabled for KeyValue {
     ghost form = { key_value };
 
-    fn write(&self, alloc: Global) -> Mem<Value> {
-        let mut members = Map::new(alloc);
-        put_must(alloc, &mut members, "key", TextOf(50), &self.key)?;
-        put_must(alloc, &mut members, "readonly", Boolean, &self.readonly)?;
-        put_may(alloc, &mut members, "value", TextOf(500), &self.value)?;
-        Ok(Value::Object(members))
+    fn write_members(&self, object: ObjectWriter) -> Mem<ObjectWriter> {
+        object
+            .must("key", TextOf(50), &self.key)?
+            .must("readonly", Boolean, &self.readonly)?
+            .may("value", TextOf(500), &self.value)
     }
 }
 
@@ -107,10 +102,7 @@ pub struct GetConfigurationAnswer {
 impl Readable for GetConfigurationAnswer {
     ghost reads_as = { read_by get_configuration_answer };
 
-    fn read_from(
-        alloc: Global,
-        object: &json::Value<'_>,
-    ) -> Result<GetConfigurationAnswer, ReadError> {
+    fn read_from(alloc: Global, object: &json::Value<'_>) -> ReadResult<GetConfigurationAnswer> {
         let keys = ListOf(ObjectOf::new());
         Ok(GetConfigurationAnswer {
             configuration_key: optional(alloc, object, "configurationKey", keys)?,
@@ -122,24 +114,14 @@ impl Readable for GetConfigurationAnswer {
 impl Tabled for GetConfigurationAnswer {
     ghost form = { get_configuration_answer };
 
-    fn write(&self, alloc: Global) -> Mem<Value> {
-        let mut members = Map::new(alloc);
-        let keys = ListOf(ObjectOf::new());
-        put_may(
-            alloc,
-            &mut members,
-            "configurationKey",
-            keys,
-            &self.configuration_key,
-        )?;
-        put_may(
-            alloc,
-            &mut members,
-            "unknownKey",
-            ListOf(TextOf(50)),
-            &self.unknown_key,
-        )?;
-        Ok(Value::Object(members))
+    fn write_members(&self, object: ObjectWriter) -> Mem<ObjectWriter> {
+        object
+            .may(
+                "configurationKey",
+                ListOf(ObjectOf::new()),
+                &self.configuration_key,
+            )?
+            .may("unknownKey", ListOf(TextOf(50)), &self.unknown_key)
     }
 }
 
@@ -152,10 +134,7 @@ pub struct GetLocalListVersionAnswer {
 impl Readable for GetLocalListVersionAnswer {
     ghost reads_as = { read_by get_local_list_version_answer };
 
-    fn read_from(
-        alloc: Global,
-        object: &json::Value<'_>,
-    ) -> Result<GetLocalListVersionAnswer, ReadError> {
+    fn read_from(alloc: Global, object: &json::Value<'_>) -> ReadResult<GetLocalListVersionAnswer> {
         let list_version = required(alloc, object, "listVersion", Int32)?;
         Ok(GetLocalListVersionAnswer { list_version })
     }
@@ -164,15 +143,7 @@ impl Readable for GetLocalListVersionAnswer {
 impl Tabled for GetLocalListVersionAnswer {
     ghost form = { get_local_list_version_answer };
 
-    fn write(&self, alloc: Global) -> Mem<Value> {
-        let mut members = Map::new(alloc);
-        put_must(
-            alloc,
-            &mut members,
-            "listVersion",
-            Int32,
-            &self.list_version,
-        )?;
-        Ok(Value::Object(members))
+    fn write_members(&self, object: ObjectWriter) -> Mem<ObjectWriter> {
+        object.must("listVersion", Int32, &self.list_version)
     }
 }

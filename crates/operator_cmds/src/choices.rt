@@ -16,19 +16,15 @@ impl Named for AvailabilityType {
 
     ghost names = { availability_types };
 
-    fn of(name: &str) -> Option<AvailabilityType> {
-        match name {
-            "Inoperative" => Some(AvailabilityType::Inoperative),
-            "Operative" => Some(AvailabilityType::Operative),
-            _ => None,
-        }
+    fn table() -> &'static [(&'static str, Self)] {
+        &[
+            ("Inoperative", Self::Inoperative),
+            ("Operative", Self::Operative),
+        ]
     }
 
-    fn name(&self) -> &'static str {
-        match self {
-            AvailabilityType::Inoperative => "Inoperative",
-            AvailabilityType::Operative => "Operative",
-        }
+    fn index(&self) -> usize {
+        *self as usize
     }
 }
 
@@ -50,27 +46,25 @@ impl Named for MessageTrigger {
 
     ghost names = { message_triggers };
 
-    fn of(name: &str) -> Option<MessageTrigger> {
-        match name {
-            "BootNotification" => Some(MessageTrigger::BootNotification),
-            "DiagnosticsStatusNotification" => Some(MessageTrigger::DiagnosticsStatusNotification),
-            "FirmwareStatusNotification" => Some(MessageTrigger::FirmwareStatusNotification),
-            "Heartbeat" => Some(MessageTrigger::Heartbeat),
-            "MeterValues" => Some(MessageTrigger::MeterValues),
-            "StatusNotification" => Some(MessageTrigger::StatusNotification),
-            _ => None,
-        }
+    fn table() -> &'static [(&'static str, Self)] {
+        &[
+            ("BootNotification", Self::BootNotification),
+            (
+                "DiagnosticsStatusNotification",
+                Self::DiagnosticsStatusNotification,
+            ),
+            (
+                "FirmwareStatusNotification",
+                Self::FirmwareStatusNotification,
+            ),
+            ("Heartbeat", Self::Heartbeat),
+            ("MeterValues", Self::MeterValues),
+            ("StatusNotification", Self::StatusNotification),
+        ]
     }
 
-    fn name(&self) -> &'static str {
-        match self {
-            MessageTrigger::BootNotification => "BootNotification",
-            MessageTrigger::DiagnosticsStatusNotification => "DiagnosticsStatusNotification",
-            MessageTrigger::FirmwareStatusNotification => "FirmwareStatusNotification",
-            MessageTrigger::Heartbeat => "Heartbeat",
-            MessageTrigger::MeterValues => "MeterValues",
-            MessageTrigger::StatusNotification => "StatusNotification",
-        }
+    fn index(&self) -> usize {
+        *self as usize
     }
 }
 
@@ -88,19 +82,12 @@ impl Named for ResetType {
 
     ghost names = { reset_types };
 
-    fn of(name: &str) -> Option<ResetType> {
-        match name {
-            "Hard" => Some(ResetType::Hard),
-            "Soft" => Some(ResetType::Soft),
-            _ => None,
-        }
+    fn table() -> &'static [(&'static str, Self)] {
+        &[("Hard", Self::Hard), ("Soft", Self::Soft)]
     }
 
-    fn name(&self) -> &'static str {
-        match self {
-            ResetType::Hard => "Hard",
-            ResetType::Soft => "Soft",
-        }
+    fn index(&self) -> usize {
+        *self as usize
     }
 }
 
@@ -118,18 +105,11 @@ impl Named for UpdateType {
 
     ghost names = { update_types };
 
-    fn of(name: &str) -> Option<UpdateType> {
-        match name {
-            "Differential" => Some(UpdateType::Differential),
-            "Full" => Some(UpdateType::Full),
-            _ => None,
-        }
+    fn table() -> &'static [(&'static str, Self)] {
+        &[("Differential", Self::Differential), ("Full", Self::Full)]
     }
 
-    fn name(&self) -> &'static str {
-        match self {
-            UpdateType::Differential => "Differential",
-            UpdateType::Full => "Full",
-        }
+    fn index(&self) -> usize {
+        *self as usize
     }
 }

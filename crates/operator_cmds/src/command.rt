@@ -1,5 +1,5 @@
 //! A command of an operator.
-ghost use Rattle.std.specs.Prelude.{◌≡◌};
+ghost use Rattle.std.specs.Prelude.{◌≡◌, IfOk};
 ghost use Rattle.operator_cmds.specs.Command.{action_name_of, action_of};
 
 use crate::configuration::{ChangeConfiguration, GetConfiguration};
@@ -8,11 +8,11 @@ use crate::operator_action::OperatorAction;
 use crate::remote::{RemoteStartTransaction, RemoteStopTransaction};
 use crate::reservations::{CancelReservation, ReserveNow};
 use crate::station::{ChangeAvailability, DataTransfer, Reset, TriggerMessage, UnlockConnector};
-use ocpp_types::Named;
+use ocpp_types::{Mem, Named};
 
 /// What an operator asks of a station (OCPP 1.6, section 6): texts and integers as the operator
 /// gave them.
-#[derive(Drop)]
+#[derive(Clone, Drop)]
 pub enum Command {
     CancelReservation(CancelReservation),
     ChangeAvailability(ChangeAvailability),
@@ -28,6 +28,13 @@ pub enum Command {
     SendLocalList(SendLocalList),
     TriggerMessage(TriggerMessage),
     UnlockConnector(UnlockConnector),
+}
+
+/// A copy of a command.
+pub fn copy_command(command: &Command) -> Mem<Command>
+    ensures { IfOk result (λ copy. copy ≡ command.now) }
+{
+    Ok(command.clone()?)
 }
 
 /// The name of the action that a command is sent under.

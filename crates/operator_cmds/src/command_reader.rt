@@ -14,7 +14,7 @@ use crate::remote::{RemoteStartTransaction, RemoteStopTransaction};
 use crate::reservations::{CancelReservation, ReserveNow};
 use crate::station::{ChangeAvailability, DataTransfer, Reset, TriggerMessage, UnlockConnector};
 use json_data::is_object;
-use ocpp_payload::{Checked, ReadError, Readable, Tabled};
+use ocpp_payload::{Checked, ReadError, ReadResult, Readable, Tabled};
 use ocpp_types::{FieldName, Mem, Named, NoMemory};
 use serde_json::{Map, Value};
 use std::alloc::Global;
@@ -39,11 +39,7 @@ pub fn read_command(alloc: Global, action: &str, payload: &json::Value<'_>) -> M
     }
 }
 
-fn read_any(
-    alloc: Global,
-    action: OperatorAction,
-    payload: &json::Value<'_>,
-) -> Result<Command, ReadError>
+fn read_any(alloc: Global, action: OperatorAction, payload: &json::Value<'_>) -> ReadResult<Command>
     ensures { Gives result (command_of action (lent.view payload.now)) }
 {
     Ok(match action {

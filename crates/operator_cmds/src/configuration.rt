@@ -3,15 +3,14 @@ ghost use Rattle.ocpp_payload.specs.Table.{read_by};
 ghost use Rattle.operator_cmds.specs.Forms.{change_configuration, get_configuration};
 
 use ocpp_payload::{
-    Bounded, Checked, ListOf, ReadError, Readable, Tabled, TextWithin, bad_may, optional, put_may,
-    put_must, required,
+    Bounded, Checked, ListOf, ObjectWriter, ReadResult, Readable, Tabled, TextWithin, bad_may,
+    optional, required,
 };
 use ocpp_types::{FieldName, Listed, Mem, Text};
-use serde_json::{Map, Value};
 use std::alloc::Global;
 
 /// Sets a key of the configuration (OCPP 1.6, ChangeConfiguration.req).
-#[derive(Drop)]
+#[derive(Clone, Drop)]
 pub struct ChangeConfiguration {
     /// At most 50 characters.
     pub key: Text,
@@ -22,10 +21,7 @@ pub struct ChangeConfiguration {
 impl Readable for ChangeConfiguration {
     ghost reads_as = { read_by change_configuration };
 
-    fn read_from(
-        alloc: Global,
-        object: &json::Value<'_>,
-    ) -> Result<ChangeConfiguration, ReadError> {
+    fn read_from(alloc: Global, object: &json::Value<'_>) -> ReadResult<ChangeConfiguration> {
         Ok(ChangeConfiguration {
             key: required(alloc, object, "key", TextWithin(50))?,
             value: required(alloc, object, "value", TextWithin(500))?,
@@ -36,11 +32,10 @@ impl Readable for ChangeConfiguration {
 impl Tabled for ChangeConfiguration {
     ghost form = { change_configuration };
 
-    fn write(&self, alloc: Global) -> Mem<Value> {
-        let mut members = Map::new(alloc);
-        put_must(alloc, &mut members, "key", TextWithin(50), &self.key)?;
-        put_must(alloc, &mut members, "value", TextWithin(500), &self.value)?;
-        Ok(Value::Object(members))
+    fn write_members(&self, object: ObjectWriter) -> Mem<ObjectWriter> {
+        object
+            .must("key", TextWithin(50), &self.key)?
+            .must("value", TextWithin(500), &self.value)
     }
 }
 
@@ -52,7 +47,7 @@ impl Checked for ChangeConfiguration {
 }
 
 /// Asks for keys of the configuration (OCPP 1.6, GetConfiguration.req).
-#[derive(Drop)]
+#[derive(Clone, Drop)]
 pub struct GetConfiguration {
     /// All keys, where the list is missing.
     pub key: Option<Listed<Text>>,
@@ -61,7 +56,7 @@ pub struct GetConfiguration {
 impl Readable for GetConfiguration {
     ghost reads_as = { read_by get_configuration };
 
-    fn read_from(alloc: Global, object: &json::Value<'_>) -> Result<GetConfiguration, ReadError> {
+    fn read_from(alloc: Global, object: &json::Value<'_>) -> ReadResult<GetConfiguration> {
         let key = optional(alloc, object, "key", ListOf(TextWithin(50)))?;
         Ok(GetConfiguration { key })
     }
@@ -70,11 +65,8 @@ impl Readable for GetConfiguration {
 impl Tabled for GetConfiguration {
     ghost form = { get_configuration };
 
-    fn write(&self, alloc: Global) -> Mem<Value> {
-        let mut members = Map::new(alloc);
-        let keys = ListOf(TextWithin(50));
-        put_may(alloc, &mut members, "key", keys, &self.key)?;
-        Ok(Value::Object(members))
+    fn write_members(&self, object: ObjectWriter) -> Mem<ObjectWriter> {
+        object.may("key", ListOf(TextWithin(50)), &self.key)
     }
 }
 

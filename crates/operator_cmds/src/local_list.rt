@@ -7,17 +7,16 @@ ghost use Rattle.operator_cmds.specs.LocalList.{authorization_data, bad_entry, b
 use crate::choices::UpdateType;
 use crate::kinds::{ID_TAG, LIST_VERSION};
 use ocpp_payload::{
-    Bounded, Checked, ListOf, NameOf, ObjectOf, ReadError, Readable, Tabled, bad_may, optional,
-    put_may, put_must, required,
+    Bounded, Checked, ListOf, NameOf, ObjectOf, ObjectWriter, ReadResult, Readable, Tabled,
+    bad_may, optional, required,
 };
 use ocpp_types::{FieldName, IdTagInfo, Listed, Mem, TagKey, Text};
-use serde_json::{Map, Value};
 use std::alloc::Global;
 use std::collections::BTreeSet;
 use std::marker::Model;
 
 /// An entry of a list of tags (OCPP 1.6, type AuthorizationData).
-#[derive(Drop)]
+#[derive(Clone, Drop)]
 pub struct AuthorizationData {
     /// At most 20 characters.
     pub id_tag: Text,
@@ -28,7 +27,7 @@ pub struct AuthorizationData {
 impl Readable for AuthorizationData {
     ghost reads_as = { read_by authorization_data };
 
-    fn read_from(alloc: Global, object: &json::Value<'_>) -> Result<AuthorizationData, ReadError> {
+    fn read_from(alloc: Global, object: &json::Value<'_>) -> ReadResult<AuthorizationData> {
         Ok(AuthorizationData {
             id_tag: required(alloc, object, "idTag", ID_TAG)?,
             id_tag_info: optional(alloc, object, "idTagInfo", ObjectOf::new())?,
@@ -39,17 +38,10 @@ impl Readable for AuthorizationData {
 impl Tabled for AuthorizationData {
     ghost form = { authorization_data };
 
-    fn write(&self, alloc: Global) -> Mem<Value> {
-        let mut members = Map::new(alloc);
-        put_must(alloc, &mut members, "idTag", ID_TAG, &self.id_tag)?;
-        put_may(
-            alloc,
-            &mut members,
-            "idTagInfo",
-            ObjectOf::new(),
-            &self.id_tag_info,
-        )?;
-        Ok(Value::Object(members))
+    fn write_members(&self, object: ObjectWriter) -> Mem<ObjectWriter> {
+        object
+            .must("idTag", ID_TAG, &self.id_tag)?
+            .may("idTagInfo", ObjectOf::new(), &self.id_tag_info)
     }
 }
 
@@ -61,7 +53,7 @@ impl Checked for AuthorizationData {
 }
 
 /// Sets or changes the list of tags of a station (OCPP 1.6, SendLocalList.req).
-#[derive(Drop)]
+#[derive(Clone, Drop)]
 pub struct SendLocalList {
     pub(crate) list_version: i64,
     pub(crate) entries: Option<Listed<AuthorizationData>>,
@@ -129,7 +121,7 @@ impl SendLocalList {
 impl Readable for SendLocalList {
     ghost reads_as = { read_by send_local_list };
 
-    fn read_from(alloc: Global, object: &json::Value<'_>) -> Result<SendLocalList, ReadError> {
+    fn read_from(alloc: Global, object: &json::Value<'_>) -> ReadResult<SendLocalList> {
         let list_version = required(alloc, object, "listVersion", LIST_VERSION)?;
         let kind = ListOf(ObjectOf::new());
         let entries = optional(alloc, object, "localAuthorizationList", kind)?;
@@ -147,20 +139,15 @@ impl Readable for SendLocalList {
 impl Tabled for SendLocalList {
     ghost form = { send_local_list };
 
-    fn write(&self, alloc: Global) -> Mem<Value> {
-        let mut members = Map::new(alloc);
-        let version = &self.list_version;
-        put_must(alloc, &mut members, "listVersion", LIST_VERSION, version)?;
-        put_may(
-            alloc,
-            &mut members,
-            "localAuthorizationList",
-            ListOf(ObjectOf::new()),
-            &self.entries,
-        )?;
-        let update = &self.update_type;
-        put_must(alloc, &mut members, "updateType", NameOf::new(), update)?;
-        Ok(Value::Object(members))
+    fn write_members(&self, object: ObjectWriter) -> Mem<ObjectWriter> {
+        object
+            .must("listVersion", LIST_VERSION, &self.list_version)?
+            .may(
+                "localAuthorizationList",
+                ListOf(ObjectOf::new()),
+                &self.entries,
+            )?
+            .must("updateType", NameOf::new(), &self.update_type)
     }
 }
 

@@ -28,42 +28,26 @@ impl Named for OperatorAction {
 
     ghost names = { operator_actions };
 
-    fn of(name: &str) -> Option<OperatorAction> {
-        match name {
-            "CancelReservation" => Some(OperatorAction::CancelReservation),
-            "ChangeAvailability" => Some(OperatorAction::ChangeAvailability),
-            "ChangeConfiguration" => Some(OperatorAction::ChangeConfiguration),
-            "ClearCache" => Some(OperatorAction::ClearCache),
-            "DataTransfer" => Some(OperatorAction::DataTransfer),
-            "GetConfiguration" => Some(OperatorAction::GetConfiguration),
-            "GetLocalListVersion" => Some(OperatorAction::GetLocalListVersion),
-            "RemoteStartTransaction" => Some(OperatorAction::RemoteStartTransaction),
-            "RemoteStopTransaction" => Some(OperatorAction::RemoteStopTransaction),
-            "ReserveNow" => Some(OperatorAction::ReserveNow),
-            "Reset" => Some(OperatorAction::Reset),
-            "SendLocalList" => Some(OperatorAction::SendLocalList),
-            "TriggerMessage" => Some(OperatorAction::TriggerMessage),
-            "UnlockConnector" => Some(OperatorAction::UnlockConnector),
-            _ => None,
-        }
+    fn table() -> &'static [(&'static str, Self)] {
+        &[
+            ("CancelReservation", Self::CancelReservation),
+            ("ChangeAvailability", Self::ChangeAvailability),
+            ("ChangeConfiguration", Self::ChangeConfiguration),
+            ("ClearCache", Self::ClearCache),
+            ("DataTransfer", Self::DataTransfer),
+            ("GetConfiguration", Self::GetConfiguration),
+            ("GetLocalListVersion", Self::GetLocalListVersion),
+            ("RemoteStartTransaction", Self::RemoteStartTransaction),
+            ("RemoteStopTransaction", Self::RemoteStopTransaction),
+            ("ReserveNow", Self::ReserveNow),
+            ("Reset", Self::Reset),
+            ("SendLocalList", Self::SendLocalList),
+            ("TriggerMessage", Self::TriggerMessage),
+            ("UnlockConnector", Self::UnlockConnector),
+        ]
     }
 
-    fn name(&self) -> &'static str {
-        match self {
-            OperatorAction::CancelReservation => "CancelReservation",
-            OperatorAction::ChangeAvailability => "ChangeAvailability",
-            OperatorAction::ChangeConfiguration => "ChangeConfiguration",
-            OperatorAction::ClearCache => "ClearCache",
-            OperatorAction::DataTransfer => "DataTransfer",
-            OperatorAction::GetConfiguration => "GetConfiguration",
-            OperatorAction::GetLocalListVersion => "GetLocalListVersion",
-            OperatorAction::RemoteStartTransaction => "RemoteStartTransaction",
-            OperatorAction::RemoteStopTransaction => "RemoteStopTransaction",
-            OperatorAction::ReserveNow => "ReserveNow",
-            OperatorAction::Reset => "Reset",
-            OperatorAction::SendLocalList => "SendLocalList",
-            OperatorAction::TriggerMessage => "TriggerMessage",
-            OperatorAction::UnlockConnector => "UnlockConnector",
-        }
+    fn index(&self) -> usize {
+        *self as usize
     }
 }

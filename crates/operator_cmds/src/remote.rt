@@ -4,14 +4,13 @@ ghost use Rattle.operator_cmds.specs.Forms.{remote_start_transaction, remote_sto
 
 use crate::kinds::{CONNECTOR, ID_TAG, NUMBER_OF_32_BITS};
 use ocpp_payload::{
-    Bounded, Checked, ReadError, Readable, Tabled, bad_may, optional, put_may, put_must, required,
+    Bounded, Checked, ObjectWriter, ReadResult, Readable, Tabled, bad_may, optional, required,
 };
 use ocpp_types::{FieldName, Mem, Text};
-use serde_json::{Map, Value};
 use std::alloc::Global;
 
 /// Asks a station to start a transaction (OCPP 1.6, RemoteStartTransaction.req).
-#[derive(Drop)]
+#[derive(Clone, Drop)]
 pub struct RemoteStartTransaction {
     /// 1 to 255.
     pub connector_id: Option<i64>,
@@ -22,10 +21,7 @@ pub struct RemoteStartTransaction {
 impl Readable for RemoteStartTransaction {
     ghost reads_as = { read_by remote_start_transaction };
 
-    fn read_from(
-        alloc: Global,
-        object: &json::Value<'_>,
-    ) -> Result<RemoteStartTransaction, ReadError> {
+    fn read_from(alloc: Global, object: &json::Value<'_>) -> ReadResult<RemoteStartTransaction> {
         Ok(RemoteStartTransaction {
             connector_id: optional(alloc, object, "connectorId", CONNECTOR)?,
             id_tag: required(alloc, object, "idTag", ID_TAG)?,
@@ -36,17 +32,10 @@ impl Readable for RemoteStartTransaction {
 impl Tabled for RemoteStartTransaction {
     ghost form = { remote_start_transaction };
 
-    fn write(&self, alloc: Global) -> Mem<Value> {
-        let mut members = Map::new(alloc);
-        put_may(
-            alloc,
-            &mut members,
-            "connectorId",
-            CONNECTOR,
-            &self.connector_id,
-        )?;
-        put_must(alloc, &mut members, "idTag", ID_TAG, &self.id_tag)?;
-        Ok(Value::Object(members))
+    fn write_members(&self, object: ObjectWriter) -> Mem<ObjectWriter> {
+        object
+            .may("connectorId", CONNECTOR, &self.connector_id)?
+            .must("idTag", ID_TAG, &self.id_tag)
     }
 }
 
@@ -58,7 +47,7 @@ impl Checked for RemoteStartTransaction {
 }
 
 /// Asks a station to stop a transaction (OCPP 1.6, RemoteStopTransaction.req).
-#[derive(Drop)]
+#[derive(Clone, Drop)]
 pub struct RemoteStopTransaction {
     /// A signed number of 32 bits.
     pub transaction_id: i64,
@@ -67,10 +56,7 @@ pub struct RemoteStopTransaction {
 impl Readable for RemoteStopTransaction {
     ghost reads_as = { read_by remote_stop_transaction };
 
-    fn read_from(
-        alloc: Global,
-        object: &json::Value<'_>,
-    ) -> Result<RemoteStopTransaction, ReadError> {
+    fn read_from(alloc: Global, object: &json::Value<'_>) -> ReadResult<RemoteStopTransaction> {
         let transaction_id = required(alloc, object, "transactionId", NUMBER_OF_32_BITS)?;
         Ok(RemoteStopTransaction { transaction_id })
     }
@@ -79,16 +65,8 @@ impl Readable for RemoteStopTransaction {
 impl Tabled for RemoteStopTransaction {
     ghost form = { remote_stop_transaction };
 
-    fn write(&self, alloc: Global) -> Mem<Value> {
-        let mut members = Map::new(alloc);
-        put_must(
-            alloc,
-            &mut members,
-            "transactionId",
-            NUMBER_OF_32_BITS,
-            &self.transaction_id,
-        )?;
-        Ok(Value::Object(members))
+    fn write_members(&self, object: ObjectWriter) -> Mem<ObjectWriter> {
+        object.must("transactionId", NUMBER_OF_32_BITS, &self.transaction_id)
     }
 }
 

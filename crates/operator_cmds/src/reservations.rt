@@ -4,15 +4,14 @@ ghost use Rattle.operator_cmds.specs.Forms.{cancel_reservation, reserve_now};
 
 use crate::kinds::{ID_TAG, NUMBER_OF_32_BITS, STATION_OR_CONNECTOR};
 use ocpp_payload::{
-    Bounded, Checked, ReadError, Readable, Tabled, WholeSecond, bad_may, optional, put_may,
-    put_must, required,
+    Bounded, Checked, ObjectWriter, ReadResult, Readable, Tabled, WholeSecond, bad_may, optional,
+    required,
 };
 use ocpp_types::{FieldName, Mem, Moment, Text};
-use serde_json::{Map, Value};
 use std::alloc::Global;
 
 /// Cancels a reservation (OCPP 1.6, CancelReservation.req).
-#[derive(Drop)]
+#[derive(Clone, Drop)]
 pub struct CancelReservation {
     /// A signed number of 32 bits.
     pub reservation_id: i64,
@@ -21,7 +20,7 @@ pub struct CancelReservation {
 impl Readable for CancelReservation {
     ghost reads_as = { read_by cancel_reservation };
 
-    fn read_from(alloc: Global, object: &json::Value<'_>) -> Result<CancelReservation, ReadError> {
+    fn read_from(alloc: Global, object: &json::Value<'_>) -> ReadResult<CancelReservation> {
         let reservation_id = required(alloc, object, "reservationId", NUMBER_OF_32_BITS)?;
         Ok(CancelReservation { reservation_id })
     }
@@ -30,16 +29,8 @@ impl Readable for CancelReservation {
 impl Tabled for CancelReservation {
     ghost form = { cancel_reservation };
 
-    fn write(&self, alloc: Global) -> Mem<Value> {
-        let mut members = Map::new(alloc);
-        put_must(
-            alloc,
-            &mut members,
-            "reservationId",
-            NUMBER_OF_32_BITS,
-            &self.reservation_id,
-        )?;
-        Ok(Value::Object(members))
+    fn write_members(&self, object: ObjectWriter) -> Mem<ObjectWriter> {
+        object.must("reservationId", NUMBER_OF_32_BITS, &self.reservation_id)
     }
 }
 
@@ -50,7 +41,7 @@ impl Checked for CancelReservation {
 }
 
 /// Reserves a connector for a tag (OCPP 1.6, ReserveNow.req).
-#[derive(Drop)]
+#[derive(Clone, Drop)]
 pub struct ReserveNow {
     /// 0 to 255. 0 is any connector of the station.
     pub connector_id: i64,
@@ -67,7 +58,7 @@ pub struct ReserveNow {
 impl Readable for ReserveNow {
     ghost reads_as = { read_by reserve_now };
 
-    fn read_from(alloc: Global, object: &json::Value<'_>) -> Result<ReserveNow, ReadError> {
+    fn read_from(alloc: Global, object: &json::Value<'_>) -> ReadResult<ReserveNow> {
         Ok(ReserveNow {
             connector_id: required(alloc, object, "connectorId", STATION_OR_CONNECTOR)?,
             expiry_date: required(alloc, object, "expiryDate", WholeSecond)?,
@@ -81,34 +72,13 @@ impl Readable for ReserveNow {
 impl Tabled for ReserveNow {
     ghost form = { reserve_now };
 
-    fn write(&self, alloc: Global) -> Mem<Value> {
-        let mut members = Map::new(alloc);
-        let connector = &self.connector_id;
-        put_must(
-            alloc,
-            &mut members,
-            "connectorId",
-            STATION_OR_CONNECTOR,
-            connector,
-        )?;
-        let expiry = &self.expiry_date;
-        put_must(alloc, &mut members, "expiryDate", WholeSecond, expiry)?;
-        put_must(alloc, &mut members, "idTag", ID_TAG, &self.id_tag)?;
-        put_may(
-            alloc,
-            &mut members,
-            "parentIdTag",
-            ID_TAG,
-            &self.parent_id_tag,
-        )?;
-        put_must(
-            alloc,
-            &mut members,
-            "reservationId",
-            NUMBER_OF_32_BITS,
-            &self.reservation_id,
-        )?;
-        Ok(Value::Object(members))
+    fn write_members(&self, object: ObjectWriter) -> Mem<ObjectWriter> {
+        object
+            .must("connectorId", STATION_OR_CONNECTOR, &self.connector_id)?
+            .must("expiryDate", WholeSecond, &self.expiry_date)?
+            .must("idTag", ID_TAG, &self.id_tag)?
+            .may("parentIdTag", ID_TAG, &self.parent_id_tag)?
+            .must("reservationId", NUMBER_OF_32_BITS, &self.reservation_id)
     }
 }
 

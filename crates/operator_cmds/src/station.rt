@@ -5,15 +5,14 @@ ghost use Rattle.operator_cmds.specs.Forms.{change_availability, data_transfer, 
 use crate::choices::{AvailabilityType, MessageTrigger, ResetType};
 use crate::kinds::{CONNECTOR, STATION_OR_CONNECTOR};
 use ocpp_payload::{
-    AnyText, Bounded, Checked, NameOf, ReadError, Readable, Tabled, TextWithin, bad_may, optional,
-    put_may, put_must, required,
+    AnyText, Bounded, Checked, NameOf, ObjectWriter, ReadResult, Readable, Tabled, TextWithin,
+    bad_may, optional, required,
 };
 use ocpp_types::{FieldName, Mem, Text};
-use serde_json::{Map, Value};
 use std::alloc::Global;
 
 /// Takes a connector into service or out of it (OCPP 1.6, ChangeAvailability.req).
-#[derive(Drop)]
+#[derive(Clone, Drop)]
 pub struct ChangeAvailability {
     /// 0 to 255. 0 is the station with all its connectors.
     pub connector_id: i64,
@@ -24,7 +23,7 @@ pub struct ChangeAvailability {
 impl Readable for ChangeAvailability {
     ghost reads_as = { read_by change_availability };
 
-    fn read_from(alloc: Global, object: &json::Value<'_>) -> Result<ChangeAvailability, ReadError> {
+    fn read_from(alloc: Global, object: &json::Value<'_>) -> ReadResult<ChangeAvailability> {
         Ok(ChangeAvailability {
             connector_id: required(alloc, object, "connectorId", STATION_OR_CONNECTOR)?,
             kind: required(alloc, object, "type", NameOf::new())?,
@@ -35,17 +34,10 @@ impl Readable for ChangeAvailability {
 impl Tabled for ChangeAvailability {
     ghost form = { change_availability };
 
-    fn write(&self, alloc: Global) -> Mem<Value> {
-        let mut members = Map::new(alloc);
-        put_must(
-            alloc,
-            &mut members,
-            "connectorId",
-            STATION_OR_CONNECTOR,
-            &self.connector_id,
-        )?;
-        put_must(alloc, &mut members, "type", NameOf::new(), &self.kind)?;
-        Ok(Value::Object(members))
+    fn write_members(&self, object: ObjectWriter) -> Mem<ObjectWriter> {
+        object
+            .must("connectorId", STATION_OR_CONNECTOR, &self.connector_id)?
+            .must("type", NameOf::new(), &self.kind)
     }
 }
 
@@ -56,7 +48,7 @@ impl Checked for ChangeAvailability {
 }
 
 /// A message of a vendor (OCPP 1.6, DataTransfer.req).
-#[derive(Drop)]
+#[derive(Clone, Drop)]
 pub struct DataTransfer {
     /// At most 255 characters.
     pub vendor_id: Text,
@@ -69,7 +61,7 @@ pub struct DataTransfer {
 impl Readable for DataTransfer {
     ghost reads_as = { read_by data_transfer };
 
-    fn read_from(alloc: Global, object: &json::Value<'_>) -> Result<DataTransfer, ReadError> {
+    fn read_from(alloc: Global, object: &json::Value<'_>) -> ReadResult<DataTransfer> {
         Ok(DataTransfer {
             vendor_id: required(alloc, object, "vendorId", TextWithin(255))?,
             message_id: optional(alloc, object, "messageId", TextWithin(50))?,
@@ -81,24 +73,11 @@ impl Readable for DataTransfer {
 impl Tabled for DataTransfer {
     ghost form = { data_transfer };
 
-    fn write(&self, alloc: Global) -> Mem<Value> {
-        let mut members = Map::new(alloc);
-        put_must(
-            alloc,
-            &mut members,
-            "vendorId",
-            TextWithin(255),
-            &self.vendor_id,
-        )?;
-        put_may(
-            alloc,
-            &mut members,
-            "messageId",
-            TextWithin(50),
-            &self.message_id,
-        )?;
-        put_may(alloc, &mut members, "data", AnyText, &self.content)?;
-        Ok(Value::Object(members))
+    fn write_members(&self, object: ObjectWriter) -> Mem<ObjectWriter> {
+        object
+            .must("vendorId", TextWithin(255), &self.vendor_id)?
+            .may("messageId", TextWithin(50), &self.message_id)?
+            .may("data", AnyText, &self.content)
     }
 }
 
@@ -110,7 +89,7 @@ impl Checked for DataTransfer {
 }
 
 /// Restarts a station (OCPP 1.6, Reset.req).
-#[derive(Drop)]
+#[derive(Clone, Drop)]
 pub struct Reset {
     /// The member `type`.
     pub kind: ResetType,
@@ -119,7 +98,7 @@ pub struct Reset {
 impl Readable for Reset {
     ghost reads_as = { read_by reset };
 
-    fn read_from(alloc: Global, object: &json::Value<'_>) -> Result<Reset, ReadError> {
+    fn read_from(alloc: Global, object: &json::Value<'_>) -> ReadResult<Reset> {
         let kind = required(alloc, object, "type", NameOf::new())?;
         Ok(Reset { kind })
     }
@@ -128,10 +107,8 @@ impl Readable for Reset {
 impl Tabled for Reset {
     ghost form = { reset };
 
-    fn write(&self, alloc: Global) -> Mem<Value> {
-        let mut members = Map::new(alloc);
-        put_must(alloc, &mut members, "type", NameOf::new(), &self.kind)?;
-        Ok(Value::Object(members))
+    fn write_members(&self, object: ObjectWriter) -> Mem<ObjectWriter> {
+        object.must("type", NameOf::new(), &self.kind)
     }
 }
 
@@ -142,7 +119,7 @@ impl Checked for Reset {
 }
 
 /// Asks a station to send a message (OCPP 1.6, TriggerMessage.req).
-#[derive(Drop)]
+#[derive(Clone, Drop)]
 pub struct TriggerMessage {
     /// The message.
     pub requested_message: MessageTrigger,
@@ -153,7 +130,7 @@ pub struct TriggerMessage {
 impl Readable for TriggerMessage {
     ghost reads_as = { read_by trigger_message };
 
-    fn read_from(alloc: Global, object: &json::Value<'_>) -> Result<TriggerMessage, ReadError> {
+    fn read_from(alloc: Global, object: &json::Value<'_>) -> ReadResult<TriggerMessage> {
         Ok(TriggerMessage {
             requested_message: required(alloc, object, "requestedMessage", NameOf::new())?,
             connector_id: optional(alloc, object, "connectorId", CONNECTOR)?,
@@ -164,24 +141,10 @@ impl Readable for TriggerMessage {
 impl Tabled for TriggerMessage {
     ghost form = { trigger_message };
 
-    fn write(&self, alloc: Global) -> Mem<Value> {
-        let mut members = Map::new(alloc);
-        let message = &self.requested_message;
-        put_must(
-            alloc,
-            &mut members,
-            "requestedMessage",
-            NameOf::new(),
-            message,
-        )?;
-        put_may(
-            alloc,
-            &mut members,
-            "connectorId",
-            CONNECTOR,
-            &self.connector_id,
-        )?;
-        Ok(Value::Object(members))
+    fn write_members(&self, object: ObjectWriter) -> Mem<ObjectWriter> {
+        object
+            .must("requestedMessage", NameOf::new(), &self.requested_message)?
+            .may("connectorId", CONNECTOR, &self.connector_id)
     }
 }
 
@@ -192,7 +155,7 @@ impl Checked for TriggerMessage {
 }
 
 /// Opens the lock of a connector (OCPP 1.6, UnlockConnector.req).
-#[derive(Drop)]
+#[derive(Clone, Drop)]
 pub struct UnlockConnector {
     /// 1 to 255.
     pub connector_id: i64,
@@ -201,7 +164,7 @@ pub struct UnlockConnector {
 impl Readable for UnlockConnector {
     ghost reads_as = { read_by unlock_connector };
 
-    fn read_from(alloc: Global, object: &json::Value<'_>) -> Result<UnlockConnector, ReadError> {
+    fn read_from(alloc: Global, object: &json::Value<'_>) -> ReadResult<UnlockConnector> {
         let connector_id = required(alloc, object, "connectorId", CONNECTOR)?;
         Ok(UnlockConnector { connector_id })
     }
@@ -210,16 +173,8 @@ impl Readable for UnlockConnector {
 impl Tabled for UnlockConnector {
     ghost form = { unlock_connector };
 
-    fn write(&self, alloc: Global) -> Mem<Value> {
-        let mut members = Map::new(alloc);
-        put_must(
-            alloc,
-            &mut members,
-            "connectorId",
-            CONNECTOR,
-            &self.connector_id,
-        )?;
-        Ok(Value::Object(members))
+    fn write_members(&self, object: ObjectWriter) -> Mem<ObjectWriter> {
+        object.must("connectorId", CONNECTOR, &self.connector_id)
     }
 }
 

@@ -17,19 +17,12 @@ impl Named for AcceptanceStatus {
 
     ghost names = { acceptance_statuses };
 
-    fn of(name: &str) -> Option<AcceptanceStatus> {
-        match name {
-            "Accepted" => Some(AcceptanceStatus::Accepted),
-            "Rejected" => Some(AcceptanceStatus::Rejected),
-            _ => None,
-        }
+    fn table() -> &'static [(&'static str, Self)] {
+        &[("Accepted", Self::Accepted), ("Rejected", Self::Rejected)]
     }
 
-    fn name(&self) -> &'static str {
-        match self {
-            AcceptanceStatus::Accepted => "Accepted",
-            AcceptanceStatus::Rejected => "Rejected",
-        }
+    fn index(&self) -> usize {
+        *self as usize
     }
 }
 
@@ -48,21 +41,16 @@ impl Named for AvailabilityStatus {
 
     ghost names = { availability_statuses };
 
-    fn of(name: &str) -> Option<AvailabilityStatus> {
-        match name {
-            "Accepted" => Some(AvailabilityStatus::Accepted),
-            "Rejected" => Some(AvailabilityStatus::Rejected),
-            "Scheduled" => Some(AvailabilityStatus::Scheduled),
-            _ => None,
-        }
+    fn table() -> &'static [(&'static str, Self)] {
+        &[
+            ("Accepted", Self::Accepted),
+            ("Rejected", Self::Rejected),
+            ("Scheduled", Self::Scheduled),
+        ]
     }
 
-    fn name(&self) -> &'static str {
-        match self {
-            AvailabilityStatus::Accepted => "Accepted",
-            AvailabilityStatus::Rejected => "Rejected",
-            AvailabilityStatus::Scheduled => "Scheduled",
-        }
+    fn index(&self) -> usize {
+        *self as usize
     }
 }
 
@@ -82,23 +70,17 @@ impl Named for ConfigurationStatus {
 
     ghost names = { configuration_statuses };
 
-    fn of(name: &str) -> Option<ConfigurationStatus> {
-        match name {
-            "Accepted" => Some(ConfigurationStatus::Accepted),
-            "Rejected" => Some(ConfigurationStatus::Rejected),
-            "RebootRequired" => Some(ConfigurationStatus::RebootRequired),
-            "NotSupported" => Some(ConfigurationStatus::NotSupported),
-            _ => None,
-        }
+    fn table() -> &'static [(&'static str, Self)] {
+        &[
+            ("Accepted", Self::Accepted),
+            ("Rejected", Self::Rejected),
+            ("RebootRequired", Self::RebootRequired),
+            ("NotSupported", Self::NotSupported),
+        ]
     }
 
-    fn name(&self) -> &'static str {
-        match self {
-            ConfigurationStatus::Accepted => "Accepted",
-            ConfigurationStatus::Rejected => "Rejected",
-            ConfigurationStatus::RebootRequired => "RebootRequired",
-            ConfigurationStatus::NotSupported => "NotSupported",
-        }
+    fn index(&self) -> usize {
+        *self as usize
     }
 }
 
@@ -119,25 +101,18 @@ impl Named for ReservationStatus {
 
     ghost names = { reservation_statuses };
 
-    fn of(name: &str) -> Option<ReservationStatus> {
-        match name {
-            "Accepted" => Some(ReservationStatus::Accepted),
-            "Faulted" => Some(ReservationStatus::Faulted),
-            "Occupied" => Some(ReservationStatus::Occupied),
-            "Rejected" => Some(ReservationStatus::Rejected),
-            "Unavailable" => Some(ReservationStatus::Unavailable),
-            _ => None,
-        }
+    fn table() -> &'static [(&'static str, Self)] {
+        &[
+            ("Accepted", Self::Accepted),
+            ("Faulted", Self::Faulted),
+            ("Occupied", Self::Occupied),
+            ("Rejected", Self::Rejected),
+            ("Unavailable", Self::Unavailable),
+        ]
     }
 
-    fn name(&self) -> &'static str {
-        match self {
-            ReservationStatus::Accepted => "Accepted",
-            ReservationStatus::Faulted => "Faulted",
-            ReservationStatus::Occupied => "Occupied",
-            ReservationStatus::Rejected => "Rejected",
-            ReservationStatus::Unavailable => "Unavailable",
-        }
+    fn index(&self) -> usize {
+        *self as usize
     }
 }
 
@@ -156,21 +131,16 @@ impl Named for TriggerMessageStatus {
 
     ghost names = { trigger_message_statuses };
 
-    fn of(name: &str) -> Option<TriggerMessageStatus> {
-        match name {
-            "Accepted" => Some(TriggerMessageStatus::Accepted),
-            "Rejected" => Some(TriggerMessageStatus::Rejected),
-            "NotImplemented" => Some(TriggerMessageStatus::NotImplemented),
-            _ => None,
-        }
+    fn table() -> &'static [(&'static str, Self)] {
+        &[
+            ("Accepted", Self::Accepted),
+            ("Rejected", Self::Rejected),
+            ("NotImplemented", Self::NotImplemented),
+        ]
     }
 
-    fn name(&self) -> &'static str {
-        match self {
-            TriggerMessageStatus::Accepted => "Accepted",
-            TriggerMessageStatus::Rejected => "Rejected",
-            TriggerMessageStatus::NotImplemented => "NotImplemented",
-        }
+    fn index(&self) -> usize {
+        *self as usize
     }
 }
 
@@ -189,21 +159,16 @@ impl Named for UnlockStatus {
 
     ghost names = { unlock_statuses };
 
-    fn of(name: &str) -> Option<UnlockStatus> {
-        match name {
-            "Unlocked" => Some(UnlockStatus::Unlocked),
-            "UnlockFailed" => Some(UnlockStatus::UnlockFailed),
-            "NotSupported" => Some(UnlockStatus::NotSupported),
-            _ => None,
-        }
+    fn table() -> &'static [(&'static str, Self)] {
+        &[
+            ("Unlocked", Self::Unlocked),
+            ("UnlockFailed", Self::UnlockFailed),
+            ("NotSupported", Self::NotSupported),
+        ]
     }
 
-    fn name(&self) -> &'static str {
-        match self {
-            UnlockStatus::Unlocked => "Unlocked",
-            UnlockStatus::UnlockFailed => "UnlockFailed",
-            UnlockStatus::NotSupported => "NotSupported",
-        }
+    fn index(&self) -> usize {
+        *self as usize
     }
 }
 
@@ -223,22 +188,16 @@ impl Named for UpdateStatus {
 
     ghost names = { update_statuses };
 
-    fn of(name: &str) -> Option<UpdateStatus> {
-        match name {
-            "Accepted" => Some(UpdateStatus::Accepted),
-            "Failed" => Some(UpdateStatus::Failed),
-            "NotSupported" => Some(UpdateStatus::NotSupported),
-            "VersionMismatch" => Some(UpdateStatus::VersionMismatch),
-            _ => None,
-        }
+    fn table() -> &'static [(&'static str, Self)] {
+        &[
+            ("Accepted", Self::Accepted),
+            ("Failed", Self::Failed),
+            ("NotSupported", Self::NotSupported),
+            ("VersionMismatch", Self::VersionMismatch),
+        ]
     }
 
-    fn name(&self) -> &'static str {
-        match self {
-            UpdateStatus::Accepted => "Accepted",
-            UpdateStatus::Failed => "Failed",
-            UpdateStatus::NotSupported => "NotSupported",
-            UpdateStatus::VersionMismatch => "VersionMismatch",
-        }
+    fn index(&self) -> usize {
+        *self as usize
     }
 }

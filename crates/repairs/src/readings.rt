@@ -15,8 +15,7 @@ use json::{Scratch, Value};
 use json_data::read_value;
 use ocpp_payload::{MeterValue, ReadError, Readable};
 use ocpp_types::{
-    Enumerated, Location, Measurand, Mem, NoMemory, Phase, ReadingContext, UnitOfMeasure,
-    ValueFormat,
+    Location, Measurand, Mem, NoMemory, Phase, ReadingContext, UnitOfMeasure, ValueFormat,
 };
 use std::alloc::Global;
 
@@ -45,12 +44,12 @@ fn of_sampled_value<'a>(name: &str, value: Value<'a>) -> Option<Value<'a>>
 {
     match name {
         "value" => Some(value_text(value)),
-        "context" => named_if_any(ReadingContext::all_names(), value),
-        "format" => named_if_any(ValueFormat::all_names(), value),
-        "measurand" => named_if_any(Measurand::all_names(), value),
-        "phase" => named_if_any(Phase::all_names(), value),
-        "location" => named_if_any(Location::all_names(), value),
-        "unit" => named_if_any(UnitOfMeasure::all_names(), value),
+        "context" => named_if_any::<ReadingContext>(value),
+        "format" => named_if_any::<ValueFormat>(value),
+        "measurand" => named_if_any::<Measurand>(value),
+        "phase" => named_if_any::<Phase>(value),
+        "location" => named_if_any::<Location>(value),
+        "unit" => named_if_any::<UnitOfMeasure>(value),
         _ => Some(value),
     }
 }
@@ -60,12 +59,12 @@ fn is_unnamed_at(name: &str, value: &Value<'_>) -> bool
     ensures { result ≡ is_unnamed_at named_members name.now (value_view value.now) }
 {
     match name {
-        "context" => is_unnamed(ReadingContext::all_names(), value),
-        "format" => is_unnamed(ValueFormat::all_names(), value),
-        "measurand" => is_unnamed(Measurand::all_names(), value),
-        "phase" => is_unnamed(Phase::all_names(), value),
-        "location" => is_unnamed(Location::all_names(), value),
-        "unit" => is_unnamed(UnitOfMeasure::all_names(), value),
+        "context" => is_unnamed::<ReadingContext>(value),
+        "format" => is_unnamed::<ValueFormat>(value),
+        "measurand" => is_unnamed::<Measurand>(value),
+        "phase" => is_unnamed::<Phase>(value),
+        "location" => is_unnamed::<Location>(value),
+        "unit" => is_unnamed::<UnitOfMeasure>(value),
         _ => false,
     }
 }

@@ -1,7 +1,8 @@
 //! What is read in place of the members of a request (OCPP 1.6, section 6).
-ghost use Rattle.std.specs.Prelude.{◌≡◌, Some, map, IfOk, option_map};
+ghost use Rattle.std.specs.Prelude.{◌≡◌, Some, IfOk, option_map};
 ghost use Rattle.json.specs.Tree.{HasNumbers};
 ghost use Rattle.json.specs.Value.{value_view};
+ghost use Rattle.repairs.specs.Names.{names};
 ghost use Rattle.repairs.specs.Tables.{repair_at};
 ghost use Rattle.repairs.specs.Requests.{boot_notification_table, status_table, meter_values_table, start_transaction_table, status_notification_table, stop_transaction_table};
 
@@ -13,8 +14,7 @@ use crate::texts::{at_most, time};
 use json::Value;
 use ocpp_payload::Action;
 use ocpp_types::{
-    ChargePointErrorCode, ChargePointStatus, DiagnosticsStatus, Enumerated, FirmwareStatus, Mem,
-    Reason,
+    ChargePointErrorCode, ChargePointStatus, DiagnosticsStatus, FirmwareStatus, Mem, Named, Reason,
 };
 use std::alloc::Global;
 
@@ -34,10 +34,10 @@ impl MemberRepairs for Action {
             Action::Authorize | Action::DataTransfer | Action::Heartbeat => Ok(Some(value)),
             Action::BootNotification => Ok(Some(of_boot_notification(name, value))),
             Action::DiagnosticsStatusNotification => {
-                Ok(Some(status_of(name, DiagnosticsStatus::all_names(), value)))
+                Ok(Some(status_of::<DiagnosticsStatus>(name, value)))
             }
             Action::FirmwareStatusNotification => {
-                Ok(Some(status_of(name, FirmwareStatus::all_names(), value)))
+                Ok(Some(status_of::<FirmwareStatus>(name, value)))
             }
             Action::MeterValues => of_meter_values(alloc, now, name, value),
             Action::StartTransaction => Ok(Some(of_start_transaction(now, name, value))),
@@ -61,12 +61,12 @@ fn of_boot_notification<'a>(name: &str, value: Value<'a>) -> Value<'a>
     }
 }
 
-fn status_of<'a>(name: &str, names: &'static [&'static str], value: Value<'a>) -> Value<'a>
+fn status_of<'a, T: Named>(name: &str, value: Value<'a>) -> Value<'a>
     ensures { Some (value_view result)
-        ≡ repair_at (status_table (map (λ name. name.now) names.now)) name.now (value_view value.entry) }
+        ≡ repair_at (status_table (names T.names)) name.now (value_view value.entry) }
 {
     match name {
-        "status" => named(names, value),
+        "status" => named::<T>(value),
         _ => value,
     }
 }
@@ -106,9 +106,9 @@ fn of_status_notification<'a>(now: &'a str, name: &str, value: Value<'a>) -> Val
 {
     match name {
         "connectorId" => integer(value),
-        "errorCode" => named_or("OtherError", ChargePointErrorCode::all_names(), value),
+        "errorCode" => named_or::<ChargePointErrorCode>("OtherError", value),
         "info" | "vendorErrorCode" => at_most(50, value),
-        "status" => named_or("Unavailable", ChargePointStatus::all_names(), value),
+        "status" => named_or::<ChargePointStatus>("Unavailable", value),
         "timestamp" => time(now, value),
         _ => value,
     }
@@ -127,7 +127,7 @@ fn of_stop_transaction<'a>(
     match name {
         "meterStop" | "transactionId" => Ok(Some(integer(value))),
         "timestamp" => Ok(Some(time(now, value))),
-        "reason" => Ok(Some(named(Reason::all_names(), value))),
+        "reason" => Ok(Some(named::<Reason>(value))),
         "transactionData" => meter_values(alloc, now, value),
         _ => Ok(Some(value)),
     }

@@ -1,6 +1,6 @@
 -- What a fault of the hub, and of a line, ends a replay with.
-use Rattle.hub.specs.declared.fault.Fault.{Fault}
-use Rattle.hub.specs.declared.fault.Fault.TheVariants as fault
+use Rattle.hub_events.specs.declared.fault.Fault.{Fault}
+use Rattle.hub_events.specs.declared.fault.Fault.TheVariants as fault
 use Rattle.replay.specs.declared.fault.LineFault.{LineFault}
 use Rattle.replay.specs.declared.fault.LineFault.TheVariants as line_fault
 use Rattle.replay.specs.declared.fault.ReplayFault.{ReplayFault}

@@ -1,4 +1,3 @@
-pub mod Cutting
 pub mod Forgotten
 pub mod Making
 pub mod MovingLaws

@@ -10,7 +10,7 @@ use Rattle.sqlite.specs.Store.{Ghosts}
 use Rattle.hub_rows.specs.Keyed.{first, greatest, put_all}
 use Rattle.hub_rows.specs.Rows.{Rows}
 use Rattle.hub_rows.specs.declared.store.StoreFault.{StoreFault}
-use Rattle.sql_rows.specs.Kept.{AsksInside, AsksInsideIn, Goes, Inside, IsInside, IsSame, Leaves, MakesIf, MakesIn, IsAny, IsPage, ShowsAnyInside, ShowsInside, ShowsLastInside, ShowsPageInside}
+use Rattle.sql_rows.specs.Kept.{AsksInside, AsksInsideIn, Goes, IsSame, Leaves, MakesIf, MakesIn, IsAny, ShowsAnyInside, ShowsInside, ShowsLastInside}
 use Rattle.sql_rows.specs.TypedTable.{TypedTable, cmp, rows_in}
 use Rattle.sql_rows.specs.TypedTables.{rows_of}
 use Rattle.sql_rows.specs.Values.{count_in}
@@ -72,25 +72,7 @@ module _ {S : Type 0} {g : Ghosts S} where
         goes = λ inside. goes_if IsSame before (state g new.conn.now) r q ok (shows.goes inside);
       }
 
-  -- a look-up, by the rows of a page
-  pub asks_page : {V T F : Type 0} {items : V → List Row} {s : TypedTable T} {number : T → ℕ} {p : T → Bool} {old new : Transaction S} {r : Result V Error} {q : Result (List T) F} → ShowsPageInside g items s number p old new r → OnOk q (IsOk r)
-      → IfOk r (λ v. IfOk q (λ page. page ≡ put_all (cmp s) (map s.read (items v)) [])) → AsksInsideIn g old new q (λ db page. IsPage number p (rows_in s db) page)
-  asks_page {V} {T} {F} {items} {s} {number} {p} {old} {new} {r} {q} shows ok rows =
-      let before = state g old.conn.now in
-      record {
-        same_reference = shows.same_reference;
-        found = λ inside up. page_found r q ok rows (shows.ok inside up);
-        goes = λ inside. goes_if IsSame before (state g new.conn.now) r q ok (shows.goes inside);
-      }
-    where
-      page_found : (r : Result V Error) (q : Result (List T) F) → OnOk q (IsOk r) → IfOk r (λ v. IfOk q (λ page. page ≡ put_all (cmp s) (map s.read (items v)) []))
-          → IfOk r (λ v. IsPage number p (rows_in s (state g old.conn.now).now.trees) (put_all (cmp s) (map s.read (items v)) [])) → IfOk q (IsPage number p (rows_in s (state g old.conn.now).now.trees))
-      page_found (Ok v) (Ok page) ok is shown = subst (IsPage number p (rows_in s (state g old.conn.now).now.trees)) (sym is) shown
-      page_found (Ok v) (Err e) ok is shown = tt
-      page_found (Err x) (Ok page) ok is shown = absurd cc
-      page_found (Err x) (Err e) ok is shown = tt
-
-  -- by one of all rows
+  -- a look-up, by one of all rows
   pub asks_any : {V T F : Type 0} {items : V → List Row} {s : TypedTable T} {old new : Transaction S} {r : Result V Error} {q : Result (Option T) F} → ShowsAnyInside g items s old new r → OnOk q (IsOk r)
       → IfOk r (λ v. IfOk q (λ o. o ≡ first (put_all (cmp s) (map s.read (items v)) []))) → AsksInsideIn g old new q (λ db o. IsAnyRow (rows_in s db) o)
   asks_any {V} {T} {F} {items} {s} {old} {new} {r} {q} shows ok row =
@@ -131,10 +113,6 @@ module _ {S : Type 0} {g : Ghosts S} where
         record { ok = record { leaves = first.leaves; within = first.within; edit = λ up. means begins up (first.edit up); numbered = first.numbered; still = first.still }; err = tt };
   }
 
-  -- the same, where it may begin more often
-  pub makes_when : {A E : Type 0} {Begins Next : State → Type 0} {Edit : Trees → Trees → Type 0} {old new : Transaction S} {r : Result A E} → MakesIf g Next Edit old new r → ((s : State) → Begins s → Next s) → MakesIf g Begins Edit old new r
-  makes_when {A} {E} {Begins} {Next} {Edit} {old} {new} {r} part may = record { same_reference = part.same_reference; goes = λ begins. part.goes (may (state g old.conn.now) begins) }
-
   -- what follows of what is made, for any answer
   pub makes_as : {A E : Type 0} {Begins : State → Type 0} {One Two : Trees → Trees → Type 0} {old new : Transaction S} {r : Result A E} → MakesIf g Begins One old new r
       → (Begins (state g old.conn.now) → IsTrue (state g old.conn.now).is_open → One (state g old.conn.now).now.trees (state g new.conn.now).now.trees → Two (state g old.conn.now).now.trees (state g new.conn.now).now.trees) → MakesIf g Begins Two old new r
@@ -151,25 +129,6 @@ module _ {S : Type 0} {g : Ghosts S} where
   makes_stops {A} {B} {E} {F} {Begins} {One} {Two} {old} {new} {x} {q} one failed = record {
     same_reference = one.same_reference;
     goes = λ begins. goes_err Two (state g old.conn.now) (state g new.conn.now) q failed (one.goes begins).ok.leaves;
-  }
-
-  -- an error, whatever it was to make
-  pub makes_err : {A B E F : Type 0} {Begins : State → Type 0} {One Two : Trees → Trees → Type 0} {old new : Transaction S} {e : E} {q : Result B F} → MakesIf {A = A} g Begins One old new (Err e) → IsErr q → MakesIf g Begins Two old new q
-  makes_err {A} {B} {E} {F} {Begins} {One} {Two} {old} {new} {e} {q} one failed = record {
-    same_reference = one.same_reference;
-    goes = λ begins. goes_err Two (state g old.conn.now) (state g new.conn.now) q failed (one.goes begins).err;
-  }
-
-  -- one part after the other, where what the first makes lets the other begin
-  pub makes_next : {A B E F : Type 0} {Begins Next : State → Type 0} {One Two Both : Trees → Trees → Type 0} {a b c : Transaction S} {x : A} {r : Result B F} → MakesIf {E = E} g Begins One a b (Ok x) → MakesIf g Next Two b c r
-      → (Begins (state g a.conn.now) → Inside One (state g a.conn.now) (state g b.conn.now) → Next (state g b.conn.now))
-      → (Begins (state g a.conn.now) → IsTrue (state g b.conn.now).is_open → One (state g a.conn.now).now.trees (state g b.conn.now).now.trees → Two (state g b.conn.now).now.trees (state g c.conn.now).now.trees → Both (state g a.conn.now).now.trees (state g c.conn.now).now.trees)
-      → MakesIf g Begins Both a c r
-  makes_next {A} {B} {E} {F} {Begins} {Next} {One} {Two} {Both} {a} {b} {c} {x} {r} one two next joined = record {
-    same_reference = two.same_reference ∙ one.same_reference;
-    goes = λ begins.
-        let first = (one.goes begins).ok in
-        goes_then One Two Both (state g a.conn.now) (state g b.conn.now) (state g c.conn.now) r (joined begins) first (two.goes (next begins first));
   }
 
   -- one part after the other

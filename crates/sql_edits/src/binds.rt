@@ -57,7 +57,10 @@ pub(crate) fn seconds_if_any(moment: &Option<Moment>) -> Option<i64>
 pub(crate) fn name_if_any<T: Named>(value: &Option<T>) -> Option<&'static str>
     ensures { option_map (λ t. t.now) result ≡ option_map T.name_of value.now }
 {
-    value.as_ref().map(|value| value.name())
+    match value {
+        Some(value) => Some(value.name()),
+        None => None,
+    }
 }
 
 /// What a statement did, as a store tells it.

@@ -13,13 +13,13 @@ use crate::forget::forget;
 use crate::grants::{drop_grant, put_grant};
 use crate::local_lists::set_list;
 use crate::readers::put_reader;
-use crate::readings::add_readings;
 use crate::reports::put_report;
 use crate::reservations::{drop_reservation, put_reservation};
 use crate::stations::{add_station, see_boot, set_policy};
 use crate::tags::{drop_tag, put_tag};
 use crate::txs::{start_tx, stop_tx};
 use crate::uses::put_owner;
+use crate::values::put_values;
 use hub_rows::{Change, Edit, HoldingEdit, StationEdit, StoreFault, TagEdit, TransactionEdit};
 use sql_rows::told;
 use sqlite::{Alter, Connection, Error, Transaction};
@@ -83,14 +83,14 @@ fn edit_tags<S: Alter>(
     }
 }
 
-/// Makes an edit of transactions or of readings, that fits.
+/// Makes an edit of transactions or of meter values.
 fn edit_transactions<S: Alter>(
     tx: &mut Transaction<'_, S>,
     alloc: Global,
     op: &str,
     change: &TransactionEdit,
 ) -> Result<(), StoreFault>
-    ensures makes { MakesFitting S.Store op.now (Transactions change.now) tx.old tx.new result }
+    ensures makes { Makes S.Store (edit op.now (Transactions change.now)) tx.old tx.new result }
 {
     match change {
         TransactionEdit::TxStarted {
@@ -108,21 +108,18 @@ fn edit_transactions<S: Alter>(
             number,
             stop,
             first,
-            readings,
+            values,
         } => {
             let station = station.as_str();
             stop_tx(tx, op, station, *number, stop)?;
-            add_readings(tx, alloc, op, station, *first, readings.as_slice())
+            put_values(tx, alloc, op, station, *first, values.as_slice())
         }
-        TransactionEdit::ReadingsAdded {
+        TransactionEdit::MeterValuesAdded {
             station,
             first,
-            readings,
-        } => add_readings(tx, alloc, op, station.as_str(), *first, readings.as_slice()),
-        TransactionEdit::Forgotten { station, rows } => {
-            let station = station.as_str();
-            forget(tx, alloc, op, station, rows)
-        }
+            values,
+        } => put_values(tx, alloc, op, station.as_str(), *first, values.as_slice()),
+        TransactionEdit::Forgotten { station, rows } => forget(tx, op, station.as_str(), rows),
     }
 }
 

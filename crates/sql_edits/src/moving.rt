@@ -1,22 +1,20 @@
-//! Readings that an earlier schema kept one by one in hub_reading, and that become meter values.
-ghost use Rattle.std.specs.Prelude.{◌≡◌, ◌+◌, map, IfOk, IsTrue};
-ghost use Rattle.hub_rows.specs.Transactions.{last_of_all};
-ghost use Rattle.sql_rows.specs.Kept.{AsksInsideIn, IsDropped, IsPage, MakesIf, MakesIn, ShowsAnyInside, ShowsPageInside};
-ghost use Rattle.sql_rows.specs.Opening.{StaysInside};
+//! Readings that an earlier schema kept one by one in hub_reading, each of which becomes a meter value.
+ghost use Rattle.std.specs.Prelude.{◌≡◌, IfOk};
+ghost use Rattle.sql_rows.specs.Kept.{AsksInsideIn, IsDropped, MakesIf, MakesIn, ShowsAnyInside, is_between};
+ghost use Rattle.sql_rows.specs.Opening.{StaysInside, as_meter_value};
 ghost use Rattle.sql_rows.specs.TypedTable.{rows_in};
 ghost use Rattle.sql_rows.specs.TypedTables.{readings};
-ghost use Rattle.sql_edits.specs.Moving.{AreMoved, AreMoving, IsAnyRow, IsFirstRun, IsKeptFrom, IsMoving, IsRun, IsUnmoved, IsUnmovedFrom, is_in_range};
+ghost use Rattle.sql_edits.specs.Moving.{AreMoved, IsAnyRow, IsKeptFrom, IsMoved, IsUnmoved, IsUnmovedFrom};
 
 use crate::binds::done;
-use crate::readings::put_values;
-use hub_rows::{LAST_NUMBER, Reading, ReadingRow, StoreFault};
-use meter_values::{MeterValue, group};
-use ocpp_types::{Listed, Mem};
-use sql_rows::{first_row, listed};
+use crate::values::put_value;
+use hub_rows::{LAST_NUMBER, MeterValue, MeterValueRow, StoreFault};
+use ocpp_types::Listed;
+use sql_rows::{ReadingRow, first_row};
 use sqlite::{Alter, Error, Row, Transaction, params};
 use std::alloc::Global;
 
-/// The first form of a database whose readings are kept as meter values.
+/// The first form of a database that keeps meter values.
 const VALUES_FORM: u32 = 5;
 
 fn find_any<S: Alter>(tx: &mut Transaction<'_, S>) -> Result<Vec<Row>, Error>
@@ -34,125 +32,65 @@ fn any_reading<S: Alter>(tx: &mut Transaction<'_, S>) -> Result<Option<ReadingRo
     first_row(find_any(tx))
 }
 
-fn find_page<S: Alter>(
+/// Drops the reading of a station with that number.
+fn drop_reading<S: Alter>(
     tx: &mut Transaction<'_, S>,
     op: &str,
     station: &str,
-) -> Result<Vec<Row>, Error>
-    ensures shows { ShowsPageInside S.Store (λ v. v.items) readings (λ r. r.number) (is_in_range op.now station.now 0 last_of_all) tx.old tx.new result }
-    ensures stays { StaysInside S.Store tx.old tx.new result }
-{
-    tx.query_all(
-        sql_tables::readings::PAGE,
-        params![op, station, 0u32, LAST_NUMBER],
-    )
-}
-
-/// The first readings of a station that are left.
-fn readings_page<S: Alter>(
-    tx: &mut Transaction<'_, S>,
-    op: &str,
-    station: &str,
-) -> Result<Listed<ReadingRow>, StoreFault>
-    ensures asks { AsksInsideIn S.Store tx.old tx.new result (λ db page. IsPage (λ r. r.number) (is_in_range op.now station.now 0 last_of_all) (rows_in readings db) page) }
-    ensures stays { StaysInside S.Store tx.old tx.new result }
-{
-    listed(find_page(tx, op, station))
-}
-
-/// Whether a row has the number that is so many after the first.
-fn is_nth(row: &ReadingRow, first: u32, count: usize) -> bool
-    ensures { IsTrue result → row.now.number ≡ first + count }
-{
-    row.number >= first && (row.number - first) as usize == count
-}
-
-/// How many readings of a page follow one another, from that number on.
-fn run_length(first: u32, page: &[ReadingRow]) -> usize
-    ensures { IsRun first page.now result }
-{
-    let mut count = 0;
-    'rows: while count < page.len() && is_nth(&page[count], first, count) {
-        count += 1;
-    }
-    count
-}
-
-/// What is read, without the numbers.
-fn readings_of(alloc: Global, rows: &[ReadingRow]) -> Mem<Listed<Reading>>
-    ensures { IfOk result (λ list. list ≡ map (λ r. r.reading) rows.now) }
-{
-    let mut list = Listed::new(alloc);
-    'rows: for row in rows {
-        list.push(row.reading.clone()?)?;
-    }
-    Ok(list)
-}
-
-/// Drops the readings of a station whose numbers lie in a range.
-fn drop_range<S: Alter>(
-    tx: &mut Transaction<'_, S>,
-    op: &str,
-    station: &str,
-    first: u32,
-    last: u32,
+    number: u32,
 ) -> Result<(), StoreFault>
-    ensures makes { MakesIn S.Store (IsDropped readings (is_in_range op.now station.now first last)) tx.old tx.new result }
+    ensures makes { MakesIn S.Store (IsDropped readings (is_between (λ r. r.op) (λ r. r.station) (λ r. r.number) op.now station.now number number)) tx.old tx.new result }
     ensures stays { StaysInside S.Store tx.old tx.new result }
 {
     done(tx.execute(
         sql_tables::readings::DROP,
-        params![op, station, first, last],
+        params![op, station, number, number],
     ))
 }
 
-/// Readings of a station whose numbers follow one another, as meter values.
-#[derive(Drop)]
-struct MovedRun {
-    first: u32,
-    last: u32,
-    values: Listed<MeterValue>,
-}
-
-/// The first readings of a page that follow one another. A page without rows answers Failed.
-fn first_run(alloc: Global, page: &[ReadingRow]) -> Result<MovedRun, StoreFault>
-    ensures { IfOk result (IsFirstRun page.now) }
+/// The meter value of a reading. One with a number past the last, which no version wrote, answers Failed.
+fn as_meter_value(alloc: Global, row: ReadingRow) -> Result<MeterValueRow, StoreFault>
+    ensures { IfOk result (λ value. value ≡ as_meter_value row) }
 {
-    let first = page.first().ok_or(StoreFault::Failed)?.number;
-    let rows = &page[..run_length(first, page)];
-    let last = rows.last().ok_or(StoreFault::Failed)?.number;
-    let values = group(alloc, readings_of(alloc, rows)?)?;
-    Ok(MovedRun {
-        first,
-        last,
-        values,
+    if row.number > LAST_NUMBER {
+        return Err(StoreFault::Failed);
+    }
+    Ok(MeterValueRow {
+        op: row.op,
+        station: row.station,
+        first: row.number,
+        value: MeterValue {
+            connector: row.connector,
+            transaction: row.transaction,
+            at: row.at,
+            sampled: Listed::one(alloc, row.sampled)?,
+        },
     })
 }
 
-/// Moves the first readings of a station that follow one another. A station that has none left answers Failed.
-fn move_run<S: Alter>(
+/// Moves a reading.
+fn move_reading<S: Alter>(
     tx: &mut Transaction<'_, S>,
     alloc: Global,
-    op: &str,
-    station: &str,
+    row: ReadingRow,
 ) -> Result<(), StoreFault>
-    ensures makes { MakesIf S.Store IsMoving AreMoving tx.old tx.new result }
+    ensures makes { MakesIn S.Store (IsMoved row) tx.old tx.new result }
     ensures stays { StaysInside S.Store tx.old tx.new result }
 {
-    let page = readings_page(tx, op, station)?;
-    let moved = first_run(alloc, page.as_slice())?;
-    put_values(tx, alloc, op, station, moved.first, moved.values.as_slice())?;
-    drop_range(tx, op, station, moved.first, moved.last)
+    let row = as_meter_value(alloc, row)?;
+    let (op, station) = (row.op.as_str(), row.station.as_str());
+    drop_reading(tx, op, station, row.first)?;
+    put_value(tx, alloc, op, station, row.first, &row.value)
 }
 
-/// Moves all readings of hub_reading to meter values, where there are none yet.
+/// Moves all readings of hub_reading to hub_meter_value, where there is no meter value yet.
 fn move_readings<S: Alter>(tx: &mut Transaction<'_, S>, alloc: Global) -> Result<(), StoreFault>
     ensures makes { MakesIf S.Store IsUnmoved AreMoved tx.old tx.new result }
     ensures stays { StaysInside S.Store tx.old tx.new result }
 {
-    'runs: for _ in 0..u64::MAX {
+    'readings: for _ in 0..u64::MAX {
         match any_reading(tx)? {
-            Some(row) => move_run(tx, alloc, row.op.as_str(), row.station.as_str())?,
+            Some(row) => move_reading(tx, alloc, row)?,
             None => return Ok(()),
         }
     }

@@ -1,5 +1,5 @@
 -- What a look-up says, by the statements and the look-ups that it makes.
-use Rattle.std.proofs.Common.{◌≡◌, ◌∙◌, ℕ, List, [], Bool, Option, Result, Ok, Err, IfOk, IsErr, IsOk, OnOk, filter, find, map, option_map, refl, sym, subst, arith}
+use Rattle.std.proofs.Common.{◌≡◌, ◌∙◌, ℕ, List, [], Bool, Option, Result, Ok, Err, IfOk, IsErr, IsOk, OnOk, filter, find, map, take, option_map, refl, sym, subst, arith}
 use Rattle.std.proofs.lemmas.Result.{IfOk-from_err}
 use Rattle.sqlite_trees.specs.Tree.{Trees}
 use Rattle.sqlite_value.specs.Order.{Row, column}
@@ -7,7 +7,8 @@ use Rattle.sqlite.specs.declared.error.Error.{Error}
 use Rattle.sqlite.specs.Effect.{Database}
 use Rattle.sqlite.specs.State.{State}
 use Rattle.hub_rows.specs.Keyed.{first, greatest, put_all}
-use Rattle.sql_rows.specs.Kept.{IsPage, IsServing, Shows, ShowsLast, ShowsPage, ShowsText}
+use Rattle.sql_tables.specs.declared.pages.TheConstants.{PAGE_ROWS}
+use Rattle.sql_rows.specs.Kept.{IsServing, Shows, ShowsLast, ShowsPage, ShowsText}
 use Rattle.sql_rows.specs.TypedTable.{TypedTable, cmp, rows_in}
 use Rattle.sql_rows.specs.Values.{count_in, first_text}
 use Rattle.sql_rows.proofs.Calls.{first_finds, last_finds}
@@ -22,19 +23,12 @@ no_answer : {A E : Type 0} (r : Result A E) (P : Type 0) → IsErr r → OnOk r 
 no_answer (Ok a) P failed = absurd cc
 no_answer (Err e) P failed = tt
 
-rows_find : {V T E F : Type 0} (items : V → List Row) (s : TypedTable T) (p : T → Bool) (db : Trees) (r : Result V E) (q : Result (List T) F) → OnOk q (IsOk r)
-    → IfOk r (λ v. IfOk q (λ l. l ≡ put_all (cmp s) (map s.read (items v)) [])) → IfOk r (λ v. put_all (cmp s) (map s.read (items v)) [] ≡ filter p (rows_in s db)) → IfOk q (λ l. l ≡ filter p (rows_in s db))
-rows_find items s p db (Ok v) (Ok l) ok is shown = is ∙ shown
-rows_find items s p db (Ok v) (Err e) ok is shown = tt
-rows_find items s p db (Err x) (Ok l) ok is shown = absurd cc
-rows_find items s p db (Err x) (Err e) ok is shown = tt
-
-page_finds : {V T E F : Type 0} (items : V → List Row) (s : TypedTable T) (number : T → ℕ) (p : T → Bool) (db : Trees) (r : Result V E) (q : Result (List T) F) → OnOk q (IsOk r)
-    → IfOk r (λ v. IfOk q (λ l. l ≡ put_all (cmp s) (map s.read (items v)) [])) → IfOk r (λ v. IsPage number p (rows_in s db) (put_all (cmp s) (map s.read (items v)) [])) → IfOk q (IsPage number p (rows_in s db))
-page_finds items s number p db (Ok v) (Ok l) ok is shown = subst (IsPage number p (rows_in s db)) (sym is) shown
-page_finds items s number p db (Ok v) (Err e) ok is shown = tt
-page_finds items s number p db (Err x) (Ok l) ok is shown = absurd cc
-page_finds items s number p db (Err x) (Err e) ok is shown = tt
+rows_find : {V T E F : Type 0} (items : V → List Row) (s : TypedTable T) (those : List T) (r : Result V E) (q : Result (List T) F) → OnOk q (IsOk r)
+    → IfOk r (λ v. IfOk q (λ l. l ≡ put_all (cmp s) (map s.read (items v)) [])) → IfOk r (λ v. put_all (cmp s) (map s.read (items v)) [] ≡ those) → IfOk q (λ l. l ≡ those)
+rows_find items s those (Ok v) (Ok l) ok is shown = is ∙ shown
+rows_find items s those (Ok v) (Err e) ok is shown = tt
+rows_find items s those (Err x) (Ok l) ok is shown = absurd cc
+rows_find items s those (Err x) (Err e) ok is shown = tt
 
 text_finds : {V E F : Type 0} (items : V → List Row) (next : Option (List ℕ)) (r : Result V E) (q : Result (Option (List ℕ)) F) → OnOk q (IsOk r)
     → IfOk r (λ v. IfOk q (λ o. o ≡ option_map first_text (first (items v)))) → IfOk r (λ v. option_map first_text (first (items v)) ≡ next) → IfOk q (λ o. o ≡ next)
@@ -49,16 +43,16 @@ text_finds items next (Err x) (Err e) ok is shown = tt
 pub asks_rows : {V T F : Type 0} {items : V → List Row} {s : TypedTable T} {p : T → Bool} {old new : State} {r : Result V Error} {q : Result (List T) F} {P : Trees → List T → Type 0} → (IsServing old → Shows items s p old new r) → OnOk q (IsOk r)
     → IfOk r (λ v. IfOk q (λ l. l ≡ put_all (cmp s) (map s.read (items v)) [])) → ((db : Trees) (l : List T) → l ≡ filter p (rows_in s db) → P db l) → AsksIn old new q P
 asks_rows {V} {T} {F} {items} {s} {p} {old} {new} {r} {q} {P} shows ok rows means = record {
-  found = λ serves up. if_ok q (means old.now.trees) (rows_find items s p old.now.trees r q ok rows ((shows serves).ok up));
+  found = λ serves up. if_ok q (means old.now.trees) (rows_find items s (filter p (rows_in s old.now.trees)) r q ok rows ((shows serves).ok up));
   same = λ serves up. (shows serves).same up;
   stops = commits_as old new r q ok (λ serves. (shows serves).stops);
 }
 
--- the first rows in the order of a number
-pub asks_page : {V T F : Type 0} {items : V → List Row} {s : TypedTable T} {number : T → ℕ} {p : T → Bool} {old new : State} {r : Result V Error} {q : Result (List T) F} {P : Trees → List T → Type 0} → (IsServing old → ShowsPage items s number p old new r) → OnOk q (IsOk r)
-    → IfOk r (λ v. IfOk q (λ l. l ≡ put_all (cmp s) (map s.read (items v)) [])) → ((db : Trees) (l : List T) → IsPage number p (rows_in s db) l → P db l) → AsksIn old new q P
-asks_page {V} {T} {F} {items} {s} {number} {p} {old} {new} {r} {q} {P} shows ok rows means = record {
-  found = λ serves up. if_ok q (means old.now.trees) (page_finds items s number p old.now.trees r q ok rows ((shows serves).ok up));
+-- the first rows that it shows
+pub asks_page : {V T F : Type 0} {items : V → List Row} {s : TypedTable T} {p : T → Bool} {old new : State} {r : Result V Error} {q : Result (List T) F} {P : Trees → List T → Type 0} → (IsServing old → ShowsPage items s p old new r) → OnOk q (IsOk r)
+    → IfOk r (λ v. IfOk q (λ l. l ≡ put_all (cmp s) (map s.read (items v)) [])) → ((db : Trees) (l : List T) → l ≡ take PAGE_ROWS (filter p (rows_in s db)) → P db l) → AsksIn old new q P
+asks_page {V} {T} {F} {items} {s} {p} {old} {new} {r} {q} {P} shows ok rows means = record {
+  found = λ serves up. if_ok q (means old.now.trees) (rows_find items s (take PAGE_ROWS (filter p (rows_in s old.now.trees))) r q ok rows ((shows serves).ok up));
   same = λ serves up. (shows serves).same up;
   stops = commits_as old new r q ok (λ serves. (shows serves).stops);
 }

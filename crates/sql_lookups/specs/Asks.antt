@@ -5,10 +5,10 @@ use Rattle.sqlite_trees.specs.Tree.{Trees}
 use Rattle.sqlite.specs.State.{State}
 use Rattle.hub_rows.specs.Keyed.{first, text_cmp}
 use Rattle.hub_rows.specs.Rows.{Rows}
+use Rattle.hub_rows.specs.declared.meter_value_row.MeterValueRow.{MeterValueRow}
 use Rattle.hub_rows.specs.declared.station_row.StationRow.{StationRow}
 use Rattle.sql_rows.specs.Kept.{CommitsNothing, FindsIn, IsTop, Rests}
 use Rattle.sql_rows.specs.TypedTables.{first_and_count, rows_of}
-use Rattle.sql_rows.specs.declared.meter_value_rows.MeterValueRow.{MeterValueRow}
 
 -- what a look-up says, of the tables
 pub record AsksIn {A E : Type 0} (old new : State) (r : Result A E) (P : Trees → A → Type 0) : Type 0 where
@@ -23,13 +23,9 @@ pub record AsksIn {A E : Type 0} (old new : State) (r : Result A E) (P : Trees �
 abbrev pub Asks : {A E : Type 0} → State → State → Result A E → (Rows → A → Type 0) → Type 0
 Asks old new r P = AsksIn old new r (λ db. P (rows_of db))
 
--- the row with the greatest number, if there are any
-abbrev pub IsTopRow : {T : Type 0} → (T → ℕ) → List T → Option T → Type 0
-IsTopRow {T} number all row = (ts : List T) × IsTop number all ts × (row ≡ first ts)
-
 -- the first number of the last of some meter values, and how many readings it is, if there are any
 abbrev pub AreLastNumbers : List MeterValueRow → Option (ℕ × ℕ) → Type 0
-AreLastNumbers values numbers = (row : Option MeterValueRow) × IsTopRow (λ m. m.first) values row × (numbers ≡ option_map first_and_count row)
+AreLastNumbers values numbers = (ts : List MeterValueRow) × IsTop (λ m. m.first) values ts × (numbers ≡ option_map first_and_count (first ts))
 
 -- the operator of the first station whose operator comes after a name, of stations in the order of their keys
 abbrev pub next_operator_in : List ℕ → List StationRow → Option (List ℕ)

@@ -1,28 +1,23 @@
 -- Rows of a station that are looked up page by page, in the order of their numbers.
-use Rattle.std.specs.Prelude.{ℕ, ◌+◌, nat_le, nat_lt, List, [], ◌∷◌, Bool, ◌&&◌, Option, None, Some, filter}
-use Rattle.std.specs.Str.{bytes_eq}
-use Rattle.hub_rows.specs.Keyed.{greatest}
-use Rattle.hub_rows.specs.Transactions.{is_sent_with}
-use Rattle.sql_rows.specs.declared.meter_value_rows.MeterValueRow.{MeterValueRow}
+use Rattle.std.specs.Prelude.{◌≡◌, ℕ, ◌+◌, ◌-◌, ◌<◌, max, nat_le, List, length, Option, None, Some, filter, take}
+use Rattle.std.specs.List.{slice_get}
+use Rattle.hub_rows.specs.declared.meter_value_row.MeterValueRow.{MeterValueRow}
+use Rattle.sql_tables.specs.declared.pages.TheConstants.{PAGE_ROWS}
 
--- a row of a station of operator b whose number lies in a range
-abbrev pub is_between : {R : Type 0} → (R → List ℕ) → (R → List ℕ) → (R → ℕ) → List ℕ → List ℕ → ℕ → ℕ → R → Bool
-is_between op station number b st first last r = bytes_eq (op r) b && (bytes_eq (station r) st && (nat_le first (number r) && nat_le (number r) last))
+-- the rows from a number on
+abbrev pub from : {R : Type 0} → (R → ℕ) → ℕ → List R → List R
+from number n rows = filter (λ r. nat_le n (number r)) rows
 
--- the rows whose numbers are below one
-abbrev pub below : {R : Type 0} → (R → ℕ) → ℕ → List R → List R
-below number n rows = filter (λ r. nat_lt (number r) n) rows
+-- the first of them
+abbrev pub page_from : {R : Type 0} → (R → ℕ) → ℕ → List R → List R
+page_from number n rows = take PAGE_ROWS (from number n rows)
 
--- a meter value that is looked up: any one, or one that was sent with the number of a transaction
-abbrev pub is_chosen : Option ℕ → MeterValueRow → Bool
-is_chosen n m = is_sent_with n m.value.transaction
+-- where the page after one from that number on begins: after its last row, if it is full
+abbrev pub IsAfter : ℕ → List MeterValueRow → Option ℕ → Type 0
+IsAfter first page None = length page < PAGE_ROWS
+IsAfter first page (Some next) = (r : MeterValueRow) × (Some r ≡ slice_get page (length page - 1)) × (next ≡ max r.first first + 1)
 
--- the number after the first one of some numbers, of which there are so many; 0 where there are none
-abbrev pub after_first : Option (ℕ × ℕ) → ℕ
-after_first None = 0
-after_first (Some (first, count)) = first + 1
-
--- where the page after one with these numbers begins: after its last, or at the end where it has none
-abbrev pub after_page : ℕ → List ℕ → ℕ
-after_page end [] = end
-after_page end (n ∷ ns) = greatest (n ∷ ns) + 1
+-- the last of so many numbers from the first on; 0 where there are none
+abbrev pub last_in : Option (ℕ × ℕ) → ℕ
+last_in None = 0
+last_in (Some (first, count)) = first + (count - 1)

@@ -1,33 +1,28 @@
-//! What of a station's history may go. Its rows are looked up page by page, so that few are held at once.
-ghost use Rattle.std.specs.Prelude.{◌≡◌, ◌<◌, ◌≤◌, ◌-◌, ◌++◌, ◌&&◌, nat_lt, [], ◌∷◌, cond, filter, take, length, OnOk};
-ghost use Rattle.std.specs.List.Sorted.{IsStrictlySortedBy};
+//! What of a station's history may go, by the first page of its meter values or of its transactions.
+ghost use Rattle.std.specs.Prelude.{◌≡◌, ◌++◌, [], ◌∷◌, None, cond, filter, OnOk};
 ghost use Rattle.sqlite.specs.Held.{state};
-ghost use Rattle.hub_rows.specs.Forgetting.{goes_with, named_tx, tx_goes};
-ghost use Rattle.hub_rows.specs.Keyed.{by_key};
+ghost use Rattle.hub_rows.specs.Forgetting.{goes_with, may_go, named_tx, old_meter_values, old_txs, oldest, tx_goes};
 ghost use Rattle.hub_rows.specs.Lookups.{forgettable_in};
-ghost use Rattle.hub_rows.specs.Rows.{reading_key};
+ghost use Rattle.hub_rows.specs.MeterValues.{meter_values_in};
 ghost use Rattle.hub_rows.specs.Transactions.{txs_in};
 ghost use Rattle.sql_lookups.specs.Asks.{Asks};
-ghost use Rattle.sql_lookups.specs.Forgotten.{IsNamed, is_old, old_readings_below, old_txs_below};
+ghost use Rattle.sql_lookups.specs.Forgotten.{IsNamed};
 
-use crate::pages::{after_txs, after_values};
-use crate::readings::{last_number, last_value, readings_from, unfold, values_page};
-use crate::txs::{find_tx, last_tx, txs_page};
-use hub_rows::{
-    History, MAX_FORGOTTEN, ReadingRow, StoreFault, TxRow, goes_with, reading_numbers, tx_goes,
-};
+use crate::txs::{find_tx, txs_page};
+use crate::values::{is_named, values_page};
+use hub_rows::{History, MeterValueRow, StoreFault, TxRow, goes_with, oldest};
 use ocpp_types::{Listed, Mem, Moment};
 use sqlite::{Alter, Connection};
 use std::alloc::Global;
 
-/// What a reading names: the transaction, if it is on record.
+/// What a meter value names: the transaction, if it is on record.
 #[derive(Drop)]
 struct Named {
     transaction: Option<i32>,
     tx: Option<TxRow>,
 }
 
-/// The transaction that a reading names, by its key. A number below zero names none.
+/// The transaction that a meter value names, by its key. A number below zero names none.
 fn tx_named<S: Alter>(
     conn: &mut Connection<S>,
     op: &str,
@@ -60,135 +55,124 @@ fn named_now<S: Alter>(
     Ok(Named { transaction, tx })
 }
 
-/// Whether a reading's number is below the end, and it goes with what it names.
-fn goes(until: Moment, end: u32, row: &ReadingRow, named: &Named) -> bool
-    ensures { result ≡ nat_lt row.now.number end && goes_with until row.now.reading.at named.now.tx }
+/// Whether a meter value goes with what it names.
+fn goes(until: Moment, row: &MeterValueRow, named: &Named) -> bool
+    ensures { result ≡ goes_with until row.now.value.at named.now.tx }
 {
-    row.number < end && goes_with(until, row.reading.at, named.tx.as_ref())
+    goes_with(until, row.value.at, named.tx.as_ref())
 }
 
-/// Adds a row, if it goes.
-fn add_if<R: Clone + Drop>(rows: &mut Listed<R>, goes: bool, row: &R) -> Mem<()>
-    requires { (row copy : R) → R.is_clone row copy → copy ≡ row }
-    ensures { OnOk result (rows.new ≡ rows.old ++ cond goes (row.now ∷ []) []) }
+/// The first of some rows that may be forgotten, but the last of all.
+#[tactic(auto, using(crate::proofs::ForgetLaws::oldest_front))]
+fn oldest_of<R: Drop>(rows: Listed<R>) -> Listed<R>
+    ensures { result ≡ oldest rows }
 {
-    if goes {
-        rows.push(row.clone()?)
-    } else {
-        Ok(())
-    }
-}
-
-/// The first of some rows.
-fn first_of<R: Drop>(rows: Listed<R>, most: usize) -> Listed<R>
-    ensures { result ≡ take most rows }
-{
+    let count = oldest(rows.as_slice()).len();
     let mut rows = rows.into_vec();
-    rows.truncate(most);
+    rows.truncate(count);
     Listed::from(rows)
 }
 
-// ---- readings
-
-/// Adds those of some readings below the end that may go.
-fn add_old_readings<S: Alter>(
-    conn: &mut Connection<S>,
-    op: &str,
-    station: &str,
-    until: Moment,
-    end: u32,
-    readings: &[ReadingRow],
-    gone: &mut Listed<ReadingRow>,
-) -> Result<(), StoreFault>
-    ensures asks { Asks (state S.Store conn.old) (state S.Store conn.new) result (λ rows done. gone.new ≡ gone.old ++ filter (is_old until end (txs_in op.now station.now rows.transactions)) readings.now) }
+/// Adds a row, if it goes.
+fn add_if<R: Drop>(rows: &mut Listed<R>, goes: bool, row: R) -> Mem<()>
+    ensures { OnOk result (rows.new ≡ rows.old ++ cond goes (row ∷ []) []) }
 {
-    let mut last = Named {
-        transaction: None,
-        tx: None,
-    };
-    'readings: for row in readings {
-        last = named_now(conn, op, station, last, row.reading.transaction)?;
-        add_if(gone, goes(until, end, row, &last), row)?;
-    }
-    Ok(())
+    if goes { rows.push(row) } else { Ok(()) }
 }
 
-/// The first readings of a station below the end that may go, as many as go at once. They are those of meter values that
-/// begin below it.
-fn old_readings<S: Alter>(
+// ---- meter values
+
+/// Those of some meter values that may go.
+fn old_of<S: Alter>(
     conn: &mut Connection<S>,
     alloc: Global,
     op: &str,
     station: &str,
     until: Moment,
-    end: u32,
-) -> Result<Listed<ReadingRow>, StoreFault>
-    ensures asks { Asks (state S.Store conn.old) (state S.Store conn.new) result (λ rows gone. gone ≡ take MAX_FORGOTTEN (old_readings_below op.now station.now until end rows)) }
+    rows: Listed<MeterValueRow>,
+) -> Result<Listed<MeterValueRow>, StoreFault>
+    ensures asks { Asks (state S.Store conn.old) (state S.Store conn.new) result (λ all gone. gone ≡ filter (may_go until (txs_in op.now station.now all.transactions)) rows) }
 {
+    let mut last = Named {
+        transaction: None,
+        tx: None,
+    };
     let mut gone = Listed::new(alloc);
-    let mut next = 0;
-    'pages: while next < end && gone.as_slice().len() < MAX_FORGOTTEN {
-        let page = values_page(conn, op, station, next, end - 1)?;
-        next = after_values(next, end, page.as_slice());
-        let readings = unfold(alloc, page)?;
-        add_old_readings(
-            conn,
-            op,
-            station,
-            until,
-            end,
-            readings.as_slice(),
-            &mut gone,
-        )?;
+    'rows: for row in rows.into_vec() {
+        last = named_now(conn, op, station, last, row.value.transaction)?;
+        let is_old = goes(until, &row, &last);
+        add_if(&mut gone, is_old, row)?;
     }
-    Ok(first_of(gone, MAX_FORGOTTEN))
+    Ok(gone)
+}
+
+/// The oldest meter values of a station that may go.
+fn old_meter_values<S: Alter>(
+    conn: &mut Connection<S>,
+    alloc: Global,
+    op: &str,
+    station: &str,
+    until: Moment,
+) -> Result<Listed<MeterValueRow>, StoreFault>
+    ensures asks { Asks (state S.Store conn.old) (state S.Store conn.new) result (λ rows gone. gone ≡ old_meter_values until (txs_in op.now station.now rows.transactions) (meter_values_in op.now station.now None rows.meter_values)) }
+{
+    let page = values_page(conn, op, station, 0)?;
+    old_of(conn, alloc, op, station, until, oldest_of(page))
 }
 
 // ---- transactions
 
-/// Adds those of some transactions that may go, once the readings with those numbers are gone and these are left.
-fn add_old_txs(
+/// Whether a transaction may go: it is over, and no meter value names it.
+fn tx_goes<S: Alter>(
+    conn: &mut Connection<S>,
+    op: &str,
+    station: &str,
     until: Moment,
-    left: &[ReadingRow],
-    gone: &[u32],
-    txs: &[TxRow],
-    ended: &mut Listed<TxRow>,
-) -> Mem<()>
-    ensures { OnOk result (ended.new ≡ ended.old ++ filter (tx_goes until left.now gone.now) txs.now) }
+    tx: &TxRow,
+) -> Result<bool, StoreFault>
+    ensures asks { Asks (state S.Store conn.old) (state S.Store conn.new) result (λ rows goes. goes ≡ tx_goes until (meter_values_in op.now station.now None rows.meter_values) tx.now) }
 {
-    'txs: for tx in txs {
-        add_if(ended, tx_goes(until, left, gone, tx), tx)?;
+    if !tx.is_over(until) {
+        return Ok(false);
     }
-    Ok(())
+    let named = is_named(conn, op, station, tx.number)?;
+    Ok(!named)
 }
 
-/// The first transactions of a station below the end that may go then, as many as go at once with the readings.
+/// Those of some transactions that may go.
+fn over_of<S: Alter>(
+    conn: &mut Connection<S>,
+    alloc: Global,
+    op: &str,
+    station: &str,
+    until: Moment,
+    txs: Listed<TxRow>,
+) -> Result<Listed<TxRow>, StoreFault>
+    ensures asks { Asks (state S.Store conn.old) (state S.Store conn.new) result (λ rows gone. gone ≡ filter (tx_goes until (meter_values_in op.now station.now None rows.meter_values)) txs) }
+{
+    let mut gone = Listed::new(alloc);
+    'txs: for tx in txs.into_vec() {
+        let goes = tx_goes(conn, op, station, until, &tx)?;
+        add_if(&mut gone, goes, tx)?;
+    }
+    Ok(gone)
+}
+
+/// The oldest transactions of a station that may go.
 fn old_txs<S: Alter>(
     conn: &mut Connection<S>,
     alloc: Global,
     op: &str,
     station: &str,
     until: Moment,
-    end: u32,
-    left: &[ReadingRow],
-    gone: &[u32],
 ) -> Result<Listed<TxRow>, StoreFault>
-    ensures asks { Asks (state S.Store conn.old) (state S.Store conn.new) result (λ rows ended. ended ≡ take (MAX_FORGOTTEN - length gone.now) (old_txs_below op.now station.now until end left.now gone.now rows)) }
+    ensures asks { Asks (state S.Store conn.old) (state S.Store conn.new) result (λ rows gone. gone ≡ old_txs until (txs_in op.now station.now rows.transactions) (meter_values_in op.now station.now None rows.meter_values)) }
 {
-    let most = MAX_FORGOTTEN.saturating_sub(gone.len());
-    let mut ended = Listed::new(alloc);
-    let mut next = 0;
-    'pages: while next < end && ended.as_slice().len() < most {
-        let page = txs_page(conn, op, station, next, end - 1)?;
-        add_old_txs(until, left, gone, page.as_slice(), &mut ended)?;
-        next = after_txs(next, end, page.as_slice());
-    }
-    Ok(first_of(ended, most))
+    let page = txs_page(conn, op, station, 0)?;
+    over_of(conn, alloc, op, station, until, oldest_of(page))
 }
 
-/// What of a station's history may go before a moment. Where as many readings go as may at once, no transaction does.
-/// Where fewer do, all go that may, so that of those that name a transaction that is over the last reading alone can be
-/// left. So it is if the readings are in the order of their keys.
+/// What of a station's history may go before a moment: meter values, or else transactions.
 pub fn forgettable<S: Alter>(
     conn: &mut Connection<S>,
     alloc: Global,
@@ -196,24 +180,18 @@ pub fn forgettable<S: Alter>(
     station: &str,
     until: Moment,
 ) -> Result<History, StoreFault>
-    ensures asks { Asks (state S.Store conn.old) (state S.Store conn.new) result (λ rows f. IsStrictlySortedBy (by_key reading_key) rows.readings → f ≡ forgettable_in op.now station.now until rows) }
+    ensures asks { Asks (state S.Store conn.old) (state S.Store conn.new) result (λ rows f. f ≡ forgettable_in op.now station.now until rows) }
 {
-    let row = last_value(conn, op, station)?;
-    let last = last_number(&row)?;
-    let readings = old_readings(conn, alloc, op, station, until, last)?;
-    if readings.as_slice().len() == MAX_FORGOTTEN {
+    let meter_values = old_meter_values(conn, alloc, op, station, until)?;
+    if !meter_values.as_slice().is_empty() {
         return Ok(History {
-            readings,
+            meter_values,
             transactions: Listed::new(alloc),
         });
     }
-    let left = readings_from(alloc, row, last)?;
-    let end = last_tx(conn, op, station)?;
-    let gone = reading_numbers(alloc, readings.as_slice())?;
-    let (left, gone) = (left.as_slice(), gone.as_slice());
-    let transactions = old_txs(conn, alloc, op, station, until, end, left, gone)?;
+    let transactions = old_txs(conn, alloc, op, station, until)?;
     Ok(History {
-        readings,
+        meter_values,
         transactions,
     })
 }

@@ -4,10 +4,10 @@ ghost use Rattle.std.specs.List.{list_any};
 ghost use Rattle.std.specs.Str.{bytes_eq};
 ghost use Rattle.sqlite.specs.Held.{state};
 ghost use Rattle.hub_rows.specs.Keyed.{found};
-ghost use Rattle.hub_rows.specs.Transactions.{counts, has_open_in, is_left_out, is_open, is_started, is_tx, is_used_in, last_tx_in, open_txs_in, same_start_in, tx_in, txs_from_in};
-ghost use Rattle.sql_rows.specs.Kept.{IsPage, IsServing, Shows, ShowsLast, ShowsPage};
+ghost use Rattle.hub_rows.specs.Transactions.{counts, has_open_in, is_left_out, is_open, is_started, is_tx, is_used_in, last_tx_in, open_txs_in, same_start_in, tx_in, txs_from_in, txs_in};
+ghost use Rattle.sql_rows.specs.Kept.{IsServing, Shows, ShowsLast, ShowsPage};
 ghost use Rattle.sql_lookups.specs.Asks.{Asks};
-ghost use Rattle.sql_lookups.specs.Pages.{is_between};
+ghost use Rattle.sql_lookups.specs.Pages.{page_from};
 ghost use Rattle.sql_rows.specs.TypedTables.{txs};
 
 use crate::bounds::ABOVE_ALL;
@@ -86,29 +86,27 @@ fn list_same<S: Alter>(
     )
 }
 
-fn page<S: Alter>(
+fn find_page<S: Alter>(
     conn: &mut Connection<S>,
     op: &str,
     station: &str,
     first: u32,
-    last: u32,
 ) -> Result<Vec<Row>, Error>
-    ensures shows { IsServing (state S.Store conn.old) → ShowsPage (λ v. v.items) txs (λ t. t.number) (is_between (λ t. t.op) (λ t. t.station) (λ t. t.number) op.now station.now first last) (state S.Store conn.old) (state S.Store conn.new) result }
+    ensures shows { IsServing (state S.Store conn.old) → ShowsPage (λ v. v.items) txs (λ t. bytes_eq t.op op.now && (bytes_eq t.station station.now && nat_le first t.number)) (state S.Store conn.old) (state S.Store conn.new) result }
 {
-    conn.query_all(sql_tables::txs::PAGE, params![op, station, first, last])
+    conn.query_all(sql_tables::txs::PAGE, params![op, station, first])
 }
 
-/// The first transactions of a station whose numbers lie in a range: all up to the last one of them.
+/// The first transactions of a station from a number on.
 pub(crate) fn txs_page<S: Alter>(
     conn: &mut Connection<S>,
     op: &str,
     station: &str,
     first: u32,
-    last: u32,
 ) -> Result<Listed<TxRow>, StoreFault>
-    ensures asks { Asks (state S.Store conn.old) (state S.Store conn.new) result (λ rows page. IsPage (λ t. t.number) (is_between (λ t. t.op) (λ t. t.station) (λ t. t.number) op.now station.now first last) rows.transactions page) }
+    ensures asks { Asks (state S.Store conn.old) (state S.Store conn.new) result (λ rows page. page ≡ page_from (λ t. t.number) first (txs_in op.now station.now rows.transactions)) }
 {
-    listed(page(conn, op, station, first, last))
+    listed(find_page(conn, op, station, first))
 }
 
 /// A transaction of a station.

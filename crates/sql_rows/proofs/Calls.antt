@@ -5,8 +5,6 @@ use Rattle.std.specs.List.{list_any}
 use Rattle.sqlite_trees.specs.Tree.{Trees}
 use Rattle.sqlite_value.specs.Order.{Row, column}
 use Rattle.hub_rows.specs.Keyed.{first, greatest, put_all}
-use Rattle.hub_rows.specs.Transactions.{is_sent_with, readings_in}
-use Rattle.hub_rows.specs.declared.reading_row.ReadingRow.{ReadingRow}
 use Rattle.hub_rows.proofs.OrderLaws.{find-first}
 use Rattle.sql_rows.specs.TypedTable.{TypedTable, cmp, rows_in}
 use Rattle.sql_rows.specs.Values.{count_in}
@@ -39,31 +37,6 @@ any_filtered p q t same (x ∷ xs) =
       | false ↦ any_filtered p q t same xs
     ]
     ∙ ap (λ b. b || list_any t xs) (same x)
-
--- those that pass a test, of those that pass another
-filtered_twice : {T : Type 0} (p q t : T → Bool) → ((x : T) → (p x && q x) ≡ t x) → (xs : List T) → filter q (filter p xs) ≡ filter t xs
-filtered_twice p q t same [] = refl
-filtered_twice p q t same (x ∷ xs) =
-    elim (p x) as (λ b. filter q (cond b (x ∷ filter p xs) (filter p xs)) ≡ cond (b && q x) (x ∷ filter t xs) (filter t xs)) [
-      | true ↦ ap (λ l. cond (q x) (x ∷ l) l) (filtered_twice p q t same xs)
-      | false ↦ filtered_twice p q t same xs
-    ]
-    ∙ ap (λ b. cond b (x ∷ filter t xs) (filter t xs)) (same x)
-
-with_last : (a b c : Bool) → ((a && (b && true)) && c) ≡ (a && (b && c))
-with_last true true c = refl
-with_last true false c = refl
-with_last false b c = refl
-
--- the readings of a number, chosen of all
-pub chosen_finds : {E : Type 0} (op station : List ℕ) (o : Option ℕ) (n : ℕ) (rows all : List ReadingRow) (q : Result (List ReadingRow) E) → o ≡ Some n → all ≡ readings_in op station None rows
-    → IfOk q (λ l. l ≡ filter (λ r. is_sent_with (Some n) r.reading.transaction) all) → IfOk q (λ l. l ≡ readings_in op station o rows)
-chosen_finds op station o n rows all (Ok l) is whole chosen =
-    chosen ∙ ap (filter (λ r. is_sent_with (Some n) r.reading.transaction)) whole
-    ∙ filtered_twice (λ r. bytes_eq r.op op && (bytes_eq r.station station && true)) (λ r. is_sent_with (Some n) r.reading.transaction) (λ r. bytes_eq r.op op && (bytes_eq r.station station && is_sent_with (Some n) r.reading.transaction))
-    (λ r. with_last (bytes_eq r.op op) (bytes_eq r.station station) (is_sent_with (Some n) r.reading.transaction)) rows
-    ∙ ap (λ k. readings_in op station k rows) (sym is)
-chosen_finds op station o n rows all (Err e) is whole chosen = tt
 
 -- the number that is shown is the last
 pub last_finds : {V E F : Type 0} (items : V → List Row) (at last : ℕ) (r : Result V E) (q : Result ℕ F) → OnOk q (IsOk r)

@@ -172,10 +172,6 @@ module _ {H : Type 0} (state : H → State) (a b : H) (sql : List ℕ) (r : Resu
 -- ---- what a part says of itself
 
 module _ {S : Type 0} {g : Ghosts S} where
-  -- nothing was done
-  pub part_self : {tx : Transaction S} → IsPart g tx tx
-  part_self {tx} = record { same_reference = refl; leaves = leaves_self (state g tx.conn.now) }
-
   -- one part after the other
   pub part_then : {a b c : Transaction S} → IsPart g a b → IsPart g b c → IsPart g a c
   part_then {a} {b} {c} p q = record { same_reference = q.same_reference ∙ p.same_reference; leaves = leaves_then (state g a.conn.now) (state g b.conn.now) (state g c.conn.now) p.leaves q.leaves }

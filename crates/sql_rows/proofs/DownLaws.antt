@@ -50,14 +50,6 @@ numbers_shown : {T : Type 0} (cells : T → Row) (number : T → ℕ) (column_at
 numbers_shown cells number column_at counted [] = refl
 numbers_shown cells number column_at counted (t ∷ ts) = λ i. counted t i ∷ numbers_shown cells number column_at counted ts i
 
-rows_back : {T : Type 0} (s : TypedTable T) → ((t : T) → s.read (s.row t) ≡ t) → (ts : List T) → map s.read (map s.row ts) ≡ ts
-rows_back s round [] = refl
-rows_back s round (t ∷ ts) = λ i. round t i ∷ rows_back s round ts i
-
--- of all its cells a row is read
-pub top_read : {T : Type 0} (s : TypedTable T) → ((t : T) → s.read (s.row t) ≡ t) → (number : T → ℕ) (all : List T) (rows : List Row) → AreTopCells s.row number all rows → IsTop number all (map s.read rows)
-top_read s round number all rows top = subst (IsTop number all) (sym (ap (map s.read) top.2 ∙ rows_back s round top.0)) top.1
-
 module _ {T : Type 0} (at : ℕ) (s : TypedTable T) (is : IsTypedTable hub_schema hub_good at s) (wanted project : List Term) (cells : T → Row) (shown : AreCells s project cells) (params : Row) (p : T → Bool) (test : IsTest s wanted params p)
     (place : ℕ) (number : T → ℕ) (numbered : IsNumbered s number place)
     (db : Trees) (kept : AreTyped hub_schema hub_good db) (obeys : Obeys hub_schema db) (rows : List Row) (answer : IsAnswer (last_query s.table.tree wanted project place) (overlay db []) params rows) where

@@ -21,12 +21,12 @@ use Rattle.hub_rows.specs.Keyed.{greatest}
 use Rattle.sqlite_rules.specs.Lists.{Has}
 
 -- no number is above the greatest, and it is not above a number that none of them is above
-pub greatest_above : (ns : List ℕ) (m : ℕ) → Has ns m → m ≤ greatest ns
+greatest_above : (ns : List ℕ) (m : ℕ) → Has ns m → m ≤ greatest ns
 greatest_above [] m none = absurd none
 greatest_above (l ∷ ns) m (inl same) = omega (arith, same)
 greatest_above (l ∷ ns) m (inr later) = let rest = greatest_above ns m later in omega (arith, rest)
 
-pub greatest_below : (ns : List ℕ) (n : ℕ) → ((m : ℕ) → Has ns m → m ≤ n) → greatest ns ≤ n
+greatest_below : (ns : List ℕ) (n : ℕ) → ((m : ℕ) → Has ns m → m ≤ n) → greatest ns ≤ n
 greatest_below [] n each = omega arith
 greatest_below (m ∷ ns) n each = let here = each m (inl refl) in let rest = greatest_below ns n (λ l there. each l (inr there)) in omega (arith, here, rest)
 

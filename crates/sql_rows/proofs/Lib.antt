@@ -31,8 +31,6 @@ pub mod TagWrites
 pub mod ChangedLaws
 pub mod TxReads
 pub mod RowEdits
-pub mod MeterValueLaws
-pub mod CutLaws
 pub mod ListEdits
 pub mod ListWrites
 pub mod ValueEdits

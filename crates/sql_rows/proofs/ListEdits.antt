@@ -193,9 +193,6 @@ pub spares_then : (tree : ℕ) (a b c : Trees) → Spares hub_schema tree a b �
 spares_then tree a b c p q = all_from (λ (t : Table). (t.tree ≡ tree → ⊥) → c t.tree ≡ a t.tree) hub_schema.tables
     (λ t listed other. all_has (λ (t : Table). (t.tree ≡ tree → ⊥) → c t.tree ≡ b t.tree) hub_schema.tables t q listed other ∙ all_has (λ (t : Table). (t.tree ≡ tree → ⊥) → b t.tree ≡ a t.tree) hub_schema.tables t p listed other)
 
-pub no_entries : (db : Trees) → ArePutIn entries [] db db
-no_entries db = record { rows = refl; frame = all_from (λ (t : Table). (t.tree ≡ 18 → ⊥) → db t.tree ≡ db t.tree) hub_schema.tables (λ t listed other. refl) }
-
 pub entries_more : (op station : List ℕ) (xs more : List LocalTag) (x : LocalTag) → more ≡ xs ++ x ∷ [] → (a b c : Trees) → ArePutIn entries (map (entry_row op station) xs) a b → IsPutIn entries (entry_row op station x) b c → ArePutIn entries (map (entry_row op station) more) a c
 entries_more op station xs more x is a b c p q = record {
   rows = q.rows ∙ ap (put (cmp entries) (entry_row op station x)) p.rows ∙ sym (put_all-last (cmp entries) (map (entry_row op station) xs) (entry_row op station x) (rows_in entries a))

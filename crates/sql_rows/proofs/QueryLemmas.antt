@@ -71,23 +71,6 @@ module _ (db : Trees) (filter : List Term) (tree : ℕ) (params : Row) where
   pub one_has : (r : Row) → Has (db tree) r → list_all (holds (params ∷ r ∷ [])) filter ≡ true → Has (matches db filter (inner tree end) (params ∷ [])) (params ∷ r ∷ [])
   one_has r h test = each_has (λ r. cond (list_all (holds (params ∷ r ∷ [])) filter) ((params ∷ r ∷ []) ∷ []) []) (db tree) r _ h (cond_has _ _ test)
 
--- the matches of two tables
-module _ (db : Trees) (filter : List Term) (left right : ℕ) (params : Row) where
-  abbrev inside : Row → List Env
-  inside a = flat_map (λ b. cond (list_all (holds (params ∷ a ∷ b ∷ [])) filter) ((params ∷ a ∷ b ∷ []) ∷ []) []) (db right)
-
-  pub two_from : (e : Env) → Has (matches db filter (inner left (inner right end)) (params ∷ [])) e
-      → (a : Row) × (b : Row) × Has (db left) a × Has (db right) b × (list_all (holds (params ∷ a ∷ b ∷ [])) filter ≡ true) × (e ≡ params ∷ a ∷ b ∷ [])
-  two_from e h =
-      let a = has_each inside (db left) e h in
-      let b = has_each (λ b. cond (list_all (holds (params ∷ a.0 ∷ b ∷ [])) filter) ((params ∷ a.0 ∷ b ∷ []) ∷ []) []) (db right) e a.2 in
-      let t = has_cond _ (params ∷ a.0 ∷ b.0 ∷ []) e b.2 in (a.0, b.0, a.1, b.1, t.0, t.1)
-
-  pub two_has : (a b : Row) → Has (db left) a → Has (db right) b → list_all (holds (params ∷ a ∷ b ∷ [])) filter ≡ true
-      → Has (matches db filter (inner left (inner right end)) (params ∷ [])) (params ∷ a ∷ b ∷ [])
-  two_has a b h k test =
-      each_has inside (db left) a _ h (each_has (λ b. cond (list_all (holds (params ∷ a ∷ b ∷ [])) filter) ((params ∷ a ∷ b ∷ []) ∷ []) []) (db right) b _ k (cond_has _ _ test))
-
 -- what a query over one table shows
 module _ (filter project : List Term) (order : List (Term × Key)) (db : Trees) (tree : ℕ) (params : Row) (rows : List Row) (answer : IsAnswer (plain_query (inner tree end) filter project order) db params rows) where
   pub rows_from : (x : Row) → Has rows x → (r : Row) × Has (db tree) r × (list_all (holds (params ∷ r ∷ [])) filter ≡ true) × (x ≡ eval_all project (params ∷ r ∷ []))
@@ -132,7 +115,3 @@ text_is (Int n) t h = absurd (true≢false (sym h))
 text_is (Real x) t h = absurd (true≢false (sym h))
 text_is (Text s) t h = ap Text ((bytes_eq-Decides s t).0 (sym (is_eq-slice_cmp s t) ∙ sym (truth_is (is_eq (slice_cmp nat_cmp s t))) ∙ h))
 text_is (Blob b) t h = absurd (true≢false (sym h))
-
-pub text_equal : (v : Value) (t : List ℕ) → v ≡ Text t → is_true (binary (Compare Eq Binary) v (Text t)) ≡ true
-unfolding binary value_cmp lib.Ieee.is_nan lib.Ieee.lt
-text_equal v t e = subst (λ w. is_true (binary (Compare Eq Binary) w (Text t)) ≡ true) (sym e) (truth_is (is_eq (slice_cmp nat_cmp t t)) ∙ is_eq-slice_cmp t t ∙ (bytes_eq-Decides t t).1 refl)

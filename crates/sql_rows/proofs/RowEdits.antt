@@ -9,13 +9,12 @@ use Rattle.hub_rows.specs.declared.station_row.StationRow.{StationRow}
 use Rattle.hub_rows.specs.declared.tx_row.Stop.{Stop}
 use Rattle.hub_rows.specs.declared.tx_row.TxRow.{TxRow}
 use Rattle.hub_rows.specs.declared.reservation_row.ReservationRow.{ReservationRow}
-use Rattle.hub_rows.specs.declared.reading_row.Reading.{Reading}
 use Rattle.hub_rows.specs.declared.use_row.UseRow.{UseRow}
 use Rattle.hub_rows.specs.Changes.{with_stop}
 use Rattle.hub_rows.specs.Keyed.{by_key, changed, found, put}
 use Rattle.hub_rows.specs.Reservations.{without_named}
 use Rattle.hub_rows.specs.Rows.{Rows, station_in, station_key, tx_key, use_key}
-use Rattle.hub_rows.specs.Transactions.{is_tx, last_of_all, reading_rows}
+use Rattle.hub_rows.specs.Transactions.{is_tx, last_of_all}
 use Rattle.hub_rows.specs.Uses.{last_use_in, next_use, owner_in, settled_use, use_by, use_row, with_use}
 use Rattle.hub_rows.proofs.ListLaws.{by_key_total, same_text}
 use Rattle.sql_rows.specs.TypedTable.{typed, rows_in}
@@ -101,9 +100,3 @@ and_false false = refl
 pub none_named : (op station : List ℕ) (rows : List ReservationRow) → without_named op station None rows ≡ rows
 none_named op station [] = refl
 none_named op station (x ∷ rows) = ap₂ (λ b l. cond b (x ∷ l) l) (and_false (bytes_eq x.op op)) (none_named op station rows)
-
--- ---- one more reading
-
-pub rows-last : (op station : List ℕ) (first : ℕ) (xs : List Reading) (x : Reading) (n : ℕ) → n ≡ first + length xs → reading_rows op station first (xs ++ x ∷ []) ≡ reading_rows op station first xs ++ record { op = op; station = station; number = n; reading = x } ∷ []
-rows-last op station first [] x n e = let here : first ≡ n = omega (arith, e) in λ i. record { op = op; station = station; number = here i; reading = x } ∷ []
-rows-last op station first (y ∷ xs) x n e = ap (λ l. record { op = op; station = station; number = first; reading = y } ∷ l) (rows-last op station (first + 1) xs x n (omega (arith, e)))

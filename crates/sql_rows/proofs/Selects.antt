@@ -1,6 +1,6 @@
 -- What a SELECT answers, in any state of a connection.
 use Rattle.sqlite_rules.specs.Lists.{Has}
-use Rattle.std.proofs.Common.{◌≡◌, ◌<◌, Equal, ℕ, List, [], Bool, Ok, Err, Result, IsTrue, IfOk, IfErr, map, filter, find, option_map, ◌∷◌, sym, subst, inl, inr}
+use Rattle.std.proofs.Common.{◌≡◌, Equal, ℕ, List, [], Bool, Ok, Err, Result, IsTrue, IfOk, IfErr, map, filter, find, take, option_map, ◌∷◌, sym, subst, inl, inr}
 use Rattle.sqlite_value.specs.declared.value.Value.TheVariants.{Null, Text}
 use Rattle.sqlite_value.specs.declared.keys.Key as sort
 use Rattle.sqlite_value.specs.Order.{Row, column}
@@ -16,16 +16,17 @@ use Rattle.sqlite.specs.State.{State, HasCleanDisk, Survives, Shown, FailsToQuer
 use Rattle.sqlite.proofs.Callers.{IsPlain, reads_as}
 use Rattle.hub_rows.specs.Keyed.{first, put_all, greatest}
 use Rattle.sql_tables.specs.Tables.{hub_schema}
+use Rattle.sql_tables.specs.declared.pages.TheConstants.{PAGE_ROWS}
 use Rattle.sql_tables.specs.Forms.{any_query, plain_query, last_query, page_query}
 use Rattle.sql_tables.specs.Meanings.{IsRead}
 use Rattle.sql_rows.specs.TypedTable.{TypedTable, cmp, rows_in, AreTyped}
 use Rattle.sql_rows.specs.TypedTables.{hub_good}
-use Rattle.sql_rows.specs.Kept.{AreTopCells, IsServing, IsAsBefore, IsUncommitted, CommitsNothing, IsPage, IsTop, Shows, ShowsLast, ShowsPage, ShowsText, ShowsTop, ShowsTopCells}
+use Rattle.sql_rows.specs.Kept.{AreTopCells, IsServing, IsAsBefore, IsUncommitted, CommitsNothing, Shows, ShowsLast, ShowsPage, ShowsText, ShowsTopCells}
 use Rattle.sql_rows.specs.Values.{count_in, first_text}
 use Rattle.sql_rows.proofs.TypedTableLemmas.{IsTypedTable}
 use Rattle.sql_rows.proofs.ReadLaws.{AreCells, IsNumbered, IsTest, IsWhole, lists_those, once}
-use Rattle.sql_rows.proofs.DownLaws.{last_is, top_is, top_read}
-use Rattle.sql_rows.proofs.PageLaws.{IsApart, page_is}
+use Rattle.sql_rows.proofs.DownLaws.{last_is, top_is}
+use Rattle.sql_rows.proofs.PageLaws.{IsOrdered, page_is}
 use Rattle.sql_rows.proofs.FirstLaws.{IsLed, IsTexted, first_is}
 use Rattle.sql_rows.proofs.StoreLemmas.{obeys_in, serves_still, shown_was, shown_up, shown_unchanged, commits_none, failed_was, fails_before}
 
@@ -101,19 +102,18 @@ pub record ReadsLast {T : Type 0} (sql : List ℕ) (params : Row) (s : TypedTabl
   pub test : IsTest s wanted params p
 
 -- it shows the first rows that pass in the order of the number, which stands at that place
-pub record ReadsPage {T : Type 0} (sql : List ℕ) (params : Row) (s : TypedTable T) (number : T → ℕ) (p : T → Bool) : Type 1 where
+pub record ReadsPage {T : Type 0} (sql : List ℕ) (params : Row) (s : TypedTable T) (p : T → Bool) : Type 1 where
   pub at : ℕ
   pub is : IsTypedTable hub_schema hub_good at s
   pub wanted : List Term
   pub project : List Term
   pub whole : IsWhole s project
   pub place : ℕ
-  pub most : ℕ
-  pub some : 0 < most
+  pub number : T → ℕ
   pub numbered : IsNumbered s number place
-  pub apart : IsApart s number p
+  pub ordered : IsOrdered s number p
   pub names : List (List ℕ)
-  pub text : IsRead sql (page_query s.table.tree wanted project place most) names
+  pub text : IsRead sql (page_query s.table.tree wanted project place PAGE_ROWS) names
   pub test : IsTest s wanted params p
 
 -- it shows the text of the first row that passes, which stands at that place
@@ -152,24 +152,14 @@ shows_last {T} {sql} {params} {s} {cells} {number} {p} f at counted items old ne
   stops = stops sql (last_query s.table.tree f.wanted f.project f.place) f.names f.text params items old new values r survives ok;
 }
 
-pub shows_page : {T : Type 0} {sql : List ℕ} {params : Row} {s : TypedTable T} {number : T → ℕ} {p : T → Bool} → ReadsPage sql params s number p
+pub shows_page : {T : Type 0} {sql : List ℕ} {params : Row} {s : TypedTable T} {p : T → Bool} → ReadsPage sql params s p
     → {V : Type 0} (items : V → List Row) (old new : State) (values : Row) (r : Result V Error) → (HasCleanDisk new → IfOk r (λ v. Shown sql values old new (items v))) → (HasCleanDisk new → IfErr r (FailsToQuery sql values old new))
-    → Survives old new (CommitsShowing sql values old) → values ≡ params → IsServing old → (IsTrue new.is_open → HasCleanDisk new) → ShowsPage items s number p old new r
-shows_page {T} {sql} {params} {s} {number} {p} f items old new values r ok err survives given h clean = record {
-  ok = λ up. answers sql (page_query s.table.tree f.wanted f.project f.place f.most) f.names f.text params (λ db rows. IsPage number p (rows_in s db) (put_all (cmp s) (map s.read rows) []))
-      (λ db kept obeys rows answer. page_is f.at s f.is f.wanted f.project f.whole params p f.test f.place f.most f.some number f.numbered f.apart db kept obeys rows answer) items old new values r given h (ok (clean up));
-  same = λ up. stays sql (page_query s.table.tree f.wanted f.project f.place f.most) f.names f.text params items old new values r h up (ok (clean up)) (err (clean up));
-  stops = stops sql (page_query s.table.tree f.wanted f.project f.place f.most) f.names f.text params items old new values r survives ok;
-}
-
-pub shows_top : {T : Type 0} {sql : List ℕ} {params : Row} {s : TypedTable T} {number : T → ℕ} {p : T → Bool} → ReadsLast sql params s s.row number p
-    → {V : Type 0} (items : V → List Row) (old new : State) (values : Row) (r : Result V Error) → (HasCleanDisk new → IfOk r (λ v. Shown sql values old new (items v))) → (HasCleanDisk new → IfErr r (FailsToQuery sql values old new))
-    → Survives old new (CommitsShowing sql values old) → values ≡ params → IsServing old → (IsTrue new.is_open → HasCleanDisk new) → ShowsTop items s number p old new r
-shows_top {T} {sql} {params} {s} {number} {p} f items old new values r ok err survives given h clean = record {
-  ok = λ up. answers sql (last_query s.table.tree f.wanted f.project f.place) f.names f.text params (λ db rows. IsTop number (filter p (rows_in s db)) (map s.read rows))
-      (λ db kept obeys rows answer. top_read s f.is.round number (filter p (rows_in s db)) rows (top_is f.at s f.is f.wanted f.project s.row f.shown params p f.test f.place number f.numbered db kept obeys rows answer)) items old new values r given h (ok (clean up));
-  same = λ up. stays sql (last_query s.table.tree f.wanted f.project f.place) f.names f.text params items old new values r h up (ok (clean up)) (err (clean up));
-  stops = stops sql (last_query s.table.tree f.wanted f.project f.place) f.names f.text params items old new values r survives ok;
+    → Survives old new (CommitsShowing sql values old) → values ≡ params → IsServing old → (IsTrue new.is_open → HasCleanDisk new) → ShowsPage items s p old new r
+shows_page {T} {sql} {params} {s} {p} f items old new values r ok err survives given h clean = record {
+  ok = λ up. answers sql (page_query s.table.tree f.wanted f.project f.place PAGE_ROWS) f.names f.text params (λ db rows. put_all (cmp s) (map s.read rows) [] ≡ take PAGE_ROWS (filter p (rows_in s db)))
+      (λ db kept obeys rows answer. page_is f.at s f.is f.wanted f.project f.whole params p f.test f.place PAGE_ROWS f.number f.numbered f.ordered db kept obeys rows answer) items old new values r given h (ok (clean up));
+  same = λ up. stays sql (page_query s.table.tree f.wanted f.project f.place PAGE_ROWS) f.names f.text params items old new values r h up (ok (clean up)) (err (clean up));
+  stops = stops sql (page_query s.table.tree f.wanted f.project f.place PAGE_ROWS) f.names f.text params items old new values r survives ok;
 }
 
 pub shows_top_cells : {T : Type 0} {sql : List ℕ} {params : Row} {s : TypedTable T} {cells : T → Row} {number : T → ℕ} {p : T → Bool} → ReadsLast sql params s cells number p

@@ -21,11 +21,13 @@ use Rattle.sqlite_sql.specs.Ops.{binary, is_true, from_truth}
 use Rattle.hub_rows.specs.Grants.{is_grant}
 use Rattle.hub_rows.specs.Keyed.{text_cmp}
 use Rattle.hub_rows.specs.Reservations.{shifted, unshifted, is_reservation}
-use Rattle.hub_rows.specs.Transactions.{is_open, counts, is_tx, is_started, is_sent_with}
+use Rattle.hub_rows.specs.MeterValues.{is_meter_value, is_sent_with}
+use Rattle.hub_rows.specs.Transactions.{is_open, counts, is_tx, is_started}
 use Rattle.hub_rows.specs.Uses.{is_owner_of}
 use Rattle.hub_rows.specs.declared.tx_row.StartKey.{StartKey}
-use Rattle.sql_tables.specs.Forms.{above_is, where_is, range_is}
-use Rattle.sql_rows.specs.TypedTables.{metas, stations, connectors, tags, grants, txs, readings, reservations, lists, entries, readers, reports, tx_owners, uses, meter_values, is_meter_value}
+use Rattle.sql_tables.specs.Forms.{above_is, from_is, where_is, range_is}
+use Rattle.sql_rows.specs.TypedTables.{metas, stations, connectors, tags, grants, txs, readings, reservations, lists, entries, readers, reports, tx_owners, uses, meter_values}
+use Rattle.sql_rows.specs.Kept.{is_between}
 use Rattle.sql_rows.specs.Values.{flag, number_or_null}
 use Rattle.sql_rows.proofs.ReadLaws.{IsTest}
 use Rattle.sql_rows.proofs.TableLemmas.{equal_is}
@@ -136,6 +138,9 @@ one_number m n = ap₂ (λ a b. a && (b && true)) (at_least m n) (at_most m n) �
 counts_from : (m n : ℕ) → between (Int (pos m)) (Int (pos n)) (Blob []) ≡ nat_le n m
 counts_from m n = ap₂ (λ a b. a && (b && true)) (at_least (pos m) (pos n) ∙ not_less m n) (below_blob (pos m) []) ∙ and_true (nat_le n m)
 
+counts_on : (m n : ℕ) → is_true (binary (Compare Ge Binary) (Int (pos m)) (Int (pos n))) && true ≡ nat_le n m
+counts_on m n = and_true _ ∙ at_least (pos m) (pos n) ∙ not_less m n
+
 at_most_count : (m n : ℕ) → is_le (int_cmp (pos m) (pos n)) ≡ nat_le m n
 at_most_count m n = grind (arith, nat_tests)
 
@@ -215,7 +220,7 @@ module _ (op station : List ℕ) where
   pub tx_owners_between : (low high : ℕ) → IsTest tx_owners (where_is 0 (1 ∷ 2 ∷ []) ++ range_is 2 3) (Text op ∷ Text station ∷ Int (pos low) ∷ Int (pos high) ∷ []) (λ r. bytes_eq r.op op && (bytes_eq r.station station && (nat_le low r.number && nat_le r.number high)))
   tx_owners_between low high = λ id r. ap₂ ◌&&◌ (text_test r.op op) (ap₂ ◌&&◌ (text_test r.station station) (counts_between r.number low high))
 
-  pub readings_between : (low high : ℕ) → IsTest readings (where_is 0 (1 ∷ 2 ∷ []) ++ range_is 2 3) (Text op ∷ Text station ∷ Int (pos low) ∷ Int (pos high) ∷ []) (λ r. bytes_eq r.op op && (bytes_eq r.station station && (nat_le low r.number && nat_le r.number high)))
+  pub readings_between : (low high : ℕ) → IsTest readings (where_is 0 (1 ∷ 2 ∷ []) ++ range_is 2 3) (Text op ∷ Text station ∷ Int (pos low) ∷ Int (pos high) ∷ []) (is_between (λ r. r.op) (λ r. r.station) (λ r. r.number) op station low high)
   readings_between low high = λ id r. ap₂ ◌&&◌ (text_test r.op op) (ap₂ ◌&&◌ (text_test r.station station) (counts_between r.number low high))
 
   pub of_txs : IsTest txs (where_is 0 (1 ∷ 2 ∷ [])) (Text op ∷ Text station ∷ []) (λ r. bytes_eq r.op op && bytes_eq r.station station)
@@ -231,16 +236,25 @@ module _ (op station : List ℕ) where
   pub of_tx_owner : (n : ℕ) → IsTest tx_owners (where_is 0 (1 ∷ 2 ∷ 3 ∷ [])) (Text op ∷ Text station ∷ Int (pos n) ∷ []) (λ r. bytes_eq r.op op && is_owner_of station n r)
   of_tx_owner n = λ id r. ap₂ ◌&&◌ (text_test r.op op) (ap₂ ◌&&◌ (text_test r.station station) (ap (λ b. b && true) (count_test r.number n) ∙ and_true (r.number == n)))
 
-  -- ---- readings
+  pub txs_on : (n : ℕ) → IsTest txs (where_is 0 (1 ∷ 2 ∷ []) ++ from_is 2 3) (Text op ∷ Text station ∷ Int (pos n) ∷ []) (λ r. bytes_eq r.op op && (bytes_eq r.station station && nat_le n r.number))
+  txs_on n = λ id r. ap₂ ◌&&◌ (text_test r.op op) (ap₂ ◌&&◌ (text_test r.station station) (counts_on r.number n))
 
-  pub meter_values_between : (low high : ℕ) → IsTest meter_values (where_is 0 (1 ∷ 2 ∷ []) ++ range_is 2 3) (Text op ∷ Text station ∷ Int (pos low) ∷ Int (pos high) ∷ []) (λ m. bytes_eq m.op op && (bytes_eq m.station station && (nat_le low m.first && nat_le m.first high)))
+  -- ---- meter values
+
+  pub meter_values_between : (low high : ℕ) → IsTest meter_values (where_is 0 (1 ∷ 2 ∷ []) ++ range_is 2 3) (Text op ∷ Text station ∷ Int (pos low) ∷ Int (pos high) ∷ []) (is_between (λ m. m.op) (λ m. m.station) (λ m. m.first) op station low high)
   meter_values_between low high = λ id m. ap₂ ◌&&◌ (text_test m.op op) (ap₂ ◌&&◌ (text_test m.station station) (counts_between m.first low high))
+
+  pub meter_values_on : (n : ℕ) → IsTest meter_values (where_is 0 (1 ∷ 2 ∷ []) ++ from_is 2 3) (Text op ∷ Text station ∷ Int (pos n) ∷ []) (λ m. bytes_eq m.op op && (bytes_eq m.station station && nat_le n m.first))
+  meter_values_on n = λ id m. ap₂ ◌&&◌ (text_test m.op op) (ap₂ ◌&&◌ (text_test m.station station) (counts_on m.first n))
 
   pub of_meter_values : IsTest meter_values (where_is 0 (1 ∷ 2 ∷ [])) (Text op ∷ Text station ∷ []) (λ m. bytes_eq m.op op && is_meter_value station None m)
   of_meter_values = λ id m. ap₂ ◌&&◌ (text_test m.op op) (ap (λ b. b && true) (text_test m.station station))
 
-  pub tx_meter_values_between : (n low high : ℕ) → IsTest meter_values (where_is 0 (1 ∷ 2 ∷ 5 ∷ []) ++ range_is 3 3) (Text op ∷ Text station ∷ Int (pos n) ∷ Int (pos low) ∷ Int (pos high) ∷ []) (λ m. bytes_eq m.op op && (bytes_eq m.station station && (is_sent_with (Some n) m.value.transaction && (nat_le low m.first && nat_le m.first high))))
-  tx_meter_values_between n low high = λ id m. ap₂ ◌&&◌ (text_test m.op op) (ap₂ ◌&&◌ (text_test m.station station) (ap₂ ◌&&◌ (option_test m.value.transaction n) (counts_between m.first low high)))
+  pub tx_meter_values : (n : ℕ) → IsTest meter_values (where_is 0 (1 ∷ 2 ∷ 5 ∷ [])) (Text op ∷ Text station ∷ Int (pos n) ∷ []) (λ m. bytes_eq m.op op && is_meter_value station (Some n) m)
+  tx_meter_values n = λ id m. ap₂ ◌&&◌ (text_test m.op op) (ap₂ ◌&&◌ (text_test m.station station) (ap (λ b. b && true) (option_test m.value.transaction n) ∙ and_true (is_sent_with (Some n) m.value.transaction)))
+
+  pub tx_meter_values_on : (n first : ℕ) → IsTest meter_values (where_is 0 (1 ∷ 2 ∷ 5 ∷ []) ++ from_is 3 3) (Text op ∷ Text station ∷ Int (pos n) ∷ Int (pos first) ∷ []) (λ m. bytes_eq m.op op && (bytes_eq m.station station && (is_sent_with (Some n) m.value.transaction && nat_le first m.first)))
+  tx_meter_values_on n first = λ id m. ap₂ ◌&&◌ (text_test m.op op) (ap₂ ◌&&◌ (text_test m.station station) (ap₂ ◌&&◌ (option_test m.value.transaction n) (counts_on m.first first)))
 
 -- ---- of an operator
 

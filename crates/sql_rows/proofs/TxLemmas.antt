@@ -126,10 +126,6 @@ pub goes_then : {A E : Type 0} (F G H : Trees → Trees → Type 0) (a b c : Sta
 goes_then F G H a b c (Ok x) joined first g = record { ok = inside_then F G H a b c joined first g.ok; err = tt }
 goes_then F G H a b c (Err e) joined first g = record { ok = tt; err = leaves_then a b c first.leaves g.err }
 
--- a part that fails after others
-pub fails_then : {A E : Type 0} (F H : Trees → Trees → Type 0) (a b c : State) (e : E) → Inside F a b → Leaves b c → Goes {A = A} {E = E} H a c (Err e)
-fails_then F H a b c e first left = record { ok = tt; err = leaves_then a b c first.leaves left }
-
 -- ---- a statement that may make its edit
 
 -- a statement that ran with values that are these
@@ -342,14 +338,3 @@ changes_also {A} {E} {F} {G} a b r weaker h = record {
     made : (r : Result A E) → OnOk r (Made F a b) → OnOk r (Made G a b)
     made (Ok x) m = record { was_open = m.was_open; edit = weaker a.now.trees b.now.trees m.edit; serves = m.serves }
     made (Err e) m = tt
-
--- nothing was done
-pub changes_nothing : {A E : Type 0} (Edit : Trees → Trees → Type 0) (s : State) (e : E) → IsServing s → (IsTrue s.is_open → (db : Trees) → s.may_leave db → db ≡ s.committed.trees) → Changes {A = A} {E = E} Edit s s (Err e)
-changes_nothing Edit s e h before = record {
-  ok = λ up. tt;
-  err = λ up. record { was_open = up; now = refl; serves = h up };
-  crash = λ up sure db left. inl (before up db left ∙ ap (λ (d : Database). d.trees) (h up).committed);
-  durable = λ up. tt;
-  clean = omega arith;
-  up = λ sure. tt;
-}

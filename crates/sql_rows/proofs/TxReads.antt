@@ -19,17 +19,16 @@ use Rattle.sqlite.specs.Store.{Ghosts}
 use Rattle.sqlite.proofs.Callers.{IsPlain, reads_as}
 use Rattle.hub_rows.specs.Keyed.{put_all, greatest}
 use Rattle.sql_tables.specs.Tables.{hub_schema}
-use Rattle.sql_tables.specs.Forms.{any_query, plain_query, last_query, page_query}
+use Rattle.sql_tables.specs.Forms.{any_query, plain_query, last_query}
 use Rattle.sql_tables.specs.Meanings.{IsRead}
 use Rattle.sql_rows.specs.TypedTable.{TypedTable, cmp, rows_in, AreTyped}
 use Rattle.sql_rows.specs.TypedTables.{hub_good}
 use Rattle.sql_rows.specs.Values.{count_in}
-use Rattle.sql_rows.specs.Kept.{Within, IsAny, IsInside, IsNumbered, IsPage, IsSame, IsTop, Goes, ShowsAnyInside, ShowsInside, ShowsLastInside, ShowsPageInside, ShowsTopInside}
+use Rattle.sql_rows.specs.Kept.{Within, IsAny, IsInside, IsNumbered, IsSame, Goes, ShowsAnyInside, ShowsInside, ShowsLastInside}
 use Rattle.sql_rows.proofs.ReadLaws.{lists_those}
 use Rattle.sql_rows.proofs.AnyLaws.{any_is}
-use Rattle.sql_rows.proofs.DownLaws.{last_is, top_is, top_read}
-use Rattle.sql_rows.proofs.PageLaws.{page_is}
-use Rattle.sql_rows.proofs.Selects.{ReadsAny, ReadsRows, ReadsLast, ReadsPage}
+use Rattle.sql_rows.proofs.DownLaws.{last_is}
+use Rattle.sql_rows.proofs.Selects.{ReadsAny, ReadsRows, ReadsLast}
 use Rattle.sql_rows.proofs.StoreLemmas.{shown_unchanged, shown_was, failed_was}
 
 -- ---- of a text that may mean anything
@@ -135,28 +134,6 @@ shows_last_inside {T} {sql} {params} {s} {cells} {number} {p} f at counted {V} {
   ok = λ h. answers sql (last_query s.table.tree f.wanted f.project f.place) f.names f.text params items (state g old.conn.now) (state g new.conn.now) values survives given clean h (λ db rows. greatest (map (λ x. count_in (column x at)) rows) ≡ greatest (map number (filter p (rows_in s db))))
       (λ db kept obeys rows answer. last_is f.at s f.is f.wanted f.project cells f.shown params p f.test f.place number f.numbered db kept obeys rows answer at counted) r ok;
   goes = λ h. goes_still sql (last_query s.table.tree f.wanted f.project f.place) f.names f.text params items (state g old.conn.now) (state g new.conn.now) values survives given clean h r ok err;
-}
-
-pub shows_top_inside : {T : Type 0} {sql : List ℕ} {params : Row} {s : TypedTable T} {number : T → ℕ} {p : T → Bool} → ReadsLast sql params s s.row number p
-    → {V S : Type 0} {g : Ghosts S} {items : V → List Row} {old new : Transaction S} {values : Row} {r : Result V Error} → new.conn.ghost_name ≡ old.conn.ghost_name → (HasCleanDisk (state g new.conn.now) → IfOk r (λ v. Shown sql values (state g old.conn.now) (state g new.conn.now) (items v)))
-    → (HasCleanDisk (state g new.conn.now) → IfErr r (λ e. FailsToQuery sql values (state g old.conn.now) (state g new.conn.now) e ⊎ IsTooLate sql values (state g old.conn.now) (state g new.conn.now) e)) → Survives (state g old.conn.now) (state g new.conn.now) (λ _. ⊥) → values ≡ params
-    → (IsTrue (state g new.conn.now).is_open → HasCleanDisk (state g new.conn.now)) → ShowsTopInside g items s number p old new r
-shows_top_inside {T} {sql} {params} {s} {number} {p} f {V} {S} {g} {items} {old} {new} {values} {r} same ok err survives given clean = record {
-  same_reference = same;
-  ok = λ h. answers sql (last_query s.table.tree f.wanted f.project f.place) f.names f.text params items (state g old.conn.now) (state g new.conn.now) values survives given clean h (λ db rows. IsTop number (filter p (rows_in s db)) (map s.read rows))
-      (λ db kept obeys rows answer. top_read s f.is.round number (filter p (rows_in s db)) rows (top_is f.at s f.is f.wanted f.project s.row f.shown params p f.test f.place number f.numbered db kept obeys rows answer)) r ok;
-  goes = λ h. goes_still sql (last_query s.table.tree f.wanted f.project f.place) f.names f.text params items (state g old.conn.now) (state g new.conn.now) values survives given clean h r ok err;
-}
-
-pub shows_page_inside : {T : Type 0} {sql : List ℕ} {params : Row} {s : TypedTable T} {number : T → ℕ} {p : T → Bool} → ReadsPage sql params s number p
-    → {V S : Type 0} {g : Ghosts S} {items : V → List Row} {old new : Transaction S} {values : Row} {r : Result V Error} → new.conn.ghost_name ≡ old.conn.ghost_name → (HasCleanDisk (state g new.conn.now) → IfOk r (λ v. Shown sql values (state g old.conn.now) (state g new.conn.now) (items v)))
-    → (HasCleanDisk (state g new.conn.now) → IfErr r (λ e. FailsToQuery sql values (state g old.conn.now) (state g new.conn.now) e ⊎ IsTooLate sql values (state g old.conn.now) (state g new.conn.now) e)) → Survives (state g old.conn.now) (state g new.conn.now) (λ _. ⊥) → values ≡ params
-    → (IsTrue (state g new.conn.now).is_open → HasCleanDisk (state g new.conn.now)) → ShowsPageInside g items s number p old new r
-shows_page_inside {T} {sql} {params} {s} {number} {p} f {V} {S} {g} {items} {old} {new} {values} {r} same ok err survives given clean = record {
-  same_reference = same;
-  ok = λ h. answers sql (page_query s.table.tree f.wanted f.project f.place f.most) f.names f.text params items (state g old.conn.now) (state g new.conn.now) values survives given clean h (λ db rows. IsPage number p (rows_in s db) (put_all (cmp s) (map s.read rows) []))
-      (λ db kept obeys rows answer. page_is f.at s f.is f.wanted f.project f.whole params p f.test f.place f.most f.some number f.numbered f.apart db kept obeys rows answer) r ok;
-  goes = λ h. goes_still sql (page_query s.table.tree f.wanted f.project f.place f.most) f.names f.text params items (state g old.conn.now) (state g new.conn.now) values survives given clean h r ok err;
 }
 
 pub shows_any_inside : {T : Type 0} {sql : List ℕ} {params : Row} {s : TypedTable T} → ReadsAny sql s

@@ -1,36 +1,41 @@
 -- Transactions, the owners of their tags, readings and uses: their typed tables, and what the texts that write and show them
 -- mean.
-use Rattle.std.proofs.Common.{◌&&◌, ◌++◌, ◌∷◌, ◌≡◌, ◌∙◌, ℕ, nat_le, nat_lt, pos, codes, List, [], Bool, Option, Some, None, option_map, unwrap_or, length, refl, sym, ap, arith, inl, inr, true, Equal}
+use Rattle.std.proofs.Common.{◌&&◌, ◌++◌, ◌∷◌, ◌≡◌, ◌∙◌, ℕ, nat_le, nat_lt, pos, codes, List, [], Bool, Option, Some, None, option_map, unwrap_or, length, refl, ap, inl, inr, true}
 use Rattle.std.proofs.lemmas.Bool.{and_parts}
-use Rattle.std.proofs.lemmas.Cmp.{tied_itself}
 use Rattle.sqlite_value.specs.Order.{Row}
 use Rattle.sqlite_value.specs.Keys.{joined}
 use Rattle.sqlite_schema.specs.declared.schema.Keys.TheVariants.{Enforced}
 use Rattle.sqlite_schema.specs.Names.{same_name}
 use Rattle.sqlite_rules.specs.Action.{works}
 use Rattle.sql_tables.specs.Tables.{hub_schema, hub_tx, names_of, hub_reading, hub_tx_owner, hub_use, hub_meter_value}
-use Rattle.sql_tables.specs.Forms.{cols, where_is, range_is, by_column}
-use Rattle.sql_rows.specs.TypedTables.{hub_good, txs, tx_owners, readings, meter_values, first_and_count_cells, is_meter_value, uses, stop_tag, rows_of}
+use Rattle.sql_tables.specs.Forms.{cols, from_is, last_query, page_query, where_is, range_is, by_column}
+use Rattle.sql_tables.specs.Meanings.{IsRead}
+use Rattle.sql_tables.specs.declared.pages.TheConstants.{PAGE_ROWS}
+use Rattle.sql_rows.specs.TypedTables.{hub_good, txs, tx_owners, readings, meter_values, first_and_count_cells, uses, stop_tag, rows_of}
 use Rattle.sql_rows.proofs.TableLemmas.{cast_int}
 use Rattle.sql_rows.proofs.ValueLaws.{text_cast, number_cast, count_cast, flag_cast, text_back, number_back}
 use Rattle.sql_rows.proofs.TypedTableLemmas.{IsTypedTable}
 use Rattle.sql_rows.proofs.PutLemmas.{IsPutForm}
-use Rattle.sql_rows.proofs.ReadLaws.{IsWhole}
+use Rattle.sql_rows.proofs.ReadLaws.{IsTest, IsWhole}
 use Rattle.hub_rows.specs.declared.tx_row.TxRow.{TxRow}
 use Rattle.hub_rows.specs.declared.tx_row.TxOwnerRow.{TxOwnerRow}
 use Rattle.hub_rows.specs.declared.tx_row.Stop.{Stop}
-use Rattle.hub_rows.specs.Transactions.{is_open, counts, is_sent_with, is_tx, is_started}
+use Rattle.hub_rows.specs.MeterValues.{is_meter_value, is_sent_with}
+use Rattle.hub_rows.specs.Transactions.{is_open, counts, is_tx, is_started}
 use Rattle.sqlite_rules.specs.Cast.{cast_all}
 use Rattle.ocpp_types.specs.Phase.{phase_name}
 use Rattle.ocpp_types.specs.Reason.{reason_name}
 use Rattle.ocpp_types.specs.UnitOfMeasure.{unit_of_measure_name}
 use Rattle.sql_rows.proofs.NameLaws.{judged_back, reason_back, context_back, format_back, location_back, measurand_back, phase_back, unit_back}
+use Rattle.std.specs.Ordering.{nat_cmp}
 use Rattle.std.specs.Str.{bytes_eq}
+use Rattle.sqlite_sql.specs.Term.{Term}
 use Rattle.sqlite_value.specs.declared.value.Value.TheVariants.{Int, Text, Blob}
 use Rattle.sqlite_trees.specs.Tree.{Trees}
 use Rattle.hub_rows.specs.declared.use_row.UseRow.{UseRow}
 use Rattle.hub_rows.specs.Keyed.{by_key, key_cmp, numbered_key, put, without}
-use Rattle.hub_rows.proofs.ListLaws.{keys_total, same_text}
+use Rattle.hub_rows.proofs.ListLaws.{same_text}
+use Rattle.hub_rows.proofs.NumberLaws.{number_order, same_station}
 use Rattle.hub_rows.specs.Rows.{tx_key, tx_owner_key, use_key}
 use Rattle.hub_rows.specs.Uses.{is_owner_of}
 use Rattle.sql_tables.specs.declared.meter_values.TheConstants as sql_meter_values
@@ -40,8 +45,8 @@ use Rattle.sql_tables.specs.declared.txs.TheConstants as sql_txs
 use Rattle.sql_tables.specs.declared.uses.TheConstants as sql_uses
 use Rattle.sql_tables.proofs.Texts as texts
 use Rattle.sql_rows.specs.TypedTable.{rows_in, Spares}
-use Rattle.sql_rows.specs.Kept.{IsDropped, IsMade, IsPutIn}
-use Rattle.sql_rows.specs.declared.meter_value_rows.MeterValueRow.{MeterValueRow}
+use Rattle.sql_rows.specs.Kept.{IsDropped, IsMade, IsPutIn, is_between}
+use Rattle.hub_rows.specs.declared.meter_value_row.MeterValueRow.{MeterValueRow}
 use Rattle.meter_values.proofs.ReadAgain.{read_again}
 use Rattle.sql_rows.proofs.StoreLemmas.{IfDone, Means, MeansBy, if_done, means_as, means_by}
 use Rattle.sql_rows.proofs.Writes.{adds, puts, updates, drops}
@@ -138,33 +143,31 @@ tx_number t = Int (pos t.number) ∷ []
 pub reads_last_tx_number : (op station : List ℕ) → ReadsLast sql_txs.LAST_NUMBER.now (Text op ∷ Text station ∷ []) txs tx_number (λ r. r.number) (λ r. bytes_eq r.op op && bytes_eq r.station station)
 reads_last_tx_number op station = record { at = 5; is = on_txs; wanted = where_is 0 (1 ∷ 2 ∷ []); project = cols 1 3 1; shown = λ t v params. refl; place = 3; numbered = λ id r. refl; names = codes "number" ∷ []; text = texts.last_tx_number_is; test = tests.of_txs op station }
 
--- rows of one station with one number have one key
-same_numbered : {R : Type 0} (op station : R → List ℕ) (number : R → ℕ) (b st : List ℕ) (within : R → Bool) → (x y : R)
-    → bytes_eq (op x) b && (bytes_eq (station x) st && within x) ≡ true → bytes_eq (op y) b && (bytes_eq (station y) st && within y) ≡ true → number x ≡ number y → by_key (numbered_key op station number) x y ≡ Equal
-same_numbered op station number b st within x y p q same =
+-- rows of one station are in the order of their numbers
+pub in_order : {R : Type 0} (op station : R → List ℕ) (number : R → ℕ) (b st : List ℕ) (within : R → Bool) → (x y : R)
+    → bytes_eq (op x) b && (bytes_eq (station x) st && within x) ≡ true → bytes_eq (op y) b && (bytes_eq (station y) st && within y) ≡ true → by_key (numbered_key op station number) x y ≡ nat_cmp (number x) (number y)
+in_order op station number b st within x y p q =
     let px = and_parts (bytes_eq (op x) b) _ p in
     let py = and_parts (bytes_eq (op y) b) _ q in
     let sx = and_parts (bytes_eq (station x) st) (within x) px.1 in
     let sy = and_parts (bytes_eq (station y) st) (within y) py.1 in
-    let its_op : op x ≡ op y = same_text (op x) b px.0 ∙ sym (same_text (op y) b py.0) in
-    let its_station : station x ≡ station y = same_text (station x) st sx.0 ∙ sym (same_text (station y) st sy.0) in
-    ap (key_cmp (numbered_key op station number x)) (λ i. sym its_op i ∷ sym its_station i ∷ (sym same i ∷ []) ∷ []) ∙ tied_itself keys_total (numbered_key op station number x)
+    (λ i. key_cmp (same_text (op x) b px.0 i ∷ same_text (station x) st sx.0 i ∷ (number x ∷ []) ∷ []) (same_text (op y) b py.0 i ∷ same_text (station y) st sy.0 i ∷ (number y ∷ []) ∷ []))
+    ∙ same_station b st ((number x ∷ []) ∷ []) ((number y ∷ []) ∷ []) ∙ number_order (number x) (number y)
 
-pub pages_of_txs : (op station : List ℕ) (low high : ℕ) → ReadsPage sql_txs.PAGE.now (Text op ∷ Text station ∷ Int (pos low) ∷ Int (pos high) ∷ []) txs (λ r. r.number) (λ r. bytes_eq r.op op && (bytes_eq r.station station && (nat_le low r.number && nat_le r.number high)))
-pages_of_txs op station low high = record {
+pub pages_of_txs : (op station : List ℕ) (n : ℕ) → ReadsPage sql_txs.PAGE.now (Text op ∷ Text station ∷ Int (pos n) ∷ []) txs (λ r. bytes_eq r.op op && (bytes_eq r.station station && nat_le n r.number))
+pages_of_txs op station n = record {
   at = 5;
   is = on_txs;
-  wanted = where_is 0 (1 ∷ 2 ∷ []) ++ range_is 2 3;
+  wanted = where_is 0 (1 ∷ 2 ∷ []) ++ from_is 2 3;
   project = cols 1 1 18;
   whole = whole_txs;
   place = 3;
-  most = 256;
-  some = omega arith;
+  number = λ r. r.number;
   numbered = λ id r. refl;
-  apart = λ a b. same_numbered (λ r. r.op) (λ r. r.station) (λ r. r.number) op station (λ r. nat_le low r.number && nat_le r.number high) a b;
+  ordered = in_order (λ r. r.op) (λ r. r.station) (λ r. r.number) op station (λ r. nat_le n r.number);
   names = names_of hub_tx;
   text = texts.page_of_txs_is;
-  test = tests.txs_between op station low high;
+  test = tests.txs_on op station n;
 }
 
 pub reads_txs_in_use : (op key : List ℕ) → ReadsRows sql_txs.LIST_IN_USE.now (Text op ∷ Text key ∷ Int (pos 1) ∷ []) txs (λ r. bytes_eq r.op op && (bytes_eq r.start.id.key key && counts r))
@@ -234,8 +237,8 @@ on_readings = record {
   key_row = λ s. refl;
   row_key = λ s. refl;
   long = λ s. refl;
-  round = λ s. rw (number_back s.reading.transaction, context_back s.reading.context, format_back s.reading.format, measurand_back s.reading.measurand, phase_back s.reading.phase, location_back s.reading.location, unit_back s.reading.unit) refl;
-  casts = λ s. rw (cast_int (pos s.number), cast_int (pos s.reading.connector), number_cast s.reading.transaction, cast_int s.reading.at, text_cast (option_map phase_name s.reading.phase), text_cast (option_map unit_of_measure_name s.reading.unit)) refl;
+  round = λ s. rw (number_back s.transaction, context_back s.sampled.context, format_back s.sampled.format, measurand_back s.sampled.measurand, phase_back s.sampled.phase, location_back s.sampled.location, unit_back s.sampled.unit) refl;
+  casts = λ s. rw (cast_int (pos s.number), cast_int (pos s.connector), number_cast s.transaction, cast_int s.at, text_cast (option_map phase_name s.sampled.phase), text_cast (option_map unit_of_measure_name s.sampled.unit)) refl;
   good_is = refl;
   here = refl;
   listed = inr (inr (inr (inr (inr (inr (inl refl))))));
@@ -262,25 +265,8 @@ frees_readings olds = refl
 pub any_reading : ReadsAny sql_readings.ANY.now readings
 any_reading = record { at = 6; is = on_readings; project = cols 1 1 13; whole = whole_readings; names = names_of hub_reading; text = texts.any_reading_is }
 
-pub drops_readings : (op station : List ℕ) (low high : ℕ) → Means sql_readings.DROP.now (Text op ∷ Text station ∷ Int (pos low) ∷ Int (pos high) ∷ []) (IsDropped readings (λ r. bytes_eq r.op op && (bytes_eq r.station station && (nat_le low r.number && nat_le r.number high))))
-drops_readings op station low high = drops 6 readings on_readings sql_readings.DROP.now (λ e. cc) (where_is 0 (1 ∷ 2 ∷ []) ++ range_is 2 3) (Text op ∷ Text station ∷ Int (pos low) ∷ Int (pos high) ∷ []) (λ r. bytes_eq r.op op && (bytes_eq r.station station && (nat_le low r.number && nat_le r.number high))) (tests.readings_between op station low high) frees_readings texts.drop_readings_is
-
-pub pages_of_readings : (op station : List ℕ) (low high : ℕ) → ReadsPage sql_readings.PAGE.now (Text op ∷ Text station ∷ Int (pos low) ∷ Int (pos high) ∷ []) readings (λ r. r.number) (λ r. bytes_eq r.op op && (bytes_eq r.station station && (nat_le low r.number && nat_le r.number high)))
-pages_of_readings op station low high = record {
-  at = 6;
-  is = on_readings;
-  wanted = where_is 0 (1 ∷ 2 ∷ []) ++ range_is 2 3;
-  project = cols 1 1 13;
-  whole = whole_readings;
-  place = 3;
-  most = 256;
-  some = omega arith;
-  numbered = λ id r. refl;
-  apart = λ a b. same_numbered (λ r. r.op) (λ r. r.station) (λ r. r.number) op station (λ r. nat_le low r.number && nat_le r.number high) a b;
-  names = names_of hub_reading;
-  text = texts.page_of_readings_is;
-  test = tests.readings_between op station low high;
-}
+pub drops_readings : (op station : List ℕ) (low high : ℕ) → Means sql_readings.DROP.now (Text op ∷ Text station ∷ Int (pos low) ∷ Int (pos high) ∷ []) (IsDropped readings (is_between (λ r. r.op) (λ r. r.station) (λ r. r.number) op station low high))
+drops_readings op station low high = drops 6 readings on_readings sql_readings.DROP.now (λ e. cc) (where_is 0 (1 ∷ 2 ∷ []) ++ range_is 2 3) (Text op ∷ Text station ∷ Int (pos low) ∷ Int (pos high) ∷ []) (is_between (λ r. r.op) (λ r. r.station) (λ r. r.number) op station low high) (tests.readings_between op station low high) frees_readings texts.drop_readings_is
 
 -- ---- meter values
 
@@ -314,70 +300,56 @@ put_meter_values = record { source = λ s. refl; filter = λ s v i r. refl; proj
 pub whole_meter_values : IsWhole meter_values (cols 1 1 8)
 whole_meter_values s v params = refl
 
+pub meter_values_made : (old new : Trees) (made : List MeterValueRow) → rows_in meter_values new ≡ made → Spares hub_schema 26 old new → rows_of new ≡ record (rows_of old) { meter_values = made }
+meter_values_made old new made rows frame = λ i. record (rows_of (rest_is (26 ∷ []) old new (spared 26 old new frame) i)) { meter_values = rows i }
+
 pub adds_meter_value : (m : MeterValueRow) → Means sql_meter_values.ADD.now (meter_values.row m) (IsPutIn meter_values m)
 adds_meter_value m = adds 13 meter_values on_meter_values sql_meter_values.ADD.now (λ e. cc) 5 put_meter_values texts.add_meter_value_is m
 
-pub reads_last_meter_value : (op station : List ℕ) → ReadsLast sql_meter_values.FIND_LAST.now (Text op ∷ Text station ∷ []) meter_values meter_values.row (λ m. m.first) (λ m. bytes_eq m.op op && is_meter_value station None m)
-reads_last_meter_value op station = record { at = 13; is = on_meter_values; wanted = where_is 0 (1 ∷ 2 ∷ []); project = cols 1 1 8; shown = whole_meter_values; place = 3; numbered = λ id m. refl; names = names_of hub_meter_value; text = texts.find_last_meter_value_is; test = tests.of_meter_values op station }
+-- the first number and the count of the last one
+last_numbers : (sql : List ℕ) (wanted : List Term) (params : Row) (p : MeterValueRow → Bool) → IsRead sql (last_query 26 wanted (cols 1 3 1 ++ cols 1 7 1) 3) (codes "first" ∷ codes "count" ∷ []) → IsTest meter_values wanted params p
+    → ReadsLast sql params meter_values first_and_count_cells (λ m. m.first) p
+last_numbers sql wanted params p text test = record { at = 13; is = on_meter_values; wanted = wanted; project = cols 1 3 1 ++ cols 1 7 1; shown = λ m v params. refl; place = 3; numbered = λ id m. refl; names = codes "first" ∷ codes "count" ∷ []; text = text; test = test }
 
-pub reads_last_meter_value_numbers : (op station : List ℕ) → ReadsLast sql_meter_values.LAST_NUMBERS.now (Text op ∷ Text station ∷ []) meter_values first_and_count_cells (λ m. m.first) (λ m. bytes_eq m.op op && is_meter_value station None m)
-reads_last_meter_value_numbers op station = record { at = 13; is = on_meter_values; wanted = where_is 0 (1 ∷ 2 ∷ []); project = cols 1 3 1 ++ cols 1 7 1; shown = λ m v params. refl; place = 3; numbered = λ id m. refl; names = codes "first" ∷ codes "count" ∷ []; text = texts.last_meter_value_numbers_is; test = tests.of_meter_values op station }
+pub reads_last_numbers : (op station : List ℕ) → ReadsLast sql_meter_values.LAST_NUMBERS.now (Text op ∷ Text station ∷ []) meter_values first_and_count_cells (λ m. m.first) (λ m. bytes_eq m.op op && is_meter_value station None m)
+reads_last_numbers op station = last_numbers _ (where_is 0 (1 ∷ 2 ∷ [])) _ _ texts.last_meter_value_numbers_is (tests.of_meter_values op station)
 
-pub last_meter_value_between : (op station : List ℕ) (low high : ℕ) → ReadsLast sql_meter_values.LAST_BETWEEN.now (Text op ∷ Text station ∷ Int (pos low) ∷ Int (pos high) ∷ []) meter_values meter_values.row (λ m. m.first) (λ m. bytes_eq m.op op && (bytes_eq m.station station && (nat_le low m.first && nat_le m.first high)))
-last_meter_value_between op station low high = record {
+pub reads_last_numbers_of_tx : (op station : List ℕ) (n : ℕ) → ReadsLast sql_meter_values.LAST_NUMBERS_OF_TX.now (Text op ∷ Text station ∷ Int (pos n) ∷ []) meter_values first_and_count_cells (λ m. m.first) (λ m. bytes_eq m.op op && is_meter_value station (Some n) m)
+reads_last_numbers_of_tx op station n = last_numbers _ (where_is 0 (1 ∷ 2 ∷ 5 ∷ [])) _ _ texts.last_tx_meter_value_numbers_is (tests.tx_meter_values op station n)
+
+-- a page of those of a station that pass
+page_of_values : (op station : List ℕ) (sql : List ℕ) (wanted : List Term) (params : Row) (within : MeterValueRow → Bool) → IsRead sql (page_query 26 wanted (cols 1 1 8) 3 PAGE_ROWS) (names_of hub_meter_value)
+    → IsTest meter_values wanted params (λ m. bytes_eq m.op op && (bytes_eq m.station station && within m)) → ReadsPage sql params meter_values (λ m. bytes_eq m.op op && (bytes_eq m.station station && within m))
+page_of_values op station sql wanted params within text test = record {
   at = 13;
   is = on_meter_values;
-  wanted = where_is 0 (1 ∷ 2 ∷ []) ++ range_is 2 3;
-  project = cols 1 1 8;
-  shown = whole_meter_values;
-  place = 3;
-  numbered = λ id m. refl;
-  names = names_of hub_meter_value;
-  text = texts.last_meter_value_between_is;
-  test = tests.meter_values_between op station low high;
-}
-
-pub pages_of_meter_values : (op station : List ℕ) (low high : ℕ) → ReadsPage sql_meter_values.PAGE.now (Text op ∷ Text station ∷ Int (pos low) ∷ Int (pos high) ∷ []) meter_values (λ m. m.first) (λ m. bytes_eq m.op op && (bytes_eq m.station station && (nat_le low m.first && nat_le m.first high)))
-pages_of_meter_values op station low high = record {
-  at = 13;
-  is = on_meter_values;
-  wanted = where_is 0 (1 ∷ 2 ∷ []) ++ range_is 2 3;
+  wanted = wanted;
   project = cols 1 1 8;
   whole = whole_meter_values;
   place = 3;
-  most = 256;
-  some = omega arith;
+  number = λ m. m.first;
   numbered = λ id m. refl;
-  apart = λ a b. same_numbered (λ m. m.op) (λ m. m.station) (λ m. m.first) op station (λ m. nat_le low m.first && nat_le m.first high) a b;
+  ordered = in_order (λ m. m.op) (λ m. m.station) (λ m. m.first) op station within;
   names = names_of hub_meter_value;
-  text = texts.page_of_meter_values_is;
-  test = tests.meter_values_between op station low high;
+  text = text;
+  test = test;
 }
 
-pub pages_of_tx_meter_values : (op station : List ℕ) (n low high : ℕ) → ReadsPage sql_meter_values.PAGE_OF_TX.now (Text op ∷ Text station ∷ Int (pos n) ∷ Int (pos low) ∷ Int (pos high) ∷ []) meter_values (λ m. m.first) (λ m. bytes_eq m.op op && (bytes_eq m.station station && (is_sent_with (Some n) m.value.transaction && (nat_le low m.first && nat_le m.first high))))
-pages_of_tx_meter_values op station n low high = record {
-  at = 13;
-  is = on_meter_values;
-  wanted = where_is 0 (1 ∷ 2 ∷ 5 ∷ []) ++ range_is 3 3;
-  project = cols 1 1 8;
-  whole = whole_meter_values;
-  place = 3;
-  most = 256;
-  some = omega arith;
-  numbered = λ id m. refl;
-  apart = λ a b. same_numbered (λ m. m.op) (λ m. m.station) (λ m. m.first) op station (λ m. is_sent_with (Some n) m.value.transaction && (nat_le low m.first && nat_le m.first high)) a b;
-  names = names_of hub_meter_value;
-  text = texts.page_of_tx_meter_values_is;
-  test = tests.tx_meter_values_between op station n low high;
-}
+pub pages_of_meter_values : (op station : List ℕ) (n : ℕ) → ReadsPage sql_meter_values.PAGE.now (Text op ∷ Text station ∷ Int (pos n) ∷ []) meter_values (λ m. bytes_eq m.op op && (bytes_eq m.station station && nat_le n m.first))
+pages_of_meter_values op station n = page_of_values op station _ (where_is 0 (1 ∷ 2 ∷ []) ++ from_is 2 3) _ (λ m. nat_le n m.first) texts.page_of_meter_values_is (tests.meter_values_on op station n)
+
+pub pages_of_tx_meter_values : (op station : List ℕ) (n first : ℕ) → ReadsPage sql_meter_values.PAGE_OF_TX.now (Text op ∷ Text station ∷ Int (pos n) ∷ Int (pos first) ∷ []) meter_values (λ m. bytes_eq m.op op && (bytes_eq m.station station && (is_sent_with (Some n) m.value.transaction && nat_le first m.first)))
+pages_of_tx_meter_values op station n first = page_of_values op station _ (where_is 0 (1 ∷ 2 ∷ 5 ∷ []) ++ from_is 3 3) _ (λ m. is_sent_with (Some n) m.value.transaction && nat_le first m.first) texts.page_of_tx_meter_values_is (tests.tx_meter_values_on op station n first)
 
 -- a delete in this table sets off nothing
 frees_meter_values : (olds : List Row) → works hub_schema Enforced 0 26 olds [] ≡ []
 unfolding same_name joined
 frees_meter_values olds = refl
 
-pub drops_meter_values : (op station : List ℕ) (low high : ℕ) → Means sql_meter_values.DROP.now (Text op ∷ Text station ∷ Int (pos low) ∷ Int (pos high) ∷ []) (IsDropped meter_values (λ m. bytes_eq m.op op && (bytes_eq m.station station && (nat_le low m.first && nat_le m.first high))))
-drops_meter_values op station low high = drops 13 meter_values on_meter_values sql_meter_values.DROP.now (λ e. cc) (where_is 0 (1 ∷ 2 ∷ []) ++ range_is 2 3) (Text op ∷ Text station ∷ Int (pos low) ∷ Int (pos high) ∷ []) (λ m. bytes_eq m.op op && (bytes_eq m.station station && (nat_le low m.first && nat_le m.first high))) (tests.meter_values_between op station low high) frees_meter_values texts.drop_meter_values_is
+pub drops_meter_values : (op station : List ℕ) (low high : ℕ) → Means sql_meter_values.DROP.now (Text op ∷ Text station ∷ Int (pos low) ∷ Int (pos high) ∷ []) (IsMade (λ rows. record rows { meter_values = without (λ m. m.op) op (λ m. bytes_eq m.station station && (nat_le low m.first && nat_le m.first high)) rows.meter_values }))
+drops_meter_values op station low high =
+    means_as (drops 13 meter_values on_meter_values sql_meter_values.DROP.now (λ e. cc) (where_is 0 (1 ∷ 2 ∷ []) ++ range_is 2 3) (Text op ∷ Text station ∷ Int (pos low) ∷ Int (pos high) ∷ []) (is_between (λ m. m.op) (λ m. m.station) (λ m. m.first) op station low high) (tests.meter_values_between op station low high) frees_meter_values texts.drop_meter_values_is)
+    (λ old new h. meter_values_made old new _ h.rows h.frame)
 
 -- ---- uses
 

@@ -1,5 +1,5 @@
 -- What a connection keeps, and what a call makes of it.
-use Rattle.std.specs.Prelude.{◌≡◌, ◌⊎◌, ◌&&◌, ℕ, ◌+◌, codes, find, nat_le, ◌≤◌, false, true, not, Option, None, Some, option_map, List, [], ◌∷◌, map, filter, Bool, IsTrue, Result, Ok, Err, IsOk, OnOk, OnErr, IfOk}
+use Rattle.std.specs.Prelude.{◌≡◌, ◌⊎◌, ◌&&◌, ℕ, ◌+◌, codes, find, nat_le, ◌≤◌, false, true, not, Option, None, Some, option_map, List, [], ◌∷◌, map, filter, take, Bool, IsTrue, Result, Ok, Err, IsOk, OnOk, OnErr, IfOk}
 use Rattle.std.specs.declared.cmp.Ordering.TheVariants.{Equal}
 use Rattle.std.specs.Str.{bytes_eq}
 use Rattle.sqlite_rules.specs.Lists.{Has}
@@ -19,6 +19,7 @@ use Rattle.hub_rows.specs.Keyed.{first, greatest, put, put_all}
 use Rattle.hub_rows.specs.Rows.{Rows}
 use Rattle.sql_tables.specs.Opening.{our_number}
 use Rattle.sql_tables.specs.Tables.{hub_schema}
+use Rattle.sql_tables.specs.declared.pages.TheConstants.{PAGE_ROWS}
 use Rattle.sql_rows.specs.declared.meta_rows.MetaRow.{MetaRow}
 use Rattle.sql_rows.specs.TypedTable.{TypedTable, cmp, rows_in, AreTyped, Spares}
 use Rattle.sql_rows.specs.TypedTables.{hub_good, metas, rows_of}
@@ -49,6 +50,10 @@ changes_of (Some m) = m.number
 -- how many changes are counted
 abbrev pub changes_in : Trees → ℕ
 changes_in db = changes_of (find is_count (rows_in metas db))
+
+-- a row of a station of operator b whose number lies in a range
+abbrev pub is_between : {R : Type 0} → (R → List ℕ) → (R → List ℕ) → (R → ℕ) → List ℕ → List ℕ → ℕ → ℕ → R → Bool
+is_between op station number b st first last r = bytes_eq (op r) b && (bytes_eq (station r) st && (nat_le first (number r) && nat_le (number r) last))
 
 -- ---- a connection
 
@@ -108,15 +113,9 @@ pub record ShowsLast {V T : Type 0} (items : V → List Row) (at : ℕ) (s : Typ
   pub same : IsTrue new.is_open → IsAsBefore old new
   pub stops : CommitsNothing old new r
 
--- the first rows that pass, in the order of a number: all up to the greatest number among them, and none only where none
--- passes
-pub record IsPage {T : Type 0} (number : T → ℕ) (p : T → Bool) (rows page : List T) : Type 0 where
-  pub all : page ≡ filter (λ t. p t && nat_le (number t) (greatest (map number page))) rows
-  pub none : page ≡ [] → filter p rows ≡ []
-
 -- the first rows that pass are shown, and nothing changes
-pub record ShowsPage {V T : Type 0} (items : V → List Row) (s : TypedTable T) (number : T → ℕ) (p : T → Bool) (old new : State) (r : Result V Error) : Type 0 where
-  pub ok : IsTrue new.is_open → IfOk r (λ v. IsPage number p (rows_in s old.now.trees) (put_all (cmp s) (map s.read (items v)) []))
+pub record ShowsPage {V T : Type 0} (items : V → List Row) (s : TypedTable T) (p : T → Bool) (old new : State) (r : Result V Error) : Type 0 where
+  pub ok : IsTrue new.is_open → IfOk r (λ v. put_all (cmp s) (map s.read (items v)) [] ≡ take PAGE_ROWS (filter p (rows_in s old.now.trees)))
   pub same : IsTrue new.is_open → IsAsBefore old new
   pub stops : CommitsNothing old new r
 
@@ -124,12 +123,6 @@ pub record ShowsPage {V T : Type 0} (items : V → List Row) (s : TypedTable T) 
 abbrev pub IsTop : {T : Type 0} → (T → ℕ) → List T → List T → Type 0
 IsTop {T} number all [] = all ≡ []
 IsTop {T} number all (t ∷ ts) = (ts ≡ []) × Has all t × ((u : T) → Has all u → number u ≤ number t)
-
--- the row that is shown has the greatest number of those that pass, and nothing changes
-pub record ShowsTop {V T : Type 0} (items : V → List Row) (s : TypedTable T) (number : T → ℕ) (p : T → Bool) (old new : State) (r : Result V Error) : Type 0 where
-  pub ok : IsTrue new.is_open → IfOk r (λ v. IsTop number (filter p (rows_in s old.now.trees)) (map s.read (items v)))
-  pub same : IsTrue new.is_open → IsAsBefore old new
-  pub stops : CommitsNothing old new r
 
 -- the cells of a row with the greatest number, if there are any
 abbrev pub AreTopCells : {T : Type 0} → (T → Row) → (T → ℕ) → List T → List Row → Type 0
@@ -278,18 +271,6 @@ pub record AsksInside {S A E : Type 0} (g : Ghosts S) (old new : Transaction S) 
 pub record ShowsInside {V T S : Type 0} (g : Ghosts S) (items : V → List Row) (s : TypedTable T) (p : T → Bool) (old new : Transaction S) (r : Result V Error) : Type 0 where
   pub same_reference : new.conn.ghost_name ≡ old.conn.ghost_name
   pub ok : IsInside (state g old.conn.now) → IsTrue (state g new.conn.now).is_open → IfOk r (λ v. put_all (cmp s) (map s.read (items v)) [] ≡ filter p (rows_in s (state g old.conn.now).now.trees))
-  pub goes : IsInside (state g old.conn.now) → Goes IsSame (state g old.conn.now) (state g new.conn.now) r
-
--- the row that is shown inside a transaction has the greatest number of those that pass, and nothing changes
-pub record ShowsTopInside {V T S : Type 0} (g : Ghosts S) (items : V → List Row) (s : TypedTable T) (number : T → ℕ) (p : T → Bool) (old new : Transaction S) (r : Result V Error) : Type 0 where
-  pub same_reference : new.conn.ghost_name ≡ old.conn.ghost_name
-  pub ok : IsInside (state g old.conn.now) → IsTrue (state g new.conn.now).is_open → IfOk r (λ v. IsTop number (filter p (rows_in s (state g old.conn.now).now.trees)) (map s.read (items v)))
-  pub goes : IsInside (state g old.conn.now) → Goes IsSame (state g old.conn.now) (state g new.conn.now) r
-
--- the first rows that pass are shown inside a transaction, and nothing changes
-pub record ShowsPageInside {V T S : Type 0} (g : Ghosts S) (items : V → List Row) (s : TypedTable T) (number : T → ℕ) (p : T → Bool) (old new : Transaction S) (r : Result V Error) : Type 0 where
-  pub same_reference : new.conn.ghost_name ≡ old.conn.ghost_name
-  pub ok : IsInside (state g old.conn.now) → IsTrue (state g new.conn.now).is_open → IfOk r (λ v. IsPage number p (rows_in s (state g old.conn.now).now.trees) (put_all (cmp s) (map s.read (items v)) []))
   pub goes : IsInside (state g old.conn.now) → Goes IsSame (state g old.conn.now) (state g new.conn.now) r
 
 -- one row that is there, or none of none

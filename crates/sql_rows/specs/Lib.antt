@@ -2,6 +2,5 @@ pub mod TypedTable
 pub mod Values
 pub mod TypedTables
 pub mod Kept
-pub mod Cuts
 pub mod Opening
 pub mod Told

@@ -1,5 +1,5 @@
 -- How a connection is taken over.
-use Rattle.std.specs.Prelude.{◌≡◌, ◌⊎◌, ℕ, zero, suc, ◌<◌, ◌≤◌, nat_lt, if◌then◌else◌, codes, true, false, List, [], IsTrue, Result, OnOk, OnErr}
+use Rattle.std.specs.Prelude.{◌≡◌, ◌⊎◌, ℕ, zero, suc, ◌<◌, ◌≤◌, nat_lt, if◌then◌else◌, codes, true, false, List, [], ◌∷◌, map, IsTrue, Result, OnOk, OnErr}
 use Rattle.sqlite_rules.specs.Lists.{Has}
 use Rattle.sqlite_trees.specs.Tree.{Trees}
 use Rattle.sqlite_trees.specs.View.{doubt}
@@ -12,10 +12,12 @@ use Rattle.sqlite.specs.Effect.{Database, IsDatabase}
 use Rattle.sqlite.specs.Held.{state}
 use Rattle.sqlite.specs.State.{State, HasCleanDisk, Survives}
 use Rattle.sqlite.specs.Store.{Ghosts}
+use Rattle.hub_rows.specs.declared.meter_value_row.MeterValueRow.{MeterValueRow}
 use Rattle.hub_rows.specs.Rows.{Rows, no_rows}
 use Rattle.hub_rows.specs.WellFormed.{WellFormedRows}
 use Rattle.sql_tables.specs.Tables.{hub_schema}
 use Rattle.sql_tables.specs.Opening.{our_form, number_of, tables_at, schema_at, IsCreate, IsIndexCreate, IsIndexDrop}
+use Rattle.sql_rows.specs.declared.reading_rows.ReadingRow.{ReadingRow}
 use Rattle.sql_rows.specs.TypedTable.{AreTyped, rows_in}
 use Rattle.sql_rows.specs.TypedTables.{metas, readings, hub_good, rows_of}
 use Rattle.sql_rows.specs.Kept.{IsNumbered, Serves, Leaves, Within}
@@ -24,9 +26,13 @@ use Rattle.sql_rows.specs.Kept.{IsNumbered, Serves, Leaves, Within}
 abbrev pub IsNumberedAs : ℕ → Trees → Type 0
 IsNumberedAs n db = Has (rows_in metas db) (record { name = codes "schema"; number = n })
 
--- the rows of the hub, where its readings are those of hub_reading
+-- a reading as a meter value of its own
+abbrev pub as_meter_value : ReadingRow → MeterValueRow
+as_meter_value r = record { op = r.op; station = r.station; first = r.number; value = record { connector = r.connector; transaction = r.transaction; at = r.at; sampled = r.sampled ∷ [] } }
+
+-- the rows of the hub, where its meter values are the readings of hub_reading
 abbrev pub rows_before : Trees → Rows
-rows_before db = record (rows_of db) { readings = rows_in readings db }
+rows_before db = record (rows_of db) { meter_values = map as_meter_value (rows_in readings db) }
 
 -- the rows of the hub in a database of this form
 abbrev pub rows_at : ℕ → Trees → Rows
@@ -90,7 +96,7 @@ IsCutAs form schema rows s = IsCut form rows × IsInsideAs rows schema s
 abbrev pub IsCutTo : ℕ → State → Type 0
 IsCutTo form s = (rows : Trees) × IsCutAs form (schema_at form) rows s
 
--- the first form whose readings are kept as meter values
+-- the first form that keeps meter values
 abbrev pub values_form : ℕ
 values_form = 5
 

@@ -1,5 +1,5 @@
 -- The rows of the hub, and how each is kept.
-use Rattle.std.specs.Prelude.{◌≡◌, ◌≤◌, ◌+◌, ℕ, ℤ, zero, suc, pos, Bool, ◌&&◌, if◌then◌else◌, List, [], ◌∷◌, Option, Some, None, option_map, unwrap_or, map, filter, flat_map, length, codes, ⊤}
+use Rattle.std.specs.Prelude.{ℕ, ℤ, zero, suc, pos, Bool, ◌&&◌, if◌then◌else◌, List, [], ◌∷◌, Option, Some, None, option_map, unwrap_or, map, filter, length, codes, ⊤}
 use Rattle.std.specs.Str.{bytes_eq}
 use Rattle.sqlite_value.specs.declared.value.Value.{Value}
 use Rattle.sqlite_value.specs.declared.value.Value.TheVariants.{Int, Text}
@@ -22,6 +22,7 @@ use Rattle.ocpp_types.specs.UnitOfMeasure.{unit_of_measure_name, units_of_measur
 use Rattle.ocpp_types.specs.DiagnosticsStatus.{diagnostics_statuses}
 use Rattle.ocpp_types.specs.FirmwareStatus.{firmware_statuses}
 use Rattle.ocpp_types.specs.declared.boot_notification.BootNotification.{BootNotification}
+use Rattle.ocpp_types.specs.declared.sampled_value.SampledValue.{SampledValue}
 use Rattle.ocpp_types.specs.declared.policy.Policy.TheVariants as policy
 use Rattle.ocpp_types.specs.declared.state.State.TheVariants as state
 use Rattle.ocpp_types.specs.declared.charge_point_status.ChargePointStatus.TheVariants as status
@@ -41,7 +42,7 @@ use Rattle.hub_rows.specs.declared.tag_row.TagRow.{TagRow}
 use Rattle.hub_rows.specs.declared.grant_row.GrantRow.{GrantRow}
 use Rattle.hub_rows.specs.declared.tx_row.TxRow.{TxRow}
 use Rattle.hub_rows.specs.declared.tx_row.Stop.{Stop}
-use Rattle.hub_rows.specs.declared.reading_row.ReadingRow.{ReadingRow}
+use Rattle.hub_rows.specs.declared.meter_value_row.MeterValueRow.{MeterValueRow}
 use Rattle.hub_rows.specs.declared.reservation_row.ReservationRow.{ReservationRow}
 use Rattle.hub_rows.specs.declared.list_row.ListRow.{ListRow}
 use Rattle.hub_rows.specs.declared.list_row.LocalTag.{LocalTag}
@@ -52,19 +53,16 @@ use Rattle.hub_rows.specs.declared.tx_row.TxOwnerRow.{TxOwnerRow}
 use Rattle.hub_rows.specs.declared.use_row.UseRow.{UseRow}
 use Rattle.hub_rows.specs.declared.report_row.ReportedStatus.{ReportedStatus}
 use Rattle.hub_rows.specs.declared.report_row.ReportedStatus.TheVariants.{Diagnostics, Firmware}
-use Rattle.meter_values.specs.declared.meter_value.MeterValue.{MeterValue}
-use Rattle.meter_values.specs.declared.meter_value.Sampled.{Sampled}
 use Rattle.meter_values.specs.Read.{sampled_in}
-use Rattle.meter_values.specs.Readings.{reading_of, readings_of}
 use Rattle.meter_values.specs.Written.{text_of}
 use Rattle.sql_rows.specs.declared.list_rows.ListHead.{ListHead}
 use Rattle.sql_rows.specs.declared.list_rows.EntryRow.{EntryRow}
 use Rattle.sql_rows.specs.declared.meta_rows.MetaRow.{MetaRow}
-use Rattle.sql_rows.specs.declared.meter_value_rows.MeterValueRow.{MeterValueRow}
-use Rattle.hub_rows.specs.Rows.{Rows, station_key, connector_key, tag_key, grant_key, tx_key, reading_key, reservation_key, report_key, reader_key, tx_owner_key, use_key}
+use Rattle.sql_rows.specs.declared.reading_rows.ReadingRow.{ReadingRow}
+use Rattle.hub_rows.specs.Rows.{Rows, station_key, connector_key, tag_key, grant_key, tx_key, meter_value_key, reservation_key, report_key, reader_key, tx_owner_key, use_key}
 use Rattle.hub_rows.specs.Readers.{reader_name, readers as reader_names}
 use Rattle.hub_rows.specs.Reports.{kind_of, reported_name}
-use Rattle.hub_rows.specs.Transactions.{is_open, counts, is_sent_with, reading_rows}
+use Rattle.hub_rows.specs.Transactions.{is_open, counts}
 use Rattle.hub_rows.specs.Reservations.{shifted, unshifted}
 use Rattle.sql_rows.specs.TypedTable.{TypedTable, text_part, count_part, signed_part, IsRowOf, rows_in}
 use Rattle.sql_rows.specs.Values.{text_in, text_if_any, flag_in, count_if_any, count_in, number_in, number_if_any, name_in, name_if_any, text_or_null, number_or_null, count_or_null, flag}
@@ -195,33 +193,33 @@ abbrev pub readings : TypedTable ReadingRow
 readings = record {
   table = hub_reading;
   parts = text_part ∷ text_part ∷ count_part ∷ [];
-  key = reading_key;
-  row = λ m. Text m.op ∷ Text m.station ∷ Int (pos m.number) ∷ Int (pos m.reading.connector) ∷ number_or_null m.reading.transaction ∷ Int m.reading.at ∷ Text (reading_context_name m.reading.context)
-      ∷ Text (value_format_name m.reading.format) ∷ Text (measurand_name m.reading.measurand) ∷ text_or_null (option_map phase_name m.reading.phase) ∷ Text (location_name m.reading.location)
-      ∷ text_or_null (option_map unit_of_measure_name m.reading.unit) ∷ Text m.reading.text ∷ [];
+  key = λ r. r.op ∷ r.station ∷ (r.number ∷ []) ∷ [];
+  row = λ m. Text m.op ∷ Text m.station ∷ Int (pos m.number) ∷ Int (pos m.connector) ∷ number_or_null m.transaction ∷ Int m.at ∷ Text (reading_context_name m.sampled.context)
+      ∷ Text (value_format_name m.sampled.format) ∷ Text (measurand_name m.sampled.measurand) ∷ text_or_null (option_map phase_name m.sampled.phase) ∷ Text (location_name m.sampled.location)
+      ∷ text_or_null (option_map unit_of_measure_name m.sampled.unit) ∷ Text m.sampled.value ∷ [];
   read = λ r. record {
     op = text_in (column r 0);
     station = text_in (column r 1);
     number = count_in (column r 2);
-    reading = record {
-      connector = count_in (column r 3);
-      transaction = number_if_any (column r 4);
-      at = number_in (column r 5);
+    connector = count_in (column r 3);
+    transaction = number_if_any (column r 4);
+    at = number_in (column r 5);
+    sampled = record {
+      value = text_in (column r 12);
       context = name_in reading_contexts context.Other (column r 6);
       format = name_in value_formats format.Raw (column r 7);
       measurand = name_in measurands measurand.Voltage (column r 8);
       phase = name_if_any phases (column r 9);
       location = name_in locations location.Outlet (column r 10);
       unit = name_if_any units_of_measure (column r 11);
-      text = text_in (column r 12);
     };
   };
 }
 
--- ---- readings are kept as meter values, each of which stands for some that follow one another
+-- ---- meter values
 
 -- the sampled values that a text is; none where it isn't a list of them, and such a row is refused when it is read
-abbrev pub sampled_of : Value → List Sampled
+abbrev pub sampled_of : Value → List SampledValue
 sampled_of v = unwrap_or (sampled_in (text_in v)) []
 
 -- how many they are is written too
@@ -229,7 +227,7 @@ abbrev pub meter_values : TypedTable MeterValueRow
 meter_values = record {
   table = hub_meter_value;
   parts = text_part ∷ text_part ∷ count_part ∷ [];
-  key = λ m. m.op ∷ m.station ∷ (m.first ∷ []) ∷ [];
+  key = meter_value_key;
   row = λ m. Text m.op ∷ Text m.station ∷ Int (pos m.first) ∷ Int (pos m.value.connector) ∷ number_or_null m.value.transaction ∷ Int m.value.at ∷ Int (pos (length m.value.sampled)) ∷ Text (text_of m.value.sampled) ∷ [];
   read = λ r. record {
     op = text_in (column r 0);
@@ -239,26 +237,6 @@ meter_values = record {
   };
 }
 
--- the readings that a meter value stands for: that of its i-th sampled value has the i-th number from `first` on
-abbrev pub unfolded : MeterValueRow → List ReadingRow
-unfolded m = reading_rows m.op m.station m.first (readings_of m.value)
-
--- the same, by the parts of the row
-abbrev pub sampled_row : List ℕ → List ℕ → ℕ → ℕ → Option ℤ → ℤ → Sampled → ReadingRow
-sampled_row op station number connector transaction at s = record { op = op; station = station; number = number; reading = reading_of (record { connector = connector; transaction = transaction; at = at; sampled = [] }) s }
-
-abbrev pub sampled_rows : List ℕ → List ℕ → ℕ → ℕ → Option ℤ → ℤ → List Sampled → List ReadingRow
-sampled_rows op station first connector transaction at sampled = unfolded (record { op = op; station = station; first = first; value = record { connector = connector; transaction = transaction; at = at; sampled = sampled } })
-
--- a meter value of a station, of all or of those that were sent with the number of a transaction
-abbrev pub is_meter_value : List ℕ → Option ℕ → MeterValueRow → Bool
-is_meter_value station n m = bytes_eq m.station station && is_sent_with n m.value.transaction
-
--- the meter values of a station, whose readings are numbered from the first number on
-abbrev pub value_rows : List ℕ → List ℕ → ℕ → List MeterValue → List MeterValueRow
-value_rows op station first [] = []
-value_rows op station first (v ∷ vs) = record { op = op; station = station; first = first; value = v } ∷ value_rows op station (first + length v.sampled) vs
-
 -- the first number of a meter value, and how many readings it is
 abbrev pub first_and_count : MeterValueRow → ℕ × ℕ
 first_and_count m = (m.first, length m.value.sampled)
@@ -266,15 +244,6 @@ first_and_count m = (m.first, length m.value.sampled)
 -- the same, in their columns
 abbrev pub first_and_count_cells : MeterValueRow → Row
 first_and_count_cells m = Int (pos m.first) ∷ Int (pos (length m.value.sampled)) ∷ []
-
--- the last of so many numbers from the first on; 0 where there are none
-abbrev pub IsLastIn : Option (ℕ × ℕ) → ℕ → Type 0
-IsLastIn None n = n ≡ 0
-IsLastIn (Some (first, count)) n = (first ≤ n) × (n + 1 ≡ first + count)
-
--- the number of the last reading of a meter value, which has some; 0 where there is no meter value
-abbrev pub IsLastOf : Option MeterValueRow → ℕ → Type 0
-IsLastOf m = IsLastIn (option_map first_and_count m)
 
 abbrev pub reservations : TypedTable ReservationRow
 reservations = record {
@@ -392,7 +361,7 @@ rows_of db = record {
   tags = rows_in tags db;
   grants = rows_in grants db;
   transactions = rows_in txs db;
-  readings = flat_map unfolded (rows_in meter_values db);
+  meter_values = rows_in meter_values db;
   reservations = rows_in reservations db;
   local_lists = map (list_of (rows_in entries db)) (rows_in lists db);
   reports = rows_in reports db;

@@ -1,13 +1,12 @@
-//! Transactions, the owners of their tags, readings and uses, read from their columns.
+//! Transactions, the owners of their tags and uses, read from their columns.
 ghost use Rattle.std.specs.Prelude.{◌≡◌, IfOk, None, Some, ◌<◌};
-ghost use Rattle.sql_rows.specs.TypedTables.{stop_in, txs, readings};
+ghost use Rattle.sql_rows.specs.TypedTables.{stop_in, txs};
 
 use crate::columns::{
-    connector, count, key, moment, moment_if_any, named, named_if_any, number, number_if_any, text,
-    text_if_any,
+    connector, count, key, moment, moment_if_any, named, number, number_if_any, text, text_if_any,
 };
 use crate::stored::Stored;
-use hub_rows::{Reading, ReadingRow, Start, StartKey, Stop, StoreFault, TxOwnerRow, TxRow, UseRow};
+use hub_rows::{Start, StartKey, Stop, StoreFault, TxOwnerRow, TxRow, UseRow};
 use sqlite::Row;
 use std::alloc::Global;
 
@@ -91,36 +90,4 @@ impl Stored for UseRow {
             wh: number(row, 5)?,
         })
     }
-}
-
-impl Stored for ReadingRow {
-    ghost use Rattle.sql_rows.specs.TypedTables.{readings};
-
-    ghost read = { readings.read };
-
-    fn read(alloc: Global, row: &Row) -> Result<ReadingRow, StoreFault> {
-        Ok(ReadingRow {
-            op: text(row, 0)?,
-            station: text(row, 1)?,
-            number: count(row, 2)?,
-            reading: reading(row)?,
-        })
-    }
-}
-
-fn reading(row: &Row) -> Result<Reading, StoreFault>
-    ensures { IfOk result (λ r. r ≡ (readings.read row.now).reading) }
-{
-    Ok(Reading {
-        connector: connector(row, 3)?,
-        transaction: number_if_any(row, 4)?,
-        at: number(row, 5)?,
-        context: named(row, 6)?,
-        format: named(row, 7)?,
-        measurand: named(row, 8)?,
-        phase: named_if_any(row, 9)?,
-        location: named(row, 10)?,
-        unit: named_if_any(row, 11)?,
-        text: text(row, 12)?,
-    })
 }

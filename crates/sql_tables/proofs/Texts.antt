@@ -3,7 +3,7 @@ use Rattle.std.proofs.Common.{[], ◌∷◌, ◌++◌, codes, refl}
 use Rattle.sqlite_tied.specs.Compute.{everything}
 use Rattle.sqlite.specs.Listing.{understood}
 use Rattle.sqlite_sql.specs.Query.{inner, end}
-use Rattle.sql_tables.specs.Forms.{above_is, add_command, any_query, by_column, cols, drop_command, last_query, page_query, plain_query, put_command, range_is, update_command, where_is}
+use Rattle.sql_tables.specs.Forms.{above_is, add_command, any_query, by_column, cols, drop_command, from_is, last_query, page_query, plain_query, put_command, range_is, update_command, where_is}
 use Rattle.sql_tables.specs.Meanings.{IsRead, IsWrite}
 use Rattle.sql_tables.specs.declared.connectors.TheConstants as connectors
 use Rattle.sql_tables.specs.declared.grants.TheConstants as grants
@@ -11,6 +11,7 @@ use Rattle.sql_tables.specs.declared.list_entries.TheConstants as list_entries
 use Rattle.sql_tables.specs.declared.lists.TheConstants as lists
 use Rattle.sql_tables.specs.declared.meta.TheConstants as meta
 use Rattle.sql_tables.specs.declared.meter_values.TheConstants as meter_values
+use Rattle.sql_tables.specs.declared.pages.TheConstants.{PAGE_ROWS}
 use Rattle.sql_tables.specs.declared.readers.TheConstants as readers
 use Rattle.sql_tables.specs.declared.readings.TheConstants as readings
 use Rattle.sql_tables.specs.declared.reports.TheConstants as reports
@@ -190,7 +191,7 @@ pub last_tx_number_is : IsRead txs.LAST_NUMBER.now (last_query 10 (where_is 0 (1
 unfolding understood everything
 last_tx_number_is = (refl, (refl, refl), refl)
 
-pub page_of_txs_is : IsRead txs.PAGE.now (page_query 10 (where_is 0 (1 ∷ 2 ∷ []) ++ range_is 2 3) (cols 1 1 18) 3 256) (names_of hub_tx)
+pub page_of_txs_is : IsRead txs.PAGE.now (page_query 10 (where_is 0 (1 ∷ 2 ∷ []) ++ from_is 2 3) (cols 1 1 18) 3 PAGE_ROWS) (names_of hub_tx)
 unfolding understood everything
 page_of_txs_is = (refl, (refl, refl), refl)
 
@@ -214,27 +215,19 @@ pub any_reading_is : IsRead readings.ANY.now (any_query 12 (cols 1 1 13)) (names
 unfolding understood everything
 any_reading_is = (refl, (refl, refl), refl)
 
-pub page_of_readings_is : IsRead readings.PAGE.now (page_query 12 (where_is 0 (1 ∷ 2 ∷ []) ++ range_is 2 3) (cols 1 1 13) 3 256) (names_of hub_reading)
-unfolding understood everything
-page_of_readings_is = (refl, (refl, refl), refl)
-
-pub find_last_meter_value_is : IsRead meter_values.FIND_LAST.now (last_query 26 (where_is 0 (1 ∷ 2 ∷ [])) (cols 1 1 8) 3) (names_of hub_meter_value)
-unfolding understood everything
-find_last_meter_value_is = (refl, (refl, refl), refl)
-
 pub last_meter_value_numbers_is : IsRead meter_values.LAST_NUMBERS.now (last_query 26 (where_is 0 (1 ∷ 2 ∷ [])) (cols 1 3 1 ++ cols 1 7 1) 3) (codes "first" ∷ codes "count" ∷ [])
 unfolding understood everything
 last_meter_value_numbers_is = (refl, (refl, refl), refl)
 
-pub last_meter_value_between_is : IsRead meter_values.LAST_BETWEEN.now (last_query 26 (where_is 0 (1 ∷ 2 ∷ []) ++ range_is 2 3) (cols 1 1 8) 3) (names_of hub_meter_value)
+pub last_tx_meter_value_numbers_is : IsRead meter_values.LAST_NUMBERS_OF_TX.now (last_query 26 (where_is 0 (1 ∷ 2 ∷ 5 ∷ [])) (cols 1 3 1 ++ cols 1 7 1) 3) (codes "first" ∷ codes "count" ∷ [])
 unfolding understood everything
-last_meter_value_between_is = (refl, (refl, refl), refl)
+last_tx_meter_value_numbers_is = (refl, (refl, refl), refl)
 
-pub page_of_meter_values_is : IsRead meter_values.PAGE.now (page_query 26 (where_is 0 (1 ∷ 2 ∷ []) ++ range_is 2 3) (cols 1 1 8) 3 256) (names_of hub_meter_value)
+pub page_of_meter_values_is : IsRead meter_values.PAGE.now (page_query 26 (where_is 0 (1 ∷ 2 ∷ []) ++ from_is 2 3) (cols 1 1 8) 3 PAGE_ROWS) (names_of hub_meter_value)
 unfolding understood everything
 page_of_meter_values_is = (refl, (refl, refl), refl)
 
-pub page_of_tx_meter_values_is : IsRead meter_values.PAGE_OF_TX.now (page_query 26 (where_is 0 (1 ∷ 2 ∷ 5 ∷ []) ++ range_is 3 3) (cols 1 1 8) 3 256) (names_of hub_meter_value)
+pub page_of_tx_meter_values_is : IsRead meter_values.PAGE_OF_TX.now (page_query 26 (where_is 0 (1 ∷ 2 ∷ 5 ∷ []) ++ from_is 3 3) (cols 1 1 8) 3 PAGE_ROWS) (names_of hub_meter_value)
 unfolding understood everything
 page_of_tx_meter_values_is = (refl, (refl, refl), refl)
 

@@ -43,6 +43,10 @@ where_is from (at ∷ columns) = op2 (Compare Eq Binary) (col 1 at) (col 0 from)
 abbrev pub range_is : ℕ → ℕ → List Term
 range_is from at = op2 (Compare Ge Binary) (col 1 at) (col 0 from) ∷ op2 (Compare Le Binary) (col 1 at) (col 0 (suc from)) ∷ []
 
+-- this column is that parameter, or above it
+abbrev pub from_is : ℕ → ℕ → List Term
+from_is from at = op2 (Compare Ge Binary) (col 1 at) (col 0 from) ∷ []
+
 -- this column is above that parameter
 abbrev pub above_is : ℕ → ℕ → List Term
 above_is from at = op2 (Compare Gt Binary) (col 1 at) (col 0 from) ∷ []

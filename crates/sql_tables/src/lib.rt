@@ -8,6 +8,7 @@ pub mod list_entries;
 pub mod lists;
 pub mod meta;
 pub mod meter_values;
+mod pages;
 pub mod readers;
 pub mod readings;
 pub mod reports;
@@ -17,3 +18,5 @@ pub mod tags;
 pub mod tx_owners;
 pub mod txs;
 pub mod uses;
+
+pub use pages::PAGE_ROWS;

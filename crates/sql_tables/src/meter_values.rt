@@ -1,4 +1,4 @@
-//! hub_meter_value: meter values, each of some readings that follow one another.
+//! hub_meter_value: meter values.
 
 /// A text with the names of all columns, in their order, between the two parts.
 macro_rules! with_columns {
@@ -20,32 +20,24 @@ pub const CREATE_TRANSACTION: &str =
 
 pub const DROP_TRANSACTION: &str = "DROP INDEX hub_meter_value_transaction";
 
-/// The last meter value of a station.
-pub const FIND_LAST: &str = with_columns!(
-    "SELECT ",
-    " FROM hub_meter_value WHERE op = ?1 AND station = ?2 ORDER BY first DESC LIMIT 1"
-);
-
 /// The numbers of the last meter value of a station: its first number, and how many readings it is.
 pub const LAST_NUMBERS: &str =
     "SELECT first, count FROM hub_meter_value WHERE op = ?1 AND station = ?2 ORDER BY first DESC LIMIT 1";
 
-/// The last meter value of a station whose first number lies in a range.
-pub const LAST_BETWEEN: &str = with_columns!(
-    "SELECT ",
-    " FROM hub_meter_value WHERE op = ?1 AND station = ?2 AND first BETWEEN ?3 AND ?4 ORDER BY first DESC LIMIT 1"
-);
+/// The same of the last one that was sent with the number of a transaction.
+pub const LAST_NUMBERS_OF_TX: &str =
+    "SELECT first, count FROM hub_meter_value WHERE op = ?1 AND station = ?2 AND transaction_id = ?3 ORDER BY first DESC LIMIT 1";
 
-/// The first meter values of a station whose first numbers lie in a range.
+/// The first meter values of a station, from a number on.
 pub const PAGE: &str = with_columns!(
     "SELECT ",
-    " FROM hub_meter_value WHERE op = ?1 AND station = ?2 AND first BETWEEN ?3 AND ?4 ORDER BY first LIMIT 256"
+    " FROM hub_meter_value WHERE op = ?1 AND station = ?2 AND first >= ?3 ORDER BY first LIMIT 256"
 );
 
 /// The same of those that were sent with the number of a transaction.
 pub const PAGE_OF_TX: &str = with_columns!(
     "SELECT ",
-    " FROM hub_meter_value WHERE op = ?1 AND station = ?2 AND transaction_id = ?3 AND first BETWEEN ?4 AND ?5 ORDER BY first LIMIT 256"
+    " FROM hub_meter_value WHERE op = ?1 AND station = ?2 AND transaction_id = ?3 AND first >= ?4 ORDER BY first LIMIT 256"
 );
 
 /// Adds a meter value.

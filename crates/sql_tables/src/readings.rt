@@ -23,12 +23,6 @@ pub const DROP_TRANSACTION: &str = "DROP INDEX hub_reading_transaction";
 /// One of all readings.
 pub const ANY: &str = with_columns!("SELECT ", " FROM hub_reading LIMIT 1");
 
-/// The first readings of a station whose numbers lie in a range.
-pub const PAGE: &str = with_columns!(
-    "SELECT ",
-    " FROM hub_reading WHERE op = ?1 AND station = ?2 AND number BETWEEN ?3 AND ?4 ORDER BY number LIMIT 256"
-);
-
 /// Drops the readings of a station whose numbers lie in a range.
 pub const DROP: &str =
     "DELETE FROM hub_reading WHERE op = ?1 AND station = ?2 AND number BETWEEN ?3 AND ?4";

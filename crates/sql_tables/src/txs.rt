@@ -48,10 +48,10 @@ pub const FIND: &str = with_columns!(
 pub const LAST_NUMBER: &str =
     "SELECT number FROM hub_tx WHERE op = ?1 AND station = ?2 ORDER BY number DESC LIMIT 1";
 
-/// The first transactions of a station whose numbers lie in a range.
+/// The first transactions of a station, from a number on.
 pub const PAGE: &str = with_columns!(
     "SELECT ",
-    " FROM hub_tx WHERE op = ?1 AND station = ?2 AND number BETWEEN ?3 AND ?4 ORDER BY number LIMIT 256"
+    " FROM hub_tx WHERE op = ?1 AND station = ?2 AND number >= ?3 ORDER BY number LIMIT 256"
 );
 
 /// The transactions by which a tag is in use.

@@ -17,7 +17,6 @@ pub mod StartLaws
 pub mod NewRows
 pub mod TxOwnerLaws
 pub mod NumberLaws
-pub mod FirstLaws
 pub mod ForgottenLaws
 pub mod UseLaws
 pub mod Named

@@ -1,22 +1,20 @@
 -- Rows kept station by station: what is found of them, and what more rows of one station make.
-use Rattle.std.specs.Prelude.{◌≡◌, ℕ, ◌+◌, ◌-◌, Some, ◌<◌, ◌≤◌, max, List, [], ◌∷◌, ◌++◌, length, take, drop, Bool, true, false, cond, ◌&&◌, ◌||◌, ◌==◌, not, filter, map, find}
-use Rattle.std.specs.List.{AllByRecursion, list_any, slice_get}
+use Rattle.std.specs.Prelude.{◌≡◌, ℕ, ◌+◌, Some, ◌<◌, List, [], ◌∷◌, ◌++◌, take, drop, Bool, true, false, cond, ◌&&◌, ◌||◌, ◌==◌, not, filter, map, find}
+use Rattle.std.specs.List.{AllByRecursion, list_any}
 use Rattle.std.specs.List.Sorted.{IsStrictlySortedBy}
-use Rattle.std.specs.Ordering.{nat_cmp, ordering_then, ordering_reverse, is_eq, MatchOrdering}
-use Rattle.std.specs.Cmp.{nat_cmp_is, ranked}
+use Rattle.std.specs.Ordering.{ordering_then, ordering_reverse, is_eq}
 use Rattle.std.specs.Str.{bytes_eq}
 use Rattle.std.specs.declared.cmp.Ordering.{Ordering}
 use Rattle.std.specs.declared.cmp.Ordering.TheVariants.{Less, Equal, Greater}
-use Rattle.std.proofs.Common.{refl, sym, ◌∙◌, ap, subst, arith, append_assoc, append-nil}
+use Rattle.std.proofs.Common.{refl, sym, ◌∙◌, ap, subst, append_assoc, append-nil}
 use Rattle.std.proofs.Math.ListN.{set}
 use Rattle.std.proofs.lemmas.Bool.{and_parts}
 use Rattle.std.proofs.lemmas.List.{take-append-drop}
 use Rattle.std.proofs.lemmas.List.Elements.{filter-append}
 use Rattle.std.proofs.lemmas.List.Kept.{IsStrictlySortedBy-filter}
-use Rattle.std.proofs.Math.Nat.{le-max_left, le-max_right, max-zero, max-eq_right}
-use Rattle.std.proofs.lemmas.Cmp.{tied_itself, nat_list_cmp_total}
+use Rattle.std.proofs.lemmas.Cmp.{tied_itself}
 use Rattle.hub_rows.specs.Forgetting.{has_number, is_one_of}
-use Rattle.hub_rows.specs.Keyed.{text_cmp, key_cmp, by_key, put_all, found, those, any_of, numbered_key, greatest, number_key}
+use Rattle.hub_rows.specs.Keyed.{text_cmp, key_cmp, by_key, put_all, those, any_of, numbered_key, greatest, number_key}
 use Rattle.hub_rows.specs.Places.{AllBelow, AllAbove, IsFoundAt, IsGapAt}
 use Rattle.hub_rows.proofs.ListLaws.{keys_total, by_key_total, all-filter, all-weaker, put-front, sorted-put, set_here, two_parts, head, same_text}
 use Rattle.hub_rows.proofs.PlaceLaws.{all-back, map-append, map-none, put-passed, put-gap}
@@ -24,7 +22,7 @@ use Rattle.store_mem.specs.declared.named_groups.NamedGroup.{NamedGroup}
 use Rattle.store_mem.specs.NamedGroups.{group_key, is_at, rows_or_none, rows_at, all_rows, AreOf, AreGrouped}
 use Rattle.store_mem.proofs.RowLaws.{sorted-kept, sorted-swap}
 use Rattle.hub_rows.proofs.FilterLaws.{all-append, all-both, all-front, filter-alike, filter-all, filter-no}
-use Rattle.hub_rows.proofs.NumberLaws.{all-above, number-greater, number-less}
+use Rattle.hub_rows.proofs.NumberLaws.{all-above, number-greater, number-less, same_station}
 
 -- ---- lists
 
@@ -67,10 +65,6 @@ then-greater Equal Equal q e = absurd (cc)
 then-greater Equal Greater q e = refl
 then-greater Greater p q e = refl
 
--- keys of one station compare by their numbers
-same_station : (a b : List ℕ) (k l : List (List ℕ)) → key_cmp (a ∷ b ∷ k) (a ∷ b ∷ l) ≡ key_cmp k l
-same_station a b k l = λ i. ordering_then (tied_itself nat_list_cmp_total a i) (ordering_then (tied_itself nat_list_cmp_total b i) (key_cmp k l))
-
 and-false : (p q n : Bool) → p && q ≡ false → p && (q && n) ≡ false
 and-false true true n e = absurd (cc)
 and-false true false n e = refl
@@ -80,8 +74,6 @@ and-true : (p q n : Bool) → p && q ≡ true → p && (q && n) ≡ n
 and-true true true n e = refl
 and-true true false n e = absurd (cc)
 and-true false q n e = absurd (cc)
-
--- ---- numbers
 
 -- ---- the rows of all stations
 

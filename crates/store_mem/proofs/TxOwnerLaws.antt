@@ -2,26 +2,20 @@
 use Rattle.std.specs.Prelude.{◌≡◌, ℕ, ◌<◌, ◌≤◌, List, [], ◌∷◌, true, false, cond, ◌&&◌, map, Option, None, Some}
 use Rattle.std.specs.List.{AllByRecursion}
 use Rattle.std.specs.Str.{bytes_eq}
-use Rattle.std.proofs.Common.{refl, sym, arith, subst}
+use Rattle.std.proofs.Common.{refl, arith, subst}
 use Rattle.std.proofs.lemmas.Bool.{and_parts}
 use Rattle.hub_rows.specs.declared.tx_row.TxOwnerRow.{TxOwnerRow}
 use Rattle.hub_rows.specs.declared.tx_row.TxRow.{TxRow}
 use Rattle.hub_rows.specs.Keyed.{found, greatest, those}
 use Rattle.hub_rows.specs.Transactions.{is_tx}
-use Rattle.hub_rows.specs.Uses.{with_owner}
 use Rattle.hub_rows.specs.WellFormed.{IsGoodTxOwner}
 use Rattle.hub_rows.proofs.ListLaws.{same_text}
 use Rattle.hub_rows.proofs.OwnerLaws.{began_some, found-under}
-use Rattle.store_mem.specs.TxOwners.{owner_row, with_row, IsBehind}
+use Rattle.store_mem.specs.TxOwners.{owner_row, IsBehind}
 
 -- the last number of a station's transactions
 abbrev pub last_of : List ℕ → List ℕ → List TxRow → ℕ
 last_of b st txs = greatest (map (λ x. x.number) (those (λ x. x.op) b (λ x. bytes_eq x.station st) txs))
-
--- a row that is put, if there is one
-pub with_row-owner : (b st : List ℕ) (n : ℕ) (owner : Option (List ℕ)) (rows : List TxOwnerRow) → with_row (owner_row b st n owner) rows ≡ with_owner b st n owner rows
-with_row-owner b st n None rows = refl
-with_row-owner b st n (Some a) rows = refl
 
 -- a row of the station that goes with a transaction has at most the last number
 owners-under : (b st : List ℕ) (txs : List TxRow) (rows : List TxOwnerRow) → AllByRecursion (IsGoodTxOwner txs) rows → greatest (map (λ x. x.number) (those (λ x. x.op) b (λ x. bytes_eq x.station st) rows)) ≤ last_of b st txs

@@ -15,16 +15,11 @@ pub fn copy<R: Clone>(row: &R) -> Mem<R>
 }
 
 /// Copies of all rows.
-#[tactic(auto, using(hub_rows::proofs::Steps::drop_here))]
 pub fn copies<R: Clone + Drop>(alloc: Global, rows: &[R]) -> Mem<Listed<R>>
     requires { (row copy : R) → R.is_clone row copy → copy ≡ row }
     ensures { IfOk result (λ l. l ≡ rows.now) }
 {
-    let mut list = Listed::new(alloc);
-    for row in rows {
-        list.push(row.clone()?)?;
-    }
-    Ok(list)
+    Ok(Listed::from(rows.to_vec(alloc)?))
 }
 
 /// Copies of the rows of one operator.

@@ -219,21 +219,24 @@ impl Lists {
                 number,
                 stop,
                 first,
-                readings,
+                values,
             } => {
                 let settled = self.settled_use(op, station, *number, stop)?;
                 let stop = stop.clone()?;
                 self.uses.make_room_for(&settled)?;
-                self.readings.add(op, station, *first, readings.as_slice())?;
+                self.meter_values
+                    .add(op, station, *first, values.as_slice())?;
                 let (op, station) = (op.as_str(), station.as_str());
                 self.transactions.stop(op, station, *number, stop);
                 self.uses.put_ready(settled);
             }
-            TransactionEdit::ReadingsAdded {
+            TransactionEdit::MeterValuesAdded {
                 station,
                 first,
-                readings,
-            } => self.readings.add(op, station, *first, readings.as_slice())?,
+                values,
+            } => self
+                .meter_values
+                .add(op, station, *first, values.as_slice())?,
             TransactionEdit::Forgotten { station, rows } => {
                 self.forget(op.as_str(), station.as_str(), rows);
             }
@@ -248,7 +251,8 @@ impl Lists {
     {
         let transactions = rows.transactions.as_slice();
         self.transactions.forget(op, station, transactions);
-        self.readings.forget(op, station, rows.readings.as_slice());
+        self.meter_values
+            .forget(op, station, rows.meter_values.as_slice());
         self.tx_owners.forget(op, station, transactions);
     }
 

@@ -7,7 +7,7 @@ ghost use Rattle.store_mem.specs.Lists.{rows_in};
 
 use crate::forgettable::forgettable;
 use crate::grants::Grants;
-use crate::readings::Readings;
+use crate::meter_values::MeterValues;
 use crate::tags::Tags;
 use crate::transactions::Transactions;
 use crate::tx_owners::TxOwners;
@@ -27,7 +27,7 @@ pub struct Lists {
     pub tags: Tags,
     pub grants: Grants,
     pub transactions: Transactions,
-    pub readings: Readings,
+    pub meter_values: MeterValues,
     pub reservations: Vec<ReservationRow>,
     pub local_lists: Vec<ListRow>,
     pub reports: Vec<ReportRow>,
@@ -48,7 +48,7 @@ impl Lists {
             tags: Tags::new(alloc),
             grants: Grants::new(alloc),
             transactions: Transactions::new(alloc),
-            readings: Readings::new(alloc),
+            meter_values: MeterValues::new(alloc),
             reservations: Vec::new(alloc),
             local_lists: Vec::new(alloc),
             reports: Vec::new(alloc),
@@ -63,7 +63,7 @@ impl Lists {
         ensures { rows_in self.new ≡ rows_in self.old }
     {
         self.transactions.look_near(near);
-        self.readings.look_near(near);
+        self.meter_values.look_near(near);
         self.tx_owners.look_near(near);
     }
 
@@ -72,8 +72,8 @@ impl Lists {
         ensures { IfOk result (λ f. f ≡ forgettable_in op.now station.now until (rows_in self.now)) }
     {
         let txs = self.transactions.rows_of(op, station);
-        let readings = self.readings.rows_of(op, station);
-        forgettable(self.alloc, until, txs, readings)
+        let values = self.meter_values.rows_of(op, station);
+        forgettable(self.alloc, until, txs, values)
     }
 
     /// The use that the stop of a transaction settles, if another operator granted its tag.

@@ -14,9 +14,9 @@ use crate::reservations::reserved_until;
 use crate::station_copies::{copies_of_station, local_list_of};
 use crate::stations::{ANYWHERE, place_of_station, registration_of};
 use hub_rows::{
-    Change, ConnectorRow, GrantRow, GrantedTag, History, Info, LocalList, Reader, ReaderRow,
-    ReadingRow, Registration, ReportRow, ReservationId, ReservationRow, StartKey, StationRow,
-    Store, StoreFault, TagRow, TxKey, TxRow, TxState, UseRow,
+    Change, ConnectorRow, GrantRow, GrantedTag, History, Info, LocalList, MeterValueRow, Reader,
+    ReaderRow, Registration, ReportRow, ReservationId, ReservationRow, StartKey, StationRow, Store,
+    StoreFault, TagRow, TxKey, TxRow, TxState, UseRow,
 };
 use ocpp_types::{Listed, Moment, TagKey};
 use std::alloc::Global;
@@ -104,7 +104,7 @@ impl Store for MemStore {
     }
 
     fn last_reading(&mut self, op: &str, station: &str) -> Result<u32, StoreFault> {
-        Ok(self.lists.readings.last_number(op, station))
+        Ok(self.lists.meter_values.last_number(op, station))
     }
 
     fn reserved_until(
@@ -160,14 +160,14 @@ impl Store for MemStore {
         Ok(self.lists.forgettable(op, station, until)?)
     }
 
-    fn readings(
+    fn meter_values(
         &mut self,
         op: &str,
         station: &str,
         transaction: Option<u64>,
-    ) -> Result<Listed<ReadingRow>, StoreFault> {
-        let readings = &self.lists.readings;
-        Ok(readings.of_station(op, station, transaction)?)
+    ) -> Result<Listed<MeterValueRow>, StoreFault> {
+        let values = &self.lists.meter_values;
+        Ok(values.of_station(op, station, transaction)?)
     }
 
     fn reservations(

@@ -3,8 +3,6 @@ ghost use Rattle.std.specs.Prelude.{◌≡◌, ◌||◌, nat_lt, not};
 ghost use Rattle.hub_rows.specs.Forgetting.{has_number};
 ghost use Rattle.hub_rows.specs.Keyed.{greatest};
 
-use hub_rows::has_number;
-
 /// The greatest of some numbers, 0 where there are none.
 #[tactic(auto, using(hub_rows::proofs::Steps::drop_here))]
 pub fn greatest(numbers: &[u32]) -> u32
@@ -21,5 +19,5 @@ pub fn greatest(numbers: &[u32]) -> u32
 pub fn is_none_of(numbers: &[u32], last: u32, number: u32) -> bool
     ensures { result ≡ nat_lt last number || not (has_number numbers.now number) }
 {
-    last < number || !has_number(numbers, number)
+    last < number || !numbers.contains(&number)
 }

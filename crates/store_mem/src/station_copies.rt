@@ -1,4 +1,4 @@
-//! Copies of what a station has: its rows, and its local list.
+//! Copies of what a station has: its rows, its local list and its meter values.
 ghost use Rattle.std.specs.Prelude.{◌≡◌, IfOk};
 ghost use Rattle.std.specs.List.Sorted.{IsStrictlySortedBy};
 ghost use Rattle.std.specs.Str.{bytes_eq};
@@ -7,7 +7,7 @@ ghost use Rattle.hub_rows.specs.Lookups.{local_list_in};
 ghost use Rattle.hub_rows.specs.Rows.{list_key};
 
 use crate::copies::copies;
-use hub_rows::{ListRow, LocalList, NamedRow, row_of};
+use hub_rows::{ListRow, LocalList, MeterValue, MeterValueRow, NamedRow, row_of};
 use ocpp_types::{Listed, Mem};
 use std::alloc::Global;
 
@@ -54,5 +54,29 @@ pub fn copy_of(alloc: Global, list: &LocalList) -> Mem<LocalList>
     Ok(LocalList {
         version: list.version,
         entries: copies(alloc, list.entries.as_slice())?,
+    })
+}
+
+/// A copy of a meter value with its station and its first number.
+pub fn copy_of_row(alloc: Global, row: &MeterValueRow) -> Mem<MeterValueRow>
+    ensures { IfOk result (λ copy. copy ≡ row.now) }
+{
+    Ok(MeterValueRow {
+        op: row.op.clone()?,
+        station: row.station.clone()?,
+        first: row.first,
+        value: copy_of_value(alloc, &row.value)?,
+    })
+}
+
+/// A copy of a meter value.
+pub fn copy_of_value(alloc: Global, value: &MeterValue) -> Mem<MeterValue>
+    ensures { IfOk result (λ copy. copy ≡ value.now) }
+{
+    Ok(MeterValue {
+        connector: value.connector,
+        transaction: value.transaction,
+        at: value.at,
+        sampled: copies(alloc, value.sampled.as_slice())?,
     })
 }

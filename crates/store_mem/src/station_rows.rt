@@ -11,9 +11,9 @@ ghost use Rattle.store_mem.specs.NamedGroups.{all_rows, AreOf, AreGrouped, HasRo
 use crate::named_groups::{NamedGroup, place_at, rows_at};
 use crate::near::Near;
 use crate::numbers::{greatest, is_none_of};
-use hub_rows::{ReadingRow, TxOwnerRow, TxRow, place_of_name};
+use hub_rows::{MeterValueRow, TxOwnerRow, TxRow, place_of_name};
 use ocpp_types::{Mem, Text};
-use std::alloc::{AllocError, Global};
+use std::alloc::AllocError;
 
 /// A row whose key is its operator, its station and a number.
 pub trait NumberedRow: Drop {
@@ -56,12 +56,12 @@ impl NumberedRow for TxRow {
     }
 }
 
-impl NumberedRow for ReadingRow {
+impl NumberedRow for MeterValueRow {
     ghost op = { λ r. r.op };
 
     ghost station = { λ r. r.station };
 
-    ghost number = { λ r. r.number };
+    ghost number = { λ r. r.first };
 
     fn op(&self) -> &str {
         self.op.as_str()
@@ -72,7 +72,7 @@ impl NumberedRow for ReadingRow {
     }
 
     fn number(&self) -> u32 {
-        self.number
+        self.first
     }
 }
 
@@ -184,11 +184,10 @@ pub fn last_number<R: NumberedRow>(rows: &[R]) -> u32
 
 /// Adds rows of a station after those that it has. Its group is looked for first where `near` says.
 pub fn append_rows<R: NumberedRow>(
-    alloc: Global,
     groups: &mut Vec<NamedGroup<R>>,
     near: Option<&Near>,
-    op: &str,
-    station: &str,
+    op: &Text,
+    station: &Text,
     rows: Vec<R>,
 ) -> Mem<()>
     requires groups { AreGrouped R.op R.station R.number groups.old.items }
@@ -198,12 +197,12 @@ pub fn append_rows<R: NumberedRow>(
     ensures ok { OnOk result (all_rows groups.new.items ≡ put_all (by_key (numbered_key R.op R.station R.number)) rows.items (all_rows groups.old.items)) }
     ensures err { OnErr result (all_rows groups.new.items ≡ all_rows groups.old.items) }
 {
-    match place_at(groups.as_slice(), near, op, station) {
+    match place_at(groups.as_slice(), near, op.as_str(), station.as_str()) {
         Ok(place) => extend_group(&mut groups[place], rows)?,
         Err(place) => {
             let group = NamedGroup {
-                op: Text::copy_of(alloc, op)?,
-                name: Text::copy_of(alloc, station)?,
+                op: op.clone()?,
+                name: station.clone()?,
                 rows,
             };
             groups.insert(place, group)?;

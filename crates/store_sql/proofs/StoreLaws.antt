@@ -10,9 +10,7 @@ use Rattle.hub_rows.specs.Changes.{EditFits, edit}
 use Rattle.hub_rows.specs.Failures.{Rose}
 use Rattle.hub_rows.specs.Reads.{OnlyReads, IsCounted}
 use Rattle.hub_rows.specs.Stops.{IsKept, FindsOldOr}
-use Rattle.std.specs.List.Sorted.{IsStrictlySortedBy}
-use Rattle.hub_rows.specs.Keyed.{by_key}
-use Rattle.hub_rows.specs.Rows.{Rows, reading_key}
+use Rattle.hub_rows.specs.Rows.{Rows}
 use Rattle.hub_rows.specs.WellFormed.{WellFormedRows}
 use Rattle.hub_rows.specs.declared.change.Edit.{Edit}
 use Rattle.hub_rows.specs.declared.store.StoreFault.{StoreFault}
@@ -130,16 +128,6 @@ reads g {inside} {old} {new} {conn} {done} {result} disk view_is kept asks same_
 pub finds : {S T : Type 0} (g : Ghosts S) {inside old new : SqlView S} {conn : Held S} {done result : Result T StoreFault} (P : Rows → T → Type 0) → inside ≡ old → KeepsIfOurs (state g inside.taken) (state g inside.conn) inside.changes → Asks (state g inside.conn) (state g conn) done P
     → new.taken ≡ inside.taken → new.conn ≡ conn → result ≡ done → IsCleanSql g new → IfOk result (P (sql_rows g old))
 finds g {inside} {old} {new} {conn} {done} {result} P view_is kept asks same_taken same_conn same = found_in g inside old new view_is kept.0 conn same_taken same_conn asks.same done result same P asks.found
-
--- what it answers of readings that are in order, it answers of those of the store
-pub finds_sorted : {S T : Type 0} (g : Ghosts S) {inside old new : SqlView S} {conn : Held S} {done result : Result T StoreFault} (P : Rows → T → Type 0) → OnlyReads (sql_view g) old new result → inside ≡ old → KeepsIfOurs (state g inside.taken) (state g inside.conn) inside.changes
-    → Asks (state g inside.conn) (state g conn) done (λ rows x. IsStrictlySortedBy (by_key reading_key) rows.readings → P rows x) → new.taken ≡ inside.taken → new.conn ≡ conn → result ≡ done → IsCleanSql g new → IfOk result (P (sql_rows g old))
-finds_sorted {S} {T} g {inside} {old} {new} {conn} {done} {result} P only view_is kept asks same_taken same_conn same clean =
-    go result (finds g (λ rows x. IsStrictlySortedBy (by_key reading_key) rows.readings → P rows x) view_is kept asks same_taken same_conn same clean)
-  where
-    go : (r : Result T StoreFault) → IfOk r (λ x. IsStrictlySortedBy (by_key reading_key) (sql_rows g old).readings → P (sql_rows g old) x) → IfOk r (P (sql_rows g old))
-    go (Ok x) found = found (only.was_clean clean).good.readings.sorted
-    go (Err e) found = tt
 
 -- ---- a change
 

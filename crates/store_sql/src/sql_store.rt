@@ -7,14 +7,14 @@ use crate::fault::{PrepareFault, fault};
 use crate::mark::Mark;
 use crate::opening::{changes, prepare};
 use hub_rows::{
-    Change, ConnectorRow, GrantRow, GrantedTag, History, Info, LocalList, Reader, ReaderRow,
-    ReadingRow, Registration, ReportRow, ReservationId, ReservationRow, StartKey, StationRow,
-    Store, StoreFault, TagRow, TxKey, TxRow, TxState, UseRow,
+    Change, ConnectorRow, GrantRow, GrantedTag, History, Info, LocalList, MeterValueRow, Reader,
+    ReaderRow, Registration, ReportRow, ReservationId, ReservationRow, StartKey, StationRow, Store,
+    StoreFault, TagRow, TxKey, TxRow, TxState, UseRow,
 };
 use ocpp_types::{Listed, Moment, TagKey, Text};
 use sql_lookups::{
-    connectors, forget, granted, grants, local_lists, readers, readings, reports, reservations,
-    station_readings, stations, tags, txs, uses,
+    connectors, forget, granted, grants, local_lists, readers, reports, reservations,
+    station_values, stations, tags, txs, uses, values,
 };
 use sqlite::{Alter, Connection, FileFrom, FileStore, MemStore, Start};
 use std::alloc::Global;
@@ -37,7 +37,7 @@ pub struct SqlStore<A: Alter> {
     changes: u64,
     /// Where that is noted too, beside the file of the database.
     mark: Option<Mark>,
-    /// As how many rows the readings of a listing may count.
+    /// As how many rows the meter values of a listing may count.
     longest: usize,
 }
 
@@ -170,8 +170,8 @@ impl<A: Alter + Drop> SqlStore<A> {
         Ok(SqlStore::over(alloc, taken, conn, changes))
     }
 
-    /// The same store, of which no statement visits more than so many rows, and no readings are listed that count as more,
-    /// each as two rows. What would take more answers TooLong, and changes nothing.
+    /// The same store, of which no statement visits more than so many rows, and no meter values are listed that count as
+    /// more, each reading as two rows. What would take more answers TooLong, and changes nothing.
     pub fn with_longest(self, rows: u32) -> SqlStore<A>
         ensures rows { sql_rows A.Store result ≡ sql_rows A.Store self }
         ensures clean { IsCleanSql A.Store self → IsCleanSql A.Store result }
@@ -312,7 +312,7 @@ impl<A: Alter> Store for SqlStore<A> {
     }
 
     fn last_reading(&mut self, op: &str, station: &str) -> Result<u32, StoreFault> {
-        let found = readings::last_reading(&mut self.conn, op, station);
+        let found = values::last_reading(&mut self.conn, op, station);
         self.counted(found)
     }
 
@@ -376,13 +376,13 @@ impl<A: Alter> Store for SqlStore<A> {
         self.counted(found)
     }
 
-    fn readings(
+    fn meter_values(
         &mut self,
         op: &str,
         station: &str,
         transaction: Option<u64>,
-    ) -> Result<Listed<ReadingRow>, StoreFault> {
-        let found = station_readings::readings(
+    ) -> Result<Listed<MeterValueRow>, StoreFault> {
+        let found = station_values::meter_values(
             &mut self.conn,
             self.alloc,
             op,

@@ -1,7 +1,7 @@
 -- Admissions.
 use Rattle.std.proofs.Common.{Bool, List, Option, Result, [], codes, false, inl, inr, subst, sym, ℕ, ◌≡◌}
 use Rattle.std.specs.Prelude.{⊤}
-use Rattle.hub.specs.declared.fault.Fault.{Fault}
+use Rattle.hub_events.specs.declared.fault.Fault.{Fault}
 use Rattle.tungstenite.specs.Socket.{Socket}
 use Rattle.ws_peers.specs.declared.peer.Peer.{Peer}
 use Rattle.ws_peers.specs.declared.routes.Route.{Route}

@@ -10,8 +10,8 @@ use Rattle.hub_events.specs.declared.event.Event.{Event}
 use Rattle.hub_events.specs.declared.event.Event.TheVariants.{At}
 use Rattle.hub_events.specs.declared.event.What.{What}
 use Rattle.hub_events.specs.declared.out.Out.{Out}
-use Rattle.hub.specs.declared.fault.Fault.{Fault}
-use Rattle.hub.specs.declared.fault.Fault.TheVariants as fault
+use Rattle.hub_events.specs.declared.fault.Fault.{Fault}
+use Rattle.hub_events.specs.declared.fault.Fault.TheVariants as fault
 use Rattle.hub.specs.declared.hub.Hub.{Hub}
 use Rattle.hub.specs.Hub.{hub_view, world, setting, is_clean, is_taken, is_of_hosted}
 use Rattle.hub.specs.World.{Setting, World, world_outputs, world_step}

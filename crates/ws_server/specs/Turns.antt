@@ -3,8 +3,8 @@ use Rattle.std.specs.Prelude.{ℕ, zero, suc, List, [], ◌∷◌, ◌++◌, Opt
 use Rattle.hub_events.specs.declared.event.Event.{Event}
 use Rattle.hub_events.specs.declared.event.Event.TheVariants.{Tick}
 use Rattle.hub_events.specs.declared.out.Out.{Out}
-use Rattle.hub.specs.declared.fault.Fault.{Fault}
-use Rattle.hub.specs.declared.fault.Fault.TheVariants.{NoSuchOperator}
+use Rattle.hub_events.specs.declared.fault.Fault.{Fault}
+use Rattle.hub_events.specs.declared.fault.Fault.TheVariants.{NoSuchOperator}
 use Rattle.hub.specs.Hub.{is_of_hosted}
 use Rattle.lines.specs.Marks.{begin_line, end_line}
 use Rattle.ws_peers.specs.declared.peer.Peer.{Peer}

@@ -10,7 +10,7 @@ ghost use Rattle.ws_server.specs.Tells.{peers_of};
 use crate::arrival::Arrival;
 use crate::events::{connect_of, turns_away};
 use crate::gateway::Gateway;
-use crate::notes::{Happened, Notes, Refusal};
+use connection_notes::{Happened, Notes, Refusal};
 use hub::{Event, Fault, Hub};
 use hub_rows::Store;
 use ocpp_types::Moment;

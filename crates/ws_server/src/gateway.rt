@@ -1,7 +1,7 @@
 //! The gateway.
 ghost use Rattle.std.specs.Prelude.{◌≡◌, ◌<◌, ◌≤◌, [], length, slice_index_or, option_map, Some, None};
 
-use crate::notes::{Note, Notes};
+use connection_notes::{Note, Notes};
 use journal::Journal;
 use ocpp_types::Text;
 use ready_streams::Served;

@@ -9,7 +9,7 @@ ghost use Rattle.ws_server.specs.Tells.{peers_of};
 
 use crate::arrival::Client;
 use crate::gateway::Gateway;
-use crate::notes::{Happened, Note, Notes, Refusal};
+use connection_notes::{Happened, Note, Notes, Refusal};
 use hub::{Fault, Hub};
 use hub_rows::Store;
 use ocpp_types::{Mem, Moment, Text};

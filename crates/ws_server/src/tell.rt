@@ -2,7 +2,7 @@
 ghost use Rattle.std.specs.Prelude.{◌≡◌, ◌<◌, length};
 
 use crate::gateway::Gateway;
-use crate::notes::Repair;
+use connection_notes::Repair;
 use hub_events::{Out, Said};
 use lines::print_out;
 use ocpp_types::Named;

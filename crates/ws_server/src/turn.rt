@@ -10,7 +10,7 @@ ghost use Rattle.ws_server.specs.Turns.{is_above};
 
 use crate::events::parting;
 use crate::gateway::Gateway;
-use crate::notes::{Happened, Notes};
+use connection_notes::{Happened, Notes};
 use hub::{Event, Fault, Hub};
 use hub_rows::Store;
 use ocpp_types::Moment;

@@ -9,7 +9,7 @@ ghost use Rattle.ws_server.specs.Tells.{peers_of, full_of};
 
 use crate::arrival::{Arrival, Client};
 use crate::gateway::Gateway;
-use crate::notes::{Happened, Refusal};
+use connection_notes::{Happened, Refusal};
 use hub::{Fault, Hub};
 use hub_rows::{Reader, Store};
 use ocpp_types::Moment;

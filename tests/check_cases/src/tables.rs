@@ -11,7 +11,6 @@ mod enumerations;
 mod frames;
 mod journal;
 mod paths;
-mod readings;
 mod requests;
 mod tables;
 mod tolerant;

@@ -2,11 +2,11 @@
 
 use crate::scripts::{events, hub_of, run};
 use hub_rows::{
-    Change, Edit, Reading, Start, StartKey, StationEdit, Store, StoreFault, TransactionEdit,
+    Change, Edit, MeterValue, Start, StartKey, StationEdit, Store, StoreFault, TransactionEdit,
 };
 use ocpp_types::{
     AuthorizationStatus, Listed, Location, Measurand, Mem, Moment, Policy, ReadingContext, Refusal,
-    TagKey, Text, ValueFormat,
+    SampledValue, TagKey, Text, ValueFormat,
 };
 use pending_calls::{NewCall, Slots};
 use station_calls::Echo;
@@ -66,35 +66,36 @@ fn begin<S: Store>(
     apply(alloc, store, &edit)
 }
 
-/// A reading on connector 1.
-fn reading_of(alloc: Global) -> Mem<Reading> {
-    Ok(Reading {
-        connector: 1,
-        transaction: None,
-        at: 0,
+/// A meter value of one reading, on connector 1.
+fn meter_value_of(alloc: Global) -> Mem<MeterValue> {
+    let reading = SampledValue {
+        value: Text::copy_of(alloc, "z")?,
         context: ReadingContext::Other,
         format: ValueFormat::Raw,
         measurand: Measurand::Frequency,
         phase: None,
         location: Location::Inlet,
         unit: None,
-        text: Text::copy_of(alloc, "z")?,
+    };
+    Ok(MeterValue {
+        connector: 1,
+        transaction: None,
+        at: 0,
+        sampled: Listed::one(alloc, reading)?,
     })
 }
 
-/// Keeps a reading of CP01.
+/// Keeps a meter value of CP01.
 fn keep<S: Store>(
     alloc: Global,
     store: &mut S,
     first: u32,
-    reading: Reading,
+    value: MeterValue,
 ) -> Result<(), StoreFault> {
-    let mut readings = Listed::new(alloc);
-    readings.push(reading)?;
-    let edit = Edit::Transactions(TransactionEdit::ReadingsAdded {
+    let edit = Edit::Transactions(TransactionEdit::MeterValuesAdded {
         station: Text::copy_of(alloc, "CP01")?,
         first,
-        readings,
+        values: Listed::one(alloc, value)?,
     });
     apply(alloc, store, &edit)
 }
@@ -137,7 +138,7 @@ fn near_the_end(alloc: Global, moment: Moment) -> Result<MemStore, StoreFault> {
     let mut store = MemStore::new(alloc);
     add(alloc, &mut store)?;
     begin(alloc, &mut store, 2147483646, start_of(alloc, moment)?)?;
-    keep(alloc, &mut store, 2147483645, reading_of(alloc)?)?;
+    keep(alloc, &mut store, 2147483645, meter_value_of(alloc)?)?;
     Ok(store)
 }
 

@@ -4,9 +4,10 @@ use crate::scripts::runs::{events, take_all};
 use anyhow::Result;
 use cached::Cached;
 use failing_store::Failing;
-use hub_rows::{Change, Edit, Info, Reading, Registration, Store, StoreFault, TransactionEdit};
+use hub_rows::{Change, Edit, Info, MeterValue, Registration, Store, StoreFault, TransactionEdit};
 use ocpp_types::{
-    Listed, Location, Measurand, ReadingContext, TagKey, Text, UnitOfMeasure, ValueFormat,
+    Listed, Location, Measurand, ReadingContext, SampledValue, TagKey, Text, UnitOfMeasure,
+    ValueFormat,
 };
 use std::alloc::Global;
 use std::fs;
@@ -33,38 +34,48 @@ pub fn try_caches(rt: &HostRuntime) -> Result<()> {
     Ok(())
 }
 
-/// Whether the number of a station's last reading is known after one more, of a store whose third call fails.
+/// Whether the number of a station's last reading is known after two more, of a store whose third call fails.
 fn knows_last(alloc: Global, lines: &[u8]) -> Result<bool> {
     let (_, store) = take_all(alloc, MemStore::new(alloc), &events(alloc, lines)?)?;
     let mut cache = Cached::new(alloc, Failing::new(store, 2), 8)?;
     let last = cache.last_reading("ACME", "CP01")?;
-    let edit = Edit::Transactions(TransactionEdit::ReadingsAdded {
+    let edit = Edit::Transactions(TransactionEdit::MeterValuesAdded {
         station: Text::copy_of(alloc, "CP01")?,
         first: last + 1,
-        readings: Listed::one(alloc, reading(alloc)?)?,
+        values: Listed::one(alloc, meter_value(alloc)?)?,
     });
     let op = Text::copy_of(alloc, "ACME")?;
     cache.apply(&Change {
         op: &op,
         edit: &edit,
     })?;
-    let known = cache.last_reading("ACME", "CP01")? == last + 1;
+    let known = cache.last_reading("ACME", "CP01")? == last + 2;
     let asked = cache.last_reading("ACME", "CP02");
     Ok(known && matches!(asked, Err(StoreFault::Failed)))
 }
 
-fn reading(alloc: Global) -> Result<Reading> {
-    Ok(Reading {
+/// A meter value of two readings.
+fn meter_value(alloc: Global) -> Result<MeterValue> {
+    let mut sampled = Listed::new(alloc);
+    sampled.push(reading(alloc)?)?;
+    sampled.push(reading(alloc)?)?;
+    Ok(MeterValue {
         connector: 1,
         transaction: None,
         at: 0,
+        sampled,
+    })
+}
+
+fn reading(alloc: Global) -> Result<SampledValue> {
+    Ok(SampledValue {
+        value: Text::copy_of(alloc, "1")?,
         context: ReadingContext::SamplePeriodic,
         format: ValueFormat::Raw,
         measurand: Measurand::EnergyActiveImportRegister,
         phase: None,
         location: Location::Outlet,
         unit: Some(UnitOfMeasure::Wh),
-        text: Text::copy_of(alloc, "1")?,
     })
 }
 

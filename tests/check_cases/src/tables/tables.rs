@@ -5,11 +5,11 @@ use crate::tables::enumerations::{class_of_action, name_read};
 use crate::tables::frames::{frame_read, frame_written};
 use crate::tables::journal::line_in_journal;
 use crate::tables::paths::path_followed;
-use crate::tables::readings::{readings_grouped, sampled_values};
 use crate::tables::requests::request_read;
 use crate::tables::tolerant::tolerant_reading;
 use crate::tables::values::{
-    characters, moment_printed, number_of_reading, operators_hosted, tag_key, time_read,
+    characters, moment_printed, number_of_reading, operators_hosted, sampled_values, tag_key,
+    time_read,
 };
 use anyhow::{Result, bail};
 use std::alloc::Global;
@@ -63,7 +63,6 @@ fn given_for_values(alloc: Global, table: &str, texts: &[String]) -> Result<Stri
         }
         ("operators", names) => operators_hosted(alloc, names),
         ("paths", [path]) => path_followed(alloc, path.as_str()),
-        ("readings_grouped", readings) => readings_grouped(alloc, readings),
         ("sampled_values", [text]) => sampled_values(alloc, text.as_str()),
         ("tag_keys", [tag]) => tag_key(alloc, tag.as_str()),
         ("times", [text]) => time_read(alloc, text.as_str()),

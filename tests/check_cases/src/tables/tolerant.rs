@@ -4,8 +4,8 @@ use crate::tables::commands::fault_told;
 use anyhow::{Result, bail};
 use json::Scratch;
 use json_data::read_value;
-use ocpp_payload::{Action, MeterValue, Request, SampledValue};
-use ocpp_types::{Moment, Named};
+use ocpp_payload::{Action, MeterValue, Request};
+use ocpp_types::{Moment, Named, SampledValue};
 use repairs::{Reading, read_tolerant};
 use std::alloc::Global;
 

@@ -1,7 +1,8 @@
-//! Tables of moments, times, numbers and names.
+//! Tables of moments, times, numbers, sampled values and names.
 
 use anyhow::{Result, bail};
 use hub_rows::are_operators;
+use meter_values::{read_sampled, write_sampled};
 use ocpp_types::{
     Moment, Named, TagKey, Text, UnitOfMeasure, count_characters, parse_time, print_time,
     read_micro,
@@ -32,6 +33,17 @@ pub fn number_of_reading(alloc: Global, unit: &str, text: &str) -> Result<String
     }
     match read_micro(text, of) {
         Some(millionths) => Ok(millionths.to_string(alloc)?),
+        None => Ok("none".to_string(alloc)?),
+    }
+}
+
+/// The text of the sampled values that a text is, or `none` if it isn't read.
+pub fn sampled_values(alloc: Global, text: &str) -> Result<String> {
+    match read_sampled(alloc, text)? {
+        Some(sampled) => {
+            let text = write_sampled(alloc, sampled.as_slice())?;
+            Ok(text.as_str().to_string(alloc)?)
+        }
         None => Ok("none".to_string(alloc)?),
     }
 }

@@ -5,9 +5,10 @@ use Rattle.pending_calls.specs.Slots.{slot_at}
 use Rattle.registry.specs.StationDropped.{station_drop_rule}
 use Rattle.station_calls.specs.Book.{book_answers, book_rows}
 use Rattle.hub_events.specs.declared.event.What.{What}
-use Rattle.event_plans.specs.Plans.{edit_plan}
-use Rattle.event_plans.specs.Table.{facts_of, plan}
-use Rattle.event_plans.proofs.Readiness.{ready_at}
+use Rattle.plans.specs.Plans.{edit_plan}
+use Rattle.plans.specs.Facts.{facts_of}
+use Rattle.event_plans.specs.Table.{plan}
+use Rattle.plans.proofs.Readiness.{ready_at}
 use Rattle.event_plans.proofs.event_plan.plan_any.Goals as goal
 
 pub returns-in-List-clause-ready : goal.returns-in-List-clause-ready

@@ -1,6 +1,6 @@
 use Rattle.std.proofs.Common.{◌≡◌, ◌∙◌, ap, sym}
 use Rattle.pending_calls.specs.Slots.{all_slots, first_number}
-use Rattle.event_plans.specs.declared.plan.Effect.TheVariants as effect
+use Rattle.plans.specs.declared.plan.Effect.TheVariants as effect
 use Rattle.hub.specs.Effects.{slots_after}
 use Rattle.hub.proofs.commit.apply.Goals as goal
 

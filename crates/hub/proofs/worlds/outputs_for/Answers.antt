@@ -1,7 +1,7 @@
 use Rattle.std.proofs.Common.{◌≡◌, ℕ, List, ◌<◌, length, slice_index_or, false, subst}
 use Rattle.std.specs.Option.{IfSome}
 use Rattle.hub_events.specs.declared.event.Event.{Event}
-use Rattle.hub.specs.declared.fault.Fault.TheVariants as fault
+use Rattle.hub_events.specs.declared.fault.Fault.TheVariants as fault
 use Rattle.hub.specs.Hub.{setting, is_taken}
 use Rattle.hub.specs.World.{Setting}
 use Rattle.hub.proofs.worlds.outputs_for.Goals as goal

@@ -31,7 +31,7 @@ returns-in_ok-from_str-in-Do-clause-said c op moment says =
             | inl connections ↦ ap is_order connections
             | inr rest ↦ elim rest [
               | inl drop ↦ ap is_order drop.1
-              | inr forget ↦ ap is_order forget.2
+              | inr forget ↦ ap is_order forget.3
             ]
           ]
         ]

@@ -1,20 +1,36 @@
-use Rattle.std.proofs.Common.{◌≡◌, [], ◌∷◌, ℕ, List, length, refl, subst, sym}
+use Rattle.std.proofs.Common.{rules, ◌≡◌, ◌∙◌, ◌+◌, [], ◌∷◌, drop, get_or, refl, subst, sym}
+use Rattle.std.proofs.lemmas.List.{drop_all, drop_more}
 use Rattle.sqlite.specs.Held.{state}
-use Rattle.hub_rows.specs.Forgetting.{has_number}
 use Rattle.sql_rows.specs.TypedTables.{rows_of}
-use Rattle.sql_edits.specs.Forget.{dropped}
-use Rattle.sql_edits.proofs.Forgotten.{dropped_none}
-use Rattle.sql_edits.proofs.Making.{makes_none}
+use Rattle.sql_edits.proofs.Forgotten.{AreBut, dropped_none, one_less}
+use Rattle.sql_edits.proofs.Making.{makes_also, makes_fails, makes_none, makes_then}
 use Rattle.sql_edits.proofs.forget.drop_rows.Goals as goal
 
-is_empty : (xs : List ℕ) → length xs ≡ 0 → xs ≡ []
-is_empty [] none = refl
-is_empty (x ∷ xs) none = absurd cc
+pub numbers-init : goal.numbers-init
+numbers-init g c = makes_none refl
 
-pub returns-in-None : goal.returns-in-None
-returns-in-None g c =
+pub numbers-preserved : goal.numbers-preserved
+numbers-preserved g c =
+    let all = c.args.numbers.now in
+    let k = c.numbers.number-index in
+    let x = get_or all k 0 in
+    let old = (state g.S.Store c.args.tx.now.conn.now).now.trees in
+    let mid = (state g.S.Store c.numbers.tx.conn.now).now.trees in
+    let new = (state g.S.Store c.drop_row.new.tx.conn.now).now.trees in
+    let next : drop k all ≡ x ∷ drop (k + 1) all = search (rules, drop_more) in
+    makes_then c.numbers.invariant c.in_ok-drop_row.ensures.makes
+    (λ inside up so_far made. one_less c.args.history c.args.op.now c.args.station.now x (drop (k + 1) all) all old mid new (subst (λ left. AreBut c.args.history c.args.op.now c.args.station.now left all old mid) next so_far) made)
+
+pub returns : goal.returns
+returns g c =
     let history = c.args.history in
     let op = c.args.op.now in
     let station = c.args.station.now in
-    let all = rows_of (state g.S.Store c.args.tx.now.conn.now).now.trees in
-    record { makes = makes_none (λ order. sym (subst (λ ns. dropped history op station (has_number ns) all ≡ all) (sym (is_empty c.args.numbers.now c.in-None.ensures.cases)) (dropped_none history op station all))) }
+    let all = c.args.numbers.now in
+    let old = (state g.S.Store c.args.tx.now.conn.now).now.trees in
+    let new = (state g.S.Store c.numbers.tx.conn.now).now.trees in
+    let none : drop c.numbers.number-index all ≡ [] = search (rules, drop_all) in
+    record { makes = makes_also c.numbers.invariant (λ inside up so_far. sym (dropped_none history op station (rows_of new)) ∙ subst (λ left. AreBut history op station left all old new) none so_far) }
+
+pub returns-in_err-drop_row : goal.returns-in_err-drop_row
+returns-in_err-drop_row g c = record { makes = makes_fails c.numbers.invariant c.in_err-drop_row.ensures.makes c.from_residual.ensures.0 }

@@ -1,8 +1,8 @@
-use Rattle.std.proofs.Common.{◌≡◌, ◌<◌, ◌∙◌, arith, sym}
+use Rattle.std.proofs.Common.{◌<◌, ◌∙◌, arith, sym}
 use Rattle.sqlite.specs.Held.{state}
 use Rattle.sql_rows.specs.Opening.{values_form}
 use Rattle.sql_rows.proofs.RaisingLemmas.{from_before, from_values}
-use Rattle.sql_edits.specs.Moving.{IsKeptFrom, IsUnmoved, IsUnmovedFrom}
+use Rattle.sql_edits.specs.Moving.{IsKeptFrom}
 use Rattle.sql_edits.proofs.Making.{makes_as, makes_if, makes_none}
 use Rattle.sql_edits.proofs.moving.move_from.Goals as goal
 

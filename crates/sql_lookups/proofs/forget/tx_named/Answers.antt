@@ -3,7 +3,7 @@ use Rattle.std.specs.Int.{is_negative}
 use Rattle.std.specs.Str.{bytes_eq}
 use Rattle.hub_rows.specs.Forgetting.{named_tx}
 use Rattle.hub_rows.specs.Transactions.{txs_in}
-use Rattle.hub_rows.proofs.LastReadingLaws.{named-none, named-some}
+use Rattle.hub_rows.proofs.ForgetLaws.{named-none, named-some}
 use Rattle.hub_rows.proofs.NumberLaws.{found-those}
 use Rattle.sql_rows.specs.TypedTables.{rows_of}
 use Rattle.sql_lookups.proofs.Asking.{asks_also, asks_none}

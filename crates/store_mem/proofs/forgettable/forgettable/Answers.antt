@@ -1,28 +1,40 @@
-use Rattle.std.proofs.Common.{◌≡◌, ◌-◌, List, ℕ, length, map, filter, take, drop, ap, sym, ◌∙◌, refl}
-use Rattle.std.proofs.lemmas.List.{length-map, take-append-drop}
-use Rattle.hub_rows.specs.declared.forgettable.TheConstants.{MAX_FORGOTTEN}
-use Rattle.hub_rows.specs.declared.reading_row.ReadingRow.{ReadingRow}
-use Rattle.hub_rows.specs.Forgetting.{may_go, tx_goes}
-use Rattle.hub_rows.proofs.LastReadingLaws.{gone, by-room}
+use Rattle.std.proofs.Common.{◌≡◌, ◌==◌, ℕ, List, [], ◌∷◌, false, true, length, arith, ap, sym, ◌∙◌}
+use Rattle.std.proofs.lemmas.Bool.{true≢false}
+use Rattle.std.proofs.lemmas.Bool.Decides.{Decides-eqb}
+use Rattle.std.specs.List.{filter}
+use Rattle.hub_rows.specs.declared.forgettable.History.{History}
+use Rattle.hub_rows.specs.declared.meter_value_row.MeterValueRow.{MeterValueRow}
+use Rattle.hub_rows.specs.declared.tx_row.TxRow.{TxRow}
+use Rattle.hub_rows.specs.Forgetting.{may_go, old_meter_values, old_rows, old_txs, tx_goes}
 use Rattle.store_mem.proofs.forgettable.forgettable.Goals as goal
+
+abbrev history : List MeterValueRow → List TxRow → History
+history values txs = record { meter_values = values; transactions = txs }
+
+some-old : (until : ℕ) (txs left : List TxRow) (values gone : List MeterValueRow) → (length gone == 0) ≡ false → left ≡ [] → history gone left ≡ old_rows until txs values gone
+some-old until txs left values [] some none = absurd (true≢false some)
+some-old until txs left values (v ∷ vs) some none = ap (history (v ∷ vs)) none
+
+none-old : (until : ℕ) (txs left : List TxRow) (values gone : List MeterValueRow) → (length gone == 0) ≡ true → left ≡ old_txs until txs values → history gone left ≡ old_rows until txs values gone
+none-old until txs left values [] none are = ap (history []) are
+none-old until txs left values (v ∷ vs) none are = let no : length (v ∷ vs) ≡ 0 = (Decides-eqb (length (v ∷ vs)) 0).0 none in absurd (omega (arith, no))
+
+pub returns-then-not-is_empty : goal.returns-then-not-is_empty
+returns-then-not-is_empty c =
+    let until = c.args.until in
+    let txs = c.args.txs.now in
+    let values = c.args.values.now in
+    let gone = c.in_ok-meter_values.meter_values in
+    let old : gone ≡ old_meter_values until txs values = c.in_ok-meter_values.ensures ∙ ap (filter (may_go until txs)) c.oldest.ensures in
+    let some : (length gone == 0) ≡ false = ap (λ rs. length rs == 0) (sym c.as_slice.ensures) ∙ sym c.is_empty.ensures ∙ c.if-not-is_empty.true in
+    some-old until txs c.new.result values gone some c.new.ensures ∙ ap (old_rows until txs values) old
 
 pub returns : goal.returns
 returns c =
     let until = c.args.until in
     let txs = c.args.txs.now in
-    let rs = c.args.readings.now in
-    let n = length rs - 1 in
-    let k = length txs - 1 in
-    let rows : List ReadingRow = take MAX_FORGOTTEN (filter (may_go until txs) (take n rs)) in
-    let dropped : List ℕ = gone until MAX_FORGOTTEN txs c.requires (take n rs) (drop n rs) in
-    let front = c.split_at.ensures.front ∙ ap (λ m. take m rs) c.saturating_sub.ensures in
-    let back = c.split_at.ensures.back ∙ ap (λ m. drop m rs) c.saturating_sub.ensures in
-    let front_txs = c.split_at-2.ensures.front ∙ ap (λ m. take m txs) c.saturating_sub-2.ensures in
-    let readings : c.in_ok-gone.gone ≡ rows = c.in_ok-gone.ensures.rows ∙ ap (λ xs. take MAX_FORGOTTEN (filter (may_go until txs) xs)) front in
-    let numbers : c.in_ok-numbers.numbers ≡ dropped = c.in_ok-numbers.ensures ∙ ap (map (λ r. r.number)) (c.as_slice.ensures ∙ readings) in
-    let room : MAX_FORGOTTEN - length rows ≡ MAX_FORGOTTEN - length dropped = ap (λ m. MAX_FORGOTTEN - m) (sym (length-map rows (λ (r : ReadingRow). r.number))) in
-    let transactions = c.in_ok-transactions.ensures
-    ∙ (λ i. take (MAX_FORGOTTEN - length ((c.as_slice-2.ensures ∙ readings) i)) (filter (tx_goes until (back i) ((c.as_slice-3.ensures ∙ numbers) i)) (front_txs i)))
-    ∙ by-room until MAX_FORGOTTEN txs c.requires (take n rs) (drop n rs) (MAX_FORGOTTEN - length rows) room k
-    ∙ ap (λ xs. take (MAX_FORGOTTEN - length rows) (filter (tx_goes until xs dropped) (take k txs))) (take-append-drop n rs) in
-    λ i. record { readings = readings i; transactions = transactions i }
+    let values = c.args.values.now in
+    let gone = c.in_ok-meter_values.meter_values in
+    let old : gone ≡ old_meter_values until txs values = c.in_ok-meter_values.ensures ∙ ap (filter (may_go until txs)) c.oldest.ensures in
+    let none : (length gone == 0) ≡ true = ap (λ rs. length rs == 0) (sym c.as_slice.ensures) ∙ sym c.is_empty.ensures ∙ c.if-not-is_empty.false in
+    none-old until txs c.in_ok-transactions.transactions values gone none (c.in_ok-transactions.ensures ∙ ap (filter (tx_goes until values)) c.oldest-2.ensures) ∙ ap (old_rows until txs values) old

@@ -2,7 +2,7 @@ use Rattle.std.proofs.Common.{◌≡◌, ◌==◌, true, false, find, unsigned_a
 use Rattle.std.specs.Int.{is_negative}
 use Rattle.hub_rows.specs.Forgetting.{named_tx}
 use Rattle.store_mem.proofs.forgettable.named_tx.Goals as goal
-use Rattle.hub_rows.proofs.LastReadingLaws.{named-none, named-some}
+use Rattle.hub_rows.proofs.ForgetLaws.{named-none, named-some}
 
 pub returns-in-Some : goal.returns-in-Some
 returns-in-Some c =

@@ -1,20 +1,21 @@
-use Rattle.std.proofs.Common.{◌≡◌, ◌<◌, ◌+◌, ◌++◌, ◌∷◌, [], length, arith, ap, sym, subst, ◌∙◌}
-use Rattle.store_mem.proofs.FirstLaws.{AreFirst, one-found, none-here}
+use Rattle.std.proofs.Common.{◌≡◌, ◌+◌, ◌++◌, ◌∷◌, [], ◌&&◌, not, cond, drop, ap, sym, ◌∙◌, append_assoc}
+use Rattle.std.specs.List.{filter}
+use Rattle.hub_rows.specs.Forgetting.{is_over, tx_goes}
+use Rattle.hub_rows.proofs.Steps.{drop_here}
 use Rattle.store_mem.proofs.forgettable.old_txs.Goals as goal
-use Rattle.store_mem.proofs.forgettable.old_txs.Goals.{then-tx_goes+in_ok-copy+in_ok-push, else-tx_goes}
-use Rattle.hub_rows.specs.Forgetting.{tx_goes}
+use Rattle.store_mem.proofs.forgettable.old_txs.Goals.{then-goes+in_ok-copy+in_ok-push, else-goes}
 
 pub loop-tx-preserved : goal.loop-tx-preserved
 loop-tx-preserved c =
-    let p = tx_goes c.args.until c.args.readings.now c.args.gone.now in
     let l = c.loop-tx in
-    elim c.if-tx_goes.branch [
-      | then-tx_goes+in_ok-copy+in_ok-push w ↦
-          let same : length c.as_slice.result.now ≡ length l.ended = ap length c.as_slice.ensures in
-          let room : length l.ended < c.args.most = omega (arith, c.if-as_slice-most.false, same, l.invariant.bound) in
-          one-found p c.args.most c.args.txs.now l.ended c.if-tx_goes.ended l.tx-index c.tx-item.result l.invariant c.loop-tx-test.true c.tx-item.is (sym c.tx_goes.ensures ∙ w.if-tx_goes.true) room
-          (w.ended-is ∙ w.in_ok-push.ensures.ok ∙ ap (λ x. l.ended ++ x ∷ []) w.in_ok-copy.ensures)
-      | else-tx_goes w ↦
-          subst (λ f. AreFirst p c.args.most c.args.txs.now f (l.tx-index + 1)) (sym w.ended-is)
-          (none-here p c.args.most c.args.txs.now l.ended l.tx-index c.tx-item.result l.invariant c.loop-tx-test.true c.tx-item.is (sym c.tx_goes.ensures ∙ w.if-tx_goes.false))
+    let tx = c.tx-item.result in
+    let p = tx_goes c.args.until c.args.values.now in
+    let rest = filter p (drop (l.tx-index + 1) c.args.txs.now) in
+    let same : c.goes.result ≡ p tx = c.goes.ensures ∙ ap (λ b. is_over c.args.until tx && not b) (c.in_ok-named.ensures tx.number) in
+    let left = ap (filter p) (drop_here c.args.txs.now l.tx-index tx c.loop-tx-test.true c.tx-item.is) ∙ ap (λ b. cond b (tx ∷ rest) rest) (sym same) in
+    elim c.if-goes.branch [
+      | then-goes+in_ok-copy+in_ok-push w ↦
+          ap (λ ts. ts ++ rest) (w.gone-is ∙ w.in_ok-push.ensures.ok ∙ ap (λ t. l.gone ++ t ∷ []) w.in_ok-copy.ensures) ∙ append_assoc l.gone (tx ∷ []) rest
+          ∙ ap (λ ts. l.gone ++ ts) (sym (left ∙ ap (λ b. cond b (tx ∷ rest) rest) w.if-goes.true)) ∙ l.invariant
+      | else-goes w ↦ ap (λ ts. ts ++ rest) w.gone-is ∙ ap (λ ts. l.gone ++ ts) (sym (left ∙ ap (λ b. cond b (tx ∷ rest) rest) w.if-goes.false)) ∙ l.invariant
     ]

@@ -1,5 +1,5 @@
 use Rattle.std.proofs.Common.{subst, sym, ap, ◌∙◌}
-use Rattle.hub_rows.specs.Transactions.{last_reading_in}
+use Rattle.hub_rows.specs.MeterValues.{last_reading_in}
 use Rattle.cached.specs.Answers.{AreRight}
 use Rattle.cached.specs.ReadingAnswers.{digest_of_reading, IsLast}
 use Rattle.cached.specs.StationAnswers.{digest_of_station, IsRegistered}
@@ -21,5 +21,5 @@ invariant_of-self-in-Ok g c =
           let same = reads.kept clean in
           let found = c.in_ok-last.ensures.found clean in
           c.keep.ensures rows (subst (λ rows. AreRight digest_of_reading IsLast rows s.readings) (sym same) (s.readings_right (reads.was_clean clean)))
-          (right_last rows c.in-Ok.answer op station c.in_ok-last.last c.in-Ok.ensures.about c.in-Ok.ensures.last (found ∙ ap (λ rs. last_reading_in op station rs.readings) (sym same)));
+          (right_last rows c.in-Ok.answer op station c.in_ok-last.last c.in-Ok.ensures.about c.in-Ok.ensures.last (found ∙ ap (λ rs. last_reading_in op station rs.meter_values) (sym same)));
     }

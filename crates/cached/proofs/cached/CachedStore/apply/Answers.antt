@@ -42,5 +42,5 @@ invariant_of-self-2 g c =
       readings_right = λ clean.
           let was = c.apply.ensures.counted.was_clean clean in
           let made = c.in_ok-apply.ensures.ok clean in
-          subst (λ rs. AreRight digest_of_reading IsLast rs c.keep_last.new.readings) (sym made) (c.keep_last.ensures rows (c.requires was) (c.drop_touched-2.ensures.after rows (s.readings_right was)));
+          subst (λ rs. AreRight digest_of_reading IsLast rs c.keep_last.new.readings) (sym made) (c.keep_last.ensures rows (g.met.S.Store.well_formed s.store was) (c.requires was) (c.drop_touched-2.ensures.after rows (s.readings_right was)));
     }

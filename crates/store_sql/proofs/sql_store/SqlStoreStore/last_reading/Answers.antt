@@ -1,7 +1,7 @@
 use Rattle.std.proofs.Common.{◌≡◌}
 use Rattle.sqlite.specs.Held.{state}
-use Rattle.hub_rows.specs.Transactions.{last_reading_in}
-use Rattle.store_sql.proofs.StoreLaws.{finds_sorted, kept_still, reads}
+use Rattle.hub_rows.specs.MeterValues.{last_reading_in}
+use Rattle.store_sql.proofs.StoreLaws.{finds, kept_still, reads}
 use Rattle.store_sql.proofs.sql_store.SqlStoreStore.last_reading.Goals as goal
 
 pub invariant_of-self : goal.invariant_of-self
@@ -11,4 +11,4 @@ pub returns-clause-reads : goal.returns-clause-reads
 returns-clause-reads g c = reads g.A.Store (record { survives = g.met.A.Store.survives; shut = g.met.A.Store.shut_if_dirty; stays = g.met.A.Store.stays }) c.self.view_is c.self.invariant c.last_reading-found.ensures.asks c.counted.ensures.taken c.counted.ensures.conn c.counted.ensures.same c.counted.ensures.failed c.counted.ensures.count
 
 pub returns-clause-found : goal.returns-clause-found
-returns-clause-found g c = finds_sorted g.A.Store (λ rows n. n ≡ last_reading_in c.args.op.now c.args.station.now rows.readings) (returns-clause-reads g c) c.self.view_is c.self.invariant c.last_reading-found.ensures.asks c.counted.ensures.taken c.counted.ensures.conn c.counted.ensures.same
+returns-clause-found g c = finds g.A.Store (λ rows n. n ≡ last_reading_in c.args.op.now c.args.station.now rows.meter_values) c.self.view_is c.self.invariant c.last_reading-found.ensures.asks c.counted.ensures.taken c.counted.ensures.conn c.counted.ensures.same

@@ -1,6 +1,0 @@
-use Rattle.std.proofs.Common.{◌≡◌}
-use Rattle.event_plans.specs.Listing.{current}
-use Rattle.event_plans.proofs.list.current.Given as goal
-
-abbrev pub invariant-loop-row : goal.invariant-loop-row
-invariant-loop-row l = l.list ≡ current l.moment l.yielded

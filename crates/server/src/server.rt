@@ -1,0 +1,493 @@
+//! The server.
+
+use crate::measured::connected_of;
+use crate::prepared::Prepared;
+use crate::service::Service;
+use crate::stop_file::StopFile;
+use clients::now;
+use command_line::{JournalOptions, VERSION};
+use hub::{Fault, Hub};
+use hub_rows::Store;
+use journal::Journal;
+use journal_file::{KeptJournal, begin_journal};
+use ocpp_types::{Mem, Moment, Text};
+use ready_streams::{ReadyStream, Streams};
+use runs::RunFault;
+use station_calls::VendorHandler;
+use std::alloc::Global;
+use std::fmt::Display;
+use std::net::SocketAddr;
+use std::rc::Rc;
+use std::time::{Duration, Instant};
+use telemetry::{Counts, Metrics, ServerLog, now_of, page_of};
+use ws_peers::Route;
+use ws_server::{Gateway, Lobby};
+
+/// The most seconds between two turns. Calls that stations leave unanswered end in such turns.
+const MAX_WAIT: u64 = 1;
+
+/// The nanoseconds after a turn that ended in a fault, if nothing is reported meanwhile.
+const PAUSE: u64 = 10_000_000;
+
+/// The nanoseconds in which a turn begins to serve connections; where more have passed since it began, as many as those,
+/// since what a turn does first takes as long as there are connections to read. Those that are left are served in the next
+/// one, after what is reported meanwhile.
+const SERVES: u64 = 1_000_000;
+
+/// The nanoseconds that peers have at most, as the server ends, to take what waits for them.
+const LAST_WAIT: u64 = 2_000_000_000;
+
+/// Those that they have at least: a stream that is closed while bytes wait to be read is reset, and drops what is on its way.
+const LEAST_WAIT: u64 = 300_000_000;
+
+/// The seconds after a fault of the store in which health checks are answered 503.
+const HURT: u64 = 60;
+
+/// The seconds of silence after which a peer is sent a Ping.
+const PING_AFTER: u64 = 120;
+
+/// The seconds after a Ping in which a peer that stays silent loses its connection.
+const ANSWER_WITHIN: u64 = 120;
+
+/// The bytes that are set aside for the case that memory runs out.
+const RESERVE: usize = 65_536;
+
+/// The most connections that a turn accepts.
+const MAX_ACCEPTS: usize = 64;
+
+/// A server as it runs.
+#[derive(Drop)]
+pub struct Server<S, V> {
+    alloc: Global,
+    /// Where it listens.
+    address: SocketAddr,
+    hub: Hub<S, V>,
+    gateway: Gateway<ReadyStream>,
+    lobby: Lobby<ReadyStream>,
+    streams: Streams,
+    /// The moment of the last turn.
+    moment: Moment,
+    /// When it began.
+    begun: Instant,
+    /// The nanoseconds since then, as they were read last.
+    now: u64,
+    /// The seconds since then, in the last turn.
+    second: u64,
+    service: Service,
+    log: ServerLog,
+    metrics: Metrics,
+    /// The metrics as they were printed last, and in which second.
+    page: Option<(u64, String)>,
+    /// The most connections of stations that an operator has.
+    most_stations: u64,
+    journal: KeptJournal,
+    /// The path of the file of the records.
+    db: Text,
+    stop_file: StopFile,
+    /// Accepting a connection failed in this second. It isn't tried again in it.
+    failed_accept: bool,
+    /// The last turn ended in a fault.
+    has_faulted: bool,
+    /// The second in which the store failed last, though it still answers.
+    hurt: Option<u64>,
+    /// The store answers no more. Nothing is handed to the hub.
+    is_store_shut: bool,
+    /// Memory that is set aside. It is given up after an event that found none, so that connections can end, and no
+    /// connection is accepted until it is set aside again.
+    reserve: Option<Vec<u8>>,
+}
+
+impl<S: Store + Drop, V: VendorHandler> Server<S, V> {
+    /// A server over a hub, which begins to take connections from these streams.
+    pub fn new(
+        hub: Hub<S, V>,
+        streams: Streams,
+        prepared: Prepared,
+        log: ServerLog,
+    ) -> Server<S, V> {
+        let Prepared {
+            alloc,
+            address,
+            moment,
+            begun,
+            service,
+            metrics,
+            lobby,
+            most_stations,
+            db,
+            stop_file,
+        } = prepared;
+        Server {
+            alloc,
+            address,
+            hub,
+            gateway: gateway_with_notes(alloc),
+            lobby,
+            streams,
+            moment,
+            begun,
+            now: 0,
+            second: 0,
+            service,
+            log,
+            metrics,
+            page: None,
+            most_stations,
+            journal: KeptJournal::none(),
+            db,
+            stop_file,
+            failed_accept: false,
+            has_faulted: false,
+            hurt: None,
+            is_store_shut: false,
+            reserve: set_aside(alloc).ok(),
+        }
+    }
+
+    /// Keeps a journal from now on, in which the server begins with those operators. What is taken is in its file before peers
+    /// are told of it.
+    pub fn keep_journal(
+        &mut self,
+        rt: &HostRuntime,
+        options: &JournalOptions,
+        journal: Rc<Journal>,
+    ) -> Result<(), RunFault> {
+        begin_journal(rt, options, self.hub.hosted(), &journal)?;
+        self.gateway.set_journal(Rc::clone(&journal)?);
+        self.streams.hold();
+        let operators = self.hub.hosted();
+        self.journal.keep(self.alloc, journal, options, operators)?;
+        Ok(())
+    }
+
+    /// Writes the line with which its log begins.
+    pub fn tell_start(&mut self, text: &str) {
+        self.log.write_line(self.moment, text);
+    }
+
+    /// Makes that many turns, without waiting, or goes on until it is ended. It ends where the database is shut, as it is
+    /// after a failed sync until it is opened anew, and where its file is found that ends it.
+    pub fn run(&mut self, rt: &HostRuntime, turns: Option<u32>) -> Result<(), RunFault> {
+        for _ in 0..turns.map_or(u64::MAX, u64::from) {
+            self.wait(rt, turns.is_none())?;
+            let began = self.read_clock(rt);
+            self.tick(rt)?;
+            self.turn(rt);
+            self.write_log();
+            let took = self.read_clock(rt).saturating_sub(began);
+            self.metrics.turn.add(took, self.second);
+            self.journal.go_on(rt, self.now, self.moment)?;
+            if self.is_store_shut {
+                return Err(RunFault::Store);
+            }
+            if self.stop_file.is_there(rt, self.now) {
+                return self.end(rt);
+            }
+        }
+        Ok(())
+    }
+
+    /// Reads the nanoseconds since the start.
+    fn read_clock(&mut self, rt: &HostRuntime) -> u64 {
+        let nanoseconds = self.begun.elapsed(rt).map_or(0, |time| time.as_nanos());
+        let now = u64::try_from(nanoseconds).unwrap_or(u64::MAX);
+        self.now = self.now.max(now);
+        self.now
+    }
+
+    /// Ends: what was read is answered, and nothing more is read. Connections are closed with the code 1001. Their peers
+    /// have two seconds to take what waits for them.
+    fn end(&mut self, rt: &HostRuntime) -> Result<(), RunFault> {
+        let count = self.gateway.count();
+        self.gateway.end_all();
+        self.streams.end_turn();
+        self.wait_for_peers(rt)?;
+        self.stop_file.remove(rt);
+        let text = format!(in self.alloc; "central ends: {count} connections closed")?;
+        self.log.write_line(self.moment, text.as_str());
+        Ok(())
+    }
+
+    /// Waits until peers have taken what waits for them, within bounds.
+    fn wait_for_peers(&mut self, rt: &HostRuntime) -> Result<(), RunFault> {
+        let begun = self.read_clock(rt);
+        for _ in 0..u64::MAX {
+            let waited = self.read_clock(rt).saturating_sub(begun);
+            let is_taken = self.streams.count_unsent() == 0 && waited >= LEAST_WAIT;
+            if is_taken || waited >= LAST_WAIT {
+                break;
+            }
+            if let Err(error) = self.streams.wait(Duration::from_millis(100)) {
+                return Err(RunFault::at(self.address, error));
+            }
+            self.streams.end_turn();
+        }
+        Ok(())
+    }
+
+    /// Takes the system's reports on streams. It waits for one where nothing can be done without.
+    fn wait(&mut self, rt: &HostRuntime, may_wait: bool) -> Result<(), RunFault> {
+        let time = if may_wait {
+            self.pause()
+        } else {
+            Duration::from_secs(0)
+        };
+        let before = self.now;
+        let waited = self.streams.wait(time);
+        let idle = self.read_clock(rt).saturating_sub(before);
+        self.metrics.idle = self.metrics.idle.saturating_add(idle);
+        waited.map_err(|error| RunFault::at(self.address, error))
+    }
+
+    /// How long nothing can be done, if nothing is reported: until the operators that rest are served again, and 10 ms
+    /// after a turn that ended in a fault, so that a fault that stays doesn't take a whole processor.
+    fn pause(&mut self) -> Duration {
+        let longest = Duration::from_secs(MAX_WAIT);
+        let accepts = self.may_accept() && self.lobby.has_room(self.second);
+        let least = if self.has_faulted { PAUSE } else { 0 };
+        if accepts && self.streams.may_accept() {
+            return Duration::from_nanos(least);
+        }
+        let places = self.streams.readable_peers();
+        match self.service.pause(&self.gateway, places, self.now) {
+            Some(pause) => Duration::from_nanos(pause.max(least)).min(longest),
+            None => longest,
+        }
+    }
+
+    /// Reads the clocks. A moment is never before that of the turn before, so that a clock that is set back ends no
+    /// call before its time. What becomes of connections goes by the seconds since the start, which no clock that is set
+    /// moves. In a new one the streams that are gone are closed, and silent peers are found.
+    fn tick(&mut self, rt: &HostRuntime) -> Result<(), RunFault> {
+        let moment = now(rt).ok_or(RunFault::Clock)?;
+        if moment > self.moment {
+            self.moment = moment;
+        }
+        let second = self.now / 1_000_000_000;
+        if second != self.second {
+            self.second = second;
+            self.failed_accept = false;
+            self.streams.release_all();
+            if self.reserve.is_none() {
+                self.reserve = set_aside(self.alloc).ok();
+            }
+            self.lobby.set_hurt(is_recent(self.hurt, second));
+            self.log.begin_second(moment);
+            self.count_stations();
+            self.probe();
+        }
+        Ok(())
+    }
+
+    /// Sends a Ping to the peers that are silent, and ends the connections of those that stay silent after one: their
+    /// system or the way to it may be gone without a word. What is read of a peer ends its silence.
+    fn probe(&mut self) {
+        self.streams.set_second(self.second);
+        self.streams.find_silent(PING_AFTER, ANSWER_WITHIN);
+        self.gateway.ping(self.streams.to_ping());
+        self.gateway.end_silent(self.streams.to_end());
+    }
+
+    /// One turn: accepts connections, polls those that wait, and serves peers whose streams may be read. Where the database
+    /// is shut, all connections are closed. What was written is then given to the system, once the journal has what was taken.
+    fn turn(&mut self, rt: &HostRuntime) {
+        if let Err(fault) = self.accept() {
+            self.failed_accept = true;
+            if self.tell_fault(&fault, matches!(&fault, RunFault::NoMemory)) {
+                let _lost = fault.write_detail(rt);
+            }
+        }
+        let welcomed = self
+            .lobby
+            .serve(&mut self.gateway, &mut self.hub, self.moment, self.second);
+        self.has_faulted = false;
+        self.report(welcomed);
+        if self.lobby.has_readers() {
+            self.answer_readers(rt);
+        }
+        if !self.is_store_shut {
+            self.serve_some(rt);
+        }
+        if !self.is_store_shut {
+            let ended = self.gateway.turn(&mut self.hub, self.moment, &[]);
+            self.report(ended);
+        }
+        if self.is_store_shut {
+            self.gateway.fail_all();
+        }
+        if self.journal.write() {
+            self.streams.end_turn();
+        }
+    }
+
+    /// Tells the fault of a turn, if it ended in one. That of a store that is shut is told as the server ends.
+    fn report(&mut self, answer: Result<(), Fault>) {
+        let Err(fault) = answer else {
+            return;
+        };
+        self.has_faulted = !matches!(fault, Fault::TooLong);
+        if matches!(fault, Fault::Store) {
+            self.hurt = Some(self.second);
+            self.lobby.set_hurt(true);
+            self.is_store_shut = matches!(self.hub.probe(), Err(Fault::Store));
+        }
+        if !self.is_store_shut {
+            let _told = self.tell_fault(&fault, matches!(fault, Fault::NoMemory));
+        }
+    }
+
+    /// Writes a fault to standard error, and gives up the memory that is set aside where none was found. It gives whether the
+    /// fault was written.
+    fn tell_fault<F: Display>(&mut self, fault: &F, found_no_memory: bool) -> bool {
+        if found_no_memory {
+            self.reserve = None;
+        }
+        self.log.write_fault(fault)
+    }
+
+    /// Answers those that ask for the metrics, which are printed once in a second at most.
+    fn answer_readers(&mut self, rt: &HostRuntime) {
+        let is_new = self.page.as_ref().is_none_or(|page| page.0 != self.second);
+        if is_new {
+            let second = self.second;
+            self.page = self.print_page(rt).ok().map(|text| (second, text));
+        }
+        let text = self.page.as_ref().map_or("", |page| page.1.as_str());
+        self.lobby.answer_readers(text);
+    }
+
+    fn print_page(&self, rt: &HostRuntime) -> Mem<String> {
+        let connected = connected_of(self.alloc, &self.service, &self.gateway, &self.hub)?;
+        let mut now = now_of(rt, self.db.as_str())?;
+        now.since_start = self.now;
+        now.waiting = self.lobby.count() as u64;
+        now.unsent = self.streams.count_unsent() as u64;
+        now.left_out = self.log.left_out();
+        page_of(
+            self.alloc,
+            VERSION,
+            &self.metrics,
+            connected.as_slice(),
+            &now,
+        )
+    }
+
+    /// Serves connections that have something to read, until none has, the time for it is over, or an event ends in a
+    /// fault. Each operator is charged for the time of its events, and the one that was charged least is next.
+    fn serve_some(&mut self, rt: &HostRuntime) {
+        let turn = self.now;
+        let places = self.streams.readable_peers();
+        self.service.begin(&self.gateway, places);
+        let begun = self.read_clock(rt);
+        let time = SERVES.max(begun.saturating_sub(turn));
+        for _ in 0..u64::MAX {
+            let Some((owner, place)) = self.service.next(self.now) else {
+                return;
+            };
+            let served = self.serve_one(rt, owner, place);
+            let is_over = served.is_err() || self.now.saturating_sub(begun) >= time;
+            self.report(served);
+            if is_over {
+                return;
+            }
+        }
+    }
+
+    /// Serves the connection at a place, if it is one of that operator, and charges the operator for it.
+    fn serve_one(&mut self, rt: &HostRuntime, owner: usize, place: usize) -> Result<(), Fault> {
+        if place >= self.gateway.count() {
+            return Ok(());
+        }
+        if self.service.owner_of(&self.gateway, place) != Some(owner) {
+            return Ok(());
+        }
+        let before = self.now;
+        let taken = self.gateway.taken();
+        let is_station = matches!(self.gateway.route(place), Some(Route::Station(_, _)));
+        let served = self.gateway.serve(&mut self.hub, place, self.moment);
+        let events = self.gateway.taken().wrapping_sub(taken);
+        let cost = self.read_clock(rt).saturating_sub(before);
+        self.metrics
+            .serve(owner, is_station, events, cost, self.second);
+        self.service.charge(&self.gateway, owner, cost, self.now);
+        served
+    }
+
+    /// Counts the notes of a turn, and writes them to the log.
+    fn write_log(&mut self) {
+        let refused = self.lobby.take_notes();
+        self.metrics.note(refused.as_slice());
+        self.log.write_notes(self.moment, refused.as_slice());
+        let notes = self.gateway.take_notes();
+        self.metrics.note(notes.as_slice());
+        self.log.write_notes(self.moment, notes.as_slice());
+        if !notes.is_empty() {
+            self.name_full();
+        }
+    }
+
+    /// Names those operators to the gateway that have as many connections of stations as they may have. Where there is no
+    /// memory for it, those that were named last are.
+    fn name_full(&mut self) {
+        if let Ok(full) = self.metrics.full(self.alloc, self.most_stations) {
+            self.gateway.set_full(full);
+        }
+    }
+
+    /// Counts the connections of stations anew where an operator seems full, since a note may be left out for want of memory.
+    fn count_stations(&mut self) {
+        let is_full = |counts: &Counts| counts.stations >= self.most_stations;
+        if !self.metrics.counts.iter().any(is_full) {
+            return;
+        }
+        let connected = connected_of(self.alloc, &self.service, &self.gateway, &self.hub);
+        if let Ok(connected) = connected {
+            self.metrics.set_stations(connected.as_slice());
+            self.name_full();
+        }
+    }
+
+    /// Whether connections are accepted in this second.
+    fn may_accept(&self) -> bool {
+        !self.failed_accept && self.reserve.is_some()
+    }
+
+    /// Accepts connections until none waits, up to a bound.
+    fn accept(&mut self) -> Result<(), RunFault> {
+        if !self.may_accept() {
+            return Ok(());
+        }
+        for _ in 0..MAX_ACCEPTS {
+            if !self.lobby.has_room(self.second) {
+                break;
+            }
+            match self.streams.accept() {
+                Ok(Some((stream, client))) => {
+                    self.lobby.enter(stream, Some(client), self.second)?;
+                }
+                Ok(None) => break,
+                Err(error) => return Err(RunFault::at(self.address, error)),
+            }
+        }
+        Ok(())
+    }
+}
+
+/// The admitted connections, of which there are none yet. What becomes of them is noted.
+fn gateway_with_notes(alloc: Global) -> Gateway<ReadyStream> {
+    let mut gateway = Gateway::new(alloc);
+    gateway.keep_notes();
+    gateway
+}
+
+/// Whether a fault was a short time before that second.
+fn is_recent(fault: Option<u64>, second: u64) -> bool {
+    fault.is_some_and(|fault| second < fault.saturating_add(HURT))
+}
+
+/// Sets memory aside.
+fn set_aside(alloc: Global) -> Mem<Vec<u8>> {
+    let mut bytes = Vec::new(alloc);
+    bytes.reserve(RESERVE)?;
+    Ok(bytes)
+}

@@ -1,4 +1,0 @@
-use Rattle.sql_edits.proofs.readings.put_value.Goals as goal
-
-pub returns : goal.returns
-returns g c = record { makes = c.put_row.ensures.makes; stays = c.put_row.ensures.stays }
