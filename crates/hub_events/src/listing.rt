@@ -188,3 +188,11 @@ impl Shown for ReportRow {
         Row::Report(self)
     }
 }
+
+impl Shown for ReadingRow {
+    ghost as_row = { shown.Reading };
+
+    fn into_row(self) -> Row {
+        Row::Reading(self)
+    }
+}

@@ -1,6 +1,5 @@
 //! Listings of an operator's records (docs/RULES.md, Requests of operators).
 ghost use Rattle.std.specs.Prelude.{◌≡◌, ◌++◌, map, Ok, Err, IfOk, OnOk};
-ghost use Rattle.std.specs.List.{enumerate_from};
 ghost use Rattle.charging.specs.Forget.{forget_rule};
 ghost use Rattle.holdings.specs.Reservation.{is_current};
 ghost use Rattle.listing_plans.specs.Listing.{current, history_rows, list_rows, of_station, reading_rows, readings_of, rows_rule, Lists};
@@ -11,7 +10,7 @@ use charging::plan_forget;
 use holdings::is_current;
 use hub_events::{Listing, ReadingRow, Row, Said, Shown};
 use hub_rows::{History, LocalList, LocalTag, MeterValueRow, ReservationRow, Store, StoreFault};
-use ocpp_types::{Boxed, Listed, Mem, Moment, Refusal, SampledValue, Text};
+use ocpp_types::{Boxed, Listed, Mem, Moment, Refusal, Text};
 use plans::{Effect, Plan};
 use registry::StationAt;
 use std::alloc::Global;
@@ -170,46 +169,29 @@ fn add_readings(alloc: Global, said: &mut Listed<Said>, rows: Listed<MeterValueR
     ensures { OnOk result (said.new ≡ said.old ++ map Said.Row (reading_rows rows)) }
 {
     for row in rows.into_vec() {
-        add_readings_of(alloc, said, row)?;
+        add_rows(alloc, said, readings_of(alloc, row)?)?;
     }
     Ok(())
 }
 
-/// Adds the readings of a meter value.
-fn add_readings_of(alloc: Global, said: &mut Listed<Said>, meter_value: MeterValueRow) -> Mem<()>
-    ensures { OnOk result (said.new ≡ said.old ++ map Said.Row (map row.Reading (readings_of meter_value))) }
+/// The readings of a meter value, in the order of their numbers.
+#[tactic(auto, using(crate::proofs::ReadingLaws::one_more))]
+fn readings_of(alloc: Global, meter_value: MeterValueRow) -> Mem<Listed<ReadingRow>>
+    ensures { IfOk result (λ list. list ≡ readings_of meter_value) }
 {
     let station = meter_value.station;
     let value = meter_value.value;
-    let (connector, transaction, at) = (value.connector, value.transaction, value.at);
-    for one in numbered(alloc, meter_value.first, value.sampled)? {
-        let (number, sampled) = one;
-        let reading = ReadingRow {
+    let mut list = Listed::new(alloc);
+    let mut number = u64::from(meter_value.first);
+    for sampled in value.sampled.into_vec() {
+        list.push(ReadingRow {
             station: station.clone()?,
             number,
-            connector,
-            transaction,
-            at,
+            connector: value.connector,
+            transaction: value.transaction,
+            at: value.at,
             sampled,
-        };
-        said.push(Said::Row(Boxed::new(alloc, Row::Reading(reading))?))?;
-    }
-    Ok(())
-}
-
-/// Sampled values with their numbers, from the first number on.
-#[tactic(auto, using(crate::proofs::ReadingLaws::one_more))]
-fn numbered(
-    alloc: Global,
-    first: u32,
-    sampled: Listed<SampledValue>,
-) -> Mem<Vec<(u64, SampledValue)>>
-    ensures { IfOk result (λ list. list.items ≡ enumerate_from first sampled) }
-{
-    let mut list = Vec::new(alloc);
-    let mut number = u64::from(first);
-    for one in sampled.into_vec() {
-        list.push((number, one))?;
+        })?;
         number += 1;
     }
     Ok(list)
