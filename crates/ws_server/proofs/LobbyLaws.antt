@@ -2,7 +2,6 @@
 use Rattle.std.proofs.Common.{ℕ, List, Option, Result, Ok, Err, get_or, length, subst, ◌≡◌, ◌<◌, ◌∙◌}
 use Rattle.std.proofs.lemmas.List.{get_or_default}
 use Rattle.std.specs.Prelude.{IfOk}
-use Rattle.ws_handshake.specs.declared.head.Upgrade.{Upgrade}
 use Rattle.ws_server.specs.Admits.{AsksFor}
 use Rattle.ws_server.specs.Lobbies.{IfWelcome}
 use Rattle.ws_server.specs.declared.lobby.Next.{Next}

@@ -1,5 +1,5 @@
 -- The disconnects of a turn.
-use Rattle.std.proofs.Common.{arith, inl, inr, add-one, ◌≡◌, ◌≢◌, ◌∙◌, ℕ, zero, suc, ◌+◌, ◌-◌, ◌<◌, ◌≤◌, ◌⊎◌, List, [], ◌∷◌, ◌++◌, length, map, drop, get_or, sym, ap, refl, Bool, true, false, not, true≢false, append-nil, subst, Option, Some, None, Result, Ok, Err}
+use Rattle.std.proofs.Common.{arith, inl, inr, ◌≡◌, ◌≢◌, ◌∙◌, ℕ, zero, suc, ◌+◌, ◌-◌, ◌<◌, ◌≤◌, List, [], ◌∷◌, ◌++◌, length, map, drop, get_or, sym, ap, refl, Bool, true, false, not, true≢false, append-nil, subst, Option, Some, None, Result, Ok, Err}
 use Rattle.std.proofs.lemmas.List.{get_or-drop, length-drop}
 use Rattle.std.specs.List.{AllZip, Contains}
 use Rattle.std.specs.List.Sorted.{IsNonDecreasing}
@@ -23,10 +23,10 @@ use Rattle.ws_peers.specs.declared.stage.Stage.{Stage}
 use Rattle.ws_peers.specs.declared.stage.Stage.TheVariants.{Open, Ended, Leaving, Gone}
 use Rattle.ws_peers.proofs.EndedLaws.{by_case, only_at, contains_next, contains_none, fails_in, fails_too, fails_within}
 use Rattle.ws_peers.proofs.ListLaws.{both}
-use Rattle.ws_server.specs.Events.{parting, parting_at}
+use Rattle.ws_server.specs.Events.{parting_at}
 use Rattle.ws_server.specs.Steps.{Step}
 use Rattle.ws_server.specs.Tells.{TellsSaid, TellsAll}
-use Rattle.ws_server.specs.Turns.{Each, FirstPlaces, Hands, Parts, PartsAs}
+use Rattle.ws_server.specs.Turns.{Each, FirstPlaces, Parts, PartsAs}
 
 -- ---- who isn't to leave now
 

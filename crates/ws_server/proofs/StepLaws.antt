@@ -1,6 +1,6 @@
 -- Steps of the hub.
 use Rattle.std.proofs.Common.{Bool, Err, List, None, Ok, Option, Result, Some, [], add-one, ap, arith, false, if◌then◌else◌, inl, inr, length, nat_lt, refl, slice_index_or, subst, suc, sym, true, true≢false, zero, ℕ, ◌++◌, ◌+◌, ◌∙◌, ◌∷◌, ◌≡◌, ◌||◌}
-use Rattle.std.proofs.Common.{get_or, ◌<◌, ◌≤◌}
+use Rattle.std.proofs.Common.{◌<◌, ◌≤◌}
 use Rattle.std.proofs.lemmas.List.{append_assoc, append-nil}
 use Rattle.std.specs.Io.BufRead.{strip_last}
 use Rattle.std.specs.Option.{IfSome}
@@ -24,16 +24,12 @@ use Rattle.lines.specs.Marks.{begin_line, end_line}
 use Rattle.lines.specs.Orders.{order_of, order_in, is_order, has_line_feed}
 use Rattle.lines.specs.Words.{◌>>=◌}
 use Rattle.ws_peers.specs.Lists as lists
-use Rattle.ws_peers.specs.Peers.{route_of, stage_of, is_open_peer}
-use Rattle.ws_peers.specs.Stages.{is_open}
-use Rattle.ws_peers.specs.declared.stage.Stage.{Stage}
-use Rattle.ws_peers.specs.declared.stage.Stage.TheVariants.{Open, Ended, Leaving, Gone}
+use Rattle.ws_peers.specs.Peers.{route_of}
 use Rattle.ws_peers.specs.declared.peer.Peer.{Peer}
 use Rattle.ws_peers.specs.declared.routes.Route.{Route}
 use Rattle.ws_peers.specs.declared.routes.Route.TheVariants.{Station, Operator}
-use Rattle.tungstenite.specs.Socket.{Socket}
-use Rattle.ws_server.specs.Admits.{Connects, WelcomesOne, WelcomesSome}
-use Rattle.ws_server.specs.Events.{word_of, order_text, event_of, parting, parting_at, is_route_of_hosted}
+use Rattle.ws_server.specs.Admits.{WelcomesOne, WelcomesSome}
+use Rattle.ws_server.specs.Events.{word_of, order_text, event_of, parting, is_route_of_hosted}
 use Rattle.ws_server.specs.Turns.{Change, Then, Alone, Becomes, AtPlace, EachOf, ascending, is_above, FirstPlaces, HandsOrRefuses, Between, Answers, HandsText, Means, Parts, PartsAs}
 use Rattle.ws_server.specs.Steps.{Step, Runs, Takes}
 
@@ -104,11 +100,6 @@ module _ {T : Type 0} (contents : T → Option (List ℕ)) (hosts : List ℕ →
 
   pub stays : (m n : ℕ) (ps : List (Peer T)) (p : Peer T) (r : Result (Unit {0}) Fault) → IsErr r → IsErrAnd r (λ f. f ≡ fault.NoMemory) → is_some (parting m p) ≡ true → ((d : Peer T) → p ≡ slice_index_or ps n d) → Parts contents hosts m n ps ps [] r
   stays m n ps p r err memory leaves at = (parting m p, λ d. ap (parting m) (at d), parts_as n (parting m p) ps r err memory leaves)
-
--- a connect that isn't taken
-pub connects_not : {T : Type 0} (contents : T → Option (List ℕ)) (socket : Socket T) (connect : Event) (route : Route) (old new : List (Peer T)) (r : Result (Unit {0}) Fault) → IsErr r → new ≡ old → Connects contents socket connect route old new [] r
-connects_not contents socket connect route old new (Ok u) err same = absurd (true≢false (sym err))
-connects_not contents socket connect route old new (Err f) err same = (same, refl)
 
 -- what is so of the peer at a place beside what becomes of it
 pub at_with : {P : Type 0} (R : P → P → Type 0) (Q : P → Type 0) (n : ℕ) (old new : List P) → lists.At R n old new → ((d : P) → Q (slice_index_or old n d)) → lists.At (λ p q. R p q × Q p) n old new
@@ -217,10 +208,6 @@ module _ {P : Type 0} (C : ℕ → Change P) (all : List ℕ) (old : List P) whe
 -- a place above those before it is the next
 pub above-on : (last : Option ℕ) (n : ℕ) (xs ys : List ℕ) → xs ≡ n ∷ ys → is_above last n ≡ true → ascending last xs ≡ n ∷ ascending (Some n) ys
 above-on last n xs ys is above = ap (ascending last) is ∙ ap (λ b. if b then n ∷ ascending (Some n) ys else ascending last ys) above
-
--- another is passed over
-pub above-over : (last : Option ℕ) (n : ℕ) (xs ys : List ℕ) → xs ≡ n ∷ ys → is_above last n ≡ false → ascending last xs ≡ ascending last ys
-above-over last n xs ys is below = ap (ascending last) is ∙ ap (λ b. if b then n ∷ ascending (Some n) ys else ascending last ys) below
 
 module _ {T : Type 0} (remaining contents : T → Option (List ℕ)) (m : ℕ) where
   -- one more connection is welcomed

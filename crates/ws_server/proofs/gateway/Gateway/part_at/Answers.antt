@@ -1,4 +1,4 @@
-use Rattle.std.proofs.Common.{List, Ok, Err, arith, rules, length, get_or, drop, refl, subst, ◌∙◌, ◌≡◌, ◌≤◌, ◌<◌, ◌+◌, ◌++◌, ℕ}
+use Rattle.std.proofs.Common.{List, Ok, Err, arith, rules, length, get_or, refl, subst, ◌∙◌, ◌≤◌, ◌<◌, ◌+◌, ℕ}
 use Rattle.hub.specs.Hub.{setting}
 use Rattle.hub.specs.World.{Setting}
 use Rattle.ws_peers.specs.declared.peer.Peer.{Peer}

@@ -1,4 +1,4 @@
-use Rattle.std.proofs.Common.{subst, Some, Ok, Err, ◌≡◌}
+use Rattle.std.proofs.Common.{subst, Some, Ok, Err}
 use Rattle.hub.specs.Hub.{setting}
 use Rattle.ws_peers.specs.Lists as lists
 use Rattle.ws_peers.specs.Peers.{route_of}

@@ -1,4 +1,4 @@
-use Rattle.std.proofs.Common.{None, Ok, Err, Some, ap, get_or, drop, true, rules, ◌≡◌, ◌∙◌, ◌+◌, ◌∷◌, ◌++◌, ◌<◌, ◌≤◌, length, ℕ, subst, arith}
+use Rattle.std.proofs.Common.{None, Ok, Err, Some, ap, get_or, drop, true, rules, ◌≡◌, ◌+◌, ◌∷◌, ◌++◌, ◌<◌, ◌≤◌, length, ℕ, subst, arith}
 use Rattle.std.proofs.lemmas.List.{drop_more, drop_all}
 use Rattle.hub.specs.Hub.{setting}
 use Rattle.hub.specs.World.{Setting}

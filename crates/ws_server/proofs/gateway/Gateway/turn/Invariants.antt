@@ -1,4 +1,4 @@
-use Rattle.std.proofs.Common.{◌≡◌, None, drop}
+use Rattle.std.proofs.Common.{None, drop}
 use Rattle.hub.specs.Hub.{hub_view, setting}
 use Rattle.hub_rows.specs.Reads.{IsCounted}
 use Rattle.ws_server.specs.Steps.{Takes}
