@@ -99,6 +99,8 @@ class Station(Load):
         self.energy = {}
         # how many rows were forgotten
         self.forgotten = 0
+        # what its meter shows, another value at each step, also after one that a kill cut off
+        self.meter = 0
 
     def begin(self):
         now = int(time.time())
@@ -187,6 +189,7 @@ class Station(Load):
         return [self.energy[number] for number in sorted(self.energy)]
 
     def step(self):
+        self.meter += 1
         rows = self.rows[self.transactions]
         number = last_number(rows)
         is_open = bool(rows) and rows[-1].endswith(" - - - -")
@@ -205,7 +208,7 @@ class Station(Load):
             flight = {self.connectors: [f"{self.op} row connector {self.name} 1 {status} NoError {MS} - - -"]}
             text = f'[2,"n","StatusNotification",{{"connectorId":1,"errorCode":"NoError","status":"{status}",{AT}}}]'
         elif what == "meter":
-            value, count = self.steps, self.random.randint(1, 3)
+            value, count = self.meter, self.random.randint(1, 3)
             added = [self.reading(value, "-", n) for n in range(count)]
             flight = {self.readings: self.rows[self.readings] + added}
             values = ",".join([f'{{"value":"{value}"}}'] * count)
@@ -213,7 +216,7 @@ class Station(Load):
                 f'[2,"m","MeterValues",{{"connectorId":1,"meterValue":[{{"sampledValue":[{values}],{AT}}}]}}]'
             )
         elif is_open and self.random.random() < 0.3:
-            value = self.steps
+            value = self.meter
             self.flight = {self.transactions: rows[:-1] + [f"{rows[-1].removesuffix(' - - - -')} {value} T Other -"]}
             self.stopping(number)
             self.close(number, value)
@@ -221,7 +224,7 @@ class Station(Load):
             return self.flight
         elif is_open:
             head = rows[-1].removesuffix(" - - - -")
-            value = self.steps
+            value = self.meter
             flight = {
                 self.transactions: rows[:-1] + [f"{head} {value} {MS} Local -"],
                 self.readings: self.rows[self.readings] + [self.reading(value, number)],
@@ -229,7 +232,7 @@ class Station(Load):
             data = f'"transactionData":[{{"sampledValue":[{{"value":"{value}"}}],{AT}}}]'
             text = f'[2,"e","StopTransaction",{{"meterStop":{value},{AT},"transactionId":{number},{data}}}]'
         else:
-            meter = self.steps
+            meter = self.meter
             tag = self.random.choice((f"OWN{self.name}", self.granted))
             row = f'{self.op} row transaction {self.name} {number + 1} 1 "{tag}" Accepted {meter} {MS} - - - - -'
             flight = {self.transactions: rows + [row]}
