@@ -105,7 +105,7 @@ def meter_values_of(at):
     return of_rows(f"INSERT INTO hub_meter_value VALUES ('ACME', 'CP01', ?, 1, NULL, {at}, 1, '[{{\"value\":\"1\"}}]')")
 
 
-# Meter values before the orders, of which all may go but the last, and after them, of which none may.
+# All meter values from before an order may go but the last, and none from after it.
 HISTORIES = {"all may go": meter_values_of(MS - 1), "none may go": meter_values_of(MS + 10**12)}
 ORDERS_ON_HISTORY = {
     "list forgettable": "1704067200 ACME list forgettable CP01 1704067200\n",

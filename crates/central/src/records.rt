@@ -68,7 +68,7 @@ fn follow_database<A: Alter + Drop>(
     follow_counted(rt, store, changes, options)
 }
 
-/// Follows a journal over the records of a store, on which so many changes are on record.
+/// Follows a journal into a store that has `changes` changes on record.
 fn follow_counted<S: Store + Drop>(
     rt: &HostRuntime,
     store: S,

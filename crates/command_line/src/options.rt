@@ -46,7 +46,7 @@ pub struct ReplayOptions {
     pub db: Option<Text>,
     /// How that file is opened, or made.
     pub file: FileOptions,
-    /// A bad line is told by the status.
+    /// Whether a bad line sets the exit status.
     pub is_strict: bool,
 }
 
@@ -63,7 +63,7 @@ pub struct ServeOptions {
     pub db: Text,
     /// How that file is opened, or made.
     pub file: FileOptions,
-    /// It ends after so many turns; without them it serves until it is ended.
+    /// How many turns the server makes. `None` serves until it is ended.
     pub turns: Option<u32>,
     /// The most connections of stations that an operator has.
     pub most_stations: u32,

@@ -15,6 +15,7 @@ pub struct StopFile {
 }
 
 impl StopFile {
+    /// Looks for the file at that path. `None` looks for none.
     pub fn new(path: Option<Text>) -> StopFile {
         StopFile { path, next_look: 0 }
     }
