@@ -37,7 +37,7 @@ use Rattle.ocpp_types.specs.declared.authorization_status.AuthorizationStatus.Th
 use Rattle.std.specs.List.{AllByRecursion}
 use Rattle.hub_rows.proofs.ForgetLaws.{forgettable-stopped}
 use Rattle.hub_rows.specs.declared.forgettable.Forgettable.{Forgettable}
-use Rattle.hub_rows.specs.Forgetting.{has_no_rows, numbers_of, up_to}
+use Rattle.hub_rows.specs.Forgetting.{has_no_rows, numbers_of}
 use Rattle.hub_rows.specs.MeterValues.{all_taken}
 use Rattle.hub_rows.specs.Changes.{EditFits, IsAnother, IsOpen, IsStopped}
 use Rattle.hub_rows.specs.Grants.{granted_tag_in}

@@ -1,10 +1,9 @@
 -- Entries put one after the other, under their keys and in a list.
-use Rattle.std.specs.Prelude.{ℕ, List, [], ◌∷◌, ◌++◌, Bool, true, false, cond, not, ◌||◌, filter}
+use Rattle.std.specs.Prelude.{ℕ, List, [], ◌∷◌, ◌++◌, Bool, true, false, cond, not, ◌||◌}
 use Rattle.std.specs.BTreeMap.{insert_entry}
 use Rattle.std.specs.BTreeSet.{BTreeSet, contains, Updates}
 use Rattle.std.specs.Cmp.Lexicographic.{slice_cmp, texts_ties}
 use Rattle.std.specs.FinMap.{slice_cmp-IsAntisymmetric}
-use Rattle.std.specs.List.{list_any}
 use Rattle.std.specs.List.Sorted.{IsStrictlySortedBy}
 use Rattle.std.specs.Map.{values_of}
 use Rattle.std.specs.Ordering.{nat_cmp, ordering_then, match_ordering}
@@ -15,7 +14,7 @@ use Rattle.std.proofs.Common.{◌≡◌, refl, ap, sym, subst, ◌∙◌, Result
 use Rattle.std.proofs.lemmas.List.Elements.{filter-append}
 use Rattle.std.proofs.lemmas.Map.Lookups.{exact_unsigned}
 use Rattle.ocpp_types.specs.TagKey.{key_of}
-use Rattle.hub_rows.specs.Keyed.{text_cmp, key_cmp, by_key, put, put_all}
+use Rattle.hub_rows.specs.Keyed.{text_cmp, by_key, put, put_all}
 use Rattle.hub_rows.specs.LocalLists.{AreEntries, entry_key}
 use Rattle.hub_rows.proofs.ListLaws.{by_key_total, sorted-put_all}
 use Rattle.hub_rows.specs.declared.list_row.LocalTag.{LocalTag}

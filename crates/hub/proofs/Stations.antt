@@ -11,9 +11,8 @@ use Rattle.hub_rows.specs.declared.change.TagEdit.TheVariants.{TagDropped}
 use Rattle.hub_rows.specs.declared.change.TransactionEdit.TheVariants.{MeterValuesAdded}
 use Rattle.hub_rows.specs.declared.change.HoldingEdit.TheVariants.{ReservationDropped}
 use Rattle.hub_rows.specs.declared.station_row.StationRow.{StationRow}
-use Rattle.hub_rows.specs.Keyed.{by_key, found}
+use Rattle.hub_rows.specs.Keyed.{by_key}
 use Rattle.hub_rows.specs.Lookups.{Lookups}
-use Rattle.hub_rows.specs.Rows.{Rows}
 use Rattle.hub_rows.specs.WellFormed.{IsOnRecord}
 use Rattle.hub_rows.proofs.ForgetLaws.{all-two, each-found}
 use Rattle.hub_rows.proofs.ListLaws.{all-changed, all-put, same_text, two_parts}

@@ -1,9 +1,9 @@
 -- Meter values that are added after those of their station end before others begin.
-use Rattle.std.specs.Prelude.{◌≡◌, ℕ, ◌+◌, ◌-◌, ◌<◌, ◌≤◌, ◌⊎◌, List, [], ◌∷◌, length, filter, Bool, true, false, cond, ◌&&◌}
+use Rattle.std.specs.Prelude.{◌≡◌, ℕ, ◌+◌, ◌-◌, ◌<◌, ◌≤◌, ◌⊎◌, List, [], ◌∷◌, filter, Bool, true, false, cond, ◌&&◌}
 use Rattle.std.specs.List.{AllByRecursion}
 use Rattle.std.specs.List.Sorted.{IsStrictlySortedBy}
 use Rattle.std.specs.Ordering.{match_ordering, nat_cmp, ordering_reverse, ordering_then, MatchOrdering}
-use Rattle.std.specs.Cmp.{nat_cmp_is, ranked}
+use Rattle.std.specs.Cmp.{ranked}
 use Rattle.std.specs.Str.{bytes_eq}
 use Rattle.std.specs.declared.cmp.Ordering.{Ordering}
 use Rattle.std.specs.declared.cmp.Ordering.TheVariants.{Less, Equal, Greater}
@@ -16,10 +16,10 @@ use Rattle.std.proofs.Common.{refl, sym, ◌∙◌, ap, subst, arith, inl, inr, 
 use Rattle.hub_rows.specs.declared.meter_value_row.MeterValue.{MeterValue}
 use Rattle.hub_rows.specs.declared.meter_value_row.MeterValueRow.{MeterValueRow}
 use Rattle.hub_rows.specs.Keyed.{by_key, key_cmp, put, put_all, text_cmp}
-use Rattle.hub_rows.specs.MeterValues.{all_taken, last_number, last_reading_in, meter_value_rows, meter_values_in, number_of_last, numbers_taken}
+use Rattle.hub_rows.specs.MeterValues.{all_taken, last_number, last_reading_in, meter_value_rows, number_of_last, numbers_taken}
 use Rattle.hub_rows.specs.Rows.{meter_value_key}
 use Rattle.hub_rows.specs.Transactions.{AreNext}
-use Rattle.hub_rows.specs.WellFormed.{IsGoodMeterValue, end_cmp, end_key}
+use Rattle.hub_rows.specs.WellFormed.{end_cmp, end_key}
 use Rattle.hub_rows.proofs.ListLaws.{all-filter, all-put, all-weaker, keys_total, same_text, text_itself}
 use Rattle.hub_rows.proofs.NumberLaws.{less-number, number-less, number_order, same_station}
 

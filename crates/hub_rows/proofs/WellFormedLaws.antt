@@ -76,9 +76,6 @@ registered (Some r) = refl
 pub on_record : (b station : List ℕ) (stations : List StationRow) → IsSome (registration_in b station stations) → IsOnRecord b station stations
 on_record b station stations some = sym (registered (station_in b station stations)) ∙ some
 
-pub is_registered : (b station : List ℕ) (stations : List StationRow) → IsOnRecord b station stations → IsSome (registration_in b station stations)
-is_registered b station stations on = registered (station_in b station stations) ∙ on
-
 -- each station that was on record still is
 abbrev pub KeepsRecord : List StationRow → List StationRow → Type 0
 KeepsRecord old new = (b station : List ℕ) → IsOnRecord b station old → IsOnRecord b station new

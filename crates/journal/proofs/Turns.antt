@@ -1,7 +1,7 @@
 -- The steps of a turn.
-use Rattle.std.proofs.Common.{◌≡◌, ◌∙◌, ◌<◌, ◌+◌, ◌-◌, ℕ, List, [], ◌∷◌, ◌++◌, length, take, Some, Bool, true, false, refl, sym, ap, subst, arith}
+use Rattle.std.proofs.Common.{◌≡◌, ◌∙◌, ◌+◌, ◌-◌, ℕ, List, [], ◌∷◌, ◌++◌, length, take, Some, Bool, true, false, refl, sym, ap, subst, arith}
 use Rattle.std.proofs.lemmas.List.{append_assoc, append-nil, take_all, length-append, nil_from_length, take_at, append_cancel_right}
-use Rattle.journal.proofs.Stops.{Told, line_whole, line_entries, line_found, line_survives, told_of, told_marked, told_changed, told_is, event_told, longer, take_nothing, survives_written, told_nothing, told_first}
+use Rattle.journal.proofs.Stops.{Told, line_whole, line_entries, line_found, line_survives, told_of, told_marked, told_is, event_told, longer, take_nothing, survives_written, told_nothing, told_first}
 use Rattle.hub_events.specs.declared.event.Event.{Event as HubEvent}
 use Rattle.journal.specs.Journals.{entries_from, entries_of, is_whole_from, is_whole, AddsLine}
 use Rattle.journal.specs.Stops.{Found, found_after, marked_at, found_from, found_of, told_at, Tells, Survives}
@@ -117,35 +117,6 @@ ahead_event is_hosted file old new event recorded since settled unchanged adds c
       last = ap (λ f. f.waiting) both.1;
       mark = ap (λ f. f.marked) both.1 ∙ both.2 ∙ ap Some (sym changes);
       unchanged = same;
-    }
-
--- it has changed records
-pub ahead_changed : (is_hosted : List ℕ → Bool) (file : List ℕ) (old new : Turn) (event : HubEvent) (recorded since : List HubEvent)
-    → Ahead is_hosted file old recorded since event → old.ready.bytes.items ≡ [] → new.ready.bytes.items ≡ old.ready.bytes.items
-    → new.changes ≡ old.changes + 1 → new.events ≡ old.events → new.has_changed ≡ true → Settled is_hosted file new ((recorded ++ since) ++ (event ∷ [])) []
-ahead_changed is_hosted file old new event recorded since ahead empty kept changes events changed =
-    let same : found_in is_hosted file new ≡ found_in is_hosted file old = ap (λ xs. found_of (entries_of is_hosted (file ++ xs))) kept in
-    let many : 0 < length (found_in is_hosted file old).waiting = let l = length-append ahead.before (event ∷ []) in let w = ap length ahead.last in omega (arith, l, w) in
-    let mark : (found_in is_hosted file new).marked ≡ Some old.changes = ap (λ f. f.marked) same ∙ ahead.mark in
-    let told = told_changed (found_in is_hosted file old) old.changes ahead.mark many ∙ ap Some ahead.has.all in
-    let tells : Tells (old.changes + 1) ((recorded ++ since) ++ (event ∷ [])) [] (entries_of is_hosted (file ++ old.ready.bytes.items)) =
-    record { some = []; more = []; is = told ∙ ap Some (sym (append-nil ((recorded ++ since) ++ (event ∷ [])))); all = refl } in
-    record {
-      has = record {
-        whole = ap (λ xs. is_whole (file ++ xs)) kept ∙ ahead.has.whole;
-        survives = λ n. subst (λ c. Tells c ((recorded ++ since) ++ (event ∷ [])) [] (entries_of is_hosted (file ++ take n new.ready.bytes.items))) (sym changes)
-            (subst (λ xs. Tells (old.changes + 1) ((recorded ++ since) ++ (event ∷ [])) [] (entries_of is_hosted (file ++ xs))) (empty ∙ sym (take_nothing n) ∙ ap (take n) (sym (kept ∙ empty))) tells);
-        events = ap (λ f. length f.waiting) same ∙ ahead.has.events ∙ sym events;
-        all = ap (λ f. f.taken ++ f.waiting) same ∙ ahead.has.all ∙ sym (append-nil ((recorded ++ since) ++ (event ∷ [])));
-      };
-      marks = subst (λ b. MarksAt b is_hosted file new []) (sym changed) (record {
-        marked = old.changes;
-        mark = mark;
-        one = changes;
-        some = let e = events in let k = ahead.has.events in omega (arith, e, k, many);
-        written = kept ∙ empty;
-        last = refl;
-      });
     }
 
 -- it ended in a fault, and has changed nothing: the mark leaves it out

@@ -1,7 +1,7 @@
 -- A line of a journal has no line feed.
-use Rattle.std.proofs.Common.{◌≡◌, ◌≤◌, ◌<◌, ◌+◌, ◌-◌, ◌^◌, ◌/◌, ◌%◌, ℕ, List, [], ◌∷◌, ◌++◌, length, take, drop, Option, Some, None, Bool, true, false, codes, arith, refl, sym, subst, ap, ◌∙◌, true≢false, if◌then◌else◌}
+use Rattle.std.proofs.Common.{◌≡◌, ◌≤◌, ◌<◌, ◌+◌, ◌-◌, ◌^◌, ◌/◌, ◌%◌, ℕ, List, [], ◌∷◌, ◌++◌, length, take, drop, Option, Some, None, Bool, true, false, codes, arith, refl, sym, ap, ◌∙◌, true≢false, if◌then◌else◌}
 use Rattle.std.specs.Prelude.{cond, not, ◌&&◌, ◌||◌, ◌==◌, nat_lt, nat_le}
-use Rattle.std.specs.Char.{is_ascii_digit, digit_char}
+use Rattle.std.specs.Char.{digit_char}
 use Rattle.std.specs.Fmt.{decimal}
 use Rattle.std.specs.Io.BufRead.{ends_with_byte, strip_last}
 use Rattle.std.specs.List.{list_all, list_any, position_or_len, flat_map}
@@ -9,13 +9,13 @@ use Rattle.std.specs.Str.Parse.{AllDigits}
 use Rattle.std.proofs.lemmas.Fmt.{decimal_is_IsNumeral}
 use Rattle.std.proofs.lemmas.List.{take-append-drop}
 use Rattle.std.proofs.lemmas.List.Folds.{list_any-append}
-use Rattle.json.specs.Print.{escape_byte, escape_letter}
+use Rattle.json.specs.Print.{escape_byte}
 use Rattle.hub_events.specs.declared.event.Event.{Event}
-use Rattle.hub_events.specs.declared.event.Event.TheVariants.{At, Tick}
+use Rattle.hub_events.specs.declared.event.Event.TheVariants.{At}
 use Rattle.hub_events.specs.declared.event.What.{What}
 use Rattle.hub_events.specs.declared.event.What.TheVariants.{Connect, Disconnect, Frame, Do, Admin, List as Listing, Connections, DropStation, Forget}
-use Rattle.hub_rows.specs.Operators.{is_operator_name, is_name_byte}
-use Rattle.lines.specs.Journal.{is_feed, is_break, is_gap, is_plain, has_break, frame_text, what_text, journal_line, Says, Stands}
+use Rattle.hub_rows.specs.Operators.{is_name_byte}
+use Rattle.lines.specs.Journal.{is_feed, is_break, is_gap, is_plain, has_break, what_text, journal_line, Says, Stands}
 use Rattle.lines.specs.Orders.{has_line_feed, order_of, order_in}
 use Rattle.lines.specs.RowLines.{quoted}
 use Rattle.lines.specs.declared.input_line.TheConstants.{MAX_LINE}

@@ -9,10 +9,6 @@ use Rattle.meter_values.specs.Read.{◌>>=◌, sampled_of_json, each_sampled}
 abbrev pub with_front : List SampledValue → Option (List SampledValue) → Option (List SampledValue)
 with_front front o = o >>= (λ xs. Some (front ++ xs))
 
-pub with_front-nil : (o : Option (List SampledValue)) → with_front [] o ≡ o
-with_front-nil (Some xs) = refl
-with_front-nil None = refl
-
 with_front-one : (front : List SampledValue) (y : SampledValue) (o : Option (List SampledValue)) → with_front front (o >>= (λ xs. Some (y ∷ xs))) ≡ with_front (front ++ y ∷ []) o
 with_front-one front y (Some xs) = ap Some (sym (append_assoc front (y ∷ []) xs))
 with_front-one front y None = refl

@@ -1,5 +1,5 @@
 -- What a look-up says, by the statements and the look-ups that it makes.
-use Rattle.std.proofs.Common.{◌≡◌, ◌∙◌, ℕ, List, [], Bool, Option, Result, Ok, Err, IfOk, IsErr, IsOk, OnOk, filter, find, map, take, option_map, refl, sym, subst, arith}
+use Rattle.std.proofs.Common.{◌≡◌, ◌∙◌, ℕ, List, [], Bool, Option, Result, Ok, Err, IfOk, IsErr, IsOk, OnOk, filter, find, map, take, option_map, refl, subst, arith}
 use Rattle.std.proofs.lemmas.Result.{IfOk-from_err}
 use Rattle.sqlite_trees.specs.Tree.{Trees}
 use Rattle.sqlite_value.specs.Order.{Row, column}

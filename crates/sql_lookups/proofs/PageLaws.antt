@@ -1,5 +1,5 @@
 -- Rows in the order of their numbers: their pages, and the last one.
-use Rattle.std.proofs.Common.{◌≡◌, ◌&&◌, ◌++◌, ◌+◌, ◌-◌, ℕ, zero, suc, max, min, nat_le, ◌<◌, ◌≤◌, List, [], ◌∷◌, length, map, filter, take, drop, cond, Bool, true, false, Option, None, Some, Ordering, Less, refl, sym, ap, ◌∙◌, subst, inl, inr, arith, append-nil, append_assoc}
+use Rattle.std.proofs.Common.{◌≡◌, ◌&&◌, ◌++◌, ◌+◌, ◌-◌, ℕ, zero, suc, nat_le, ◌<◌, ◌≤◌, List, [], ◌∷◌, length, map, filter, take, drop, cond, Bool, true, Option, None, Some, Ordering, Less, refl, sym, ap, ◌∙◌, subst, inl, inr, arith, append-nil, append_assoc}
 use Rattle.std.specs.List.{AllByRecursion, slice_get}
 use Rattle.std.specs.List.Sorted.{IsStrictlySortedBy}
 use Rattle.std.specs.Cmp.{ranked}
@@ -14,7 +14,6 @@ use Rattle.sqlite_rules.specs.Lists.{Has}
 use Rattle.hub_rows.specs.declared.forgettable.TheConstants.{MAX_FORGOTTEN}
 use Rattle.hub_rows.specs.declared.meter_value_row.MeterValueRow.{MeterValueRow}
 use Rattle.hub_rows.specs.Forgetting.{oldest}
-use Rattle.hub_rows.specs.Keyed.{by_key, numbered_key}
 use Rattle.hub_rows.specs.MeterValues.{is_meter_value, is_sent_with, last_number, meter_values_in, number_of_last}
 use Rattle.hub_rows.proofs.FilterLaws.{all-both, all-passed, all-these, filter-all}
 use Rattle.hub_rows.proofs.ListLaws.{all-weaker, and-true, by_key_total}

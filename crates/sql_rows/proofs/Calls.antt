@@ -1,6 +1,5 @@
 -- What a call on a connection answers, by the rows that the database shows.
-use Rattle.std.proofs.Common.{◌≡◌, ◌||◌, ◌&&◌, refl, ℕ, List, [], ◌∷◌, Bool, Option, Some, None, is_some, true, false, cond, Ok, Err, Result, IfOk, IsOk, OnOk, filter, find, map, ap, sym, ◌∙◌}
-use Rattle.std.specs.Str.{bytes_eq}
+use Rattle.std.proofs.Common.{◌≡◌, ◌||◌, ◌&&◌, refl, ℕ, List, [], ◌∷◌, Bool, Option, Some, is_some, true, false, cond, Ok, Err, Result, IfOk, IsOk, OnOk, filter, find, map, ap, sym, ◌∙◌}
 use Rattle.std.specs.List.{list_any}
 use Rattle.sqlite_trees.specs.Tree.{Trees}
 use Rattle.sqlite_value.specs.Order.{Row, column}

@@ -13,7 +13,7 @@ use Rattle.sqlite_value.proofs.OrderLemmas.{value_cmp_total, value_cmp-Int}
 use Rattle.sqlite_trees.specs.Tree.{Trees, rowid, IsAscending}
 use Rattle.sqlite_trees.proofs.ListLemmas.{along_permutation, ascending-filter, ascending_weaker, pull_back}
 use Rattle.sqlite_schema.specs.Rules.{Obeys}
-use Rattle.sqlite_sql.specs.Term.{Term, Env, lit, holds, eval_all}
+use Rattle.sqlite_sql.specs.Term.{Term, lit, holds}
 use Rattle.sqlite_sql.specs.Query.{IsAnswer, Output, output, output_cmp}
 use Rattle.sqlite_sql.specs.Program.{overlay}
 use Rattle.sqlite_rules.specs.Lists.{Has}

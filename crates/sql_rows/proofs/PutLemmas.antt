@@ -1,5 +1,5 @@
 -- An upsert into any table whose first columns are its key.
-use Rattle.std.proofs.Common.{◌≡◌, ◌⊎◌, ℕ, ℤ, zero, suc, ◌+◌, ◌*◌, ◌/◌, ◌&&◌, ◌||◌, not, pos, List, [], ◌∷◌, ◌++◌, take, drop, map, length, slice_get, Bool, true, false, cond, Option, Some, None, Ok, Err, Result, IsTrue, arith, refl, sym, ap, ◌∙◌, subst, inl, inr, true≢false, eqb-true, eq-eqb, MatchBool, if◌then◌else◌}
+use Rattle.std.proofs.Common.{◌≡◌, ◌⊎◌, ℕ, ℤ, zero, suc, ◌+◌, ◌/◌, ◌&&◌, not, List, [], ◌∷◌, ◌++◌, take, drop, map, length, Bool, true, false, Option, Some, None, Ok, Err, Result, arith, refl, sym, ap, ◌∙◌, subst, inl, inr, true≢false, eqb-true, eq-eqb, MatchBool, if◌then◌else◌}
 use Rattle.std.specs.List.{AllByRecursion, list_any, list_all}
 use Rattle.std.specs.Prelude.{◌==◌}
 use Rattle.std.specs.Str.{bytes_eq}

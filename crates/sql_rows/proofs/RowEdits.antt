@@ -1,5 +1,5 @@
 -- Edits that change a row which was read, and those of several parts.
-use Rattle.std.proofs.Common.{◌≡◌, ◌&&◌, ◌==◌, ℕ, ◌+◌, ◌<◌, ◌≤◌, nat_lt, length, arith, List, [], ◌∷◌, ◌++◌, Bool, true, false, cond, not, Option, Some, None, Result, Ok, Err, IsOk, OnOk, map, refl, sym, ap, ap₂, ◌∙◌, eqb-true}
+use Rattle.std.proofs.Common.{◌≡◌, ◌&&◌, ◌==◌, ℕ, ◌+◌, ◌<◌, ◌≤◌, nat_lt, arith, List, [], ◌∷◌, Bool, true, false, cond, not, Option, Some, None, Result, Ok, Err, IsOk, OnOk, map, refl, sym, ap, ap₂, ◌∙◌, eqb-true}
 use Rattle.std.specs.Str.{bytes_eq}
 use Rattle.std.proofs.lemmas.Bool.{and_parts}
 use Rattle.std.proofs.lemmas.Bool.Decides.{nat_tests}

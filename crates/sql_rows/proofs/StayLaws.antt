@@ -1,5 +1,5 @@
 -- Parts of a transaction that commit nothing, whatever the tables have.
-use Rattle.std.proofs.Common.{◌≡◌, ◌⊎◌, ℕ, List, Option, Some, None, Ok, Err, Result, IsTrue, IfOk, IfErr, IsErr, IsOk, OnOk, true, false, if◌then◌else◌, refl, ap, ◌∙◌, inl, inr}
+use Rattle.std.proofs.Common.{◌≡◌, ◌⊎◌, ℕ, List, Option, Some, None, Ok, Err, Result, IsTrue, IfOk, IfErr, IsOk, OnOk, true, false, if◌then◌else◌, refl, ap, ◌∙◌, inl, inr}
 use Rattle.sqlite_value.specs.Order.{Row}
 use Rattle.sqlite_schema.specs.declared.command.Returning.{Returning}
 use Rattle.sqlite.specs.declared.error.Error.{Error}
@@ -92,14 +92,6 @@ module _ {S : Type 0} {g : Ghosts S} where
   -- another answer, which is no success where the one wasn't
   pub stays_as : {A B E F : Type 0} {old new : Transaction S} {r : Result A E} {q : Result B F} → StaysInside g old new r → OnOk q (IsOk r) → StaysInside g old new q
   stays_as {A} {B} {E} {F} {old} {new} {r} {q} part ok = record { same_reference = part.same_reference; leaves = part.leaves; begun = λ begun. on_ok (IsBegun (state g new.conn.now)) r q ok (part.begun begun) }
-
-  -- an error
-  pub stays_fails : {A B E F : Type 0} {old new : Transaction S} {r : Result A E} {q : Result B F} → StaysInside g old new r → IsErr q → StaysInside g old new q
-  stays_fails {A} {B} {E} {F} {old} {new} {r} {q} part failed = record { same_reference = part.same_reference; leaves = part.leaves; begun = λ begun. go q failed }
-    where
-      go : (q : Result B F) → IsErr q → OnOk q (IsBegun (state g new.conn.now))
-      go (Ok y) failed = absurd cc
-      go (Err e) failed = tt
 
   -- one part after another
   pub stays_then : {A B E F : Type 0} {a b c : Transaction S} {x : A} {r : Result B F} → StaysInside {E = E} g a b (Ok x) → StaysInside g b c r → StaysInside g a c r

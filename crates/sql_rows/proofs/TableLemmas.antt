@@ -1,5 +1,5 @@
 -- A table after an edit.
-use Rattle.std.proofs.Common.{◌≡◌, ◌⊎◌, ℕ, ℤ, ◌&&◌, not, List, [], ◌∷◌, filter, fold, Bool, true, false, cond, IsTrue, refl, sym, ap, ◌∙◌, subst, inl, inr, true≢false}
+use Rattle.std.proofs.Common.{◌≡◌, ℤ, not, List, [], ◌∷◌, filter, Bool, true, false, cond, refl, sym, ap, subst, inl, inr}
 use Rattle.std.specs.Ordering.{is_eq}
 use Rattle.std.proofs.lemmas.Bool.{cases_Bool, not-true}
 use Rattle.std.proofs.lemmas.Cmp.{tied_itself}

@@ -1,6 +1,6 @@
 -- Transactions, the owners of their tags, readings and uses: their typed tables, and what the texts that write and show them
 -- mean.
-use Rattle.std.proofs.Common.{◌&&◌, ◌++◌, ◌∷◌, ◌≡◌, ◌∙◌, ℕ, nat_le, nat_lt, pos, codes, List, [], Bool, Option, Some, None, option_map, unwrap_or, length, refl, ap, inl, inr, true}
+use Rattle.std.proofs.Common.{◌&&◌, ◌++◌, ◌∷◌, ◌≡◌, ◌∙◌, ℕ, nat_le, nat_lt, pos, codes, List, [], Bool, Option, Some, None, option_map, unwrap_or, length, refl, inl, inr, true}
 use Rattle.std.proofs.lemmas.Bool.{and_parts}
 use Rattle.sqlite_value.specs.Order.{Row}
 use Rattle.sqlite_value.specs.Keys.{joined}

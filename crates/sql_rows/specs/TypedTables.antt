@@ -1,5 +1,5 @@
 -- The rows of the hub, and how each is kept.
-use Rattle.std.specs.Prelude.{ℕ, ℤ, zero, suc, pos, Bool, ◌&&◌, if◌then◌else◌, List, [], ◌∷◌, Option, Some, None, option_map, unwrap_or, map, filter, length, codes, ⊤}
+use Rattle.std.specs.Prelude.{ℕ, zero, suc, pos, Bool, ◌&&◌, if◌then◌else◌, List, [], ◌∷◌, Option, Some, None, option_map, unwrap_or, map, filter, length, codes, ⊤}
 use Rattle.std.specs.Str.{bytes_eq}
 use Rattle.sqlite_value.specs.declared.value.Value.{Value}
 use Rattle.sqlite_value.specs.declared.value.Value.TheVariants.{Int, Text}

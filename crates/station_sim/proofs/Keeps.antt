@@ -1,6 +1,6 @@
 -- What a session keeps.
 use Rattle.std.proofs.Common.{◌≡◌, ◌≤◌, ◌<◌, ◌+◌, ℕ, ℤ, pos, negsuc, List, Result, Ok, Err, Option, Some, None, Bool, true, false, codes, length, refl, sym, subst, ap, arith, true≢false}
-use Rattle.std.specs.Prelude.{◌+ℤ◌, min, IsNone, IfSome, nat_lt, nat_le, bytes_eq, is_some, OnOk, OnErr, option_and_then, unwrap_or, ◌&&◌, if◌then◌else◌}
+use Rattle.std.specs.Prelude.{◌+ℤ◌, min, IsNone, IfSome, nat_lt, nat_le, bytes_eq, OnOk, OnErr, option_and_then, unwrap_or, ◌&&◌, if◌then◌else◌}
 use Rattle.std.specs.Ordering.{int_eq}
 use Rattle.std.specs.Int.{w64, saturate_signed}
 use Rattle.std.proofs.lemmas.Bool.{leb-false, le-leb}
@@ -16,15 +16,12 @@ use Rattle.station_sim.specs.Remote.{start_of, stop_of, ordered_tag, fitting, na
 use Rattle.station_sim.specs.Replies.{version_of}
 use Rattle.station_sim.specs.Results.{after_result, after_error, after_start, next_session, rest_of, interval_after, is_accepted, status_of, tag_status_of, transaction_of, is_int_32, within_32}
 use Rattle.station_sim.specs.Kept.{IsSession, has_number}
-use Rattle.station_sim.specs.Session.{start, call_by, wanted_call, due_call, is_spent, ends_session, metered, after_call, after_message, after_command, answered, moved, begun, stopped, is_id}
+use Rattle.station_sim.specs.Session.{call_by, wanted_call, due_call, is_spent, ends_session, metered, after_call, after_message, after_command, answered, moved, begun, stopped, is_id}
 use Rattle.station_sim.specs.declared.script.BadScript.TheVariants.{Vendor, Model, Tag, Connector, Readings}
 use Rattle.station_sim.specs.declared.script.Script.{Script}
 use Rattle.station_sim.specs.declared.session.Session.{Session}
 use Rattle.station_sim.specs.declared.stage.Stage.{Stage}
 use Rattle.station_sim.specs.declared.stage.Stage.TheVariants.{Boot, Status, Authorize, Start, Charging, Stopping, Refused, Idle, Ended}
-
-pub keeps_start : (script : Script) → bad_field script ≡ None → is_int_64 script.meter_start ≡ true → IsSession (start script)
-keeps_start script good first = record { bounds = ap is_some good; start_meter = first; number = refl; tag = refl; few = omega arith }
 
 -- one more call may be made
 pub may_call : (s : Session) → is_spent s ≡ false → s.calls + 1 ≤ 4000000000

@@ -17,7 +17,7 @@ use Rattle.ocpp_payload.specs.Request as request
 use Rattle.ocpp_payload.specs.declared.action.Action.{Action}
 use Rattle.ocpp_payload.specs.declared.fault.FieldFault.{FieldFault}
 use Rattle.station_sim.specs.Bounds.{is_int_64, is_name, is_connector}
-use Rattle.station_sim.specs.Calls.{meter_after, call_of, charging_call, last_call, tag_of, heartbeat, boot_payload, authorize_payload, start_payload, meter_value, sampled_value, reading_payload, stop_payload, refused_payload}
+use Rattle.station_sim.specs.Calls.{meter_after, call_of, charging_call, last_call, tag_of, heartbeat, boot_payload, authorize_payload, start_payload, meter_value, reading_payload, stop_payload, refused_payload}
 use Rattle.station_sim.specs.Results.{is_int_32}
 use Rattle.station_sim.specs.Kept.{IsSession, has_number, has_short_tag}
 use Rattle.station_sim.specs.Session.{IsRead, call_by, due_call, wanted_call, heartbeat_at, is_spent, is_end}
@@ -93,9 +93,6 @@ start_read s tag t ms b short meter e =
     (in_turn (required (text 20) (codes "idTag") d) tag _ (text_read 20 _ tag short)
     (in_turn (required int_64 (codes "meterStart") d) s.meter_start _ (int_64_read s.meter_start _ meter)
     (in_turn (required time (codes "timestamp") d) ms _ (time_read _ t ms e) refl)))
-
-sampled_read : (reading : ℤ) → IsOk (readings.sampled_value (sampled_value reading))
-sampled_read reading = refl
 
 meter_read : (reading : ℤ) (t : List ℕ) (ms : ℤ) → time_of t ≡ Some ms → IsOk (readings.meter_value (meter_value reading t))
 meter_read reading t ms e =

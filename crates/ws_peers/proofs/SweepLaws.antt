@@ -2,12 +2,12 @@
 use Rattle.std.proofs.Common.{arith, ◌≡◌, ◌≢◌, ◌∙◌, ℕ, zero, suc, ◌+◌, ◌-◌, ◌<◌, ◌≤◌, List, [], ◌∷◌, ◌++◌, length, map, drop, take, get_or, set, sym, ap, refl, Bool, true, false, not, true≢false, ◌||◌, if◌then◌else◌, append-nil, append_assoc, subst}
 use Rattle.std.proofs.Math.Seq.{take-append_seam, get_or-append_seam, set_out}
 use Rattle.std.proofs.lemmas.List.{get_or-set_same, get_or_append_left, get_or_default, map-append, map-set, length-set}
-use Rattle.std.proofs.lemmas.List.Elements.{All-nil, All-push, All-append}
+use Rattle.std.proofs.lemmas.List.Elements.{All-push, All-append}
 use Rattle.std.proofs.lemmas.List.Sorted.{IsPermutation-refl, IsPermutation-trans, IsPermutation-append_right, IsPermutation-pop_more, IsPermutation-swap_remove}
-use Rattle.std.specs.List.{All, Contains, swap_remove}
+use Rattle.std.specs.List.{Contains, swap_remove}
 use Rattle.std.specs.List.Sorted.{IsPermutation}
 use Rattle.ws_peers.specs.Lists.{Drops, Swept}
-use Rattle.ws_peers.specs.Peers.{fails_at, FailsOnlyAt, is_held_peer, is_open_peer, is_operator_peer, key_of_peer, places_of}
+use Rattle.ws_peers.specs.Peers.{fails_at, FailsOnlyAt, is_held_peer, is_open_peer, places_of}
 use Rattle.ws_peers.specs.declared.peer.Peer.{Peer}
 use Rattle.ws_peers.proofs.EndedLaws.{by_case, only_at, listing, contains_next, contains_none, fails_within, fails_in, fails_other, fails_front, fails_too}
 use Rattle.ws_peers.proofs.ListLaws.{both}

@@ -1,5 +1,4 @@
 use Rattle.std.proofs.Common.{IfOk, Result, Ok, Err, subst}
-use Rattle.hub_rows.specs.Stops.{IsKept}
 use Rattle.hub.proofs.stop.run_and_stop.Goals as goal
 
 -- what follows of a value follows of an answer

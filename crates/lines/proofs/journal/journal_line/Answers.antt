@@ -1,7 +1,5 @@
-use Rattle.std.proofs.Common.{◌≡◌, ◌≤◌, List, ℕ, Some, subst, sym}
+use Rattle.std.proofs.Common.{◌≤◌, ℕ, subst}
 use Rattle.hub_events.specs.declared.event.Event.{Event}
-use Rattle.hub_events.specs.declared.event.Event.TheVariants.{At, Tick}
-use Rattle.lines.specs.InputLines.{event_of}
 use Rattle.lines.specs.Journal.{Stands}
 use Rattle.ocpp_types.specs.Moment.{last_moment}
 use Rattle.lines.proofs.JournalFeeds.{line_one, tick_one}

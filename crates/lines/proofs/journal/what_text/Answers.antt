@@ -1,6 +1,6 @@
 use Rattle.std.proofs.Common.{◌≡◌, ◌∙◌, List, ℕ, Some, true, subst, sym, ap, inl, inr}
 use Rattle.hub_events.specs.declared.event.What.{What}
-use Rattle.hub_events.specs.declared.event.What.TheVariants.{Connect, Disconnect, Frame}
+use Rattle.hub_events.specs.declared.event.What.TheVariants.{Connect, Disconnect}
 use Rattle.lines.specs.Forms.{what_of}
 use Rattle.lines.specs.Journal.{Says}
 use Rattle.lines.specs.Orders.{is_order}

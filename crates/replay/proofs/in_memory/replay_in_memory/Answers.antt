@@ -1,4 +1,4 @@
-use Rattle.std.proofs.Common.{◌≡◌, ℕ, List, [], IfSome, Option, Some, None, refl}
+use Rattle.std.proofs.Common.{ℕ, List, [], IfSome, Option, Some, None, refl}
 use Rattle.std.proofs.KnownBytes.{Appends-nil}
 use Rattle.replay.specs.Run.{AppendsFront}
 use Rattle.replay.proofs.in_memory.replay_in_memory.Goals as goal

@@ -1,6 +1,6 @@
-use Rattle.std.proofs.Common.{arith, ◌∙◌, ◌≡◌, ◌+◌, ap, drop, get_or, length, map, refl, subst, sym}
+use Rattle.std.proofs.Common.{arith, ◌∙◌, ◌≡◌, ap, get_or, length, refl}
 use Rattle.ws_peers.specs.Peers.{is_open_peer, leaves}
-use Rattle.ws_peers.proofs.EndedLaws.{Changed, change_start, change_on, change_over, change_end}
+use Rattle.ws_peers.proofs.EndedLaws.{change_start, change_on, change_over, change_end}
 use Rattle.ws_peers.proofs.StageLaws.{leaves_open, leaves_twice}
 use Rattle.ws_peers.proofs.ended.leave_each.Goals as goal
 use Rattle.ws_peers.proofs.ended.leave_each.Goals.{then-place-len, else-place-len}

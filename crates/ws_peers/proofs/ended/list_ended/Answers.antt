@@ -1,6 +1,6 @@
-use Rattle.std.proofs.Common.{arith, ◌∙◌, ◌∷◌, if◌then◌else◌, subst, sym}
+use Rattle.std.proofs.Common.{◌∙◌, ◌∷◌, if◌then◌else◌, subst, sym}
 use Rattle.ws_peers.specs.Peers.{FailsOnlyAt, is_open_peer}
-use Rattle.ws_peers.proofs.EndedLaws.{fails_less, fails_last_listed}
+use Rattle.ws_peers.proofs.EndedLaws.{fails_less}
 use Rattle.ws_peers.proofs.ended.list_ended.Goals as goal
 
 pub returns-then-not-was_open-clause-listed : goal.returns-then-not-was_open-clause-listed

@@ -1,4 +1,4 @@
-use Rattle.std.proofs.Common.{arith, ◌∙◌, ◌≡◌, ap, length, refl, sym, true}
+use Rattle.std.proofs.Common.{arith, ◌∙◌, ◌≡◌, ap, refl, sym, true}
 use Rattle.ws_peers.specs.Peers.{fails_at, is_held_peer}
 use Rattle.ws_peers.proofs.EndedLaws.{fails_within}
 use Rattle.ws_peers.proofs.SweepLaws.{drops_none, drop_on, none_moved}

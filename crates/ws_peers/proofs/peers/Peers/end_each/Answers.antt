@@ -1,4 +1,4 @@
-use Rattle.std.proofs.Common.{◌≡◌, arith, ap, length, rules, subst}
+use Rattle.std.proofs.Common.{arith, ap, length, rules, subst}
 use Rattle.ws_peers.specs.Peers.{FailsOnlyAt, is_open_peer}
 use Rattle.ws_peers.proofs.ListLaws.{front_end, kept_zip, keyed_zip, ended_route}
 use Rattle.ws_peers.proofs.PlaceLaws.{front_on}

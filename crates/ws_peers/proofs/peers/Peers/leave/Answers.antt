@@ -1,4 +1,4 @@
-use Rattle.std.proofs.Common.{arith, ◌∙◌, ap, sym, refl, subst}
+use Rattle.std.proofs.Common.{arith, ◌∙◌, ap, sym, refl}
 use Rattle.ws_peers.specs.Peers.{fails_at, is_open_peer, is_operator_peer, key_of_peer, leaves, places_of}
 use Rattle.std.proofs.Common.{map}
 use Rattle.ws_peers.proofs.EndedLaws.{fails_map}
