@@ -1,5 +1,5 @@
 -- What a meter value names, and that what may be forgotten has been stopped.
-use Rattle.std.specs.Prelude.{◌≡◌, ◌&&◌, ◌==◌, ℕ, ℤ, pos, negsuc, unsigned_abs, ◌-◌, min, List, [], ◌∷◌, length, map, find, take, Bool, true, false, cond, Option, None, Some, is_none, suc, zero}
+use Rattle.std.specs.Prelude.{◌≡◌, ◌&&◌, ◌==◌, ℕ, ℤ, pos, negsuc, unsigned_abs, ◌-◌, ◌≤◌, min, List, [], ◌∷◌, length, map, find, take, Bool, true, false, cond, Option, None, Some, is_none, suc, zero}
 use Rattle.std.proofs.Common.{refl, sym, ◌∙◌, ap, subst, arith}
 use Rattle.std.proofs.lemmas.Bool.{and_parts, true≢false}
 use Rattle.std.proofs.lemmas.Bool.Decides.{Decides-eqb, Decides-int_eq}
@@ -16,7 +16,7 @@ use Rattle.hub_rows.specs.declared.meter_value_row.MeterValueRow.{MeterValueRow}
 use Rattle.hub_rows.specs.declared.tx_row.Stop.{Stop}
 use Rattle.hub_rows.specs.declared.tx_row.TxRow.{TxRow}
 use Rattle.hub_rows.specs.Changes.{IsStopped}
-use Rattle.hub_rows.specs.Forgetting.{is_before, is_over, named_tx, numbers_of, oldest, old_meter_values, old_rows, old_txs, tx_goes}
+use Rattle.hub_rows.specs.Forgetting.{is_before, is_over, named_tx, numbers_of, oldest, old_meter_values, old_rows, old_txs, tx_goes, until_readings}
 use Rattle.hub_rows.specs.Keyed.{by_key, key_cmp}
 use Rattle.hub_rows.specs.Lookups.{forgettable_in}
 use Rattle.hub_rows.specs.MeterValues.{meter_values_in}
@@ -44,6 +44,17 @@ take-least (suc n) [] =
 take-least (suc n) (x ∷ xs) =
     let less : min (suc (length xs)) (suc n) ≡ suc (min (length xs) n) = omega arith in
     ap (λ m. take m (x ∷ xs)) less ∙ ap (λ ys. x ∷ ys) (take-least n xs)
+
+-- the first meter values until so many readings are a front of all
+pub until-few : (n : ℕ) (rows : List MeterValueRow) → length (until_readings n rows) ≤ length rows
+until-few zero rows = omega arith
+until-few (suc n) [] = omega arith
+until-few (suc n) (r ∷ rs) = let few = until-few (suc n - length r.value.sampled) rs in omega (arith, few)
+
+pub until-front : (n : ℕ) (rows : List MeterValueRow) → take (length (until_readings n rows)) rows ≡ until_readings n rows
+until-front zero rows = refl
+until-front (suc n) [] = refl
+until-front (suc n) (r ∷ rs) = ap (λ l. r ∷ l) (until-front (suc n - length r.value.sampled) rs)
 
 all-map : {R S : Type 0} (P : S → Type 0) (f : R → S) (rs : List R) → AllByRecursion (λ r. P (f r)) rs → AllByRecursion P (map f rs)
 all-map P f [] all = tt

@@ -1,11 +1,11 @@
 -- What of a station's history may go before a moment, over the station's own rows in the order of their numbers.
-use Rattle.std.specs.Prelude.{ℕ, ◌*◌, ◌+◌, ◌-◌, ◌==◌, nat_le, nat_lt, ℤ, pos, int_lt, Bool, false, ◌&&◌, not, List, [], ◌∷◌, length, map, filter, find, take, Option, Some, None}
+use Rattle.std.specs.Prelude.{ℕ, suc, zero, ◌*◌, ◌+◌, ◌-◌, ◌==◌, nat_le, nat_lt, ℤ, pos, int_lt, Bool, false, ◌&&◌, not, List, [], ◌∷◌, length, map, filter, find, take, Option, Some, None}
 use Rattle.std.specs.List.{list_any}
 use Rattle.std.specs.Ordering.{int_eq}
 use Rattle.std.specs.Str.{bytes_eq}
 use Rattle.hub_rows.specs.declared.forgettable.Forgettable.{Forgettable}
 use Rattle.hub_rows.specs.declared.forgettable.History.{History}
-use Rattle.hub_rows.specs.declared.forgettable.TheConstants.{MAX_FORGOTTEN}
+use Rattle.hub_rows.specs.declared.forgettable.TheConstants.{MAX_FORGOTTEN, MAX_READINGS}
 use Rattle.hub_rows.specs.declared.meter_value_row.MeterValueRow.{MeterValueRow}
 use Rattle.hub_rows.specs.declared.tx_row.Stop.{Stop}
 use Rattle.hub_rows.specs.declared.tx_row.TxRow.{TxRow}
@@ -19,11 +19,21 @@ is_before until (Some stop) = nat_lt stop.moment until
 abbrev pub is_over : ℕ → TxRow → Bool
 is_over until t = is_before until t.stop
 
--- the first rows but the last of all, so that numbers go on; at most so many
+-- the first rows, at most MAX_FORGOTTEN of them, without the last of all, so that numbers go on
 abbrev pub oldest : {R : Type 0} → List R → List R
 oldest rows = take MAX_FORGOTTEN (take (length rows - 1) rows)
 
 -- ---- meter values
+
+-- the first of some meter values, until these have n readings
+abbrev pub until_readings : ℕ → List MeterValueRow → List MeterValueRow
+until_readings zero rows = []
+until_readings (suc n) [] = []
+until_readings (suc n) (r ∷ rs) = r ∷ until_readings (suc n - length r.value.sampled) rs
+
+-- the oldest meter values, until these have MAX_READINGS readings
+abbrev pub oldest_values : List MeterValueRow → List MeterValueRow
+oldest_values rows = until_readings MAX_READINGS (oldest rows)
 
 -- the transaction that a meter value names, if it is on record
 abbrev pub named_tx : Option ℤ → List TxRow → Option TxRow
@@ -39,7 +49,7 @@ abbrev pub may_go : ℕ → List TxRow → MeterValueRow → Bool
 may_go until txs r = goes_with until r.value.at (named_tx r.value.transaction txs)
 
 abbrev pub old_meter_values : ℕ → List TxRow → List MeterValueRow → List MeterValueRow
-old_meter_values until txs rows = filter (may_go until txs) (oldest rows)
+old_meter_values until txs rows = filter (may_go until txs) (oldest_values rows)
 
 -- ---- transactions
 

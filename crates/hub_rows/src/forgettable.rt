@@ -7,8 +7,11 @@ use crate::tx_row::TxRow;
 use ocpp_types::{Listed, Mem};
 use std::alloc::Global;
 
-/// The most rows that go at once.
+/// The most rows that an order to forget looks at.
 pub const MAX_FORGOTTEN: usize = 250;
+
+/// An order to forget looks at no more meter values once those before have so many readings.
+pub const MAX_READINGS: usize = 1000;
 
 /// Rows of a station's history.
 #[derive(Drop)]

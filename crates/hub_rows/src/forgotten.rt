@@ -1,8 +1,9 @@
 //! Whether a row of a station's history may go.
-ghost use Rattle.std.specs.Prelude.{◌≡◌, option_map};
-ghost use Rattle.hub_rows.specs.Forgetting.{goes_with, is_over, oldest};
+ghost use Rattle.std.specs.Prelude.{◌≡◌, length, option_map};
+ghost use Rattle.hub_rows.specs.Forgetting.{goes_with, is_over, oldest, oldest_values, until_readings};
 
-use crate::forgettable::MAX_FORGOTTEN;
+use crate::forgettable::{MAX_FORGOTTEN, MAX_READINGS};
+use crate::meter_value_row::MeterValueRow;
 use crate::tx_row::TxRow;
 use ocpp_types::Moment;
 
@@ -28,11 +29,37 @@ pub fn goes_with(until: Moment, at: i64, tx: Option<&TxRow>) -> bool
     }
 }
 
-/// The first of a station's rows, at most `MAX_FORGOTTEN`, but the last of all.
+/// The first of a station's rows, at most `MAX_FORGOTTEN`, without the last of all.
 pub fn oldest<R>(rows: &[R]) -> &[R]
     ensures { result.now ≡ oldest rows.now }
 {
     let (but_last, _) = rows.split_at(rows.len().saturating_sub(1));
     let (oldest, _) = but_last.split_at(but_last.len().min(MAX_FORGOTTEN));
     oldest
+}
+
+/// The oldest of a station's meter values: the same, until they have `MAX_READINGS` readings.
+pub fn oldest_values(rows: &[MeterValueRow]) -> &[MeterValueRow]
+    ensures { result.now ≡ oldest_values rows.now }
+{
+    let rows = oldest(rows);
+    let (oldest, _) = rows.split_at(count_until(rows, MAX_READINGS));
+    oldest
+}
+
+/// How many of some meter values come first, until they have so many readings.
+#[tactic(auto, using(crate::proofs::Steps::drop_here))]
+fn count_until(rows: &[MeterValueRow], readings: usize) -> usize
+    ensures { result ≡ length (until_readings readings rows.now) }
+{
+    let mut left = readings;
+    let mut count = 0;
+    for row in rows {
+        if left == 0 {
+            return count;
+        }
+        left = left.saturating_sub(row.value.sampled.as_slice().len());
+        count += 1;
+    }
+    count
 }

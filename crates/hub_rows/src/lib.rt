@@ -24,8 +24,8 @@ mod use_row;
 
 pub use change::{Change, Edit, HoldingEdit, StationEdit, TagEdit, TransactionEdit};
 pub use connector_row::{ConnectorReport, ConnectorRow};
-pub use forgettable::{Forgettable, History, MAX_FORGOTTEN};
-pub use forgotten::{goes_with, oldest};
+pub use forgettable::{Forgettable, History, MAX_FORGOTTEN, MAX_READINGS};
+pub use forgotten::{goes_with, oldest, oldest_values};
 pub use grant_row::GrantRow;
 pub use info::{GrantedTag, Info};
 pub use list_row::{ListRow, LocalList, LocalTag};

@@ -15,7 +15,6 @@ abbrev pub with_front : {A : Type 0} → List A → Result (List A) FieldFault �
 with_front front r = r >>= (λ xs. Ok (front ++ xs))
 
 module _ {A : Type 0} where
-
   with_front-one : (front : List A) (y : A) (r : Result (List A) FieldFault) → with_front front (r >>= (λ xs. Ok (y ∷ xs))) ≡ with_front (front ++ y ∷ []) r
   with_front-one front y (Ok xs) = ap Ok (sym (append_assoc front (y ∷ []) xs))
   with_front-one front y (Err e) = refl

@@ -65,7 +65,6 @@ module _ {S : Type 0} (g : Ghosts S) (s : SqlView S) (limit : Option ℕ) where
 
   -- what is said of the store that has the connection with that limit
   module _ (new : Held S) (is : new ≡ limited s.conn limit) where
-
     pub kept_with : IsKept (sql_view g s) → IsKept (sql_view g (record s { conn = new }))
     kept_with kept = subst (λ h. IsKept (sql_view g (record s { conn = h }))) (sym is) (limited_kept kept)
 
