@@ -1,4 +1,4 @@
-use Rattle.std.proofs.Common.{ap, arith, length, subst, sym, take, ◌∙◌, ◌≤◌}
+use Rattle.std.proofs.Common.{ap, length, subst, sym, take, ◌∙◌, ◌≤◌}
 use Rattle.hub_rows.specs.Forgetting.{until_readings}
 use Rattle.hub_rows.proofs.ForgetLaws.{until-few, until-front}
 use Rattle.hub_rows.proofs.forgotten.oldest_values.Goals as goal
