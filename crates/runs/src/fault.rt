@@ -1,7 +1,7 @@
 //! Why a run stops.
 
 use crate::hosted::BadOperators;
-use journal_file::{JournalFileFault, JournalProblem};
+use crate::journal_fault::{JournalFileFault, JournalProblem};
 use ocpp_types::{NoMemory, Text};
 use replay::ReplayFault;
 use standby::FollowFault;

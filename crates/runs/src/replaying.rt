@@ -2,7 +2,7 @@
 
 use crate::fault::RunFault;
 use crate::hosted::{copies_of, fault_of, hub_of};
-use bad_lines::watch;
+use crate::bad_lines::watch;
 use command_line::ReplayOptions;
 use hub::Hub;
 use hub_rows::Store;

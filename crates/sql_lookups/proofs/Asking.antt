@@ -7,7 +7,6 @@ use Rattle.sqlite.specs.declared.error.Error.{Error}
 use Rattle.sqlite.specs.Effect.{Database}
 use Rattle.sqlite.specs.State.{State}
 use Rattle.hub_rows.specs.Keyed.{first, greatest, put_all}
-use Rattle.sql_tables.specs.declared.pages.TheConstants.{PAGE_ROWS}
 use Rattle.sql_rows.specs.Kept.{IsServing, Shows, ShowsLast, ShowsPage, ShowsText}
 use Rattle.sql_rows.specs.TypedTable.{TypedTable, cmp, rows_in}
 use Rattle.sql_rows.specs.Values.{count_in, first_text}
@@ -49,10 +48,10 @@ asks_rows {V} {T} {F} {items} {s} {p} {old} {new} {r} {q} {P} shows ok rows mean
 }
 
 -- the first rows that it shows
-pub asks_page : {V T F : Type 0} {items : V → List Row} {s : TypedTable T} {p : T → Bool} {old new : State} {r : Result V Error} {q : Result (List T) F} {P : Trees → List T → Type 0} → (IsServing old → ShowsPage items s p old new r) → OnOk q (IsOk r)
-    → IfOk r (λ v. IfOk q (λ l. l ≡ put_all (cmp s) (map s.read (items v)) [])) → ((db : Trees) (l : List T) → l ≡ take PAGE_ROWS (filter p (rows_in s db)) → P db l) → AsksIn old new q P
-asks_page {V} {T} {F} {items} {s} {p} {old} {new} {r} {q} {P} shows ok rows means = record {
-  found = λ serves up. if_ok q (means old.now.trees) (rows_find items s (take PAGE_ROWS (filter p (rows_in s old.now.trees))) r q ok rows ((shows serves).ok up));
+pub asks_page : {V T F : Type 0} {n : ℕ} {items : V → List Row} {s : TypedTable T} {p : T → Bool} {old new : State} {r : Result V Error} {q : Result (List T) F} {P : Trees → List T → Type 0} → (IsServing old → ShowsPage n items s p old new r) → OnOk q (IsOk r)
+    → IfOk r (λ v. IfOk q (λ l. l ≡ put_all (cmp s) (map s.read (items v)) [])) → ((db : Trees) (l : List T) → l ≡ take n (filter p (rows_in s db)) → P db l) → AsksIn old new q P
+asks_page {V} {T} {F} {n} {items} {s} {p} {old} {new} {r} {q} {P} shows ok rows means = record {
+  found = λ serves up. if_ok q (means old.now.trees) (rows_find items s (take n (filter p (rows_in s old.now.trees))) r q ok rows ((shows serves).ok up));
   same = λ serves up. (shows serves).same up;
   stops = commits_as old new r q ok (λ serves. (shows serves).stops);
 }

@@ -2,10 +2,11 @@
 use Rattle.std.proofs.Common.{◌≡◌, ◌∙◌, ◌++◌, ◌==◌, ◌-◌, ◌≤◌, ℕ, List, [], ◌∷◌, Bool, true, false, cond, filter, length, take, arith, eqb-true, refl, sym, ap}
 use Rattle.std.proofs.lemmas.List.{length-take, take-take, take_min}
 use Rattle.std.proofs.lemmas.List.Elements.{filter-append}
-use Rattle.hub_rows.specs.declared.forgettable.TheConstants.{MAX_FORGOTTEN}
+use Rattle.hub_rows.specs.declared.forgettable.TheConstants.{MAX_FORGOTTEN, MAX_READINGS}
 use Rattle.hub_rows.specs.declared.meter_value_row.MeterValueRow.{MeterValueRow}
 use Rattle.hub_rows.specs.declared.tx_row.TxRow.{TxRow}
-use Rattle.hub_rows.specs.Forgetting.{forgettable, old_meter_values, old_rows, old_txs, oldest}
+use Rattle.hub_rows.specs.Forgetting.{forgettable, old_meter_values, old_rows, old_txs, oldest, oldest_values}
+use Rattle.hub_rows.proofs.ForgetLaws.{until-few, until-front}
 
 -- the oldest rows are so many of all
 pub oldest_front : {R : Type 0} (rows : List R) → take (length (oldest rows)) rows ≡ oldest rows
@@ -15,6 +16,12 @@ oldest_front rows =
     let most = length-take MAX_FORGOTTEN front in
     let within : length (oldest rows) ≤ length rows - 1 = omega (arith, many, most) in
     sym (take-take (length (oldest rows)) (length rows - 1) rows within) ∙ ap (λ n. take n front) most ∙ take_min MAX_FORGOTTEN front
+
+-- the same of meter values
+pub oldest_values_front : (rows : List MeterValueRow) → take (length (oldest_values rows)) rows ≡ oldest_values rows
+oldest_values_front rows =
+    let count : ℕ = length (oldest_values rows) in
+    sym (take-take count (length (oldest rows)) rows (until-few MAX_READINGS (oldest rows))) ∙ ap (take count) (oldest_front rows) ∙ until-front MAX_READINGS (oldest rows)
 
 -- one more row of a list
 pub one_found : {R : Type 0} (p : R → Bool) (front : List R) (x : R) (found more : List R) (goes : Bool) → found ≡ filter p front → goes ≡ p x → more ≡ found ++ cond goes (x ∷ []) [] → more ≡ filter p (front ++ x ∷ [])

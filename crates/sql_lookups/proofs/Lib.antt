@@ -1,5 +1,6 @@
 pub mod Asking
 pub mod GrantedLaws
 pub mod PageLaws
+pub mod FirstLaws
 pub mod ForgetLaws
 pub mod ValueLaws

@@ -1,5 +1,5 @@
 -- Rows in the order of their numbers: their pages, and the last one.
-use Rattle.std.proofs.Common.{◌≡◌, ◌&&◌, ◌++◌, ◌+◌, ◌-◌, ℕ, zero, suc, nat_le, ◌<◌, ◌≤◌, List, [], ◌∷◌, length, map, filter, take, drop, cond, Bool, true, Option, None, Some, Ordering, Less, refl, sym, ap, ◌∙◌, subst, inl, inr, arith, append-nil, append_assoc}
+use Rattle.std.proofs.Common.{◌≡◌, ◌^◌, ◌&&◌, ◌++◌, ◌+◌, ◌-◌, ℕ, zero, suc, nat_le, ◌<◌, ◌≤◌, List, [], ◌∷◌, length, map, filter, take, drop, cond, Bool, true, Option, None, Some, Ordering, Less, refl, sym, ap, ◌∙◌, subst, inl, inr, arith, append-nil, append_assoc}
 use Rattle.std.specs.List.{AllByRecursion, slice_get}
 use Rattle.std.specs.List.Sorted.{IsStrictlySortedBy}
 use Rattle.std.specs.Cmp.{ranked}
@@ -94,7 +94,7 @@ module _ {R : Type 0} (number : R → ℕ) where
   from_none rows = filter-all (λ r. nat_le 0 (number r)) rows (all-these (λ r. nat_le 0 (number r) ≡ true) (λ r. le-leb 0 (number r) (omega arith)) rows)
 
   -- one page has the oldest rows
-  pub oldest_is : (rows page : List R) → page ≡ page_from number 0 rows → oldest page ≡ oldest rows
+  pub oldest_is : (rows page : List R) → page ≡ page_from PAGE_ROWS number 0 rows → oldest page ≡ oldest rows
   oldest_is rows page is = ap oldest (is ∙ ap (take PAGE_ROWS) (from_none rows)) ∙ elim (cases_lt PAGE_ROWS (length rows)) [
     | inl long ↦
         let whole : length (take PAGE_ROWS rows) - 1 ≡ 255 = (let many = length-take PAGE_ROWS rows in omega (arith, long, many)) in
@@ -111,26 +111,31 @@ abbrev pub rest : Option ℕ → List MeterValueRow → List MeterValueRow
 rest None rows = []
 rest (Some next) rows = from (λ m. m.first) next rows
 
+-- how many numbers are left
+abbrev pub numbers_left : Option ℕ → ℕ
+numbers_left None = 0
+numbers_left (Some next) = 2 ^ 32 - next
+
 -- a page, and then the rows from the next one on, are the rows from its first number on
-pub follows : (rows : List MeterValueRow) → IsInOrder (λ m. m.first) rows → (first : ℕ) (page : List MeterValueRow) → page ≡ page_from (λ m. m.first) first rows → (next : Option ℕ) → IsAfter first page next → page ++ rest next rows ≡ from (λ m. m.first) first rows
-follows rows up first page is None short =
+pub follows : (size : ℕ) (rows : List MeterValueRow) → IsInOrder (λ m. m.first) rows → (first : ℕ) (page : List MeterValueRow) → page ≡ page_from size (λ m. m.first) first rows → (next : Option ℕ) → IsAfter size first page next → page ++ rest next rows ≡ from (λ m. m.first) first rows
+follows size rows up first page is None short =
     let those : List MeterValueRow = from (λ m. m.first) first rows in
     let many = ap length is in
-    let most = length-take PAGE_ROWS those in
-    append-nil page ∙ is ∙ take_all PAGE_ROWS those (omega (arith, short, many, most))
-follows rows up first page is (Some next) after =
+    let most = length-take size those in
+    append-nil page ∙ is ∙ take_all size those (omega (arith, short, many, most))
+follows size rows up first page is (Some next) after =
     let number : MeterValueRow → ℕ = λ m. m.first in
     let r : MeterValueRow = after.0 in
     let those : List MeterValueRow = from number first rows in
-    let ends = page_end number PAGE_ROWS first those r (IsStrictlySortedBy-filter (λ x y. nat_cmp (number x) (number y)) (λ m. nat_le first (number m)) rows up)
+    let ends = page_end number size first those r (IsStrictlySortedBy-filter (λ x y. nat_cmp (number x) (number y)) (λ m. nat_le first (number m)) rows up)
     (all-weaker (λ m. nat_le first (number m) ≡ true) (λ m. first ≤ number m) (λ m low. leb-true first (number m) low) those (all_tested (λ m. nat_le first (number m)) rows))
     (subst (λ l. Some r ≡ slice_get l (length l - 1)) is after.1) in
     let low = ends.0 in
     let begins = after.2 in
     let next_is : next ≡ r.first + 1 = omega (arith, begins, low) in
     (λ i. is i ++ from number (next_is i) rows)
-    ∙ ap (λ l. take PAGE_ROWS those ++ l) (sym (ends.1 ∙ filter-filter (λ m. nat_le (r.first + 1) (number m)) (λ m. nat_le first (number m)) (λ m e. let over = leb-true (r.first + 1) (number m) e in le-leb first (number m) (omega (arith, low, over))) rows))
-    ∙ take-append-drop PAGE_ROWS those
+    ∙ ap (λ l. take size those ++ l) (sym (ends.1 ∙ filter-filter (λ m. nat_le (r.first + 1) (number m)) (λ m. nat_le first (number m)) (λ m e. let over = leb-true (r.first + 1) (number m) e in le-leb first (number m) (omega (arith, low, over))) rows))
+    ∙ take-append-drop size those
 
 -- with one page more
 pub listed_more : (own : List MeterValueRow) (was : Option ℕ) (first : ℕ) (next : Option ℕ) (found page more : List MeterValueRow) → was ≡ Some first → found ++ rest was own ≡ own → page ++ rest next own ≡ from (λ m. m.first) first own → more ≡ found ++ page
@@ -149,9 +154,9 @@ module _ (b st : List ℕ) (n : Option ℕ) where
       (IsStrictlySortedBy-filter (cmp meter_values) p all (is_arranged (cmp meter_values) (by_key_total meter_values.key) (map (typed meter_values) (db meter_values.table.tree))))
 
   -- a page of them
-  pub values_are : (first : ℕ) (shown : MeterValueRow → Bool) → ((m : MeterValueRow) → shown m ≡ is_meter_value st n m && nat_le first m.first) → (rows : List MeterValueRow)
-      → take PAGE_ROWS (filter (λ m. bytes_eq m.op b && shown m) rows) ≡ page_from (λ m. m.first) first (meter_values_in b st n rows)
-  values_are first shown same rows = ap (take PAGE_ROWS) ((λ i. filter (λ m. bytes_eq m.op b && same m i) rows) ∙ those-those (λ m. m.op) b (is_meter_value st n) (λ m. nat_le first m.first) rows)
+  pub values_are : (size first : ℕ) (shown : MeterValueRow → Bool) → ((m : MeterValueRow) → shown m ≡ is_meter_value st n m && nat_le first m.first) → (rows : List MeterValueRow)
+      → take size (filter (λ m. bytes_eq m.op b && shown m) rows) ≡ page_from size (λ m. m.first) first (meter_values_in b st n rows)
+  values_are size first shown same rows = ap (take size) ((λ i. filter (λ m. bytes_eq m.op b && same m i) rows) ∙ those-those (λ m. m.op) b (is_meter_value st n) (λ m. nat_le first m.first) rows)
 
 -- those that were sent with a number, of all of a station
 pub sent_of : (b st : List ℕ) (n : ℕ) (rows : List MeterValueRow) → filter (λ m. is_sent_with (Some n) m.value.transaction) (meter_values_in b st None rows) ≡ meter_values_in b st (Some n) rows

@@ -2,20 +2,19 @@
 use Rattle.std.specs.Prelude.{◌≡◌, ℕ, ◌+◌, ◌-◌, ◌<◌, max, nat_le, List, length, Option, None, Some, filter, take}
 use Rattle.std.specs.List.{slice_get}
 use Rattle.hub_rows.specs.declared.meter_value_row.MeterValueRow.{MeterValueRow}
-use Rattle.sql_tables.specs.declared.pages.TheConstants.{PAGE_ROWS}
 
 -- the rows from a number on
 abbrev pub from : {R : Type 0} → (R → ℕ) → ℕ → List R → List R
 from number n rows = filter (λ r. nat_le n (number r)) rows
 
--- the first of them
-abbrev pub page_from : {R : Type 0} → (R → ℕ) → ℕ → List R → List R
-page_from number n rows = take PAGE_ROWS (from number n rows)
+-- a page of them: the first so many
+abbrev pub page_from : {R : Type 0} → ℕ → (R → ℕ) → ℕ → List R → List R
+page_from size number n rows = take size (from number n rows)
 
--- where the page after one from that number on begins: after its last row, if it is full
-abbrev pub IsAfter : ℕ → List MeterValueRow → Option ℕ → Type 0
-IsAfter first page None = length page < PAGE_ROWS
-IsAfter first page (Some next) = (r : MeterValueRow) × (Some r ≡ slice_get page (length page - 1)) × (next ≡ max r.first first + 1)
+-- where the page after one of that size from a number on begins: after its last row, if it is full
+abbrev pub IsAfter : ℕ → ℕ → List MeterValueRow → Option ℕ → Type 0
+IsAfter size first page None = length page < size
+IsAfter size first page (Some next) = (r : MeterValueRow) × (Some r ≡ slice_get page (length page - 1)) × (next ≡ max r.first first + 1)
 
 -- the last of so many numbers from the first on; 0 where there are none
 abbrev pub last_in : Option (ℕ × ℕ) → ℕ

@@ -1,4 +1,4 @@
-//! What of a station's history may go, by the first page of its meter values or of its transactions.
+//! What of a station's history may go, by the first of its meter values or of its transactions.
 ghost use Rattle.std.specs.Prelude.{◌≡◌, ◌++◌, [], ◌∷◌, None, cond, filter, OnOk};
 ghost use Rattle.sqlite.specs.Held.{state};
 ghost use Rattle.hub_rows.specs.Forgetting.{goes_with, may_go, named_tx, old_meter_values, old_txs, oldest, tx_goes};
@@ -8,8 +8,9 @@ ghost use Rattle.hub_rows.specs.Transactions.{txs_in};
 ghost use Rattle.sql_lookups.specs.Asks.{Asks};
 ghost use Rattle.sql_lookups.specs.Forgotten.{IsNamed};
 
+use crate::first_values::{first_values, oldest_values_of};
 use crate::txs::{find_tx, txs_page};
-use crate::values::{is_named, values_page};
+use crate::values::is_named;
 use hub_rows::{History, MeterValueRow, StoreFault, TxRow, goes_with, oldest};
 use ocpp_types::{Listed, Mem, Moment};
 use sqlite::{Alter, Connection};
@@ -116,8 +117,8 @@ fn old_meter_values<S: Alter>(
 ) -> Result<Listed<MeterValueRow>, StoreFault>
     ensures asks { Asks (state S.Store conn.old) (state S.Store conn.new) result (λ rows gone. gone ≡ old_meter_values until (txs_in op.now station.now rows.transactions) (meter_values_in op.now station.now None rows.meter_values)) }
 {
-    let page = values_page(conn, op, station, 0)?;
-    old_of(conn, alloc, op, station, until, oldest_of(page))
+    let values = first_values(conn, alloc, op, station)?;
+    old_of(conn, alloc, op, station, until, oldest_values_of(values))
 }
 
 // ---- transactions

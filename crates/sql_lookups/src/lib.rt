@@ -3,6 +3,7 @@
 
 mod bounds;
 pub mod connectors;
+mod first_values;
 pub mod forget;
 pub mod granted;
 pub mod grants;

@@ -6,6 +6,7 @@ ghost use Rattle.hub_rows.specs.MeterValues.{is_sent_with, meter_values_in};
 ghost use Rattle.sql_rows.specs.Kept.{IsServing, ShowsPage};
 ghost use Rattle.sql_rows.specs.TypedTables.{meter_values};
 ghost use Rattle.sql_lookups.specs.Asks.{Asks};
+ghost use Rattle.sql_tables.specs.declared.pages.TheConstants.{PAGE_ROWS};
 ghost use Rattle.sql_lookups.specs.Pages.{page_from, IsAfter};
 
 use crate::values::values_page;
@@ -30,7 +31,7 @@ fn find_tx_page<S: Alter>(
     first: u32,
 ) -> Result<Vec<Row>, Error>
     requires { transaction < 2 ^ 63 }
-    ensures shows { IsServing (state S.Store conn.old) → ShowsPage (λ v. v.items) meter_values (λ m. bytes_eq m.op op.now && (bytes_eq m.station station.now && (is_sent_with (Some transaction) m.value.transaction && nat_le first m.first))) (state S.Store conn.old) (state S.Store conn.new) result }
+    ensures shows { IsServing (state S.Store conn.old) → ShowsPage PAGE_ROWS (λ v. v.items) meter_values (λ m. bytes_eq m.op op.now && (bytes_eq m.station station.now && (is_sent_with (Some transaction) m.value.transaction && nat_le first m.first))) (state S.Store conn.old) (state S.Store conn.new) result }
 {
     conn.query_all(
         sql_tables::meter_values::PAGE_OF_TX,
@@ -47,7 +48,7 @@ fn tx_page<S: Alter>(
     first: u32,
 ) -> Result<Listed<MeterValueRow>, StoreFault>
     requires { transaction < 2 ^ 63 }
-    ensures asks { Asks (state S.Store conn.old) (state S.Store conn.new) result (λ rows page. page ≡ page_from (λ m. m.first) first (meter_values_in op.now station.now (Some transaction) rows.meter_values)) }
+    ensures asks { Asks (state S.Store conn.old) (state S.Store conn.new) result (λ rows page. page ≡ page_from PAGE_ROWS (λ m. m.first) first (meter_values_in op.now station.now (Some transaction) rows.meter_values)) }
 {
     listed(find_tx_page(conn, op, station, transaction, first))
 }
@@ -61,7 +62,7 @@ fn chosen_page<S: Alter>(
     first: u32,
 ) -> Result<Listed<MeterValueRow>, StoreFault>
     requires { IfSome transaction (λ n. n < 2 ^ 63) }
-    ensures asks { Asks (state S.Store conn.old) (state S.Store conn.new) result (λ rows page. page ≡ page_from (λ m. m.first) first (meter_values_in op.now station.now transaction rows.meter_values)) }
+    ensures asks { Asks (state S.Store conn.old) (state S.Store conn.new) result (λ rows page. page ≡ page_from PAGE_ROWS (λ m. m.first) first (meter_values_in op.now station.now transaction rows.meter_values)) }
 {
     match transaction {
         Some(number) => tx_page(conn, op, station, number, first),
@@ -69,13 +70,18 @@ fn chosen_page<S: Alter>(
     }
 }
 
-/// Where the page after this one begins, after its last row. `None` where it is the last page.
-fn after_page(first: u32, page: &[MeterValueRow]) -> Result<Option<u32>, StoreFault>
+/// Where the page after this one begins, after its last row, for pages of that size. `None` where it is the last page.
+pub(crate) fn after_page(
+    size: usize,
+    first: u32,
+    page: &[MeterValueRow],
+) -> Result<Option<u32>, StoreFault>
+    requires { 0 < size }
     ensures forward { IfOk result (λ next. IfSome next (λ n. first < n)) }
-    ensures after { IfOk result (IsAfter first page.now) }
+    ensures after { IfOk result (IsAfter size first page.now) }
 {
     match page.last() {
-        Some(row) if page.len() >= PAGE_ROWS => match row.first.max(first).checked_add(1) {
+        Some(row) if page.len() >= size => match row.first.max(first).checked_add(1) {
             Some(next) => Ok(Some(next)),
             None => Err(StoreFault::Failed),
         },
@@ -128,7 +134,7 @@ fn all_values<S: Alter>(
     let mut next = Some(0);
     'pages: while let Some(first) = next {
         let page = chosen_page(conn, op, station, transaction, first)?;
-        next = after_page(first, page.as_slice())?;
+        next = after_page(PAGE_ROWS, first, page.as_slice())?;
         add_page(&mut values, page, &mut left)?;
     }
     Ok(Listed::from(values))

@@ -7,6 +7,7 @@ ghost use Rattle.hub_rows.specs.Keyed.{found};
 ghost use Rattle.hub_rows.specs.Transactions.{counts, has_open_in, is_left_out, is_open, is_started, is_tx, is_used_in, last_tx_in, open_txs_in, same_start_in, tx_in, txs_from_in, txs_in};
 ghost use Rattle.sql_rows.specs.Kept.{IsServing, Shows, ShowsLast, ShowsPage};
 ghost use Rattle.sql_lookups.specs.Asks.{Asks};
+ghost use Rattle.sql_tables.specs.declared.pages.TheConstants.{PAGE_ROWS};
 ghost use Rattle.sql_lookups.specs.Pages.{page_from};
 ghost use Rattle.sql_rows.specs.TypedTables.{txs};
 
@@ -92,7 +93,7 @@ fn find_page<S: Alter>(
     station: &str,
     first: u32,
 ) -> Result<Vec<Row>, Error>
-    ensures shows { IsServing (state S.Store conn.old) → ShowsPage (λ v. v.items) txs (λ t. bytes_eq t.op op.now && (bytes_eq t.station station.now && nat_le first t.number)) (state S.Store conn.old) (state S.Store conn.new) result }
+    ensures shows { IsServing (state S.Store conn.old) → ShowsPage PAGE_ROWS (λ v. v.items) txs (λ t. bytes_eq t.op op.now && (bytes_eq t.station station.now && nat_le first t.number)) (state S.Store conn.old) (state S.Store conn.new) result }
 {
     conn.query_all(sql_tables::txs::PAGE, params![op, station, first])
 }
@@ -104,7 +105,7 @@ pub(crate) fn txs_page<S: Alter>(
     station: &str,
     first: u32,
 ) -> Result<Listed<TxRow>, StoreFault>
-    ensures asks { Asks (state S.Store conn.old) (state S.Store conn.new) result (λ rows page. page ≡ page_from (λ t. t.number) first (txs_in op.now station.now rows.transactions)) }
+    ensures asks { Asks (state S.Store conn.old) (state S.Store conn.new) result (λ rows page. page ≡ page_from PAGE_ROWS (λ t. t.number) first (txs_in op.now station.now rows.transactions)) }
 {
     listed(find_page(conn, op, station, first))
 }

@@ -8,6 +8,7 @@ ghost use Rattle.sql_rows.specs.Kept.{IsServing, ShowsPage, ShowsTopCells};
 ghost use Rattle.sql_rows.specs.TypedTable.{rows_in};
 ghost use Rattle.sql_rows.specs.TypedTables.{first_and_count_cells, meter_values};
 ghost use Rattle.sql_lookups.specs.Asks.{Asks, AsksIn, AreLastNumbers};
+ghost use Rattle.sql_tables.specs.declared.pages.TheConstants.{PAGE_ROWS};
 ghost use Rattle.sql_lookups.specs.Pages.{last_in, page_from};
 
 use hub_rows::{MeterValueRow, StoreFault};
@@ -21,7 +22,7 @@ fn find_page<S: Alter>(
     station: &str,
     first: u32,
 ) -> Result<Vec<Row>, Error>
-    ensures shows { IsServing (state S.Store conn.old) → ShowsPage (λ v. v.items) meter_values (λ m. bytes_eq m.op op.now && (bytes_eq m.station station.now && nat_le first m.first)) (state S.Store conn.old) (state S.Store conn.new) result }
+    ensures shows { IsServing (state S.Store conn.old) → ShowsPage PAGE_ROWS (λ v. v.items) meter_values (λ m. bytes_eq m.op op.now && (bytes_eq m.station station.now && nat_le first m.first)) (state S.Store conn.old) (state S.Store conn.new) result }
 {
     conn.query_all(sql_tables::meter_values::PAGE, params![op, station, first])
 }
@@ -33,9 +34,32 @@ pub(crate) fn values_page<S: Alter>(
     station: &str,
     first: u32,
 ) -> Result<Listed<MeterValueRow>, StoreFault>
-    ensures asks { Asks (state S.Store conn.old) (state S.Store conn.new) result (λ rows page. page ≡ page_from (λ m. m.first) first (meter_values_in op.now station.now None rows.meter_values)) }
+    ensures asks { Asks (state S.Store conn.old) (state S.Store conn.new) result (λ rows page. page ≡ page_from PAGE_ROWS (λ m. m.first) first (meter_values_in op.now station.now None rows.meter_values)) }
 {
     listed(find_page(conn, op, station, first))
+}
+
+fn find_next<S: Alter>(
+    conn: &mut Connection<S>,
+    op: &str,
+    station: &str,
+    first: u32,
+) -> Result<Vec<Row>, Error>
+    ensures shows { IsServing (state S.Store conn.old) → ShowsPage 1 (λ v. v.items) meter_values (λ m. bytes_eq m.op op.now && (bytes_eq m.station station.now && nat_le first m.first)) (state S.Store conn.old) (state S.Store conn.new) result }
+{
+    conn.query_all(sql_tables::meter_values::NEXT, params![op, station, first])
+}
+
+/// The first meter value of a station from a number on, as a page of one row.
+pub(crate) fn next_value<S: Alter>(
+    conn: &mut Connection<S>,
+    op: &str,
+    station: &str,
+    first: u32,
+) -> Result<Listed<MeterValueRow>, StoreFault>
+    ensures asks { Asks (state S.Store conn.old) (state S.Store conn.new) result (λ rows page. page ≡ page_from 1 (λ m. m.first) first (meter_values_in op.now station.now None rows.meter_values)) }
+{
+    listed(find_next(conn, op, station, first))
 }
 
 fn find_last<S: Alter>(conn: &mut Connection<S>, op: &str, station: &str) -> Result<Vec<Row>, Error>

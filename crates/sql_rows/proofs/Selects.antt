@@ -16,7 +16,6 @@ use Rattle.sqlite.specs.State.{State, HasCleanDisk, Survives, Shown, FailsToQuer
 use Rattle.sqlite.proofs.Callers.{IsPlain, reads_as}
 use Rattle.hub_rows.specs.Keyed.{first, put_all, greatest}
 use Rattle.sql_tables.specs.Tables.{hub_schema}
-use Rattle.sql_tables.specs.declared.pages.TheConstants.{PAGE_ROWS}
 use Rattle.sql_tables.specs.Forms.{any_query, plain_query, last_query, page_query}
 use Rattle.sql_tables.specs.Meanings.{IsRead}
 use Rattle.sql_rows.specs.TypedTable.{TypedTable, cmp, rows_in, AreTyped}
@@ -101,8 +100,8 @@ pub record ReadsLast {T : Type 0} (sql : List ℕ) (params : Row) (s : TypedTabl
   pub text : IsRead sql (last_query s.table.tree wanted project place) names
   pub test : IsTest s wanted params p
 
--- it shows the first rows that pass in the order of the number, which stands at that place
-pub record ReadsPage {T : Type 0} (sql : List ℕ) (params : Row) (s : TypedTable T) (p : T → Bool) : Type 1 where
+-- it shows the first n rows that pass in the order of the number, which stands at that place
+pub record ReadsPage {T : Type 0} (n : ℕ) (sql : List ℕ) (params : Row) (s : TypedTable T) (p : T → Bool) : Type 1 where
   pub at : ℕ
   pub is : IsTypedTable hub_schema hub_good at s
   pub wanted : List Term
@@ -113,7 +112,7 @@ pub record ReadsPage {T : Type 0} (sql : List ℕ) (params : Row) (s : TypedTabl
   pub numbered : IsNumbered s number place
   pub ordered : IsOrdered s number p
   pub names : List (List ℕ)
-  pub text : IsRead sql (page_query s.table.tree wanted project place PAGE_ROWS) names
+  pub text : IsRead sql (page_query s.table.tree wanted project place n) names
   pub test : IsTest s wanted params p
 
 -- it shows the text of the first row that passes, which stands at that place
@@ -152,14 +151,14 @@ shows_last {T} {sql} {params} {s} {cells} {number} {p} f at counted items old ne
   stops = stops sql (last_query s.table.tree f.wanted f.project f.place) f.names f.text params items old new values r survives ok;
 }
 
-pub shows_page : {T : Type 0} {sql : List ℕ} {params : Row} {s : TypedTable T} {p : T → Bool} → ReadsPage sql params s p
+pub shows_page : {T : Type 0} {n : ℕ} {sql : List ℕ} {params : Row} {s : TypedTable T} {p : T → Bool} → ReadsPage n sql params s p
     → {V : Type 0} (items : V → List Row) (old new : State) (values : Row) (r : Result V Error) → (HasCleanDisk new → IfOk r (λ v. Shown sql values old new (items v))) → (HasCleanDisk new → IfErr r (FailsToQuery sql values old new))
-    → Survives old new (CommitsShowing sql values old) → values ≡ params → IsServing old → (IsTrue new.is_open → HasCleanDisk new) → ShowsPage items s p old new r
-shows_page {T} {sql} {params} {s} {p} f items old new values r ok err survives given h clean = record {
-  ok = λ up. answers sql (page_query s.table.tree f.wanted f.project f.place PAGE_ROWS) f.names f.text params (λ db rows. put_all (cmp s) (map s.read rows) [] ≡ take PAGE_ROWS (filter p (rows_in s db)))
-      (λ db kept obeys rows answer. page_is f.at s f.is f.wanted f.project f.whole params p f.test f.place PAGE_ROWS f.number f.numbered f.ordered db kept obeys rows answer) items old new values r given h (ok (clean up));
-  same = λ up. stays sql (page_query s.table.tree f.wanted f.project f.place PAGE_ROWS) f.names f.text params items old new values r h up (ok (clean up)) (err (clean up));
-  stops = stops sql (page_query s.table.tree f.wanted f.project f.place PAGE_ROWS) f.names f.text params items old new values r survives ok;
+    → Survives old new (CommitsShowing sql values old) → values ≡ params → IsServing old → (IsTrue new.is_open → HasCleanDisk new) → ShowsPage n items s p old new r
+shows_page {T} {n} {sql} {params} {s} {p} f items old new values r ok err survives given h clean = record {
+  ok = λ up. answers sql (page_query s.table.tree f.wanted f.project f.place n) f.names f.text params (λ db rows. put_all (cmp s) (map s.read rows) [] ≡ take n (filter p (rows_in s db)))
+      (λ db kept obeys rows answer. page_is f.at s f.is f.wanted f.project f.whole params p f.test f.place n f.number f.numbered f.ordered db kept obeys rows answer) items old new values r given h (ok (clean up));
+  same = λ up. stays sql (page_query s.table.tree f.wanted f.project f.place n) f.names f.text params items old new values r h up (ok (clean up)) (err (clean up));
+  stops = stops sql (page_query s.table.tree f.wanted f.project f.place n) f.names f.text params items old new values r survives ok;
 }
 
 pub shows_top_cells : {T : Type 0} {sql : List ℕ} {params : Row} {s : TypedTable T} {cells : T → Row} {number : T → ℕ} {p : T → Bool} → ReadsLast sql params s cells number p

@@ -154,7 +154,7 @@ in_order op station number b st within x y p q =
     (λ i. key_cmp (same_text (op x) b px.0 i ∷ same_text (station x) st sx.0 i ∷ (number x ∷ []) ∷ []) (same_text (op y) b py.0 i ∷ same_text (station y) st sy.0 i ∷ (number y ∷ []) ∷ []))
     ∙ same_station b st ((number x ∷ []) ∷ []) ((number y ∷ []) ∷ []) ∙ number_order (number x) (number y)
 
-pub pages_of_txs : (op station : List ℕ) (n : ℕ) → ReadsPage sql_txs.PAGE.now (Text op ∷ Text station ∷ Int (pos n) ∷ []) txs (λ r. bytes_eq r.op op && (bytes_eq r.station station && nat_le n r.number))
+pub pages_of_txs : (op station : List ℕ) (n : ℕ) → ReadsPage PAGE_ROWS sql_txs.PAGE.now (Text op ∷ Text station ∷ Int (pos n) ∷ []) txs (λ r. bytes_eq r.op op && (bytes_eq r.station station && nat_le n r.number))
 pages_of_txs op station n = record {
   at = 5;
   is = on_txs;
@@ -318,9 +318,9 @@ pub reads_last_numbers_of_tx : (op station : List ℕ) (n : ℕ) → ReadsLast s
 reads_last_numbers_of_tx op station n = last_numbers _ (where_is 0 (1 ∷ 2 ∷ 5 ∷ [])) _ _ texts.last_tx_meter_value_numbers_is (tests.tx_meter_values op station n)
 
 -- a page of those of a station that pass
-page_of_values : (op station : List ℕ) (sql : List ℕ) (wanted : List Term) (params : Row) (within : MeterValueRow → Bool) → IsRead sql (page_query 26 wanted (cols 1 1 8) 3 PAGE_ROWS) (names_of hub_meter_value)
-    → IsTest meter_values wanted params (λ m. bytes_eq m.op op && (bytes_eq m.station station && within m)) → ReadsPage sql params meter_values (λ m. bytes_eq m.op op && (bytes_eq m.station station && within m))
-page_of_values op station sql wanted params within text test = record {
+page_of_values : (size : ℕ) (op station : List ℕ) (sql : List ℕ) (wanted : List Term) (params : Row) (within : MeterValueRow → Bool) → IsRead sql (page_query 26 wanted (cols 1 1 8) 3 size) (names_of hub_meter_value)
+    → IsTest meter_values wanted params (λ m. bytes_eq m.op op && (bytes_eq m.station station && within m)) → ReadsPage size sql params meter_values (λ m. bytes_eq m.op op && (bytes_eq m.station station && within m))
+page_of_values size op station sql wanted params within text test = record {
   at = 13;
   is = on_meter_values;
   wanted = wanted;
@@ -335,11 +335,15 @@ page_of_values op station sql wanted params within text test = record {
   test = test;
 }
 
-pub pages_of_meter_values : (op station : List ℕ) (n : ℕ) → ReadsPage sql_meter_values.PAGE.now (Text op ∷ Text station ∷ Int (pos n) ∷ []) meter_values (λ m. bytes_eq m.op op && (bytes_eq m.station station && nat_le n m.first))
-pages_of_meter_values op station n = page_of_values op station _ (where_is 0 (1 ∷ 2 ∷ []) ++ from_is 2 3) _ (λ m. nat_le n m.first) texts.page_of_meter_values_is (tests.meter_values_on op station n)
+pub pages_of_meter_values : (op station : List ℕ) (n : ℕ) → ReadsPage PAGE_ROWS sql_meter_values.PAGE.now (Text op ∷ Text station ∷ Int (pos n) ∷ []) meter_values (λ m. bytes_eq m.op op && (bytes_eq m.station station && nat_le n m.first))
+pages_of_meter_values op station n = page_of_values PAGE_ROWS op station _ (where_is 0 (1 ∷ 2 ∷ []) ++ from_is 2 3) _ (λ m. nat_le n m.first) texts.page_of_meter_values_is (tests.meter_values_on op station n)
 
-pub pages_of_tx_meter_values : (op station : List ℕ) (n first : ℕ) → ReadsPage sql_meter_values.PAGE_OF_TX.now (Text op ∷ Text station ∷ Int (pos n) ∷ Int (pos first) ∷ []) meter_values (λ m. bytes_eq m.op op && (bytes_eq m.station station && (is_sent_with (Some n) m.value.transaction && nat_le first m.first)))
-pages_of_tx_meter_values op station n first = page_of_values op station _ (where_is 0 (1 ∷ 2 ∷ 5 ∷ []) ++ from_is 3 3) _ (λ m. is_sent_with (Some n) m.value.transaction && nat_le first m.first) texts.page_of_tx_meter_values_is (tests.tx_meter_values_on op station n first)
+-- the first of them from a number on
+pub next_of_meter_values : (op station : List ℕ) (n : ℕ) → ReadsPage 1 sql_meter_values.NEXT.now (Text op ∷ Text station ∷ Int (pos n) ∷ []) meter_values (λ m. bytes_eq m.op op && (bytes_eq m.station station && nat_le n m.first))
+next_of_meter_values op station n = page_of_values 1 op station _ (where_is 0 (1 ∷ 2 ∷ []) ++ from_is 2 3) _ (λ m. nat_le n m.first) texts.next_meter_value_is (tests.meter_values_on op station n)
+
+pub pages_of_tx_meter_values : (op station : List ℕ) (n first : ℕ) → ReadsPage PAGE_ROWS sql_meter_values.PAGE_OF_TX.now (Text op ∷ Text station ∷ Int (pos n) ∷ Int (pos first) ∷ []) meter_values (λ m. bytes_eq m.op op && (bytes_eq m.station station && (is_sent_with (Some n) m.value.transaction && nat_le first m.first)))
+pages_of_tx_meter_values op station n first = page_of_values PAGE_ROWS op station _ (where_is 0 (1 ∷ 2 ∷ 5 ∷ []) ++ from_is 3 3) _ (λ m. is_sent_with (Some n) m.value.transaction && nat_le first m.first) texts.page_of_tx_meter_values_is (tests.tx_meter_values_on op station n first)
 
 -- a delete in this table sets off nothing
 frees_meter_values : (olds : List Row) → works hub_schema Enforced 0 26 olds [] ≡ []

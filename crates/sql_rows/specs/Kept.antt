@@ -19,7 +19,6 @@ use Rattle.hub_rows.specs.Keyed.{first, greatest, put, put_all}
 use Rattle.hub_rows.specs.Rows.{Rows}
 use Rattle.sql_tables.specs.Opening.{our_number}
 use Rattle.sql_tables.specs.Tables.{hub_schema}
-use Rattle.sql_tables.specs.declared.pages.TheConstants.{PAGE_ROWS}
 use Rattle.sql_rows.specs.declared.meta_rows.MetaRow.{MetaRow}
 use Rattle.sql_rows.specs.TypedTable.{TypedTable, cmp, rows_in, AreTyped, Spares}
 use Rattle.sql_rows.specs.TypedTables.{hub_good, metas, rows_of}
@@ -113,9 +112,9 @@ pub record ShowsLast {V T : Type 0} (items : V → List Row) (at : ℕ) (s : Typ
   pub same : IsTrue new.is_open → IsAsBefore old new
   pub stops : CommitsNothing old new r
 
--- the first rows that pass are shown, and nothing changes
-pub record ShowsPage {V T : Type 0} (items : V → List Row) (s : TypedTable T) (p : T → Bool) (old new : State) (r : Result V Error) : Type 0 where
-  pub ok : IsTrue new.is_open → IfOk r (λ v. put_all (cmp s) (map s.read (items v)) [] ≡ take PAGE_ROWS (filter p (rows_in s old.now.trees)))
+-- the first rows that pass are shown, at most n of them, and nothing changes
+pub record ShowsPage {V T : Type 0} (n : ℕ) (items : V → List Row) (s : TypedTable T) (p : T → Bool) (old new : State) (r : Result V Error) : Type 0 where
+  pub ok : IsTrue new.is_open → IfOk r (λ v. put_all (cmp s) (map s.read (items v)) [] ≡ take n (filter p (rows_in s old.now.trees)))
   pub same : IsTrue new.is_open → IsAsBefore old new
   pub stops : CommitsNothing old new r
 

@@ -227,6 +227,10 @@ pub page_of_meter_values_is : IsRead meter_values.PAGE.now (page_query 26 (where
 unfolding understood everything
 page_of_meter_values_is = (refl, (refl, refl), refl)
 
+pub next_meter_value_is : IsRead meter_values.NEXT.now (page_query 26 (where_is 0 (1 ∷ 2 ∷ []) ++ from_is 2 3) (cols 1 1 8) 3 1) (names_of hub_meter_value)
+unfolding understood everything
+next_meter_value_is = (refl, (refl, refl), refl)
+
 pub page_of_tx_meter_values_is : IsRead meter_values.PAGE_OF_TX.now (page_query 26 (where_is 0 (1 ∷ 2 ∷ 5 ∷ []) ++ from_is 3 3) (cols 1 1 8) 3 PAGE_ROWS) (names_of hub_meter_value)
 unfolding understood everything
 page_of_tx_meter_values_is = (refl, (refl, refl), refl)

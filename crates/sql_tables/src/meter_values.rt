@@ -34,7 +34,13 @@ pub const PAGE: &str = with_columns!(
     " FROM hub_meter_value WHERE op = ?1 AND station = ?2 AND first >= ?3 ORDER BY first LIMIT 256"
 );
 
-/// The same of those that were sent with the number of a transaction.
+/// The first meter value of a station, from a number on.
+pub const NEXT: &str = with_columns!(
+    "SELECT ",
+    " FROM hub_meter_value WHERE op = ?1 AND station = ?2 AND first >= ?3 ORDER BY first LIMIT 1"
+);
+
+/// A page of those that were sent with the number of a transaction.
 pub const PAGE_OF_TX: &str = with_columns!(
     "SELECT ",
     " FROM hub_meter_value WHERE op = ?1 AND station = ?2 AND transaction_id = ?3 AND first >= ?4 ORDER BY first LIMIT 256"

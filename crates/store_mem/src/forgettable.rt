@@ -11,7 +11,7 @@ ghost use Rattle.hub_rows.specs.MeterValues.{is_sent_with};
 use crate::copies::copy;
 use crate::station_copies::copy_of_row;
 use crate::station_rows::row_in;
-use hub_rows::{History, MeterValueRow, TxRow, goes_with, oldest};
+use hub_rows::{History, MeterValueRow, TxRow, goes_with, oldest, oldest_values};
 use ocpp_types::{Listed, Mem, Moment};
 use std::alloc::Global;
 use std::collections::BTreeSet;
@@ -26,7 +26,7 @@ pub fn forgettable(
     requires { IsStrictlySortedBy (by_key (number_key (λ t. t.number))) txs.now }
     ensures { IfOk result (λ f. f ≡ forgettable until txs.now values.now) }
 {
-    let meter_values = old_meter_values(alloc, until, txs, oldest(values))?;
+    let meter_values = old_meter_values(alloc, until, txs, oldest_values(values))?;
     if !meter_values.as_slice().is_empty() {
         return Ok(History {
             meter_values,

@@ -1,10 +1,8 @@
-use Rattle.std.proofs.Common.{◌∙◌, None, ap, filter}
+use Rattle.std.proofs.Common.{◌∙◌, ap, filter}
 use Rattle.hub_rows.specs.Forgetting.{may_go}
-use Rattle.hub_rows.specs.MeterValues.{meter_values_in}
 use Rattle.hub_rows.specs.Transactions.{txs_in}
 use Rattle.sql_rows.specs.TypedTables.{rows_of}
 use Rattle.sql_lookups.proofs.Asking.{asks_also, asks_then}
-use Rattle.sql_lookups.proofs.PageLaws.{oldest_is}
 use Rattle.sql_lookups.proofs.forget.old_meter_values.Goals as goal
 
 pub returns : goal.returns
@@ -12,7 +10,6 @@ returns g c =
     let op = c.args.op.now in
     let station = c.args.station.now in
     record {
-      asks = asks_also (asks_then c.in_ok-page.ensures.asks c.old_of.ensures.asks) (λ db gone is.
-          let rows = rows_of db in
-          is.1 ∙ ap (filter (may_go c.args.until (txs_in op station rows.transactions))) (c.oldest_of.ensures ∙ oldest_is (λ m. m.first) (meter_values_in op station None rows.meter_values) c.in_ok-page.page is.0));
+      asks = asks_also (asks_then c.in_ok-values.ensures.asks c.old_of.ensures.asks) (λ db gone is.
+          is.1 ∙ ap (filter (may_go c.args.until (txs_in op station (rows_of db).transactions))) (c.oldest_values_of.ensures ∙ is.0));
     }

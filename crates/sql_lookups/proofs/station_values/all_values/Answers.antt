@@ -1,5 +1,6 @@
 use Rattle.std.proofs.Common.{◌∙◌, ◌++◌, ap, subst}
 use Rattle.hub_rows.specs.MeterValues.{meter_values_in}
+use Rattle.sql_tables.specs.declared.pages.TheConstants.{PAGE_ROWS}
 use Rattle.sql_rows.specs.TypedTable.{rows_in}
 use Rattle.sql_rows.specs.TypedTables.{meter_values}
 use Rattle.sql_lookups.specs.Pages.{from, IsAfter}
@@ -20,7 +21,7 @@ pages-preserved g c =
     asks_of (asks_then c.pages.invariant c.in_ok-page.ensures.asks) (λ db is.
     let own = meter_values_in c.args.op.now c.args.station.now c.args.transaction (rows_in meter_values db) in
     listed_more own c.pages.next first next c.pages.values.items page c.add_page.new.values.items c.in-Some.is is.0
-    (follows own (own_up c.args.op.now c.args.station.now c.args.transaction db) first page is.1 next (subst (λ l. IsAfter first l next) c.as_slice.ensures c.in_ok-next.ensures.after)) c.in_ok-add_page.ensures)
+    (follows PAGE_ROWS own (own_up c.args.op.now c.args.station.now c.args.transaction db) first page is.1 next (subst (λ l. IsAfter PAGE_ROWS first l next) c.as_slice.ensures c.in_ok-next.ensures.after)) c.in_ok-add_page.ensures)
 
 pub returns-in_err-page : goal.returns-in_err-page
 returns-in_err-page g c = record { asks = asks_err (asks_then c.pages.invariant c.in_err-page.ensures.asks) c.from_residual.ensures.0 }

@@ -1,4 +1,4 @@
-use Rattle.std.proofs.Common.{◌≡◌, ◌++◌, ◌-◌, ◌^◌, ℕ, Ok, Option, None, Some}
+use Rattle.std.proofs.Common.{◌≡◌, ◌++◌, ◌-◌, Ok}
 use Rattle.std.specs.Prelude.{⊤}
 use Rattle.sqlite.specs.Held.{state}
 use Rattle.hub_rows.specs.MeterValues.{meter_values_in}
@@ -6,13 +6,8 @@ use Rattle.hub_rows.specs.declared.store.StoreFault.{StoreFault}
 use Rattle.sql_rows.specs.TypedTable.{rows_in}
 use Rattle.sql_rows.specs.TypedTables.{meter_values}
 use Rattle.sql_lookups.specs.Asks.{AsksIn}
-use Rattle.sql_lookups.proofs.PageLaws.{rest}
+use Rattle.sql_lookups.proofs.PageLaws.{numbers_left, rest}
 use Rattle.sql_lookups.proofs.station_values.all_values.Given as goal
-
--- how many numbers are left
-abbrev numbers_left : Option ℕ → ℕ
-numbers_left None = 0
-numbers_left (Some next) = 2 ^ 32 - next
 
 abbrev pub invariant-pages : goal.invariant-pages
 invariant-pages g l = AsksIn {A = ⊤} {E = StoreFault} (state g.S.Store l.fn.conn) (state g.S.Store l.conn) (Ok tt) (λ db done.

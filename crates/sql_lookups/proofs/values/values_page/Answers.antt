@@ -1,6 +1,7 @@
 use Rattle.std.proofs.Common.{◌∙◌, ◌&&◌, None, ap, nat_le, sym}
 use Rattle.std.specs.Str.{bytes_eq}
 use Rattle.hub_rows.proofs.ListLaws.{and-true}
+use Rattle.sql_tables.specs.declared.pages.TheConstants.{PAGE_ROWS}
 use Rattle.sql_rows.specs.TypedTable.{rows_in}
 use Rattle.sql_rows.specs.TypedTables.{meter_values}
 use Rattle.sql_lookups.proofs.Asking.{asks_page}
@@ -13,5 +14,5 @@ returns g c =
     let first = c.args.first in
     record {
       asks = asks_page c.find_page.ensures.shows c.listed.ensures.ok c.listed.ensures.rows (λ db page is.
-          is ∙ values_are c.args.op.now station None first (λ m. bytes_eq m.station station && nat_le first m.first) (λ m. ap (λ b. b && nat_le first m.first) (sym (and-true (bytes_eq m.station station)))) (rows_in meter_values db));
+          is ∙ values_are c.args.op.now station None PAGE_ROWS first (λ m. bytes_eq m.station station && nat_le first m.first) (λ m. ap (λ b. b && nat_le first m.first) (sym (and-true (bytes_eq m.station station)))) (rows_in meter_values db));
     }

@@ -25,7 +25,7 @@ returns-then-not-is_empty c =
     let txs = c.args.txs.now in
     let values = c.args.values.now in
     let gone = c.in_ok-meter_values.meter_values in
-    let old : gone ≡ old_meter_values until txs values = c.in_ok-meter_values.ensures ∙ ap (filter (may_go until txs)) c.oldest.ensures in
+    let old : gone ≡ old_meter_values until txs values = c.in_ok-meter_values.ensures ∙ ap (filter (may_go until txs)) c.oldest_values.ensures in
     let some : (length gone == 0) ≡ false = ap (λ rs. length rs == 0) (sym c.as_slice.ensures) ∙ sym c.is_empty.ensures ∙ c.if-not-is_empty.true in
     some-old until txs c.new.result values gone some c.new.ensures ∙ ap (old_rows until txs values) old
 
@@ -35,6 +35,6 @@ returns c =
     let txs = c.args.txs.now in
     let values = c.args.values.now in
     let gone = c.in_ok-meter_values.meter_values in
-    let old : gone ≡ old_meter_values until txs values = c.in_ok-meter_values.ensures ∙ ap (filter (may_go until txs)) c.oldest.ensures in
+    let old : gone ≡ old_meter_values until txs values = c.in_ok-meter_values.ensures ∙ ap (filter (may_go until txs)) c.oldest_values.ensures in
     let none : (length gone == 0) ≡ true = ap (λ rs. length rs == 0) (sym c.as_slice.ensures) ∙ sym c.is_empty.ensures ∙ c.if-not-is_empty.false in
-    none-old until txs c.in_ok-transactions.transactions values gone none (c.in_ok-transactions.ensures ∙ ap (filter (tx_goes until values)) c.oldest-2.ensures) ∙ ap (old_rows until txs values) old
+    none-old until txs c.in_ok-transactions.transactions values gone none (c.in_ok-transactions.ensures ∙ ap (filter (tx_goes until values)) c.oldest.ensures) ∙ ap (old_rows until txs values) old

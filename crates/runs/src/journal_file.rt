@@ -1,6 +1,6 @@
 //! The file of a journal.
 
-use crate::fault::{JournalFileFault, JournalProblem};
+use crate::journal_fault::{JournalFileFault, JournalProblem};
 use command_line::JournalOptions;
 use journal::{Journal, Tail, TailFault, tail_of};
 use ocpp_types::{Mem, Text};

@@ -1,6 +1,6 @@
 //! The journal that a server keeps.
 
-use crate::fault::{JournalFileFault, JournalProblem};
+use crate::journal_fault::{JournalFileFault, JournalProblem};
 use crate::journal_file::{list_of, open_file};
 use command_line::JournalOptions;
 use journal::Journal;
