@@ -71,7 +71,7 @@ def check_ask(checks):
 
 
 def check_forget(checks):
-    """The history of an operator's stations goes in orders of 250 rows, and what was recorded of late stays."""
+    """The history of an operator's stations goes in orders of 1,000 readings, and what was recorded of late stays."""
     forget = ["forget", "--port", str(PORT), "--operator", "ACME", "--before"]
     db, begin, at = checks.new_file(), 1704067200, '"timestamp":"2024-01-01T00:00:00Z"'
     sampled = ",".join(['{"value":"1"}'] * 5)
@@ -91,8 +91,8 @@ def check_forget(checks):
         checks.check("before it", checks.run(*forget, "99999d"), (0, "all 0 0\n", ""))
         acme, export = Peer(PORT, "/operator/ACME"), os.path.join(checks.folder, "gone")
         old = acme.lines("old", f"list forgettable CP01 {begin + 1}")
-        checks.check("what the next order takes", (len(old), old[0].split(" ")[2:5], old[-1]), (1251, ["reading", "CP01", "1"], "ACME ok"))
-        gone = "CP01 0 1250\nCP01 0 850\nCP01 1 0\nall 1 2100\n"
+        checks.check("what the next order takes", (len(old), old[0].split(" ")[2:5], old[-1]), (1001, ["reading", "CP01", "1"], "ACME ok"))
+        gone = "CP01 0 1000\nCP01 0 1000\nCP01 0 100\nCP01 1 0\nall 1 2100\n"
         checks.check("what is older than 90 days", checks.run(*forget, "90d", "--export", export), (0, gone, ""))
         written = [f"{export}-{name}.csv" for name in ("transactions", "readings")]
         transactions, readings = (list(csv.reader(Path(path).read_bytes().decode().splitlines())) for path in written)

@@ -1,7 +1,8 @@
 """Checks that no event reads a history: the same lines cost about as much over a file with 100 rows of a kind as over
-one with 10,000. So do orders on the history of a station with 5,300 meter values and with 10,000, more than all of these
-orders take, where none of them may go and where all may, and each order takes at most 20 ms. Prints the growth of each
-kind, then `N passed, M failed`. The figures are processor time of replays, without the opening of the file, the best of some rounds.
+one with 10,000. So do orders on the history of a station with 5,300 meter values and with 10,000, and of one with 30
+meter values of 20,000 readings and with 100, more than all of these orders take, where none of them may go and where all
+may. Each order takes at most 20 ms, and where it lists 20,000 readings 100 ms. Prints the growth of each kind, then
+`N passed, M failed`. The figures are processor time of replays, without the opening of the file, the best of some rounds.
 
     python3 checks/growth.py crates/central/out/central
 """
@@ -20,9 +21,10 @@ OPERATORS = "ACME,BETA"
 FEW, MANY = 100, 10_000
 MOST = 2.0
 ROUNDS = 4
-# Of the orders on a history: the fewer meter values, how often an order is given, and the most seconds of one. What takes
-# fewer seconds than the last isn't compared: the opening of a file varies by more.
-FULL, ORDERS, LONGEST, SHORT = 5_300, 20, 0.020, 0.005
+# Of the orders on a history: the fewer meter values and the more, of one reading and of many readings each, how often an
+# order is given, and the most seconds of one, and of one that lists so many readings. What takes fewer seconds than the
+# last isn't compared: the opening of a file varies by more.
+FULL, LONG, READINGS, ORDERS, LONGEST, LISTS, SHORT = (5_300, MANY), (30, 100), 20_000, 20, 0.020, 0.100, 0.005
 AT = "2024-01-01T00:00:00Z"
 MS = 1704067200000
 MEMORY = "/dev/shm" if os.path.isdir("/dev/shm") else None
@@ -100,13 +102,21 @@ KINDS = {
 }
 
 
-def meter_values_of(at):
-    """So many meter values of one time, in milliseconds since 1970, without a transaction."""
-    return of_rows(f"INSERT INTO hub_meter_value VALUES ('ACME', 'CP01', ?, 1, NULL, {at}, 1, '[{{\"value\":\"1\"}}]')")
+def meter_values_of(at, readings):
+    """So many meter values of one time, in milliseconds since 1970, without a transaction, with so many readings each."""
+    sampled = ",".join(['{"value":"1"}'] * readings)
+    row = f"INSERT INTO hub_meter_value VALUES ('ACME', 'CP01', ?, 1, NULL, {at}, {readings}, '[{sampled}]')"
+    return lambda rows: [(row, [(1 + readings * number,) for number in range(rows)])]
 
 
-# All meter values from before an order may go but the last, and none from after it.
-HISTORIES = {"all may go": meter_values_of(MS - 1), "none may go": meter_values_of(MS + 10**12)}
+# All meter values from before an order may go but the last, and none from after it: how many there are, what they are,
+# and how long an order that lists those that go may take.
+HISTORIES = {
+    "all may go": (FULL, meter_values_of(MS - 1, 1), LONGEST),
+    "none may go": (FULL, meter_values_of(MS + 10**12, 1), LONGEST),
+    "all may go, many readings": (LONG, meter_values_of(MS - 1, READINGS), LISTS),
+    "none may go, many readings": (LONG, meter_values_of(MS + 10**12, READINGS), LONGEST),
+}
 ORDERS_ON_HISTORY = {
     "list forgettable": "1704067200 ACME list forgettable CP01 1704067200\n",
     "forget": "1704067200 ACME forget CP01 1704067200\n",
@@ -161,15 +171,18 @@ def costs(program, folder, name):
 
 
 def costs_of_orders(program, folder, history):
-    """What each order costs by the number of meter values, few and many: lists of the name and of both."""
+    """What each order costs by the number of meter values, few and many: its name, both costs, which need not be compared,
+    and the most that it may cost."""
     found = {name: [] for name in ORDERS_ON_HISTORY}
-    for rows in (FULL, MANY):
-        db = filled(program, folder, f"{history} {rows}", HISTORIES[history](rows))
+    sizes, statements, listing = HISTORIES[history]
+    for rows in sizes:
+        db = filled(program, folder, f"{history} {rows}", statements(rows))
         opening = min(spent_on_copy(program, db, "1704067200 * tick\n") for _ in range(ROUNDS))
         for name, line in ORDERS_ON_HISTORY.items():
             least = min(spent_on_copy(program, db, line * ORDERS) for _ in range(ROUNDS))
             found[name].append((least - opening) / ORDERS)
-    return [(f"{name}, {history}", few, many) for name, (few, many) in found.items()]
+    most = {"list forgettable": listing}
+    return [(f"{name}, {history}", few, many, SHORT, most.get(name, LONGEST)) for name, (few, many) in found.items()]
 
 
 def tell(name, few, many, short, most):
@@ -186,7 +199,7 @@ def main():
     with tempfile.TemporaryDirectory(dir=MEMORY) as folder:
         told = [tell(name, *costs(program, folder, name), 0, float("inf")) for name in KINDS]
         for history in HISTORIES:
-            told += [tell(*order, SHORT, LONGEST) for order in costs_of_orders(program, folder, history)]
+            told += [tell(*order) for order in costs_of_orders(program, folder, history)]
     counts.passed += told.count(True)
     counts.failed += told.count(False)
     counts.end()

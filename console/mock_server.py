@@ -196,9 +196,10 @@ class Records:
         return [f"row forgotten {name} {len(over)} {len(gone)}", "ok"]
 
     def forgettable(self, name, until):
-        """The numbers of the transactions that may go, or those of the readings of each meter value that may, at most 250.
-        Readings of one connector, transaction and time that follow one another stand for a meter value. When a stop came
-        isn't kept here, so its own time stands for that."""
+        """The numbers of the transactions that may go, or those of the readings of each meter value that may. The first 250
+        rows are looked at, and no more meter values once those before have 1,000 readings. Readings of one connector,
+        transaction and time that follow one another stand for a meter value. When a stop came isn't kept here, so its own
+        time stands for that."""
         readings = [row.split(" ") for row in self.rows[f"readings {name}"]]
         values = [list(rows) for _, rows in itertools.groupby(readings, lambda words: words[3:6])]
         transactions = [row.split(" ") for row in self.rows[f"transactions {name}"]]
@@ -207,7 +208,9 @@ class Records:
         def is_before(at):
             return at != "-" and int(at) < until * 1000
 
-        old = [rows for rows in values[:-1][:250] if is_before(stops.get(rows[0][4], rows[0][5]))]
+        ends = itertools.accumulate(len(rows) for rows in values)
+        looked_at = [rows for rows, end in zip(values[:-1][:250], ends) if end - len(rows) < 1000]
+        old = [rows for rows in looked_at if is_before(stops.get(rows[0][4], rows[0][5]))]
         if old:
             return [], [[words[2] for words in rows] for rows in old]
         named = {words[4] for words in readings}
