@@ -2,10 +2,10 @@
 
 use crate::fault::RunFault;
 use crate::hosted::{copies_of, hub_of};
-use hub_rows::Store;
-use journal::Journal;
 use crate::journal_fault::{JournalFileFault, JournalProblem};
 use crate::journal_file::list_of;
+use hub_rows::Store;
+use journal::Journal;
 use ocpp_types::Text;
 use standby::{Counts, Ended, FollowFault, find_begin, follow};
 use station_calls::Echo;

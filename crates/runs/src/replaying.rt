@@ -1,8 +1,8 @@
 //! Replays.
 
+use crate::bad_lines::watch;
 use crate::fault::RunFault;
 use crate::hosted::{copies_of, fault_of, hub_of};
-use crate::bad_lines::watch;
 use command_line::ReplayOptions;
 use hub::Hub;
 use hub_rows::Store;
