@@ -2,10 +2,8 @@
 
 use cached::CacheFault;
 use clients::ClientFault;
-use ocpp_types::NoMemory;
 use record_file::OpenFault;
 use runs::RunFault;
-use std::alloc::{AllocError, AllocFailed};
 use std::io;
 use thiserror::Error;
 
@@ -59,23 +57,7 @@ impl From<CacheFault> for ProgramFault {
     }
 }
 
-impl From<NoMemory> for ProgramFault {
-    fn from(_fault: NoMemory) -> ProgramFault {
-        ProgramFault::Run(RunFault::NoMemory)
-    }
-}
-
-impl From<AllocError> for ProgramFault {
-    fn from(_fault: AllocError) -> ProgramFault {
-        ProgramFault::Run(RunFault::NoMemory)
-    }
-}
-
-impl<T: Drop> From<AllocFailed<T>> for ProgramFault {
-    fn from(_fault: AllocFailed<T>) -> ProgramFault {
-        ProgramFault::Run(RunFault::NoMemory)
-    }
-}
+ocpp_types::from_refused_memory!(ProgramFault, ProgramFault::Run(RunFault::NoMemory));
 
 impl From<io::Error> for ProgramFault {
     fn from(fault: io::Error) -> ProgramFault {

@@ -144,28 +144,12 @@ told_of changes recorded since entries found is told =
 same_number : (n : ℕ) → (n == n) ≡ true
 same_number n = grind arith
 
-other_number : (n : ℕ) → ((n + 1) == n) ≡ false
-other_number n = grind arith
-
 taken_none : (events changes : ℕ) → taken_by events changes changes ≡ Some 0
 taken_none events changes = let same = same_number changes in rw same refl
-
-taken_all : (events changes : ℕ) → 0 < events → taken_by events changes (changes + 1) ≡ Some events
-taken_all events changes some =
-    let other = other_number changes in
-    let same = same_number (changes + 1) in
-    let less : nat_lt 0 events ≡ true = grind (arith, some) in
-    rw other (rw same (rw less refl))
 
 pub told_marked : (found : Found) (changes : ℕ) → found.marked ≡ Some changes → told_by found found.marked changes ≡ Some found.taken
 told_marked found changes mark =
     ap (λ m. told_by found m changes) mark ∙ ap (told_with found) (taken_none (length found.waiting) changes) ∙ ap Some (append-nil found.taken)
-
--- where one more is, all events
-pub told_changed : (found : Found) (marked : ℕ) → found.marked ≡ Some marked → 0 < length found.waiting → told_by found found.marked (marked + 1) ≡ Some (found.taken ++ found.waiting)
-told_changed found marked mark some =
-    ap (λ m. told_by found m (marked + 1)) mark ∙ ap (told_with found) (taken_all (length found.waiting) marked some)
-    ∙ ap (λ xs. Some (found.taken ++ xs)) (take_all (length found.waiting) found.waiting (omega arith))
 
 same_some : {X : Type 0} (x y : X) → Some x ≡ Some y → x ≡ y
 same_some x y e = ap (λ o. elim o [ Some z ↦ z | None ↦ x ]) e

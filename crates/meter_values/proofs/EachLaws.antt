@@ -25,6 +25,3 @@ module _ {A : Type 0} (front : List SampledValue) (vs : List (Value A)) (i : ℕ
       next ∙ ap (λ r. with_front front (r >>= (λ s. each_sampled (items_view (drop (suc i) vs)) >>= (λ rest. Some (s ∷ rest))))) (sym e)
       ∙ with_front-one front y (each_sampled (items_view (drop (suc i) vs)))
       ∙ ap (λ n. with_front (front ++ y ∷ []) (each_sampled (items_view (drop n vs)))) (sym (add-one i))
-
-  pub each-refused : None ≡ sampled_of_json (value_view v) → None ≡ with_front front (each_sampled (items_view (drop i vs)))
-  each-refused e = sym (next ∙ ap (λ r. with_front front (r >>= (λ s. each_sampled (items_view (drop (suc i) vs)) >>= (λ rest. Some (s ∷ rest))))) (sym e))

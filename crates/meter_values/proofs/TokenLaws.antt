@@ -1,5 +1,5 @@
 -- What is written of a sampled value, token by token.
-use Rattle.std.proofs.Common.{◌≡◌, ℕ, suc, ◌+◌, ◌<◌, ◌≤◌, length, get_or, drop, drop-cons, add-one, map, List, [], ◌∷◌, ◌++◌, Option, Some, None, Ok, refl, ap, subst, sym, ◌∙◌, append_assoc}
+use Rattle.std.proofs.Common.{◌≡◌, ℕ, ◌+◌, ◌≤◌, length, drop, map, List, [], ◌∷◌, ◌++◌, Option, Some, None, Ok, refl, ap, subst, sym, ◌∙◌, append_assoc}
 use Rattle.std.proofs.lemmas.List.{drop_all}
 use Rattle.json.specs.Json.{Members, object}
 use Rattle.json.specs.Token.{Token}
@@ -38,15 +38,6 @@ adds_token x a b t writes = record { before = writes.room.0; tokens = writes.ok 
 -- what is left to write when these are left
 abbrev pub left : List SampledValue → List Token
 left sampled = items_tokens (items_of (map object_of sampled))
-
-pub one_written : (ts us : List Token) (sampled : List SampledValue) (i : ℕ) (s : SampledValue) → i < length sampled → s ≡ get_or sampled i s
-    → us ≡ ts ++ json_tokens (object_of s) → us ++ left (drop (i + 1) sampled) ≡ ts ++ left (drop i sampled)
-one_written ts us sampled i s within is e =
-    ap (λ t. t ++ left (drop (i + 1) sampled)) e
-    ∙ append_assoc ts (json_tokens (object_of s)) (left (drop (i + 1) sampled))
-    ∙ ap (λ n. ts ++ (json_tokens (object_of s) ++ left (drop n sampled))) (add-one i)
-    ∙ ap (λ x. ts ++ left (x ∷ drop (suc i) sampled)) is
-    ∙ ap (λ xs. ts ++ left xs) (sym (drop-cons sampled i s within))
 
 pub all_written : (ts us : List Token) (sampled : List SampledValue) (i : ℕ) → length sampled ≤ i → us ≡ ts ++ Token.end_array ∷ [] → us ≡ ts ++ left (drop i sampled)
 all_written ts us sampled i past e = e ∙ ap (λ xs. ts ++ left xs) (sym (drop_all i sampled past))

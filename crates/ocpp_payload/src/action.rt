@@ -25,24 +25,11 @@ impl Named for Action {
     ghost names = { actions };
 
     fn table() -> &'static [(&'static str, Self)] {
-        &[
-            ("Authorize", Self::Authorize),
-            ("BootNotification", Self::BootNotification),
-            ("DataTransfer", Self::DataTransfer),
-            (
-                "DiagnosticsStatusNotification",
-                Self::DiagnosticsStatusNotification,
-            ),
-            (
-                "FirmwareStatusNotification",
-                Self::FirmwareStatusNotification,
-            ),
-            ("Heartbeat", Self::Heartbeat),
-            ("MeterValues", Self::MeterValues),
-            ("StartTransaction", Self::StartTransaction),
-            ("StatusNotification", Self::StatusNotification),
-            ("StopTransaction", Self::StopTransaction),
-        ]
+        ocpp_types::table! {
+            Authorize, BootNotification, DataTransfer, DiagnosticsStatusNotification,
+            FirmwareStatusNotification, Heartbeat, MeterValues, StartTransaction,
+            StatusNotification, StopTransaction
+        }
     }
 
     fn index(&self) -> usize {

@@ -25,13 +25,7 @@ impl Named for AuthorizationStatus {
     ghost names = { authorization_statuses };
 
     fn table() -> &'static [(&'static str, Self)] {
-        &[
-            ("Accepted", Self::Accepted),
-            ("Blocked", Self::Blocked),
-            ("Expired", Self::Expired),
-            ("Invalid", Self::Invalid),
-            ("ConcurrentTx", Self::ConcurrentTx),
-        ]
+        crate::table! { Accepted, Blocked, Expired, Invalid, ConcurrentTx }
     }
 
     fn index(&self) -> usize {

@@ -31,24 +31,12 @@ impl Named for ChargePointErrorCode {
     ghost names = { charge_point_error_codes };
 
     fn table() -> &'static [(&'static str, Self)] {
-        &[
-            ("ConnectorLockFailure", Self::ConnectorLockFailure),
-            ("EVCommunicationError", Self::EVCommunicationError),
-            ("GroundFailure", Self::GroundFailure),
-            ("HighTemperature", Self::HighTemperature),
-            ("InternalError", Self::InternalError),
-            ("LocalListConflict", Self::LocalListConflict),
-            ("NoError", Self::NoError),
-            ("OtherError", Self::OtherError),
-            ("OverCurrentFailure", Self::OverCurrentFailure),
-            ("OverVoltage", Self::OverVoltage),
-            ("PowerMeterFailure", Self::PowerMeterFailure),
-            ("PowerSwitchFailure", Self::PowerSwitchFailure),
-            ("ReaderFailure", Self::ReaderFailure),
-            ("ResetFailure", Self::ResetFailure),
-            ("UnderVoltage", Self::UnderVoltage),
-            ("WeakSignal", Self::WeakSignal),
-        ]
+        crate::table! {
+            ConnectorLockFailure, EVCommunicationError, GroundFailure, HighTemperature,
+            InternalError, LocalListConflict, NoError, OtherError, OverCurrentFailure, OverVoltage,
+            PowerMeterFailure, PowerSwitchFailure, ReaderFailure, ResetFailure, UnderVoltage,
+            WeakSignal
+        }
     }
 
     fn index(&self) -> usize {

@@ -24,17 +24,10 @@ impl Named for ChargePointStatus {
     ghost names = { charge_point_statuses };
 
     fn table() -> &'static [(&'static str, Self)] {
-        &[
-            ("Available", Self::Available),
-            ("Preparing", Self::Preparing),
-            ("Charging", Self::Charging),
-            ("SuspendedEVSE", Self::SuspendedEVSE),
-            ("SuspendedEV", Self::SuspendedEV),
-            ("Finishing", Self::Finishing),
-            ("Reserved", Self::Reserved),
-            ("Unavailable", Self::Unavailable),
-            ("Faulted", Self::Faulted),
-        ]
+        crate::table! {
+            Available, Preparing, Charging, SuspendedEVSE, SuspendedEV, Finishing, Reserved,
+            Unavailable, Faulted
+        }
     }
 
     fn index(&self) -> usize {

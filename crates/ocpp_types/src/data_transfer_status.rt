@@ -23,12 +23,7 @@ impl Named for DataTransferStatus {
     ghost names = { data_transfer_statuses };
 
     fn table() -> &'static [(&'static str, Self)] {
-        &[
-            ("Accepted", Self::Accepted),
-            ("Rejected", Self::Rejected),
-            ("UnknownMessageId", Self::UnknownMessageId),
-            ("UnknownVendorId", Self::UnknownVendorId),
-        ]
+        crate::table! { Accepted, Rejected, UnknownMessageId, UnknownVendorId }
     }
 
     fn index(&self) -> usize {

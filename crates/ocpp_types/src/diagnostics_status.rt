@@ -19,12 +19,7 @@ impl Named for DiagnosticsStatus {
     ghost names = { diagnostics_statuses };
 
     fn table() -> &'static [(&'static str, Self)] {
-        &[
-            ("Idle", Self::Idle),
-            ("Uploaded", Self::Uploaded),
-            ("UploadFailed", Self::UploadFailed),
-            ("Uploading", Self::Uploading),
-        ]
+        crate::table! { Idle, Uploaded, UploadFailed, Uploading }
     }
 
     fn index(&self) -> usize {

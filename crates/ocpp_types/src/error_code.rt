@@ -35,24 +35,11 @@ impl Named for ErrorCode {
     ghost names = { error_codes };
 
     fn table() -> &'static [(&'static str, Self)] {
-        &[
-            ("NotImplemented", Self::NotImplemented),
-            ("NotSupported", Self::NotSupported),
-            ("InternalError", Self::InternalError),
-            ("ProtocolError", Self::ProtocolError),
-            ("SecurityError", Self::SecurityError),
-            ("FormationViolation", Self::FormationViolation),
-            (
-                "PropertyConstraintViolation",
-                Self::PropertyConstraintViolation,
-            ),
-            (
-                "OccurenceConstraintViolation",
-                Self::OccurenceConstraintViolation,
-            ),
-            ("TypeConstraintViolation", Self::TypeConstraintViolation),
-            ("GenericError", Self::GenericError),
-        ]
+        crate::table! {
+            NotImplemented, NotSupported, InternalError, ProtocolError, SecurityError,
+            FormationViolation, PropertyConstraintViolation, OccurenceConstraintViolation,
+            TypeConstraintViolation, GenericError
+        }
     }
 
     fn index(&self) -> usize {

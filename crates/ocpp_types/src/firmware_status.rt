@@ -22,15 +22,9 @@ impl Named for FirmwareStatus {
     ghost names = { firmware_statuses };
 
     fn table() -> &'static [(&'static str, Self)] {
-        &[
-            ("Downloaded", Self::Downloaded),
-            ("DownloadFailed", Self::DownloadFailed),
-            ("Downloading", Self::Downloading),
-            ("Idle", Self::Idle),
-            ("InstallationFailed", Self::InstallationFailed),
-            ("Installing", Self::Installing),
-            ("Installed", Self::Installed),
-        ]
+        crate::table! {
+            Downloaded, DownloadFailed, Downloading, Idle, InstallationFailed, Installing, Installed
+        }
     }
 
     fn index(&self) -> usize {

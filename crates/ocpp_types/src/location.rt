@@ -20,13 +20,7 @@ impl Named for Location {
     ghost names = { locations };
 
     fn table() -> &'static [(&'static str, Self)] {
-        &[
-            ("Body", Self::Body),
-            ("Cable", Self::Cable),
-            ("EV", Self::EV),
-            ("Inlet", Self::Inlet),
-            ("Outlet", Self::Outlet),
-        ]
+        crate::table! { Body, Cable, EV, Inlet, Outlet }
     }
 
     fn index(&self) -> usize {

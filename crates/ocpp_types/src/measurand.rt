@@ -37,54 +37,23 @@ impl Named for Measurand {
     ghost names = { measurands };
 
     fn table() -> &'static [(&'static str, Self)] {
-        &[
-            ("Current.Export", Self::CurrentExport),
-            ("Current.Import", Self::CurrentImport),
-            ("Current.Offered", Self::CurrentOffered),
-            (
-                "Energy.Active.Export.Register",
-                Self::EnergyActiveExportRegister,
-            ),
-            (
-                "Energy.Active.Import.Register",
-                Self::EnergyActiveImportRegister,
-            ),
-            (
-                "Energy.Reactive.Export.Register",
-                Self::EnergyReactiveExportRegister,
-            ),
-            (
-                "Energy.Reactive.Import.Register",
-                Self::EnergyReactiveImportRegister,
-            ),
-            (
-                "Energy.Active.Export.Interval",
-                Self::EnergyActiveExportInterval,
-            ),
-            (
-                "Energy.Active.Import.Interval",
-                Self::EnergyActiveImportInterval,
-            ),
-            (
-                "Energy.Reactive.Export.Interval",
-                Self::EnergyReactiveExportInterval,
-            ),
-            (
-                "Energy.Reactive.Import.Interval",
-                Self::EnergyReactiveImportInterval,
-            ),
-            ("Frequency", Self::Frequency),
-            ("Power.Active.Export", Self::PowerActiveExport),
-            ("Power.Active.Import", Self::PowerActiveImport),
-            ("Power.Factor", Self::PowerFactor),
-            ("Power.Offered", Self::PowerOffered),
-            ("Power.Reactive.Export", Self::PowerReactiveExport),
-            ("Power.Reactive.Import", Self::PowerReactiveImport),
-            ("RPM", Self::RPM),
-            ("SoC", Self::SoC),
-            ("Temperature", Self::Temperature),
-            ("Voltage", Self::Voltage),
-        ]
+        crate::table! {
+            "Current.Export" => CurrentExport, "Current.Import" => CurrentImport,
+            "Current.Offered" => CurrentOffered,
+            "Energy.Active.Export.Register" => EnergyActiveExportRegister,
+            "Energy.Active.Import.Register" => EnergyActiveImportRegister,
+            "Energy.Reactive.Export.Register" => EnergyReactiveExportRegister,
+            "Energy.Reactive.Import.Register" => EnergyReactiveImportRegister,
+            "Energy.Active.Export.Interval" => EnergyActiveExportInterval,
+            "Energy.Active.Import.Interval" => EnergyActiveImportInterval,
+            "Energy.Reactive.Export.Interval" => EnergyReactiveExportInterval,
+            "Energy.Reactive.Import.Interval" => EnergyReactiveImportInterval,
+            "Frequency" => Frequency, "Power.Active.Export" => PowerActiveExport,
+            "Power.Active.Import" => PowerActiveImport, "Power.Factor" => PowerFactor,
+            "Power.Offered" => PowerOffered, "Power.Reactive.Export" => PowerReactiveExport,
+            "Power.Reactive.Import" => PowerReactiveImport, "RPM" => RPM, "SoC" => SoC,
+            "Temperature" => Temperature, "Voltage" => Voltage
+        }
     }
 
     fn index(&self) -> usize {

@@ -40,3 +40,14 @@ pub trait Named: Copy + 'static {
         Self::table()[self.index()].0
     }
 }
+
+/// The table of an enumeration whose variants have their own names, or those that it says.
+#[macro_export]
+macro_rules! table {
+    ($($variant:ident),+) => {
+        &[$((stringify!($variant), Self::$variant)),+]
+    };
+    ($($name:literal => $variant:ident),+) => {
+        &[$(($name, Self::$variant)),+]
+    };
+}

@@ -25,18 +25,10 @@ impl Named for Phase {
     ghost names = { phases };
 
     fn table() -> &'static [(&'static str, Self)] {
-        &[
-            ("L1", Self::L1),
-            ("L2", Self::L2),
-            ("L3", Self::L3),
-            ("N", Self::N),
-            ("L1-N", Self::L1N),
-            ("L2-N", Self::L2N),
-            ("L3-N", Self::L3N),
-            ("L1-L2", Self::L1L2),
-            ("L2-L3", Self::L2L3),
-            ("L3-L1", Self::L3L1),
-        ]
+        crate::table! {
+            "L1" => L1, "L2" => L2, "L3" => L3, "N" => N, "L1-N" => L1N, "L2-N" => L2N,
+            "L3-N" => L3N, "L1-L2" => L1L2, "L2-L3" => L2L3, "L3-L1" => L3L1
+        }
     }
 
     fn index(&self) -> usize {

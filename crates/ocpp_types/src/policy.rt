@@ -22,11 +22,7 @@ impl Named for Policy {
     ghost names = { policies };
 
     fn table() -> &'static [(&'static str, Self)] {
-        &[
-            ("Accepted", Self::Accepted),
-            ("Pending", Self::Pending),
-            ("Rejected", Self::Rejected),
-        ]
+        crate::table! { Accepted, Pending, Rejected }
     }
 
     fn index(&self) -> usize {

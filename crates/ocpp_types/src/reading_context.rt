@@ -23,16 +23,12 @@ impl Named for ReadingContext {
     ghost names = { reading_contexts };
 
     fn table() -> &'static [(&'static str, Self)] {
-        &[
-            ("Interruption.Begin", Self::InterruptionBegin),
-            ("Interruption.End", Self::InterruptionEnd),
-            ("Other", Self::Other),
-            ("Sample.Clock", Self::SampleClock),
-            ("Sample.Periodic", Self::SamplePeriodic),
-            ("Transaction.Begin", Self::TransactionBegin),
-            ("Transaction.End", Self::TransactionEnd),
-            ("Trigger", Self::Trigger),
-        ]
+        crate::table! {
+            "Interruption.Begin" => InterruptionBegin, "Interruption.End" => InterruptionEnd,
+            "Other" => Other, "Sample.Clock" => SampleClock, "Sample.Periodic" => SamplePeriodic,
+            "Transaction.Begin" => TransactionBegin, "Transaction.End" => TransactionEnd,
+            "Trigger" => Trigger
+        }
     }
 
     fn index(&self) -> usize {

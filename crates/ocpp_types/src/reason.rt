@@ -26,19 +26,10 @@ impl Named for Reason {
     ghost names = { reasons };
 
     fn table() -> &'static [(&'static str, Self)] {
-        &[
-            ("DeAuthorized", Self::DeAuthorized),
-            ("EmergencyStop", Self::EmergencyStop),
-            ("EVDisconnected", Self::EVDisconnected),
-            ("HardReset", Self::HardReset),
-            ("Local", Self::Local),
-            ("Other", Self::Other),
-            ("PowerLoss", Self::PowerLoss),
-            ("Reboot", Self::Reboot),
-            ("Remote", Self::Remote),
-            ("SoftReset", Self::SoftReset),
-            ("UnlockCommand", Self::UnlockCommand),
-        ]
+        crate::table! {
+            DeAuthorized, EmergencyStop, EVDisconnected, HardReset, Local, Other, PowerLoss, Reboot,
+            Remote, SoftReset, UnlockCommand
+        }
     }
 
     fn index(&self) -> usize {

@@ -24,12 +24,7 @@ impl Named for State {
     ghost names = { states };
 
     fn table() -> &'static [(&'static str, Self)] {
-        &[
-            ("Fresh", Self::Fresh),
-            ("Accepted", Self::Accepted),
-            ("Pending", Self::Pending),
-            ("Rejected", Self::Rejected),
-        ]
+        crate::table! { Fresh, Accepted, Pending, Rejected }
     }
 
     fn index(&self) -> usize {

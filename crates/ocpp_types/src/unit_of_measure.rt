@@ -32,25 +32,12 @@ impl Named for UnitOfMeasure {
     ghost names = { units_of_measure };
 
     fn table() -> &'static [(&'static str, Self)] {
-        &[
-            ("Wh", Self::Wh),
-            ("kWh", Self::KWh),
-            ("varh", Self::Varh),
-            ("kvarh", Self::Kvarh),
-            ("W", Self::W),
-            ("kW", Self::KW),
-            ("VA", Self::VA),
-            ("kVA", Self::KVA),
-            ("var", Self::Var),
-            ("kvar", Self::Kvar),
-            ("A", Self::A),
-            ("V", Self::V),
-            ("Celsius", Self::Celsius),
-            ("Fahrenheit", Self::Fahrenheit),
-            ("K", Self::K),
-            ("Percent", Self::Percent),
-            ("Celcius", Self::Celsius),
-        ]
+        crate::table! {
+            "Wh" => Wh, "kWh" => KWh, "varh" => Varh, "kvarh" => Kvarh, "W" => W, "kW" => KW,
+            "VA" => VA, "kVA" => KVA, "var" => Var, "kvar" => Kvar, "A" => A, "V" => V,
+            "Celsius" => Celsius, "Fahrenheit" => Fahrenheit, "K" => K, "Percent" => Percent,
+            "Celcius" => Celsius
+        }
     }
 
     fn index(&self) -> usize {

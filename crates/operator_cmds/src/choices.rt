@@ -47,20 +47,10 @@ impl Named for MessageTrigger {
     ghost names = { message_triggers };
 
     fn table() -> &'static [(&'static str, Self)] {
-        &[
-            ("BootNotification", Self::BootNotification),
-            (
-                "DiagnosticsStatusNotification",
-                Self::DiagnosticsStatusNotification,
-            ),
-            (
-                "FirmwareStatusNotification",
-                Self::FirmwareStatusNotification,
-            ),
-            ("Heartbeat", Self::Heartbeat),
-            ("MeterValues", Self::MeterValues),
-            ("StatusNotification", Self::StatusNotification),
-        ]
+        ocpp_types::table! {
+            BootNotification, DiagnosticsStatusNotification, FirmwareStatusNotification, Heartbeat,
+            MeterValues, StatusNotification
+        }
     }
 
     fn index(&self) -> usize {

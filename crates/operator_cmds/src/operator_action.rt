@@ -29,22 +29,11 @@ impl Named for OperatorAction {
     ghost names = { operator_actions };
 
     fn table() -> &'static [(&'static str, Self)] {
-        &[
-            ("CancelReservation", Self::CancelReservation),
-            ("ChangeAvailability", Self::ChangeAvailability),
-            ("ChangeConfiguration", Self::ChangeConfiguration),
-            ("ClearCache", Self::ClearCache),
-            ("DataTransfer", Self::DataTransfer),
-            ("GetConfiguration", Self::GetConfiguration),
-            ("GetLocalListVersion", Self::GetLocalListVersion),
-            ("RemoteStartTransaction", Self::RemoteStartTransaction),
-            ("RemoteStopTransaction", Self::RemoteStopTransaction),
-            ("ReserveNow", Self::ReserveNow),
-            ("Reset", Self::Reset),
-            ("SendLocalList", Self::SendLocalList),
-            ("TriggerMessage", Self::TriggerMessage),
-            ("UnlockConnector", Self::UnlockConnector),
-        ]
+        ocpp_types::table! {
+            CancelReservation, ChangeAvailability, ChangeConfiguration, ClearCache, DataTransfer,
+            GetConfiguration, GetLocalListVersion, RemoteStartTransaction, RemoteStopTransaction,
+            ReserveNow, Reset, SendLocalList, TriggerMessage, UnlockConnector
+        }
     }
 
     fn index(&self) -> usize {

@@ -42,11 +42,7 @@ impl Named for AvailabilityStatus {
     ghost names = { availability_statuses };
 
     fn table() -> &'static [(&'static str, Self)] {
-        &[
-            ("Accepted", Self::Accepted),
-            ("Rejected", Self::Rejected),
-            ("Scheduled", Self::Scheduled),
-        ]
+        ocpp_types::table! { Accepted, Rejected, Scheduled }
     }
 
     fn index(&self) -> usize {
@@ -71,12 +67,7 @@ impl Named for ConfigurationStatus {
     ghost names = { configuration_statuses };
 
     fn table() -> &'static [(&'static str, Self)] {
-        &[
-            ("Accepted", Self::Accepted),
-            ("Rejected", Self::Rejected),
-            ("RebootRequired", Self::RebootRequired),
-            ("NotSupported", Self::NotSupported),
-        ]
+        ocpp_types::table! { Accepted, Rejected, RebootRequired, NotSupported }
     }
 
     fn index(&self) -> usize {
@@ -102,13 +93,7 @@ impl Named for ReservationStatus {
     ghost names = { reservation_statuses };
 
     fn table() -> &'static [(&'static str, Self)] {
-        &[
-            ("Accepted", Self::Accepted),
-            ("Faulted", Self::Faulted),
-            ("Occupied", Self::Occupied),
-            ("Rejected", Self::Rejected),
-            ("Unavailable", Self::Unavailable),
-        ]
+        ocpp_types::table! { Accepted, Faulted, Occupied, Rejected, Unavailable }
     }
 
     fn index(&self) -> usize {
@@ -132,11 +117,7 @@ impl Named for TriggerMessageStatus {
     ghost names = { trigger_message_statuses };
 
     fn table() -> &'static [(&'static str, Self)] {
-        &[
-            ("Accepted", Self::Accepted),
-            ("Rejected", Self::Rejected),
-            ("NotImplemented", Self::NotImplemented),
-        ]
+        ocpp_types::table! { Accepted, Rejected, NotImplemented }
     }
 
     fn index(&self) -> usize {
@@ -160,11 +141,7 @@ impl Named for UnlockStatus {
     ghost names = { unlock_statuses };
 
     fn table() -> &'static [(&'static str, Self)] {
-        &[
-            ("Unlocked", Self::Unlocked),
-            ("UnlockFailed", Self::UnlockFailed),
-            ("NotSupported", Self::NotSupported),
-        ]
+        ocpp_types::table! { Unlocked, UnlockFailed, NotSupported }
     }
 
     fn index(&self) -> usize {
@@ -189,12 +166,7 @@ impl Named for UpdateStatus {
     ghost names = { update_statuses };
 
     fn table() -> &'static [(&'static str, Self)] {
-        &[
-            ("Accepted", Self::Accepted),
-            ("Failed", Self::Failed),
-            ("NotSupported", Self::NotSupported),
-            ("VersionMismatch", Self::VersionMismatch),
-        ]
+        ocpp_types::table! { Accepted, Failed, NotSupported, VersionMismatch }
     }
 
     fn index(&self) -> usize {

@@ -1,7 +1,6 @@
 //! Why the file of the records can't be opened.
 
-use ocpp_types::{NoMemory, Text};
-use std::alloc::{AllocError, AllocFailed};
+use ocpp_types::Text;
 use std::io;
 use store_sql::{MarkFault, PrepareFault};
 use thiserror::Error;
@@ -30,20 +29,4 @@ impl OpenFault {
     }
 }
 
-impl From<NoMemory> for OpenFault {
-    fn from(_fault: NoMemory) -> OpenFault {
-        OpenFault::NoMemory
-    }
-}
-
-impl From<AllocError> for OpenFault {
-    fn from(_fault: AllocError) -> OpenFault {
-        OpenFault::NoMemory
-    }
-}
-
-impl<T: Drop> From<AllocFailed<T>> for OpenFault {
-    fn from(_fault: AllocFailed<T>) -> OpenFault {
-        OpenFault::NoMemory
-    }
-}
+ocpp_types::from_refused_memory!(OpenFault, OpenFault::NoMemory);

@@ -43,10 +43,6 @@ Took unread unread' None rest' seen = Unit {0}
 Took unread unread' (Some xs) None seen = ⊥
 Took unread unread' (Some xs) (Some ys) seen = unread ++ xs ≡ seen ++ (unread' ++ ys)
 
-took_none : (unread : List ℕ) (rest : Option (List ℕ)) → Took unread unread rest rest []
-took_none unread None = tt
-took_none unread (Some xs) = refl
-
 took_more : (unread part bytes : List ℕ) (rest rest' rest'' : Option (List ℕ)) (seen : List ℕ) → Took unread part rest rest' seen → Consumes rest' rest'' bytes → Took unread bytes rest rest'' (seen ++ part)
 took_more unread part bytes None rest' rest'' seen t c = tt
 took_more unread part bytes (Some xs) None rest'' seen t c = absurd t

@@ -2,10 +2,9 @@
 
 use crate::hosted::BadOperators;
 use crate::journal_fault::{JournalFileFault, JournalProblem};
-use ocpp_types::{NoMemory, Text};
+use ocpp_types::Text;
 use replay::ReplayFault;
 use standby::FollowFault;
-use std::alloc::{AllocError, AllocFailed};
 use std::io;
 use std::net::SocketAddr;
 use thiserror::Error;
@@ -98,23 +97,7 @@ impl From<ReplayFault> for RunFault {
     }
 }
 
-impl From<NoMemory> for RunFault {
-    fn from(_fault: NoMemory) -> RunFault {
-        RunFault::NoMemory
-    }
-}
-
-impl From<AllocError> for RunFault {
-    fn from(_fault: AllocError) -> RunFault {
-        RunFault::NoMemory
-    }
-}
-
-impl<T: Drop> From<AllocFailed<T>> for RunFault {
-    fn from(_fault: AllocFailed<T>) -> RunFault {
-        RunFault::NoMemory
-    }
-}
+ocpp_types::from_refused_memory!(RunFault, RunFault::NoMemory);
 
 impl From<io::Error> for RunFault {
     fn from(fault: io::Error) -> RunFault {

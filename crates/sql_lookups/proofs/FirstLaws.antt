@@ -1,5 +1,5 @@
 -- The first meter values of a station, as far as an order to forget looks.
-use Rattle.std.proofs.Common.{◌≡◌, ◌∙◌, ◌++◌, ◌+◌, ◌-◌, ◌==◌, ◌||◌, ◌<◌, ◌≤◌, ℕ, suc, zero, nat_le, List, [], ◌∷◌, Bool, true, false, cond, length, take, arith, refl, sym, ap, subst, inl, inr, append-nil, append_assoc}
+use Rattle.std.proofs.Common.{◌≡◌, ◌∙◌, ◌++◌, ◌+◌, ◌-◌, ◌==◌, ◌||◌, ◌≤◌, ℕ, suc, zero, nat_le, List, [], ◌∷◌, Bool, true, false, length, take, arith, refl, sym, ap, inl, inr, append_assoc}
 use Rattle.std.proofs.Math.Seq.{take-append-add, take-append_seam}
 use Rattle.std.proofs.lemmas.Bool.{cases_lt, leb-true, eqb-true}
 use Rattle.std.proofs.lemmas.List.{length-append, take-append-le, take_all}

@@ -13,14 +13,14 @@ use ocpp_types::{Listed, Mem};
 use sqlite::{Alter, Connection};
 use std::alloc::Global;
 
-/// Whether meter values are so many, or none of so many readings are left, that an order to forget looks at no more.
+/// Whether an order to forget looks no further, by how many readings are left to it and how many meter values it has.
 fn is_enough(left: usize, count: usize) -> bool
     ensures { result ≡ (left == 0) || nat_le MAX_FORGOTTEN count }
 {
     left == 0 || count >= MAX_FORGOTTEN
 }
 
-/// Adds some meter values, whose readings are fewer to be left.
+/// Adds a page of meter values, and takes their readings off those that are left.
 fn add_values(
     values: &mut Vec<MeterValueRow>,
     page: Listed<MeterValueRow>,
@@ -36,8 +36,8 @@ fn add_values(
     Ok(())
 }
 
-/// So many of a station's first meter values that the oldest are among them, and one behind these. No row past them is read,
-/// for a row with many readings takes its time.
+/// The first meter values of a station, up to the one behind the oldest. No row past that is read, since a row with many
+/// readings is expensive to read.
 pub(crate) fn first_values<S: Alter>(
     conn: &mut Connection<S>,
     alloc: Global,

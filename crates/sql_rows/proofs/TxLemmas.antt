@@ -117,10 +117,6 @@ makes_step {sql} {params} {Edit} means {S} {B} {F} {g} {old} {new} {values} {r} 
   goes = λ inside. goes_as (Edit (rows_changed r)) (state g old.conn.now) (state g new.conn.now) r q ok err (step means (state g) old.conn.now new.conn.now values r ran ended survives given clean inside);
 }
 
--- what follows of a part
-pub inside_as : (F G : Trees → Trees → Type 0) (a b : State) → (F a.now.trees b.now.trees → G a.now.trees b.now.trees) → Inside F a b → Inside G a b
-inside_as F G a b weaker p = record { leaves = p.leaves; within = p.within; edit = λ up. weaker (p.edit up); numbered = p.numbered; still = p.still }
-
 -- what follows of the first part and of the second
 pub goes_then : {A E : Type 0} (F G H : Trees → Trees → Type 0) (a b c : State) (r : Result A E) → (IsTrue b.is_open → F a.now.trees b.now.trees → G b.now.trees c.now.trees → H a.now.trees c.now.trees) → Inside F a b → Goes G b c r → Goes H a c r
 goes_then F G H a b c (Ok x) joined first g = record { ok = inside_then F G H a b c joined first g.ok; err = tt }

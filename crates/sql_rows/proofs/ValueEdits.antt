@@ -1,14 +1,11 @@
 -- Meter values that are put one after the other.
-use Rattle.std.proofs.Common.{◌≡◌, ℕ, ◌+◌, List, [], ◌∷◌, ◌++◌, refl, sym, ap, ◌∙◌, arith}
+use Rattle.std.proofs.Common.{◌≡◌, ℕ, ◌+◌, List, [], ◌∷◌, ◌++◌, sym, ap, ◌∙◌, arith}
 use Rattle.sqlite_trees.specs.Tree.{Trees}
-use Rattle.sqlite_schema.specs.declared.schema.Table.{Table}
-use Rattle.sqlite_rules.proofs.ListLemmas.{all_from}
 use Rattle.hub_rows.specs.declared.meter_value_row.MeterValue.{MeterValue}
 use Rattle.hub_rows.specs.declared.meter_value_row.MeterValueRow.{MeterValueRow}
 use Rattle.hub_rows.specs.Changes.{with_meter_values}
 use Rattle.hub_rows.specs.Keyed.{put, put_all}
 use Rattle.hub_rows.specs.MeterValues.{all_taken, meter_value_rows, numbers_taken}
-use Rattle.sql_tables.specs.Tables.{hub_schema}
 use Rattle.sql_rows.specs.Kept.{IsPutIn, ArePutIn, IsMade}
 use Rattle.sql_rows.specs.TypedTable.{cmp, rows_in}
 use Rattle.sql_rows.specs.TypedTables.{meter_values}
@@ -43,6 +40,3 @@ module _ (op station : List ℕ) where
 
   pub values_made : (n : ℕ) (vs : List MeterValue) (a b : Trees) → ArePutIn meter_values (meter_value_rows op station n vs) a b → IsMade (λ rows. record rows { meter_values = with_meter_values op station n vs rows.meter_values }) a b
   values_made n vs a b put = meter_values_made a b _ put.rows put.frame
-
-pub no_values : (db : Trees) → ArePutIn meter_values [] db db
-no_values db = record { rows = refl; frame = all_from (λ (t : Table). (t.tree ≡ 26 → ⊥) → db t.tree ≡ db t.tree) hub_schema.tables (λ t listed other. refl) }

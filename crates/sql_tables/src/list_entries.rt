@@ -3,11 +3,7 @@
 /// A text with the names of all columns, in their order, between the two parts.
 macro_rules! with_columns {
     ($before:literal, $after:literal) => {
-        concat!(
-            $before,
-            "op, station, tag_key, id_tag, expiry_date, parent_id_tag, status",
-            $after
-        )
+        concat!($before, "op, station, tag_key, id_tag, expiry_date, parent_id_tag, status", $after)
     };
 }
 

@@ -3,11 +3,7 @@
 /// A text with the names of all columns, in their order, between the two parts.
 macro_rules! with_columns {
     ($before:literal, $after:literal) => {
-        concat!(
-            $before,
-            "op, station, first, connector, transaction_id, at, count, sampled",
-            $after
-        )
+        concat!($before, "op, station, first, connector, transaction_id, at, count, sampled", $after)
     };
 }
 

@@ -3,11 +3,7 @@
 /// A text with the names of all columns, in their order, between the two parts.
 macro_rules! with_columns {
     ($before:literal, $after:literal) => {
-        concat!(
-            $before,
-            "op, station, policy, interval, state, booted, charge_point_model, charge_point_vendor, charge_box_serial_number, charge_point_serial_number, firmware_version, iccid, imsi, meter_serial_number, meter_type",
-            $after
-        )
+        concat!($before, "op, station, policy, interval, state, booted, charge_point_model, charge_point_vendor, charge_box_serial_number, charge_point_serial_number, firmware_version, iccid, imsi, meter_serial_number, meter_type", $after)
     };
 }
 

@@ -3,11 +3,7 @@
 /// A text with the names of all columns, in their order, between the two parts.
 macro_rules! with_columns {
     ($before:literal, $after:literal) => {
-        concat!(
-            $before,
-            "op, station, number, connector, tag_key, meter_start, start_at, id_tag, reservation_id, status, begun, is_open, in_use, meter_stop, stop_at, stop_reason, stop_id_tag, ended",
-            $after
-        )
+        concat!($before, "op, station, number, connector, tag_key, meter_start, start_at, id_tag, reservation_id, status, begun, is_open, in_use, meter_stop, stop_at, stop_reason, stop_id_tag, ended", $after)
     };
 }
 

@@ -13,10 +13,6 @@ use Rattle.standby.specs.declared.fault.FollowFault.{FollowFault}
 use Rattle.standby.specs.declared.following.Ended.{Ended}
 use Rattle.standby.proofs.Laws.{run_both}
 
-pub begun : (Clean : Type 0) (st : Setting) (w : World) (old : Option (List ℕ)) → Followed Clean st w w [] old old
-begun Clean st w None = tt
-begun Clean st w (Some input) = λ clean. record { done = []; is = refl; all_of = refl }
-
 -- another event waits
 event_left : (st : Setting) (w v : World) (waiting all : List HubEvent) (left rest : List Entry) (e : HubEvent) → left ≡ Event e ∷ rest
     → Progress st w v waiting all left → Progress st w v (waiting ++ (e ∷ [])) all rest

@@ -16,7 +16,7 @@ use Rattle.hub_rows.specs.declared.tag_row.TagRow.{TagRow}
 use Rattle.hub_rows.specs.Keyed.{text_cmp, key_cmp, by_key, put, own, found, those, without}
 use Rattle.hub_rows.specs.Places.{AllBelow, AllAbove, IsFoundAt, IsGapAt}
 use Rattle.hub_rows.specs.Tags.{own_tag_in, effective_tag}
-use Rattle.hub_rows.proofs.ListLaws.{keys_total, by_key_total, all-weaker, all-filter, all-put, put-front, sorted-put, set_here, head, text_itself, same_text, found-own, and-true}
+use Rattle.hub_rows.proofs.ListLaws.{keys_total, by_key_total, all-weaker, all-filter, all-put, put-front, sorted-put, set_here, head, text_itself, found-own, and-true}
 use Rattle.hub_rows.proofs.PlaceLaws.{all-back, put-passed, put-gap}
 use Rattle.store_mem.specs.declared.groups.Group.{Group}
 use Rattle.store_mem.specs.Groups.{name_key, all_of, AreOfGroup, AreGroups}
@@ -32,14 +32,6 @@ own-own op b (x ∷ xs) = grind (arith, own-own op b xs)
 -- what is found of one's own rows is found of all
 pub found-in_own : {R : Type 0} (op : R → List ℕ) (b : List ℕ) (test : R → Bool) (xs : List R) → found op b test (own op b xs) ≡ found op b test xs
 found-in_own op b test xs = found-own op b test (own op b xs) ∙ ap (find test) (own-own op b xs) ∙ sym (found-own op b test xs)
-
-pub all-own : {R : Type 0} (op : R → List ℕ) (b : List ℕ) (xs : List R) → AllByRecursion (λ r. op r ≡ b) (own op b xs)
-all-own op b [] = tt
-all-own op b (x ∷ xs) =
-    elim (bytes_eq (op x) b) as (λ t. bytes_eq (op x) b ≡ t → AllByRecursion (λ r. op r ≡ b) (cond t (x ∷ own op b xs) (own op b xs))) [
-      | true ↦ λ e. (same_text (op x) b e, all-own op b xs)
-      | false ↦ λ e. all-own op b xs
-    ] refl
 
 pub those-all : {R : Type 0} (op : R → List ℕ) (b : List ℕ) (xs : List R) → those op b (λ r. true) xs ≡ own op b xs
 those-all op b xs = λ i. filter (λ r. and-true (bytes_eq (op r) b) i) xs

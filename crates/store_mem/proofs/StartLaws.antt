@@ -164,11 +164,6 @@ module _ (b st : List ℕ) (k : StartKey) where
 -- ---- its place
 
 module _ (k : StartKey) where
-  longer : (o : Ordering) → ordering_then o Greater ≡ Less → o ≡ Less
-  longer Less e = refl
-  longer Equal e = absurd (cc)
-  longer Greater e = e
-
   equal-tied : (r : StartRow) → is_start k r.start ≡ true → text_cmp (code r.start) (code k) ≡ Equal
   equal-tied r e = tied (code r.start) (code k) (same_text (code r.start) (code k) (same_code k r.start ∙ e))
 

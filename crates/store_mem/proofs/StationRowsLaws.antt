@@ -1,6 +1,6 @@
 -- Rows kept station by station: what is found of them, and what more rows of one station make.
-use Rattle.std.specs.Prelude.{◌≡◌, ℕ, ◌+◌, Some, ◌<◌, List, [], ◌∷◌, ◌++◌, take, drop, Bool, true, false, cond, ◌&&◌, ◌||◌, ◌==◌, not, filter, map, find}
-use Rattle.std.specs.List.{AllByRecursion, list_any}
+use Rattle.std.specs.Prelude.{◌≡◌, ℕ, ◌+◌, Some, ◌<◌, List, [], ◌∷◌, ◌++◌, take, drop, Bool, true, false, cond, ◌&&◌, ◌==◌, not, filter, map, find}
+use Rattle.std.specs.List.{AllByRecursion}
 use Rattle.std.specs.List.Sorted.{IsStrictlySortedBy}
 use Rattle.std.specs.Ordering.{ordering_then, ordering_reverse, is_eq}
 use Rattle.std.specs.Str.{bytes_eq}
@@ -14,7 +14,7 @@ use Rattle.std.proofs.lemmas.List.Elements.{filter-append}
 use Rattle.std.proofs.lemmas.List.Kept.{IsStrictlySortedBy-filter}
 use Rattle.std.proofs.lemmas.Cmp.{tied_itself}
 use Rattle.hub_rows.specs.Forgetting.{has_number, is_one_of}
-use Rattle.hub_rows.specs.Keyed.{text_cmp, key_cmp, by_key, put_all, those, any_of, numbered_key, greatest, number_key}
+use Rattle.hub_rows.specs.Keyed.{text_cmp, key_cmp, by_key, put_all, those, numbered_key, greatest, number_key}
 use Rattle.hub_rows.specs.Places.{AllBelow, AllAbove, IsFoundAt, IsGapAt}
 use Rattle.hub_rows.proofs.ListLaws.{keys_total, by_key_total, all-filter, all-weaker, put-front, sorted-put, set_here, two_parts, head, same_text}
 use Rattle.hub_rows.proofs.PlaceLaws.{all-back, map-append, map-none, put-passed, put-gap}
@@ -29,17 +29,6 @@ use Rattle.hub_rows.proofs.NumberLaws.{all-above, number-greater, number-less, s
 pub map-same : {R : Type 0} (t u : R → Bool) (f : R → R) (xs : List R) → AllByRecursion (λ r. t r ≡ u r) xs → map (λ r. cond (t r) (f r) r) xs ≡ map (λ r. cond (u r) (f r) r) xs
 map-same t u f [] all = refl
 map-same t u f (x ∷ xs) all = λ i. cond (all.0 i) (f x) x ∷ map-same t u f xs all.1 i
-
-pub any-those : {R : Type 0} (op : R → List ℕ) (b : List ℕ) (p q : R → Bool) (xs : List R) → any_of op b (λ r. p r && q r) xs ≡ list_any q (those op b p xs)
-any-those op b p q [] = refl
-any-those op b p q (x ∷ xs) =
-    elim (bytes_eq (op x) b) as (λ t. ((t && (p x && q x)) || any_of op b (λ r. p r && q r) xs) ≡ list_any q (cond (t && p x) (x ∷ those op b p xs) (those op b p xs))) [
-      | true ↦ elim (p x) as (λ u. ((u && q x) || any_of op b (λ r. p r && q r) xs) ≡ list_any q (cond u (x ∷ those op b p xs) (those op b p xs))) [
-        | true ↦ ap (λ t. q x || t) (any-those op b p q xs)
-        | false ↦ any-those op b p q xs
-      ]
-      | false ↦ any-those op b p q xs
-    ]
 
 -- ---- the order
 

@@ -1,4 +1,4 @@
-use Rattle.std.proofs.Common.{◌≡◌, ◌++◌, ◌-◌, ◌^◌, ℕ, None, Ok, Option, Some}
+use Rattle.std.proofs.Common.{◌≡◌, ◌++◌, ◌-◌, None, Ok}
 use Rattle.std.specs.Prelude.{⊤}
 use Rattle.sqlite.specs.Held.{state}
 use Rattle.hub_rows.specs.declared.forgettable.TheConstants.{MAX_READINGS}
