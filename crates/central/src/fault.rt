@@ -2,8 +2,10 @@
 
 use cached::CacheFault;
 use clients::ClientFault;
+use ocpp_types::NoMemory;
 use record_file::OpenFault;
 use runs::RunFault;
+use std::alloc::{AllocError, AllocFailed};
 use std::io;
 use thiserror::Error;
 
@@ -57,7 +59,23 @@ impl From<CacheFault> for ProgramFault {
     }
 }
 
-ocpp_types::from_refused_memory!(ProgramFault, ProgramFault::Run(RunFault::NoMemory));
+impl From<NoMemory> for ProgramFault {
+    fn from(_fault: NoMemory) -> ProgramFault {
+        ProgramFault::Run(RunFault::NoMemory)
+    }
+}
+
+impl From<AllocError> for ProgramFault {
+    fn from(_fault: AllocError) -> ProgramFault {
+        ProgramFault::Run(RunFault::NoMemory)
+    }
+}
+
+impl<T: Drop> From<AllocFailed<T>> for ProgramFault {
+    fn from(_fault: AllocFailed<T>) -> ProgramFault {
+        ProgramFault::Run(RunFault::NoMemory)
+    }
+}
 
 impl From<io::Error> for ProgramFault {
     fn from(fault: io::Error) -> ProgramFault {

@@ -1,5 +1,7 @@
 //! Why a client stops.
 
+use ocpp_types::NoMemory;
+use std::alloc::{AllocError, AllocFailed};
 use std::fmt::{Display, Formatter, Write};
 use std::net::{Ipv4Addr, SocketAddr};
 use std::{fmt, io};
@@ -93,7 +95,23 @@ impl ClientFault {
     }
 }
 
-ocpp_types::from_refused_memory!(ClientFault, ClientFault::NoMemory);
+impl From<NoMemory> for ClientFault {
+    fn from(_fault: NoMemory) -> ClientFault {
+        ClientFault::NoMemory
+    }
+}
+
+impl From<AllocError> for ClientFault {
+    fn from(_fault: AllocError) -> ClientFault {
+        ClientFault::NoMemory
+    }
+}
+
+impl<T: Drop> From<AllocFailed<T>> for ClientFault {
+    fn from(_fault: AllocFailed<T>) -> ClientFault {
+        ClientFault::NoMemory
+    }
+}
 
 impl From<io::Error> for ClientFault {
     fn from(fault: io::Error) -> ClientFault {

@@ -22,27 +22,3 @@ impl<T: Drop> From<AllocFailed<T>> for NoMemory {
         NoMemory
     }
 }
-
-/// Makes a fault of each error of an allocator that refuses memory.
-#[macro_export]
-macro_rules! from_refused_memory {
-    ($fault:ident, $value:expr) => {
-        impl From<$crate::NoMemory> for $fault {
-            fn from(_refused: $crate::NoMemory) -> $fault {
-                $value
-            }
-        }
-
-        impl From<std::alloc::AllocError> for $fault {
-            fn from(_refused: std::alloc::AllocError) -> $fault {
-                $value
-            }
-        }
-
-        impl<T: Drop> From<std::alloc::AllocFailed<T>> for $fault {
-            fn from(_refused: std::alloc::AllocFailed<T>) -> $fault {
-                $value
-            }
-        }
-    };
-}

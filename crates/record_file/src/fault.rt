@@ -1,6 +1,7 @@
 //! Why the file of the records can't be opened.
 
-use ocpp_types::Text;
+use ocpp_types::{NoMemory, Text};
+use std::alloc::{AllocError, AllocFailed};
 use std::io;
 use store_sql::{MarkFault, PrepareFault};
 use thiserror::Error;
@@ -29,4 +30,20 @@ impl OpenFault {
     }
 }
 
-ocpp_types::from_refused_memory!(OpenFault, OpenFault::NoMemory);
+impl From<NoMemory> for OpenFault {
+    fn from(_fault: NoMemory) -> OpenFault {
+        OpenFault::NoMemory
+    }
+}
+
+impl From<AllocError> for OpenFault {
+    fn from(_fault: AllocError) -> OpenFault {
+        OpenFault::NoMemory
+    }
+}
+
+impl<T: Drop> From<AllocFailed<T>> for OpenFault {
+    fn from(_fault: AllocFailed<T>) -> OpenFault {
+        OpenFault::NoMemory
+    }
+}

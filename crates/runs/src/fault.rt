@@ -2,9 +2,10 @@
 
 use crate::hosted::BadOperators;
 use crate::journal_fault::{JournalFileFault, JournalProblem};
-use ocpp_types::Text;
+use ocpp_types::{NoMemory, Text};
 use replay::ReplayFault;
 use standby::FollowFault;
+use std::alloc::{AllocError, AllocFailed};
 use std::io;
 use std::net::SocketAddr;
 use thiserror::Error;
@@ -97,7 +98,23 @@ impl From<ReplayFault> for RunFault {
     }
 }
 
-ocpp_types::from_refused_memory!(RunFault, RunFault::NoMemory);
+impl From<NoMemory> for RunFault {
+    fn from(_fault: NoMemory) -> RunFault {
+        RunFault::NoMemory
+    }
+}
+
+impl From<AllocError> for RunFault {
+    fn from(_fault: AllocError) -> RunFault {
+        RunFault::NoMemory
+    }
+}
+
+impl<T: Drop> From<AllocFailed<T>> for RunFault {
+    fn from(_fault: AllocFailed<T>) -> RunFault {
+        RunFault::NoMemory
+    }
+}
 
 impl From<io::Error> for RunFault {
     fn from(fault: io::Error) -> RunFault {

@@ -1,7 +1,7 @@
 //! Why a journal can't be kept or followed.
 
-use ocpp_types::Text;
-use std::alloc::Global;
+use ocpp_types::{NoMemory, Text};
+use std::alloc::{AllocError, Global};
 use thiserror::Error;
 
 /// Why a journal can't be kept or followed.
@@ -45,4 +45,14 @@ impl JournalFileFault {
     }
 }
 
-ocpp_types::from_refused_memory!(JournalFileFault, JournalFileFault::NoMemory);
+impl From<NoMemory> for JournalFileFault {
+    fn from(_fault: NoMemory) -> JournalFileFault {
+        JournalFileFault::NoMemory
+    }
+}
+
+impl From<AllocError> for JournalFileFault {
+    fn from(_fault: AllocError) -> JournalFileFault {
+        JournalFileFault::NoMemory
+    }
+}
