@@ -21,9 +21,9 @@ OPERATORS = "ACME,BETA"
 FEW, MANY = 100, 10_000
 MOST = 2.0
 ROUNDS = 4
-# Of the orders on a history: the fewer meter values and the more, of one reading and of many readings each, how often an
-# order is given, and the most seconds of one, and of one that lists so many readings. What takes fewer seconds than the
-# last isn't compared: the opening of a file varies by more.
+# FULL and LONG are the numbers of meter values in the two histories that are compared, with one reading and with READINGS
+# readings each. Each order is given ORDERS times. It may take LONGEST seconds, and LISTS where it lists READINGS readings.
+# Costs below SHORT seconds aren't compared, since the time to open a file varies by more.
 FULL, LONG, READINGS, ORDERS, LONGEST, LISTS, SHORT = (5_300, MANY), (30, 100), 20_000, 20, 0.020, 0.100, 0.005
 AT = "2024-01-01T00:00:00Z"
 MS = 1704067200000
@@ -103,14 +103,14 @@ KINDS = {
 
 
 def meter_values_of(at, readings):
-    """So many meter values of one time, in milliseconds since 1970, without a transaction, with so many readings each."""
+    """Meter values without a transaction, each at the time `at` (milliseconds since 1970) and with `readings` readings."""
     sampled = ",".join(['{"value":"1"}'] * readings)
     row = f"INSERT INTO hub_meter_value VALUES ('ACME', 'CP01', ?, 1, NULL, {at}, {readings}, '[{sampled}]')"
     return lambda rows: [(row, [(1 + readings * number,) for number in range(rows)])]
 
 
-# All meter values from before an order may go but the last, and none from after it: how many there are, what they are,
-# and how long an order that lists those that go may take.
+# Of each history: the two numbers of meter values, the meter values, and the most seconds of an order that lists those
+# that may go. All but the last may go where they are from before the order, and none where they are from after it.
 HISTORIES = {
     "all may go": (FULL, meter_values_of(MS - 1, 1), LONGEST),
     "none may go": (FULL, meter_values_of(MS + 10**12, 1), LONGEST),
@@ -171,7 +171,7 @@ def costs(program, folder, name):
 
 
 def costs_of_orders(program, folder, history):
-    """What each order costs by the number of meter values, few and many: its name, both costs, which need not be compared,
+    """For each order its name, its cost over few and over many meter values, the cost below which these aren't compared,
     and the most that it may cost."""
     found = {name: [] for name in ORDERS_ON_HISTORY}
     sizes, statements, listing = HISTORIES[history]
@@ -186,7 +186,7 @@ def costs_of_orders(program, folder, history):
 
 
 def tell(name, few, many, short, most):
-    """Whether a cost grows by less than that or is short, and no more than so much."""
+    """Whether a cost grows by less than MOST or stays below `short`, and is at most `most`."""
     # A clock of the processor that counts by the millisecond may show none.
     growth = many / max(few, 0.001)
     print(f"{name}: {few * 1000:.1f} ms and {many * 1000:.1f} ms, growth {growth:.2f}")

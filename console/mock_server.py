@@ -196,10 +196,10 @@ class Records:
         return [f"row forgotten {name} {len(over)} {len(gone)}", "ok"]
 
     def forgettable(self, name, until):
-        """The numbers of the transactions that may go, or those of the readings of each meter value that may. The first 250
-        rows are looked at, and no more meter values once those before have 1,000 readings. Readings of one connector,
-        transaction and time that follow one another stand for a meter value. When a stop came isn't kept here, so its own
-        time stands for that."""
+        """The numbers of the transactions that may go, or those of the readings of each meter value that may. Looks at
+        the first 250 rows, and at no meter value after the one that brings the readings to 1,000. Consecutive readings of
+        one connector, transaction and time stand for a meter value. The time at which a stop came isn't kept here, so the
+        stop's own time stands for it."""
         readings = [row.split(" ") for row in self.rows[f"readings {name}"]]
         values = [list(rows) for _, rows in itertools.groupby(readings, lambda words: words[3:6])]
         transactions = [row.split(" ") for row in self.rows[f"transactions {name}"]]

@@ -45,7 +45,7 @@ take-least (suc n) (x ∷ xs) =
     let less : min (suc (length xs)) (suc n) ≡ suc (min (length xs) n) = omega arith in
     ap (λ m. take m (x ∷ xs)) less ∙ ap (λ ys. x ∷ ys) (take-least n xs)
 
--- the first meter values until so many readings are a front of all
+-- `until_readings` gives a prefix
 pub until-few : (n : ℕ) (rows : List MeterValueRow) → length (until_readings n rows) ≤ length rows
 until-few zero rows = omega arith
 until-few (suc n) [] = omega arith

@@ -19,19 +19,19 @@ is_before until (Some stop) = nat_lt stop.moment until
 abbrev pub is_over : ℕ → TxRow → Bool
 is_over until t = is_before until t.stop
 
--- the first rows, at most MAX_FORGOTTEN of them, without the last of all, so that numbers go on
+-- the first MAX_FORGOTTEN rows or fewer, without the last of all, so that numbers go on
 abbrev pub oldest : {R : Type 0} → List R → List R
 oldest rows = take MAX_FORGOTTEN (take (length rows - 1) rows)
 
 -- ---- meter values
 
--- the first of some meter values, until these have n readings
+-- the shortest prefix of these meter values that has at least n readings, or all of them
 abbrev pub until_readings : ℕ → List MeterValueRow → List MeterValueRow
 until_readings zero rows = []
 until_readings (suc n) [] = []
 until_readings (suc n) (r ∷ rs) = r ∷ until_readings (suc n - length r.value.sampled) rs
 
--- the oldest meter values, until these have MAX_READINGS readings
+-- the meter values that an order to forget looks at
 abbrev pub oldest_values : List MeterValueRow → List MeterValueRow
 oldest_values rows = until_readings MAX_READINGS (oldest rows)
 

@@ -10,7 +10,7 @@ use std::alloc::Global;
 /// The most rows that an order to forget looks at.
 pub const MAX_FORGOTTEN: usize = 250;
 
-/// An order to forget looks at no more meter values once those before have so many readings.
+/// The readings after which an order to forget looks at no further meter value.
 pub const MAX_READINGS: usize = 1000;
 
 /// Rows of a station's history.

@@ -29,7 +29,7 @@ pub fn goes_with(until: Moment, at: i64, tx: Option<&TxRow>) -> bool
     }
 }
 
-/// The first of a station's rows, at most `MAX_FORGOTTEN`, without the last of all.
+/// The first `MAX_FORGOTTEN` of a station's rows, or fewer, without its last row.
 pub fn oldest<R>(rows: &[R]) -> &[R]
     ensures { result.now ≡ oldest rows.now }
 {
@@ -38,7 +38,8 @@ pub fn oldest<R>(rows: &[R]) -> &[R]
     oldest
 }
 
-/// The oldest of a station's meter values: the same, until they have `MAX_READINGS` readings.
+/// The meter values that an order to forget looks at: those of `oldest`, up to the one that brings their readings to
+/// `MAX_READINGS`.
 pub fn oldest_values(rows: &[MeterValueRow]) -> &[MeterValueRow]
     ensures { result.now ≡ oldest_values rows.now }
 {
@@ -47,7 +48,7 @@ pub fn oldest_values(rows: &[MeterValueRow]) -> &[MeterValueRow]
     oldest
 }
 
-/// How many of some meter values come first, until they have so many readings.
+/// The length of the shortest prefix of `rows` that has at least `readings` readings, or of all `rows`.
 #[tactic(auto, using(crate::proofs::Steps::drop_here))]
 fn count_until(rows: &[MeterValueRow], readings: usize) -> usize
     ensures { result ≡ length (until_readings readings rows.now) }

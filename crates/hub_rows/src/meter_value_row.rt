@@ -24,7 +24,7 @@ pub struct MeterValueRow {
 pub struct MeterValue {
     /// 0 is the station's main meter.
     pub connector: u8,
-    /// The number of the transaction as it was sent; there may be none of that number.
+    /// The `transactionId` as sent. It may match no transaction on record.
     pub transaction: Option<i32>,
     /// When the station says that it was so: milliseconds since 1970.
     pub at: i64,

@@ -41,7 +41,7 @@ pub trait Named: Copy + 'static {
     }
 }
 
-/// The table of an enumeration whose variants have their own names, or those that it says.
+/// The table of an enumeration: each variant under its own name, or under the name given for it.
 #[macro_export]
 macro_rules! table {
     ($($variant:ident),+) => {

@@ -1,4 +1,4 @@
--- The first meter values of a station, as far as an order to forget looks.
+-- The meter values of a station that an order to forget looks at.
 use Rattle.std.proofs.Common.{◌≡◌, ◌∙◌, ◌++◌, ◌+◌, ◌-◌, ◌==◌, ◌||◌, ◌≤◌, ℕ, suc, zero, nat_le, List, [], ◌∷◌, Bool, true, false, length, take, arith, refl, sym, ap, inl, inr, append_assoc}
 use Rattle.std.proofs.Math.Seq.{take-append-add, take-append_seam}
 use Rattle.std.proofs.lemmas.Bool.{cases_lt, leb-true, eqb-true}
@@ -22,7 +22,7 @@ left_after n before left xs ys more was now new =
     let sum : count_readings more ≡ count_readings xs + count_readings ys = ap count_readings new ∙ count_both xs ys in
     omega (arith, was, now, sum)
 
--- no more count once there are so many
+-- a prefix with n readings decides `until_readings n`
 until_both : (n : ℕ) (xs ys : Values) → n ≤ count_readings xs → until_readings n (xs ++ ys) ≡ until_readings n xs
 until_both zero xs ys enough = refl
 until_both (suc n) [] ys enough = absurd (omega (arith, enough))
@@ -42,7 +42,7 @@ oldest_more xs x more =
     let but_last : length (xs ++ x ∷ more) - 1 ≡ length xs + length more = omega (arith, many) in
     ap (take MAX_FORGOTTEN) (ap (λ n. take n (xs ++ x ∷ more)) but_last ∙ take-append-add xs (x ∷ more) (length more))
 
--- where there are so many rows, or so many readings, those behind the next one change nothing
+-- once the rows or their readings reach the limit, `oldest_values` depends on no row past the next one
 many_rows : (xs : Values) (x : MeterValueRow) (more : Values) → MAX_FORGOTTEN ≤ length xs → oldest_values (xs ++ x ∷ []) ≡ oldest_values (xs ++ x ∷ more)
 many_rows xs x more many = ap (until_readings MAX_READINGS) (oldest_before xs x ∙ sym (take-append-le MAX_FORGOTTEN xs (take (length more) (x ∷ more)) many) ∙ sym (oldest_more xs x more))
 

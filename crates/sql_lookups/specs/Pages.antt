@@ -7,11 +7,11 @@ use Rattle.hub_rows.specs.declared.meter_value_row.MeterValueRow.{MeterValueRow}
 abbrev pub from : {R : Type 0} → (R → ℕ) → ℕ → List R → List R
 from number n rows = filter (λ r. nat_le n (number r)) rows
 
--- a page of them: the first so many
+-- a page: the first `size` of these rows
 abbrev pub page_from : {R : Type 0} → ℕ → (R → ℕ) → ℕ → List R → List R
 page_from size number n rows = take size (from number n rows)
 
--- where the page after one of that size from a number on begins: after its last row, if it is full
+-- where the next page begins: after the last row of this one, if it has `size` rows
 abbrev pub IsAfter : ℕ → ℕ → List MeterValueRow → Option ℕ → Type 0
 IsAfter size first page None = length page < size
 IsAfter size first page (Some next) = (r : MeterValueRow) × (Some r ≡ slice_get page (length page - 1)) × (next ≡ max r.first first + 1)

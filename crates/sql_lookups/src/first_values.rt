@@ -1,4 +1,4 @@
-//! The first meter values of a station, which are looked up one by one.
+//! The meter values of a station that an order to forget looks at, read one by one.
 ghost use Rattle.std.specs.Prelude.{◌≡◌, ◌++◌, ◌-◌, ◌==◌, ◌||◌, nat_le, None, OnOk};
 ghost use Rattle.sqlite.specs.Held.{state};
 ghost use Rattle.hub_rows.specs.Forgetting.{count_readings, oldest_values};
@@ -13,14 +13,14 @@ use ocpp_types::{Listed, Mem};
 use sqlite::{Alter, Connection};
 use std::alloc::Global;
 
-/// Whether an order to forget looks no further, by how many readings are left to it and how many meter values it has.
+/// Whether an order to forget stops, after `count` meter values and with `left` readings to go.
 fn is_enough(left: usize, count: usize) -> bool
     ensures { result ≡ (left == 0) || nat_le MAX_FORGOTTEN count }
 {
     left == 0 || count >= MAX_FORGOTTEN
 }
 
-/// Adds a page of meter values, and takes their readings off those that are left.
+/// Adds a page of meter values, and subtracts their readings from `left`.
 fn add_values(
     values: &mut Vec<MeterValueRow>,
     page: Listed<MeterValueRow>,
@@ -36,8 +36,8 @@ fn add_values(
     Ok(())
 }
 
-/// The first meter values of a station, up to the one behind the oldest. No row past that is read, since a row with many
-/// readings is expensive to read.
+/// Reads the first meter values of a station, up to the one after those that an order to forget looks at. It reads no
+/// further row, since a row with many readings is expensive.
 pub(crate) fn first_values<S: Alter>(
     conn: &mut Connection<S>,
     alloc: Global,
@@ -61,7 +61,7 @@ pub(crate) fn first_values<S: Alter>(
     Ok(Listed::from(values))
 }
 
-/// The oldest of some meter values.
+/// Keeps the meter values that an order to forget looks at.
 pub(crate) fn oldest_values_of(rows: Listed<MeterValueRow>) -> Listed<MeterValueRow>
     ensures { result ≡ oldest_values rows }
 {

@@ -70,7 +70,7 @@ fn chosen_page<S: Alter>(
     }
 }
 
-/// Where the page after this one begins, after its last row, for pages of that size. `None` where it is the last page.
+/// Where the next page begins: after the last row of this one. `None` where this page has fewer than `size` rows.
 pub(crate) fn after_page(
     size: usize,
     first: u32,
