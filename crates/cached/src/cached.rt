@@ -18,9 +18,9 @@ use crate::station_answer::StationAnswer;
 use crate::tag_answer::{LookUp, TagAnswer};
 use crate::{station_answer, tag_answer};
 use hub_rows::{
-    Change, ConnectorRow, GrantRow, GrantedTag, History, Info, LocalList, MeterValueRow, Reader,
-    ReaderRow, Registration, ReportRow, ReservationId, ReservationRow, StartKey, StationRow, Store,
-    StoreFault, TagRow, TxKey, TxRow, TxState, UseRow,
+    Change, ConnectorRow, Flush, GrantRow, GrantedTag, History, Info, LocalList, MeterValueRow,
+    Reader, ReaderRow, Recovered, Registration, ReportRow, ReservationId, ReservationRow, StartKey,
+    StationRow, Store, StoreFault, TagRow, TxKey, TxRow, TxState, UseRow,
 };
 use ocpp_types::{Listed, Moment, TagKey};
 use std::alloc::Global;
@@ -319,12 +319,23 @@ impl<S: Store> Store for Cached<S> {
         self.store.readers(op)
     }
 
-    fn apply(&mut self, change: &Change<'_>) -> Result<(), StoreFault> {
+    fn apply(&mut self, change: &Change<'_>, when: Flush) -> Result<(), StoreFault> {
         self.tags.drop_stale(change);
         self.stations.drop_touched(change);
         self.readings.drop_touched(change);
-        self.store.apply(change)?;
+        self.store.apply(change, when)?;
         keep_last(self.alloc, &mut self.readings, change);
         Ok(())
+    }
+
+    fn flush(&mut self) -> Result<(), StoreFault> {
+        self.store.flush()
+    }
+
+    fn recover(&mut self) -> Result<Recovered, StoreFault> {
+        self.tags.clear();
+        self.stations.clear();
+        self.readings.clear();
+        self.store.recover()
     }
 }

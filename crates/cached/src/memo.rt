@@ -55,6 +55,13 @@ impl<A: Answer> Memo<A> {
     {
         let _put = self.answers.put(answer.digest(), answer);
     }
+
+    /// Drops all answers.
+    pub fn clear(&mut self)
+        ensures { (rows : Rows) → AreRight A.digest A.is_right rows self.new }
+    {
+        self.answers.clear();
+    }
 }
 
 impl<A: Numbered> Memo<A> {
@@ -105,7 +112,7 @@ impl<A: Searched> Memo<A> {
                 }
             }
         }
-        self.answers.clear();
+        self.clear();
     }
 
     /// The number of the first answer that a change may make wrong.

@@ -9,3 +9,4 @@ pub mod TwoSystems
 pub mod Tells
 pub mod Others
 pub mod InFlight
+pub mod Steps

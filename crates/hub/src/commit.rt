@@ -10,7 +10,7 @@ ghost use Rattle.hub.specs.World.{said_to};
 
 use crate::call_outputs::{push_ended, push_message, push_moved};
 use hub_events::{Fault, OperatorEvent, Out, Said};
-use hub_rows::{Change, Edit, Store};
+use hub_rows::{Change, Edit, Flush, Store};
 use ocpp_types::{Boxed, Listed, Mem, Text};
 use operator_cmds::Command;
 use pending_calls::{NewCall, Slots};
@@ -36,17 +36,18 @@ pub fn commit<S: Store>(
     event: &OperatorEvent<'_>,
     plan: Plan,
     outs: &mut Vec<Out>,
+    when: Flush,
 ) -> Result<(), Fault>
     requires fits { (S.view store.old).clean → ForSome (edit_of plan.effect) (λ e. EditFits event.now.op.now e (S.view store.old).rows) }
     requires ready { IsReady (λ station. slot_at event.now.op.now station slots.old) plan.effect }
-    ensures edits { Edits S.view event.now.op.now (edit_of plan.effect) store.old store.new result }
+    ensures edits { Edits S.view when event.now.op.now (edit_of plan.effect) store.old store.new result }
     ensures moves { Moves event.now.op.now event.now.moment plan.effect slots.old slots.new result }
     ensures outs { OnOk result (outs.new.items ≡ outs.old.items ++ (map (said_to event.now.op.now) plan.said
         ++ effect_outputs plan.effect (λ station. slot_at event.now.op.now station slots.old))) }
     ensures err_outs { OnErr result (outs.new.items ≡ outs.old.items) }
 {
     let begun = outs.len();
-    let carried = carry_out(store, slots, event, plan, outs);
+    let carried = carry_out(store, slots, event, plan, outs, when);
     if carried.is_err() {
         outs.truncate(begun);
     }
@@ -62,10 +63,11 @@ fn carry_out<S: Store>(
     event: &OperatorEvent<'_>,
     plan: Plan,
     outs: &mut Vec<Out>,
+    when: Flush,
 ) -> Result<(), Fault>
     requires fits { (S.view store.old).clean → ForSome (edit_of plan.effect) (λ e. EditFits event.now.op.now e (S.view store.old).rows) }
     requires ready { IsReady (λ station. slot_at event.now.op.now station slots.old) plan.effect }
-    ensures edits { Edits S.view event.now.op.now (edit_of plan.effect) store.old store.new result }
+    ensures edits { Edits S.view when event.now.op.now (edit_of plan.effect) store.old store.new result }
     ensures moves { Moves event.now.op.now event.now.moment plan.effect slots.old slots.new result }
     ensures outs { OnOk result (outs.new.items ≡ outs.old.items ++ (map (said_to event.now.op.now) plan.said
         ++ effect_outputs plan.effect (λ station. slot_at event.now.op.now station slots.old))) }
@@ -74,7 +76,7 @@ fn carry_out<S: Store>(
     let room = room_of(&plan.effect);
     let Plan { said, effect } = plan;
     tell(event.op, said, room, outs)?;
-    apply(store, slots, event, effect, outs)
+    apply(store, slots, event, effect, outs, when)
 }
 
 /// Makes an effect of an operator, or changes nothing. What is said of calls that it ends or
@@ -85,11 +87,12 @@ fn apply<S: Store>(
     event: &OperatorEvent<'_>,
     effect: Effect,
     outs: &mut Vec<Out>,
+    when: Flush,
 ) -> Result<(), Fault>
     requires fits { (S.view store.old).clean → ForSome (edit_of effect) (λ e. EditFits event.now.op.now e (S.view store.old).rows) }
     requires ready { IsReady (λ station. slot_at event.now.op.now station slots.old) effect }
     requires room { vec_len outs.old + room_of effect ≤ vec_capacity outs.old }
-    ensures edits { Edits S.view event.now.op.now (edit_of effect) store.old store.new result }
+    ensures edits { Edits S.view when event.now.op.now (edit_of effect) store.old store.new result }
     ensures moves { Moves event.now.op.now event.now.moment effect slots.old slots.new result }
     ensures outs { OnOk result (outs.new.items ≡ outs.old.items
         ++ effect_outputs effect (λ station. slot_at event.now.op.now station slots.old)) }
@@ -99,7 +102,7 @@ fn apply<S: Store>(
     let OperatorEvent { op, moment, .. } = *event;
     match effect {
         Effect::Nothing => {}
-        Effect::Edit(edit) => edit_records(store, op, edit.as_ref())?,
+        Effect::Edit(edit) => edit_records(store, op, edit.as_ref(), when)?,
         Effect::Connect { station } => {
             let ended = slots.connect(op.as_str(), station.as_str())?;
             push_ended(outs, ended);
@@ -123,7 +126,7 @@ fn apply<S: Store>(
             outcome,
             edit,
         } => {
-            edit_if_some(store, op, &edit)?;
+            edit_if_some(store, op, &edit, when)?;
             if let Some(moved) = slots.answer(op.as_str(), station.as_str(), id.as_str(), moment) {
                 push_moved(outs, moved, outcome.into_inner());
             }
@@ -133,22 +136,27 @@ fn apply<S: Store>(
 }
 
 /// Makes an edit of an operator's records, if there is one.
-fn edit_if_some<S: Store>(store: &mut S, op: &Text, edit: &Option<Boxed<Edit>>) -> Result<(), Fault>
+fn edit_if_some<S: Store>(
+    store: &mut S,
+    op: &Text,
+    edit: &Option<Boxed<Edit>>,
+    when: Flush,
+) -> Result<(), Fault>
     requires { (S.view store.old).clean → ForSome edit.now (λ e. EditFits op.now e (S.view store.old).rows) }
-    ensures { Edits S.view op.now edit.now store.old store.new result }
+    ensures { Edits S.view when op.now edit.now store.old store.new result }
 {
     match edit {
-        Some(edit) => edit_records(store, op, edit.as_ref()),
+        Some(edit) => edit_records(store, op, edit.as_ref(), when),
         None => Ok(()),
     }
 }
 
 /// Makes an edit of an operator's records.
-fn edit_records<S: Store>(store: &mut S, op: &Text, edit: &Edit) -> Result<(), Fault>
+fn edit_records<S: Store>(store: &mut S, op: &Text, edit: &Edit, when: Flush) -> Result<(), Fault>
     requires { (S.view store.old).clean → EditFits op.now edit.now (S.view store.old).rows }
-    ensures { Edits S.view op.now (Some edit.now) store.old store.new result }
+    ensures { Edits S.view when op.now (Some edit.now) store.old store.new result }
 {
-    store.apply(&Change { op, edit })?;
+    store.apply(&Change { op, edit }, when)?;
     Ok(())
 }
 

@@ -1,20 +1,23 @@
 //! The hub: one event is one step.
-ghost use Rattle.std.specs.Prelude.{◌≡◌, ◌≢◌, ◌&&◌, ◌⊎◌, ◌+◌, is_some, IsSome, Some, Err, ◌↔◌, ◌<◌, ◌++◌, ℕ, List, [], ◌∷◌, length, take, slice_index_or, true, false, IsOk, IfOk, IfErr, IfNone, IfSome, OnOk, OnErr};
+ghost use Rattle.std.specs.Prelude.{◌≡◌, ◌≢◌, ◌&&◌, ◌⊎◌, ◌+◌, ◌≤◌, is_some, IsSome, Some, Ok, Err, ◌↔◌, ◌<◌, ◌++◌, ℕ, List, [], ◌∷◌, length, take, slice_index_or, true, false, IsOk, IfOk, IfErr, IfNone, IfSome, OnOk, OnErr};
 ghost use Rattle.std.specs.List.{AllWithin};
 ghost use Rattle.hub_rows.specs.Reads.{IsCounted};
 ghost use Rattle.hub_rows.specs.Operators.{are_operators};
 ghost use Rattle.hub_rows.specs.Readers.{reader_in};
+ghost use Rattle.hub_rows.specs.Failures.{Rose};
 ghost use Rattle.hub_rows.specs.Rows.{registration_at};
+ghost use Rattle.hub_rows.specs.declared.store.Recovered.TheVariants as recovered;
 
 use crate::commit::commit;
 use crate::tick::expire_all;
 use event_plans::plan_event;
 use hub_events::{Event, Fault, OperatorEvent, Out};
-use hub_rows::{Reader, Store, are_operators, is_hosted};
+use hub_rows::{Flush, Reader, Recovered, Store, are_operators, is_hosted};
 use ocpp_frame::FrameReader;
-use ocpp_types::{Boxed, Text};
+use ocpp_types::{Boxed, Listed, Text};
 use operator_cmds::Command;
 use pending_calls::Slots;
+use plans::{Effect, Plan};
 use station_calls::{Book, VendorHandler};
 use std::alloc::Global;
 use thiserror::Error;
@@ -32,6 +35,13 @@ pub struct Hub<S, V> {
     pub(crate) slots: Slots<Boxed<Command>>,
 }
 
+/// What one event is to say and change, as `Hub::prepare` finds it. A tick's says and changes nothing: which calls end is found
+/// as it is committed.
+#[derive(Drop)]
+pub struct Step {
+    plan: Plan,
+}
+
 /// These operators can't be hosted: there is none, one comes twice, or a name isn't of 1 to 32
 /// ASCII letters, digits, `-` and `_`.
 #[derive(Clone, Copy, Debug, PartialEq, Eq, Drop, Error)]
@@ -40,11 +50,12 @@ pub struct BadOperators;
 
 impl<S: Store + Drop, V: VendorHandler> Hub<S, V> {
     ghost use Rattle.hub_rows.specs.Rows.{Rows};
-    ghost use Rattle.hub_rows.specs.Stops.{IsKept, FindsOldOr};
+    ghost use Rattle.hub_rows.specs.Stops.{IsKept, FindsOld, FindsOldOr, PutsOnRecord, Records, Recovers, StaysOnRecord};
     ghost use Rattle.hub.specs.Hub.{hub_view, store_of, world, setting, setting_of, is_taken, is_clean, failures_of};
     ghost use Rattle.hub_rows.specs.Operators.{is_hosted};
     ghost use Rattle.hub.specs.World.{outputs_of, world_outputs, world_step, run_outputs, world_run};
     ghost use Rattle.hub.specs.Others.{IsOfAnother, LeavesAlone};
+    ghost use Rattle.hub.specs.Steps.{IsPlanned};
     ghost use Rattle.hub.specs.View.{view, seen, operator_run_outputs, operator_run};
     ghost use Rattle.hub.specs.WellFormed.{ConnectedAreOnRecord};
     ghost use Rattle.hub_events.specs.declared.event.Event.{Event};
@@ -132,18 +143,6 @@ impl<S: Store + Drop, V: VendorHandler> Hub<S, V> {
         Ok(self.book.store.reader(op, station)?)
     }
 
-    /// Asks the store for records of which no answer is kept, to find whether it still gives any. There are none, since
-    /// no operator has this name.
-    #[tactic(auto, unfolding(crate::specs::Hub::setting))]
-    pub fn probe(&mut self) -> Result<(), Fault>
-        ensures counted { IsCounted (hub_view S.view) self.old self.new (result ≡ Err Fault.Store) }
-        ensures world { is_clean S.view self.new → world S.view self.new ≡ world S.view self.old }
-        ensures setting { setting V.view self.new ≡ setting V.view self.old }
-    {
-        let _none = self.book.store.reports("", "")?;
-        Ok(())
-    }
-
     /// Takes one event and gives its outputs. An event that ends in a fault has changed nothing,
     /// and may be handed again.
     ///
@@ -187,7 +186,28 @@ impl<S: Store + Drop, V: VendorHandler> Hub<S, V> {
             → is_taken (setting V.view self.old) event.now ≡ false) }
     {
         let mut outs = Vec::new(self.alloc);
-        self.take(event, &mut outs)?;
+        self.take(event, &mut outs, Flush::AtOnce)?;
+        Ok(outs)
+    }
+
+    /// Takes one event as `handle` does. Its change is flushed at once, or waits for `flush`, where the store lets it wait.
+    pub fn handle_by(&mut self, event: &Event, when: Flush) -> Result<Vec<Out>, Fault>
+        ensures counted { IsCounted (hub_view S.view) self.old self.new (result ≡ Err Fault.Store) }
+        ensures outputs { is_clean S.view self.new → IfOk result (λ outs. outs.items
+            ≡ world_outputs (setting V.view self.old) (world S.view self.old) event.now) }
+        ensures world { is_clean S.view self.new → OnOk result (world S.view self.new
+            ≡ world_step (setting V.view self.old) (world S.view self.old) event.now) }
+        ensures fault { is_clean S.view self.new
+            → OnErr result (world S.view self.new ≡ world S.view self.old) }
+        ensures records { Records when (world_step (setting V.view self.old) (world S.view self.old) event.now).rows
+            (hub_view S.view self.old) (hub_view S.view self.new) result }
+        ensures setting { setting V.view self.new ≡ setting V.view self.old }
+        ensures taken { OnOk result (is_taken (setting V.view self.old) event.now ≡ true) }
+        ensures not_hosted { IfErr result (λ f. f ≡ Fault.NoSuchOperator
+            → is_taken (setting V.view self.old) event.now ≡ false) }
+    {
+        let mut outs = Vec::new(self.alloc);
+        self.take(event, &mut outs, when)?;
         Ok(outs)
     }
 
@@ -229,7 +249,7 @@ impl<S: Store + Drop, V: VendorHandler> Hub<S, V> {
         let mut outs = Vec::new(self.alloc);
         let mut taken = 0;
         for event in events {
-            match self.take(event, &mut outs) {
+            match self.take(event, &mut outs, Flush::AtOnce) {
                 Ok(()) => {
                     taken += 1;
                 }
@@ -239,20 +259,14 @@ impl<S: Store + Drop, V: VendorHandler> Hub<S, V> {
         (outs, taken, None)
     }
 
-    /// Takes one event, and adds its outputs at the end of `outs`.
-    fn take(&mut self, event: &Event, outs: &mut Vec<Out>) -> Result<(), Fault>
+    /// What an event is to say and change. Nothing changes. `commit` takes it, as long as the hub is as it is now.
+    pub fn prepare(&mut self, event: &Event) -> Result<Step, Fault>
         ensures counted { IsCounted (hub_view S.view) self.old self.new (result ≡ Err Fault.Store) }
-        ensures outs { is_clean S.view self.new → OnOk result (outs.new.items ≡ outs.old.items
-            ++ world_outputs (setting V.view self.old) (world S.view self.old) event.now) }
-        ensures world { is_clean S.view self.new → OnOk result (world S.view self.new
-            ≡ world_step (setting V.view self.old) (world S.view self.old) event.now) }
-        ensures err_outs { OnErr result (outs.new.items ≡ outs.old.items) }
-        ensures err_world { is_clean S.view self.new
-            → OnErr result (world S.view self.new ≡ world S.view self.old) }
-        ensures err_slots { OnErr result ((world S.view self.new).slots ≡ (world S.view self.old).slots) }
-        ensures stopped { FindsOldOr (world_step (setting V.view self.old) (world S.view self.old) event.now).rows
-            (hub_view S.view self.old) (hub_view S.view self.new) }
-        ensures kept { IsKept (hub_view S.view self.old) → OnOk result (IsKept (hub_view S.view self.new)) }
+        ensures planned { IfOk result (λ step. IsPlanned S.view V.view self.new event.now step.plan) }
+        ensures world { is_clean S.view self.new → world S.view self.new ≡ world S.view self.old }
+        ensures slots { (world S.view self.new).slots ≡ (world S.view self.old).slots }
+        ensures stopped { FindsOld (hub_view S.view self.old) (hub_view S.view self.new) }
+        ensures stays { OnOk result (StaysOnRecord (hub_view S.view self.old) (hub_view S.view self.new)) }
         ensures setting { setting V.view self.new ≡ setting V.view self.old }
         ensures taken { OnOk result (is_taken (setting V.view self.old) event.now ≡ true) }
         ensures not_taken { IfErr result (λ f. f ≡ Fault.NoSuchOperator
@@ -261,31 +275,27 @@ impl<S: Store + Drop, V: VendorHandler> Hub<S, V> {
         match event {
             Event::At { op, moment, what } => {
                 let moment = *moment;
-                self.take_at(&OperatorEvent { op, moment, what }, outs)
+                let plan = self.plan_at(&OperatorEvent { op, moment, what })?;
+                Ok(Step { plan })
             }
-            Event::Tick { moment } => {
-                expire_all(&mut self.slots, *moment, outs)?;
-                Ok(())
-            }
+            Event::Tick { .. } => Ok(Step {
+                plan: Plan {
+                    said: Listed::new(self.alloc),
+                    effect: Effect::Nothing,
+                },
+            }),
         }
     }
 
-    /// Takes an event of an operator. Room for all that grows is made before the one change of the
-    /// store.
+    /// The plan of an event of an operator.
     #[tactic(auto, unfolding(crate::specs::Hub::setting))]
-    fn take_at(&mut self, lent: &OperatorEvent<'_>, outs: &mut Vec<Out>) -> Result<(), Fault>
+    fn plan_at(&mut self, lent: &OperatorEvent<'_>) -> Result<Plan, Fault>
         ensures counted { IsCounted (hub_view S.view) self.old self.new (result ≡ Err Fault.Store) }
-        ensures outs { is_clean S.view self.new → OnOk result (outs.new.items ≡ outs.old.items
-            ++ world_outputs (setting V.view self.old) (world S.view self.old) (event.At lent.now.op.now lent.now.moment lent.now.what.now)) }
-        ensures world { is_clean S.view self.new → OnOk result (world S.view self.new
-            ≡ world_step (setting V.view self.old) (world S.view self.old) (event.At lent.now.op.now lent.now.moment lent.now.what.now)) }
-        ensures err_outs { OnErr result (outs.new.items ≡ outs.old.items) }
-        ensures err_world { is_clean S.view self.new
-            → OnErr result (world S.view self.new ≡ world S.view self.old) }
-        ensures err_slots { OnErr result ((world S.view self.new).slots ≡ (world S.view self.old).slots) }
-        ensures stopped { FindsOldOr (world_step (setting V.view self.old) (world S.view self.old) (event.At lent.now.op.now lent.now.moment lent.now.what.now)).rows
-            (hub_view S.view self.old) (hub_view S.view self.new) }
-        ensures kept { IsKept (hub_view S.view self.old) → OnOk result (IsKept (hub_view S.view self.new)) }
+        ensures planned { IfOk result (λ plan. IsPlanned S.view V.view self.new (event.At lent.now.op.now lent.now.moment lent.now.what.now) plan) }
+        ensures world { is_clean S.view self.new → world S.view self.new ≡ world S.view self.old }
+        ensures slots { self.new.slots ≡ self.old.slots }
+        ensures stopped { FindsOld (hub_view S.view self.old) (hub_view S.view self.new) }
+        ensures stays { OnOk result (StaysOnRecord (hub_view S.view self.old) (hub_view S.view self.new)) }
         ensures setting { setting V.view self.new ≡ setting V.view self.old }
         ensures taken { OnOk result ((setting V.view self.old).is_hosted lent.now.op.now ≡ true) }
         ensures not_taken { IfErr result (λ f. f ≡ Fault.NoSuchOperator
@@ -303,6 +313,133 @@ impl<S: Store + Drop, V: VendorHandler> Hub<S, V> {
             hosted,
             lent,
         )?;
-        commit(&mut self.book.store, &mut self.slots, lent, plan, outs)
+        Ok(plan)
+    }
+
+    /// Takes an event that was prepared, and adds its outputs at the end of `outs`. Its change is flushed at once, or waits
+    /// for `flush`, where the store lets it wait.
+    pub fn commit(
+        &mut self,
+        event: &Event,
+        step: Step,
+        outs: &mut Vec<Out>,
+        when: Flush,
+    ) -> Result<(), Fault>
+        requires { IsPlanned S.view V.view self.old event.now step.plan }
+        ensures counted { IsCounted (hub_view S.view) self.old self.new (result ≡ Err Fault.Store) }
+        ensures outs { is_clean S.view self.new → OnOk result (outs.new.items ≡ outs.old.items
+            ++ world_outputs (setting V.view self.old) (world S.view self.old) event.now) }
+        ensures world { is_clean S.view self.new → OnOk result (world S.view self.new
+            ≡ world_step (setting V.view self.old) (world S.view self.old) event.now) }
+        ensures err_outs { OnErr result (outs.new.items ≡ outs.old.items) }
+        ensures err_world { is_clean S.view self.new
+            → OnErr result (world S.view self.new ≡ world S.view self.old) }
+        ensures err_slots { OnErr result ((world S.view self.new).slots ≡ (world S.view self.old).slots) }
+        ensures records { Records when (world_step (setting V.view self.old) (world S.view self.old) event.now).rows
+            (hub_view S.view self.old) (hub_view S.view self.new) result }
+        ensures setting { setting V.view self.new ≡ setting V.view self.old }
+        ensures hosted { IfErr result (λ f. f ≢ Fault.NoSuchOperator) }
+    {
+        match event {
+            Event::At { op, moment, what } => {
+                let moment = *moment;
+                let lent = OperatorEvent { op, moment, what };
+                self.commit_at(&lent, step.plan, outs, when)
+            }
+            Event::Tick { moment } => {
+                expire_all(&mut self.slots, *moment, outs)?;
+                Ok(())
+            }
+        }
+    }
+
+    /// Puts on record the changes that wait, all of them or none.
+    #[tactic(auto, unfolding(crate::specs::Hub::setting))]
+    pub fn flush(&mut self) -> Result<(), Fault>
+        ensures counted { IsCounted (hub_view S.view) self.old self.new (result ≡ Err Fault.Store) }
+        ensures world { is_clean S.view self.new → world S.view self.new ≡ world S.view self.old }
+        ensures stopped { FindsOldOr (world S.view self.old).rows (hub_view S.view self.old) (hub_view S.view self.new) }
+        ensures kept { OnOk result (PutsOnRecord (hub_view S.view self.old) (hub_view S.view self.new)) }
+        ensures setting { setting V.view self.new ≡ setting V.view self.old }
+        ensures hosted { IfErr result (λ f. f ≢ Fault.NoSuchOperator) }
+    {
+        self.book.store.flush()?;
+        Ok(())
+    }
+
+    /// Looks for the changes that wait, after a call that ended in a fault. Where they are gone the hub has the rows that are
+    /// on record, and no station is connected to it.
+    #[tactic(auto, unfolding(crate::specs::Hub::setting))]
+    pub fn recover(&mut self) -> Result<Recovered, Fault>
+        ensures recovers { Recovers (hub_view S.view self.old) (hub_view S.view self.new) result }
+        ensures whole { result ≡ Ok recovered.Whole → (world S.view self.new).slots ≡ (world S.view self.old).slots }
+        ensures renewed { result ≡ Ok recovered.Renewed → (world S.view self.new).slots ≡ [] }
+        ensures failed { result ≡ Err Fault.Store → Rose (failures_of S.view self.old) (failures_of S.view self.new) }
+        ensures count { failures_of S.view self.old ≤ failures_of S.view self.new }
+        ensures setting { setting V.view self.new ≡ setting V.view self.old }
+        ensures hosted { IfErr result (λ f. f ≢ Fault.NoSuchOperator) }
+    {
+        let recovered = self.book.store.recover()?;
+        if recovered == Recovered::Renewed {
+            self.slots.clear();
+        }
+        Ok(recovered)
+    }
+
+    /// Carries out the plan of an event of an operator. Room for all that grows is made before the one change of the
+    /// store.
+    #[tactic(auto, unfolding(crate::specs::Hub::setting))]
+    fn commit_at(
+        &mut self,
+        lent: &OperatorEvent<'_>,
+        plan: Plan,
+        outs: &mut Vec<Out>,
+        when: Flush,
+    ) -> Result<(), Fault>
+        requires { IsPlanned S.view V.view self.old (event.At lent.now.op.now lent.now.moment lent.now.what.now) plan }
+        ensures counted { IsCounted (hub_view S.view) self.old self.new (result ≡ Err Fault.Store) }
+        ensures outs { is_clean S.view self.new → OnOk result (outs.new.items ≡ outs.old.items
+            ++ world_outputs (setting V.view self.old) (world S.view self.old) (event.At lent.now.op.now lent.now.moment lent.now.what.now)) }
+        ensures world { is_clean S.view self.new → OnOk result (world S.view self.new
+            ≡ world_step (setting V.view self.old) (world S.view self.old) (event.At lent.now.op.now lent.now.moment lent.now.what.now)) }
+        ensures err_outs { OnErr result (outs.new.items ≡ outs.old.items) }
+        ensures err_world { is_clean S.view self.new
+            → OnErr result (world S.view self.new ≡ world S.view self.old) }
+        ensures err_slots { OnErr result ((world S.view self.new).slots ≡ (world S.view self.old).slots) }
+        ensures records { Records when (world_step (setting V.view self.old) (world S.view self.old) (event.At lent.now.op.now lent.now.moment lent.now.what.now)).rows
+            (hub_view S.view self.old) (hub_view S.view self.new) result }
+        ensures setting { setting V.view self.new ≡ setting V.view self.old }
+        ensures hosted { IfErr result (λ f. f ≢ Fault.NoSuchOperator) }
+    {
+        commit(
+            &mut self.book.store,
+            &mut self.slots,
+            lent,
+            plan,
+            outs,
+            when,
+        )
+    }
+
+    /// Takes one event, and adds its outputs at the end of `outs`.
+    fn take(&mut self, event: &Event, outs: &mut Vec<Out>, when: Flush) -> Result<(), Fault>
+        ensures counted { IsCounted (hub_view S.view) self.old self.new (result ≡ Err Fault.Store) }
+        ensures outs { is_clean S.view self.new → OnOk result (outs.new.items ≡ outs.old.items
+            ++ world_outputs (setting V.view self.old) (world S.view self.old) event.now) }
+        ensures world { is_clean S.view self.new → OnOk result (world S.view self.new
+            ≡ world_step (setting V.view self.old) (world S.view self.old) event.now) }
+        ensures err_outs { OnErr result (outs.new.items ≡ outs.old.items) }
+        ensures err_world { is_clean S.view self.new
+            → OnErr result (world S.view self.new ≡ world S.view self.old) }
+        ensures err_slots { OnErr result ((world S.view self.new).slots ≡ (world S.view self.old).slots) }
+        ensures records { Records when (world_step (setting V.view self.old) (world S.view self.old) event.now).rows
+            (hub_view S.view self.old) (hub_view S.view self.new) result }
+        ensures setting { setting V.view self.new ≡ setting V.view self.old }
+        ensures taken { OnOk result (is_taken (setting V.view self.old) event.now ≡ true) }
+        ensures not_taken { IfErr result (λ f. f ≡ Fault.NoSuchOperator
+            → is_taken (setting V.view self.old) event.now ≡ false) }
+    {
+        let step = self.prepare(event)?;
+        self.commit(event, step, outs, when)
     }
 }

@@ -10,7 +10,7 @@ mod stop;
 mod tick;
 pub mod worlds;
 
-pub use hub::{BadOperators, Hub};
+pub use hub::{BadOperators, Hub, Step};
 pub use hub_events::{Admin, Event, Fault, Listing, Out, Outcome, Row, Said, What};
 pub use idle::is_idle;
 pub use stop::run_and_stop;

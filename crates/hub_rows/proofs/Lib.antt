@@ -12,6 +12,7 @@ pub mod DroppedLaws
 pub mod ApartLaws
 pub mod WellFormedLaws
 pub mod NameLaws
+pub mod OnRecord
 pub mod ForgetLaws
 pub mod NumberLaws
 pub mod NameOrder

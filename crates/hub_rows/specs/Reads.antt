@@ -3,7 +3,7 @@ use Rattle.std.specs.Prelude.{◌≡◌, ◌≤◌, Result, Err, OnOk}
 use Rattle.hub_rows.specs.declared.store.StoreFault.{StoreFault}
 use Rattle.hub_rows.specs.declared.store.StoreFault.TheVariants.{Failed}
 use Rattle.hub_rows.specs.Failures.{Rose}
-use Rattle.hub_rows.specs.Stops.{IsKept, FindsOld}
+use Rattle.hub_rows.specs.Stops.{FindsOld, StaysOnRecord}
 use Rattle.hub_rows.specs.StoreView.{StoreView}
 
 -- what a call says that may change the rows, where `DidFail` says that it answers a failure of the store
@@ -20,6 +20,6 @@ pub record OnlyReads {S T : Type 0} (view : S → StoreView) (old new : S) (resu
   pub kept : (view new).clean → (view new).rows ≡ (view old).rows
   pub failed : result ≡ Err Failed → Rose (view old).failures (view new).failures
   pub count : (view old).failures ≤ (view new).failures
-  -- a stop during the call leaves the rows, and an Ok keeps a kept store
+  -- a stop during the call leaves what is on record, and so does an Ok
   pub stopped : FindsOld (view old) (view new)
-  pub stays : IsKept (view old) → OnOk result (IsKept (view new))
+  pub stays : OnOk result (StaysOnRecord (view old) (view new))

@@ -9,5 +9,8 @@ pub record StoreView : Type 1 where
   pub failures : ℕ
   -- its rows were written by this project alone, and are read as they were written
   pub clean : Type 0
+  -- its rows were written by this project alone, whether they are still read or not
+  pub sound : Type 0
+  pub was_sound : clean → sound
   -- the rows that a reopening may find, were the work to stop now
   pub may_find : Rows → Type 0

@@ -40,7 +40,7 @@ pub use reopens::Reopens;
 pub use report_row::{ReportRow, ReportedStatus};
 pub use reservation_row::{Reservation, ReservationId, ReservationRow};
 pub use station_row::{Boot, Registration, StationRow};
-pub use store::{Store, StoreFault};
+pub use store::{Flush, Recovered, Store, StoreFault};
 pub use tag_row::{Tag, TagRow};
 pub use tx_row::{LAST_NUMBER, Start, StartKey, Stop, TxKey, TxOwnerRow, TxRow, TxState};
 pub use use_row::UseRow;

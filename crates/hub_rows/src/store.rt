@@ -1,5 +1,5 @@
 //! What a store of records promises.
-ghost use Rattle.std.specs.Prelude.{◌≡◌, Err, IfOk, OnOk, OnErr};
+ghost use Rattle.std.specs.Prelude.{◌≡◌, ◌≤◌, Err, IfOk, OnOk, OnErr};
 ghost use Rattle.hub_rows.specs.Rows.{registration_at};
 ghost use Rattle.hub_rows.specs.WellFormed.{WellFormedRows};
 ghost use Rattle.hub_rows.specs.Tags.{own_tag_in};
@@ -10,8 +10,9 @@ ghost use Rattle.hub_rows.specs.Grants.{granted_in, granted_tag_in, grants_in, h
 ghost use Rattle.hub_rows.specs.MeterValues.{last_reading_in, meter_values_in};
 ghost use Rattle.hub_rows.specs.Readers.{reader_in, readers_in};
 ghost use Rattle.hub_rows.specs.Reservations.{reservations_in, reserved_until_in};
+ghost use Rattle.hub_rows.specs.Failures.{Rose};
 ghost use Rattle.hub_rows.specs.Reads.{OnlyReads, IsCounted};
-ghost use Rattle.hub_rows.specs.Stops.{IsKept, FindsOldOr};
+ghost use Rattle.hub_rows.specs.Stops.{FindsOldOr, PutsOnRecord, Records, Recovers};
 ghost use Rattle.hub_rows.specs.Uses.{uses_in};
 ghost use Rattle.hub_rows.specs.declared.store.StoreFault.TheVariants as store_fault;
 
@@ -47,6 +48,24 @@ pub enum StoreFault {
     TooLong,
 }
 
+/// When a change is put on record.
+#[derive(Clone, Copy, Debug, PartialEq, Eq, Drop)]
+pub enum Flush {
+    /// With the change, and all that wait with it.
+    AtOnce,
+    /// By a call of its own, after this change or later ones. A store may do it at once.
+    Later,
+}
+
+/// What a store finds that looks for the changes that wait.
+#[derive(Clone, Copy, Debug, PartialEq, Eq, Drop)]
+pub enum Recovered {
+    /// They are all there.
+    Whole,
+    /// They are gone. The store has the rows that are on record.
+    Renewed,
+}
+
 impl From<NoMemory> for StoreFault {
     ghost from_gives = { λ _ fault. fault ≡ store_fault.NoMemory };
 
@@ -77,10 +96,11 @@ impl<T: Drop> From<AllocFailed<T>> for StoreFault {
 /// before. A read leaves the rows, and so does a fault. Failed comes only where the count of failures
 /// rose; that it stays at other answers isn't said.
 ///
-/// The work may stop in the middle of any call, and the store be opened again. A store is kept where
-/// a reopening finds its rows and no others. In a kept store a stop during a read leaves the rows,
-/// and one during a change leaves those before it or those after it, whole. A call that is Ok leaves
-/// the store kept.
+/// The work may stop in the middle of any call, and the store be opened again. Rows are on record where a reopening finds
+/// them and no others; a store is kept where its own are. A read leaves what is on record, and
+/// so does a change that waits for a flush. A change that is flushed at once is on record once its call is Ok; a stop during
+/// the call, or during a flush, leaves what was on record, or the rows after it, whole. After a call that failed the changes
+/// that wait may be gone: `recover` tells.
 pub trait Store {
     ghost use Rattle.hub_rows.specs.StoreView.{StoreView};
 
@@ -287,14 +307,27 @@ pub trait Store {
         ensures found { (view self.new).clean
             → IfOk result (λ r. r ≡ readers_in op.now (view self.old).rows.readers) };
 
-    /// Makes a change that fits.
-    fn apply(&mut self, change: &Change<'_>) -> Result<(), StoreFault>
+    /// Makes a change that fits, and flushes it at once or leaves that for later.
+    fn apply(&mut self, change: &Change<'_>, when: Flush) -> Result<(), StoreFault>
         requires { (view self.old).clean → EditFits change.now.op.now change.now.edit.now (view self.old).rows }
         ensures counted { IsCounted view self.old self.new (result ≡ Err store_fault.Failed) }
         ensures ok { (view self.new).clean → OnOk result ((view self.new).rows ≡ edit change.now.op.now change.now.edit.now (view self.old).rows) }
         ensures err { (view self.new).clean → OnErr result ((view self.new).rows ≡ (view self.old).rows) }
-        ensures stopped { FindsOldOr (edit change.now.op.now change.now.edit.now (view self.old).rows) (view self.old) (view self.new) }
-        ensures kept { IsKept (view self.old) → OnOk result (IsKept (view self.new)) };
+        ensures records { Records when (edit change.now.op.now change.now.edit.now (view self.old).rows) (view self.old) (view self.new) result };
+
+    /// Puts on record the changes that wait, all of them or none. A flush that isn't Ok leaves a store that isn't clean.
+    fn flush(&mut self) -> Result<(), StoreFault>
+        ensures counted { IsCounted view self.old self.new (result ≡ Err store_fault.Failed) }
+        ensures rows { (view self.new).clean → (view self.new).rows ≡ (view self.old).rows }
+        ensures stopped { FindsOldOr (view self.old).rows (view self.old) (view self.new) }
+        ensures kept { OnOk result (PutsOnRecord (view self.old) (view self.new)) }
+        ensures lost { OnErr result (¬ (view self.new).clean) };
+
+    /// Looks for the changes that wait, after a call that failed. Where some are gone, none waits any more.
+    fn recover(&mut self) -> Result<Recovered, StoreFault>
+        ensures recovers { Recovers (view self.old) (view self.new) result }
+        ensures failed { result ≡ Err store_fault.Failed → Rose (view self.old).failures (view self.new).failures }
+        ensures count { (view self.old).failures ≤ (view self.new).failures };
 
     /// The rows of a clean store are well formed.
     ghost well_formed: { (s : Self) → (view s).clean → WellFormedRows (view s).rows };

@@ -4,9 +4,9 @@ ghost use Rattle.hub_rows.specs.Failures.{Rose};
 
 use crate::journal::Journal;
 use hub_rows::{
-    Change, ConnectorRow, GrantRow, GrantedTag, History, Info, LocalList, MeterValueRow, Reader,
-    ReaderRow, Registration, ReportRow, ReservationId, ReservationRow, StartKey, StationRow, Store,
-    StoreFault, TagRow, TxKey, TxRow, TxState, UseRow,
+    Change, ConnectorRow, Flush, GrantRow, GrantedTag, History, Info, LocalList, MeterValueRow,
+    Reader, ReaderRow, Recovered, Registration, ReportRow, ReservationId, ReservationRow, StartKey,
+    StationRow, Store, StoreFault, TagRow, TxKey, TxRow, TxState, UseRow,
 };
 use ocpp_types::{Listed, Moment, TagKey};
 use std::rc::Rc;
@@ -189,10 +189,19 @@ impl<S: Store> Store for Journaled<S> {
     }
 
     #[tactic(auto, using(crate::proofs::Laws::rose_more))]
-    fn apply(&mut self, change: &Change<'_>) -> Result<(), StoreFault> {
+    fn apply(&mut self, change: &Change<'_>, when: Flush) -> Result<(), StoreFault> {
         self.write_ahead()?;
-        self.store.apply(change)?;
+        self.store.apply(change, when)?;
         self.journal.count_change();
         Ok(())
+    }
+
+    fn flush(&mut self) -> Result<(), StoreFault> {
+        self.store.flush()
+    }
+
+    #[tactic(auto, using(crate::proofs::Laws::rose_more))]
+    fn recover(&mut self) -> Result<Recovered, StoreFault> {
+        self.store.recover()
     }
 }

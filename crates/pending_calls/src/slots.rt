@@ -68,6 +68,14 @@ impl<C: Drop> Slots<C> {
         }
     }
 
+    /// Drops all connections and calls.
+    pub fn clear(&mut self)
+        ensures number { first_number self.new ≡ first_number self.old }
+        ensures list { all_slots self.new ≡ [] }
+    {
+        *self = Slots::new(self.alloc, self.first_number);
+    }
+
     /// The slots of an operator, in the order of their stations: of each that was ever connected. It
     /// takes no memory.
     pub fn of_operator<'a>(&'a self, op: &str) -> &'a [Boxed<Slot<C>>]

@@ -128,16 +128,16 @@ progress_stop_rows st w v (Some all) r at is = rows_reached st w v all r at is
 
 -- in a line it finds those before it or those after it
 pub progress_line_rows : (clean : Type 0) (st mine : Setting) (w v : World) (k n : ℕ) (begin now : Option (List ℕ)) (text text' : List ℕ) (all ahead rest : Option (List (List ℕ))) (P : List ℕ → Type 0) (r : Rows) →
-    ProgressOf clean st w v k n begin now text text' all ahead → HandsOut ahead rest P → mine ≡ st → ((l : List ℕ) → P l → clean × ((r ≡ v.rows) ⊎ (r ≡ (after mine v (spelled mine.is_hosted l)).rows))) → IfSome all (λ ls. AreReached st w ls r)
+    ProgressOf clean st w v k n begin now text text' all ahead → HandsOut ahead rest P → mine ≡ st → ((on_record : Rows) → (clean → v.rows ≡ on_record) → (l : List ℕ) → P l → (r ≡ on_record) ⊎ (clean × (r ≡ (after mine v (spelled mine.is_hosted l)).rows))) → IfSome all (λ ls. AreReached st w ls r)
 progress_line_rows clean st mine w v k n begin now text text' None ahead rest P r p h alike f = tt
 progress_line_rows clean st mine w v k n begin now text text' (Some all) None rest P r p h alike f = absurd p
 progress_line_rows clean st mine w v k n begin now text text' (Some all) (Some ahead) None P r p h alike f = absurd h
 progress_line_rows clean st mine w v k n begin now text text' (Some all) (Some ahead) (Some rest) P r p h alike f =
-    let one = f h.0 h.2 in
     let lines = p.lines ∙ ap (λ ls. p.done ++ ls) h.1 in
-    elim one.1 [
-      | inl before ↦ rows_reached st w v all r (line_reached st mine w v v all p.done rest h.0 lines (p.world one.0) alike (inl refl)) before
-      | inr made ↦ rows_reached st w (after mine v (spelled mine.is_hosted h.0)) all r (line_reached st mine w v (after mine v (spelled mine.is_hosted h.0)) all p.done rest h.0 lines (p.world one.0) alike (inr refl)) made
+    let before : World = world_after st w p.done in
+    elim (f before.rows (λ c. ap (λ (u : World). u.rows) (p.world c)) h.0 h.2) [
+      | inl same ↦ rows_reached st w before all r (reached st w before all p.done ahead p.lines refl) same
+      | inr made ↦ rows_reached st w (after mine v (spelled mine.is_hosted h.0)) all r (line_reached st mine w v (after mine v (spelled mine.is_hosted h.0)) all p.done rest h.0 lines (p.world made.0) alike (inr refl)) made.1
     ]
 
 begins_more : (text front more : List ℕ) → Begins text front → Begins text (front ++ more)

@@ -1,23 +1,17 @@
 -- What a part of a transaction makes, and what a look-up inside it says, by the parts of which they consist.
-use Rattle.std.proofs.Common.{◌≡◌, ◌∙◌, ap, subst, sym, ◌∷◌, ℕ, List, [], Bool, Option, Result, Ok, Err, IfOk, IsErr, IsOk, IsTrue, OnOk, filter, find, map, refl, true, false, true≢false}
+use Rattle.std.proofs.Common.{◌≡◌, ◌∙◌, ap, subst, sym, ◌∷◌, List, [], Option, Result, Ok, Err, IfOk, IsErr, IsOk, IsTrue, OnOk, map, refl}
 use Rattle.sqlite_trees.specs.Tree.{Trees}
-use Rattle.sqlite_value.specs.Order.{Row, column}
+use Rattle.sqlite_value.specs.Order.{Row}
 use Rattle.sqlite.specs.declared.error.Error.{Error}
 use Rattle.sqlite.specs.declared.transaction.Transaction.{Transaction}
 use Rattle.sqlite.specs.Held.{state}
 use Rattle.sqlite.specs.State.{State}
 use Rattle.sqlite.specs.Store.{Ghosts}
-use Rattle.hub_rows.specs.Keyed.{first, greatest, put_all}
-use Rattle.hub_rows.specs.Rows.{Rows}
-use Rattle.hub_rows.specs.declared.store.StoreFault.{StoreFault}
-use Rattle.sql_rows.specs.Kept.{AsksInside, AsksInsideIn, Goes, IsSame, Leaves, MakesIf, MakesIn, IsAny, ShowsAnyInside, ShowsInside, ShowsLastInside}
+use Rattle.hub_rows.specs.Keyed.{first, put_all}
+use Rattle.sql_rows.specs.Kept.{AsksInsideIn, Goes, IsSame, Leaves, MakesIf, MakesIn, IsAny, ShowsAnyInside}
 use Rattle.sql_rows.specs.TypedTable.{TypedTable, cmp, rows_in}
-use Rattle.sql_rows.specs.TypedTables.{rows_of}
-use Rattle.sql_rows.specs.Values.{count_in}
 use Rattle.sql_edits.specs.Moving.{IsAnyRow}
-use Rattle.sql_rows.proofs.Calls.{first_finds, last_finds}
 use Rattle.sql_rows.proofs.RowEdits.{goes_if}
-use Rattle.sql_rows.proofs.StoreLemmas.{AreSame, IfDone}
 use Rattle.sql_rows.proofs.TxLemmas.{goes_then, inside_self, leaves_then}
 
 if_ok : {A E : Type 0} {P Q : A → Type 0} (r : Result A E) → ((a : A) → P a → Q a) → IfOk r P → IfOk r Q
@@ -50,28 +44,6 @@ module _ {S : Type 0} {g : Ghosts S} where
   pub makes_if : {A E : Type 0} {First Begins : State → Type 0} {Edit : Trees → Trees → Type 0} {old new : Transaction S} {r : Result A E} → MakesIf g First Edit old new r → ((s : State) → Begins s → First s) → MakesIf g Begins Edit old new r
   makes_if {A} {E} {First} {Begins} {Edit} {old} {new} {r} part first = record { same_reference = part.same_reference; goes = λ begins. part.goes (first (state g old.conn.now) begins) }
 
-  -- a look-up, by the first of the rows that are shown
-  pub asks_first : {V T F : Type 0} {items : V → List Row} {s : TypedTable T} {p : T → Bool} {old new : Transaction S} {r : Result V Error} {q : Result (Option T) F} {P : Rows → Option T → Type 0} → ShowsInside g items s p old new r → OnOk q (IsOk r)
-      → IfOk r (λ v. IfOk q (λ o. o ≡ first (put_all (cmp s) (map s.read (items v)) []))) → ((db : Trees) (o : Option T) → o ≡ find p (rows_in s db) → P (rows_of db) o) → AsksInside g old new q P
-  asks_first {V} {T} {F} {items} {s} {p} {old} {new} {r} {q} {P} shows ok row means =
-      let before = state g old.conn.now in
-      record {
-        same_reference = shows.same_reference;
-        found = λ inside up. if_ok q (means before.now.trees) (first_finds items s p before.now.trees r q ok row (shows.ok inside up));
-        goes = λ inside. goes_if IsSame before (state g new.conn.now) r q ok (shows.goes inside);
-      }
-
-  -- by the last number
-  pub asks_last : {V T F : Type 0} {items : V → List Row} {at : ℕ} {s : TypedTable T} {number : T → ℕ} {p : T → Bool} {old new : Transaction S} {r : Result V Error} {q : Result ℕ F} {P : Rows → ℕ → Type 0} → ShowsLastInside g items at s number p old new r → OnOk q (IsOk r)
-      → IfOk r (λ v. IfOk q (λ n. n ≡ greatest (map (λ x. count_in (column x at)) (items v)))) → ((db : Trees) (n : ℕ) → n ≡ greatest (map number (filter p (rows_in s db))) → P (rows_of db) n) → AsksInside g old new q P
-  asks_last {V} {T} {F} {items} {at} {s} {number} {p} {old} {new} {r} {q} {P} shows ok last means =
-      let before = state g old.conn.now in
-      record {
-        same_reference = shows.same_reference;
-        found = λ inside up. if_ok q (means before.now.trees) (last_finds items at (greatest (map number (filter p (rows_in s before.now.trees)))) r q ok last (shows.ok inside up));
-        goes = λ inside. goes_if IsSame before (state g new.conn.now) r q ok (shows.goes inside);
-      }
-
   -- a look-up, by one of all rows
   pub asks_any : {V T F : Type 0} {items : V → List Row} {s : TypedTable T} {old new : Transaction S} {r : Result V Error} {q : Result (Option T) F} → ShowsAnyInside g items s old new r → OnOk q (IsOk r)
       → IfOk r (λ v. IfOk q (λ o. o ≡ first (put_all (cmp s) (map s.read (items v)) []))) → AsksInsideIn g old new q (λ db o. IsAnyRow (rows_in s db) o)
@@ -97,9 +69,6 @@ module _ {S : Type 0} {g : Ghosts S} where
       any_found (Err x) (Err e) ok is shown = tt
 
   -- a look-up changes nothing
-  pub makes_same : {A E : Type 0} {old new : Transaction S} {r : Result A E} {P : Rows → A → Type 0} → AsksInside g old new r P → MakesIn g IsSame old new r
-  makes_same asks = record { same_reference = asks.same_reference; goes = asks.goes }
-
   pub makes_same_in : {A E : Type 0} {old new : Transaction S} {r : Result A E} {P : Trees → A → Type 0} → AsksInsideIn g old new r P → MakesIn g IsSame old new r
   makes_same_in asks = record { same_reference = asks.same_reference; goes = asks.goes }
 
@@ -124,13 +93,6 @@ module _ {S : Type 0} {g : Ghosts S} where
           record { ok = record { leaves = first.leaves; within = first.within; edit = λ up. means begins (first.leaves.was_open up) (first.edit up); numbered = first.numbered; still = first.still }; err = tt }
       go begins (Err e) it = record { ok = tt; err = it.err }
 
-  -- an error after a part
-  pub makes_stops : {A B E F : Type 0} {Begins : State → Type 0} {One Two : Trees → Trees → Type 0} {old new : Transaction S} {x : A} {q : Result B F} → MakesIf {E = E} g Begins One old new (Ok x) → IsErr q → MakesIf g Begins Two old new q
-  makes_stops {A} {B} {E} {F} {Begins} {One} {Two} {old} {new} {x} {q} one failed = record {
-    same_reference = one.same_reference;
-    goes = λ begins. goes_err Two (state g old.conn.now) (state g new.conn.now) q failed (one.goes begins).ok.leaves;
-  }
-
   -- one part after the other
   pub makes_then : {A B E F : Type 0} {Begins : State → Type 0} {One Two Both : Trees → Trees → Type 0} {a b c : Transaction S} {x : A} {r : Result B F} → MakesIf {E = E} g Begins One a b (Ok x) → MakesIn g Two b c r
       → (Begins (state g a.conn.now) → IsTrue (state g b.conn.now).is_open → One (state g a.conn.now).now.trees (state g b.conn.now).now.trees → Two (state g b.conn.now).now.trees (state g c.conn.now).now.trees → Both (state g a.conn.now).now.trees (state g c.conn.now).now.trees)
@@ -150,14 +112,3 @@ module _ {S : Type 0} {g : Ghosts S} where
         let first = (one.goes begins).ok in
         goes_err Both (state g a.conn.now) (state g c.conn.now) q failed (leaves_then (state g a.conn.now) (state g b.conn.now) (state g c.conn.now) first.leaves (two.goes first.within).err);
   }
-
-  -- a part that may make its edit, and made it
-  pub makes_done : {F : Type 0} (Edit : Trees → Trees → Type 0) (done : Bool) {old new : Transaction S} → MakesIn {E = StoreFault} g (IfDone Edit done) old new (Ok done) → done ≡ true → MakesIn {E = F} g Edit old new (Ok (tt {0}))
-  makes_done Edit true part is = makes_also part (λ inside up it. it)
-  makes_done Edit false part is = absurd (true≢false (sym is))
-
-  -- or else left each table as it was, and another part after it
-  pub makes_else : {B F : Type 0} {Two : Trees → Trees → Type 0} (Edit : Trees → Trees → Type 0) (done : Bool) {a b c : Transaction S} {r : Result B F} → MakesIn {E = StoreFault} g (IfDone Edit done) a b (Ok done) → done ≡ false → MakesIn g Two b c r
-      → (AreSame (state g a.conn.now).now.trees (state g b.conn.now).now.trees → Two (state g b.conn.now).now.trees (state g c.conn.now).now.trees → Edit (state g a.conn.now).now.trees (state g c.conn.now).now.trees) → MakesIn g Edit a c r
-  makes_else Edit true part is second joined = absurd (true≢false is)
-  makes_else Edit false part is second joined = makes_then part second (λ inside up same made. joined same made)

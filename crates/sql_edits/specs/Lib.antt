@@ -1,3 +1,4 @@
 pub mod Forget
 pub mod Ready
+pub mod Batches
 pub mod Moving

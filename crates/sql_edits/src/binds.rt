@@ -37,15 +37,15 @@ pub(crate) fn seconds(moment: Moment) -> i64
     moment.seconds() as i64
 }
 
-/// One more than a count, if that is below 2^63.
-pub(crate) fn one_more(count: u64) -> Option<i64>
-    ensures number { IfSome result (λ n. n ≡ pos (count + 1)) }
+/// A count, if it is below 2^63.
+pub(crate) fn number_of(count: u64) -> Option<i64>
+    ensures number { IfSome result (λ n. n ≡ pos count) }
     ensures small { IfSome result (λ _. count < 2 ^ 63) }
 {
-    if count >= i64::MAX as u64 {
+    if count > i64::MAX as u64 {
         return None;
     }
-    Some((count + 1) as i64)
+    Some(count as i64)
 }
 
 pub(crate) fn seconds_if_any(moment: &Option<Moment>) -> Option<i64>

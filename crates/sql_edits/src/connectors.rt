@@ -1,5 +1,6 @@
 //! Edits of connectors.
-ghost use Rattle.sql_rows.specs.Kept.{Makes};
+ghost use Rattle.sqlite.specs.Held.{state};
+ghost use Rattle.sql_rows.specs.Kept.{Edits};
 ghost use Rattle.hub_rows.specs.Changes.{edit};
 ghost use Rattle.hub_rows.specs.declared.change.Edit.TheVariants.{Stations};
 ghost use Rattle.hub_rows.specs.declared.change.StationEdit.TheVariants.{ConnectorSeen};
@@ -7,19 +8,19 @@ ghost use Rattle.hub_rows.specs.declared.change.StationEdit.TheVariants.{Connect
 use crate::binds::{done, lent};
 use hub_rows::{ConnectorReport, StoreFault};
 use ocpp_types::Named;
-use sqlite::{Alter, Transaction, params};
+use sqlite::{Alter, Connection, params};
 
 /// Puts a report on a connector, in place of the one before.
 pub(crate) fn put_connector<S: Alter>(
-    tx: &mut Transaction<'_, S>,
+    conn: &mut Connection<S>,
     op: &str,
     station: &str,
     connector: u8,
     report: &ConnectorReport,
 ) -> Result<(), StoreFault>
-    ensures makes { Makes S.Store (edit op.now (Stations (ConnectorSeen station.now connector report.now))) tx.old tx.new result }
+    ensures edits { Edits (edit op.now (Stations (ConnectorSeen station.now connector report.now))) (state S.Store conn.old) (state S.Store conn.new) result }
 {
-    done(tx.execute(
+    done(conn.execute(
         sql_tables::connectors::PUT,
         params![
             op,

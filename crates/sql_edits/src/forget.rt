@@ -4,12 +4,13 @@ ghost use Rattle.hub_rows.specs.Changes.{edit};
 ghost use Rattle.hub_rows.specs.Forgetting.{has_number};
 ghost use Rattle.hub_rows.specs.declared.change.Edit.TheVariants as edits;
 ghost use Rattle.hub_rows.specs.declared.change.TransactionEdit.TheVariants.{Forgotten};
-ghost use Rattle.sql_rows.specs.Kept.{Makes};
+ghost use Rattle.sqlite.specs.Held.{state};
+ghost use Rattle.sql_rows.specs.Kept.{Edits};
 ghost use Rattle.sql_edits.specs.Forget.{drop_text, dropped};
 
 use crate::binds::done;
 use hub_rows::{Forgettable, StoreFault};
-use sqlite::{Alter, Transaction, params};
+use sqlite::{Alter, Connection, params};
 
 /// A table of a station's history.
 #[derive(Clone, Copy, Drop)]
@@ -34,45 +35,45 @@ impl HistoryTable {
 
 /// Drops the row of a station with that number.
 fn drop_row<S: Alter>(
-    tx: &mut Transaction<'_, S>,
+    conn: &mut Connection<S>,
     history: HistoryTable,
     op: &str,
     station: &str,
     number: u32,
 ) -> Result<(), StoreFault>
-    ensures makes { Makes S.Store (dropped history op.now station.now (λ n. number == n)) tx.old tx.new result }
+    ensures edits { Edits (dropped history op.now station.now (λ n. number == n)) (state S.Store conn.old) (state S.Store conn.new) result }
 {
-    done(tx.execute(history.drop_text(), params![op, station, number, number]))
+    done(conn.execute(history.drop_text(), params![op, station, number, number]))
 }
 
 /// Drops the rows of a station with these numbers.
 fn drop_rows<S: Alter>(
-    tx: &mut Transaction<'_, S>,
+    conn: &mut Connection<S>,
     history: HistoryTable,
     op: &str,
     station: &str,
     numbers: &[u32],
 ) -> Result<(), StoreFault>
-    ensures makes { Makes S.Store (dropped history op.now station.now (has_number numbers.now)) tx.old tx.new result }
+    ensures edits { Edits (dropped history op.now station.now (has_number numbers.now)) (state S.Store conn.old) (state S.Store conn.new) result }
 {
     'numbers: for number in numbers {
-        drop_row(tx, history, op, station, *number)?;
+        drop_row(conn, history, op, station, *number)?;
     }
     Ok(())
 }
 
 /// Drops the rows of a station that are forgotten.
 pub(crate) fn forget<S: Alter>(
-    tx: &mut Transaction<'_, S>,
+    conn: &mut Connection<S>,
     op: &str,
     station: &str,
     rows: &Forgettable,
 ) -> Result<(), StoreFault>
-    ensures makes { Makes S.Store (edit op.now (edits.Transactions (Forgotten station.now rows.now))) tx.old tx.new result }
+    ensures edits { Edits (edit op.now (edits.Transactions (Forgotten station.now rows.now))) (state S.Store conn.old) (state S.Store conn.new) result }
 {
     let values = rows.meter_values.as_slice();
     let txs = rows.transactions.as_slice();
-    drop_rows(tx, HistoryTable::MeterValues, op, station, values)?;
-    drop_rows(tx, HistoryTable::Transactions, op, station, txs)?;
-    drop_rows(tx, HistoryTable::Owners, op, station, txs)
+    drop_rows(conn, HistoryTable::MeterValues, op, station, values)?;
+    drop_rows(conn, HistoryTable::Transactions, op, station, txs)?;
+    drop_rows(conn, HistoryTable::Owners, op, station, txs)
 }

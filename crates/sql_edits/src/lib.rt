@@ -1,6 +1,7 @@
-//! The changes that a store in SQLite makes, each in one transaction.
+//! The changes that a store in SQLite makes, in batches of one transaction each.
 #![tactic(auto)]
 
+mod batches;
 mod binds;
 mod changes;
 mod connectors;
@@ -19,5 +20,6 @@ mod txs;
 mod uses;
 mod values;
 
-pub use changes::apply;
+pub use batches::{NotMade, flush, goes_on, rest, undo};
+pub use changes::{apply, apply_more, apply_now};
 pub use moving::move_from;

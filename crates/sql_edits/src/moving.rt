@@ -1,14 +1,16 @@
 //! Readings that an earlier schema kept one by one in hub_reading, each of which becomes a meter value.
-ghost use Rattle.std.specs.Prelude.{◌≡◌, IfOk};
-ghost use Rattle.sql_rows.specs.Kept.{AsksInsideIn, IsDropped, MakesIf, MakesIn, ShowsAnyInside, is_between};
+ghost use Rattle.std.specs.Prelude.{◌≡◌, IfOk, length};
+ghost use Rattle.meter_values.specs.Written.{text_of};
+ghost use Rattle.sql_rows.specs.Kept.{AsksInsideIn, IsDropped, IsPutIn, MakesIf, MakesIn, ShowsAnyInside, is_between};
 ghost use Rattle.sql_rows.specs.Opening.{StaysInside, as_meter_value};
 ghost use Rattle.sql_rows.specs.TypedTable.{rows_in};
-ghost use Rattle.sql_rows.specs.TypedTables.{readings};
+ghost use Rattle.sql_rows.specs.TypedTables.{meter_values, readings};
 ghost use Rattle.sql_edits.specs.Moving.{AreMoved, IsAnyRow, IsKeptFrom, IsMoved, IsUnmoved, IsUnmovedFrom};
 
 use crate::binds::done;
-use crate::values::put_value;
+use crate::values::count_of;
 use hub_rows::{LAST_NUMBER, MeterValue, MeterValueRow, StoreFault};
+use meter_values::write_sampled;
 use ocpp_types::Listed;
 use sql_rows::{ReadingRow, first_row};
 use sqlite::{Alter, Error, Row, Transaction, params};
@@ -68,6 +70,47 @@ fn as_meter_value(alloc: Global, row: ReadingRow) -> Result<MeterValueRow, Store
     })
 }
 
+/// Puts the row of a meter value, with the number and the text of its readings.
+fn put_row<S: Alter>(
+    tx: &mut Transaction<'_, S>,
+    row: &MeterValueRow,
+    count: u32,
+    sampled: &str,
+) -> Result<(), StoreFault>
+    requires count { count ≡ length row.now.value.sampled }
+    requires text { sampled.now ≡ text_of row.now.value.sampled }
+    ensures makes { MakesIn S.Store (IsPutIn meter_values row.now) tx.old tx.new result }
+    ensures stays { StaysInside S.Store tx.old tx.new result }
+{
+    done(tx.execute(
+        sql_tables::meter_values::ADD,
+        params![
+            row.op.as_str(),
+            row.station.as_str(),
+            row.first,
+            u32::from(row.value.connector),
+            row.value.transaction,
+            row.value.at,
+            count,
+            sampled
+        ],
+    ))
+}
+
+/// Puts a meter value.
+fn put_moved<S: Alter>(
+    tx: &mut Transaction<'_, S>,
+    alloc: Global,
+    row: &MeterValueRow,
+) -> Result<(), StoreFault>
+    ensures makes { MakesIn S.Store (IsPutIn meter_values row.now) tx.old tx.new result }
+    ensures stays { StaysInside S.Store tx.old tx.new result }
+{
+    let count = count_of(&row.value)?;
+    let text = write_sampled(alloc, row.value.sampled.as_slice())?;
+    put_row(tx, row, count, text.as_str())
+}
+
 /// Moves a reading.
 fn move_reading<S: Alter>(
     tx: &mut Transaction<'_, S>,
@@ -80,7 +123,7 @@ fn move_reading<S: Alter>(
     let row = as_meter_value(alloc, row)?;
     let (op, station) = (row.op.as_str(), row.station.as_str());
     drop_reading(tx, op, station, row.first)?;
-    put_value(tx, alloc, op, station, row.first, &row.value)
+    put_moved(tx, alloc, &row)
 }
 
 /// Moves all readings of hub_reading to hub_meter_value, where there is no meter value yet.

@@ -1,5 +1,6 @@
 //! Edits of readers.
-ghost use Rattle.sql_rows.specs.Kept.{Makes};
+ghost use Rattle.sqlite.specs.Held.{state};
+ghost use Rattle.sql_rows.specs.Kept.{Edits};
 ghost use Rattle.hub_rows.specs.Changes.{edit};
 ghost use Rattle.hub_rows.specs.declared.change.Edit.TheVariants.{Stations};
 ghost use Rattle.hub_rows.specs.declared.change.StationEdit.TheVariants.{ReaderSet};
@@ -7,18 +8,18 @@ ghost use Rattle.hub_rows.specs.declared.change.StationEdit.TheVariants.{ReaderS
 use crate::binds::done;
 use hub_rows::{Reader, StoreFault};
 use ocpp_types::Named;
-use sqlite::{Alter, Transaction, params};
+use sqlite::{Alter, Connection, params};
 
 /// Puts how the requests of a station are read, in place of what was chosen before.
 pub(crate) fn put_reader<S: Alter>(
-    tx: &mut Transaction<'_, S>,
+    conn: &mut Connection<S>,
     op: &str,
     station: &str,
     reader: Reader,
 ) -> Result<(), StoreFault>
-    ensures makes { Makes S.Store (edit op.now (Stations (ReaderSet station.now reader))) tx.old tx.new result }
+    ensures edits { Edits (edit op.now (Stations (ReaderSet station.now reader))) (state S.Store conn.old) (state S.Store conn.new) result }
 {
-    done(tx.execute(
+    done(conn.execute(
         sql_tables::readers::PUT,
         params![op, station, reader.name()],
     ))

@@ -2,7 +2,8 @@
 ghost use Rattle.std.specs.Prelude.{◌≡◌, ◌&&◌, None, Some};
 ghost use Rattle.std.specs.Str.{bytes_eq};
 ghost use Rattle.hub_rows.specs.Rows.{station_in, station_key};
-ghost use Rattle.sql_rows.specs.Kept.{AsksInside, Makes, ShowsInside};
+ghost use Rattle.sqlite.specs.Held.{state};
+ghost use Rattle.sql_rows.specs.Kept.{Asks, Edits, IsServing, Shows};
 ghost use Rattle.sql_rows.specs.TypedTables.{stations};
 ghost use Rattle.hub_rows.specs.Changes.{edit};
 ghost use Rattle.hub_rows.specs.declared.change.Edit.TheVariants.{Stations};
@@ -13,19 +14,19 @@ use crate::binds::{done, lent, seconds};
 use hub_rows::{Boot, Registration, StationRow, StoreFault};
 use ocpp_types::{Named, Policy, State};
 use sql_rows::first_row;
-use sqlite::{Alter, Error, Row, Transaction, params};
+use sqlite::{Alter, Connection, Error, Row, params};
 
 /// Puts the row of a station that hasn't booted.
 fn put_unbooted<S: Alter>(
-    tx: &mut Transaction<'_, S>,
+    conn: &mut Connection<S>,
     op: &str,
     station: &str,
     registered: Registration,
 ) -> Result<(), StoreFault>
-    ensures makes { Makes S.Store (λ rows. record rows { stations = put (by_key station_key) (record { op = op.now; station = station.now; policy = registered.policy; interval = registered.interval; state = registered.state; boot = None }) rows.stations }) tx.old tx.new result }
+    ensures edits { Edits (λ rows. record rows { stations = put (by_key station_key) (record { op = op.now; station = station.now; policy = registered.policy; interval = registered.interval; state = registered.state; boot = None }) rows.stations }) (state S.Store conn.old) (state S.Store conn.new) result }
 {
     let null: Option<i64> = None;
-    done(tx.execute(
+    done(conn.execute(
         sql_tables::stations::PUT,
         params![
             op,
@@ -49,16 +50,16 @@ fn put_unbooted<S: Alter>(
 
 /// Puts the row of a station that has booted.
 fn put_booted<S: Alter>(
-    tx: &mut Transaction<'_, S>,
+    conn: &mut Connection<S>,
     op: &str,
     station: &str,
     registered: Registration,
     boot: &Boot,
 ) -> Result<(), StoreFault>
-    ensures makes { Makes S.Store (λ rows. record rows { stations = put (by_key station_key) (record { op = op.now; station = station.now; policy = registered.policy; interval = registered.interval; state = registered.state; boot = Some boot.now }) rows.stations }) tx.old tx.new result }
+    ensures edits { Edits (λ rows. record rows { stations = put (by_key station_key) (record { op = op.now; station = station.now; policy = registered.policy; interval = registered.interval; state = registered.state; boot = Some boot.now }) rows.stations }) (state S.Store conn.old) (state S.Store conn.new) result }
 {
     let texts = boot.texts.as_ref();
-    done(tx.execute(
+    done(conn.execute(
         sql_tables::stations::PUT,
         params![
             op,
@@ -81,69 +82,69 @@ fn put_booted<S: Alter>(
 }
 
 fn find_inside<S: Alter>(
-    tx: &mut Transaction<'_, S>,
+    conn: &mut Connection<S>,
     op: &str,
     station: &str,
 ) -> Result<Vec<Row>, Error>
-    ensures shows { ShowsInside S.Store (λ v. v.items) stations (λ r. bytes_eq r.op op.now && bytes_eq r.station station.now) tx.old tx.new result }
+    ensures shows { IsServing (state S.Store conn.old) → Shows (λ v. v.items) stations (λ r. bytes_eq r.op op.now && bytes_eq r.station station.now) (state S.Store conn.old) (state S.Store conn.new) result }
 {
-    tx.query_all(sql_tables::stations::FIND, params![op, station, station])
+    conn.query_all(sql_tables::stations::FIND, params![op, station, station])
 }
 
 /// A station of an operator, inside a transaction.
 fn station_inside<S: Alter>(
-    tx: &mut Transaction<'_, S>,
+    conn: &mut Connection<S>,
     op: &str,
     station: &str,
 ) -> Result<Option<StationRow>, StoreFault>
-    ensures asks { AsksInside S.Store tx.old tx.new result (λ rows r. r ≡ station_in op.now station.now rows.stations) }
+    ensures asks { Asks (state S.Store conn.old) (state S.Store conn.new) result (λ rows r. r ≡ station_in op.now station.now rows.stations) }
 {
-    first_row(find_inside(tx, op, station))
+    first_row(find_inside(conn, op, station))
 }
 
 /// Puts a station, which is Fresh.
 pub(crate) fn add_station<S: Alter>(
-    tx: &mut Transaction<'_, S>,
+    conn: &mut Connection<S>,
     op: &str,
     station: &str,
     policy: Policy,
     interval: u32,
 ) -> Result<(), StoreFault>
-    ensures makes { Makes S.Store (edit op.now (Stations (StationAdded station.now policy interval))) tx.old tx.new result }
+    ensures edits { Edits (edit op.now (Stations (StationAdded station.now policy interval))) (state S.Store conn.old) (state S.Store conn.new) result }
 {
     let registered = Registration {
         policy,
         interval,
         state: State::Fresh,
     };
-    put_unbooted(tx, op, station, registered)
+    put_unbooted(conn, op, station, registered)
 }
 
 /// Puts a station.
-fn put_station<S: Alter>(tx: &mut Transaction<'_, S>, row: &StationRow) -> Result<(), StoreFault>
-    ensures makes { Makes S.Store (λ rows. record rows { stations = put (by_key station_key) (row.now) rows.stations }) tx.old tx.new result }
+fn put_station<S: Alter>(conn: &mut Connection<S>, row: &StationRow) -> Result<(), StoreFault>
+    ensures edits { Edits (λ rows. record rows { stations = put (by_key station_key) (row.now) rows.stations }) (state S.Store conn.old) (state S.Store conn.new) result }
 {
     let op = row.op.as_str();
     let station = row.station.as_str();
     let registered = row.registration();
     match &row.boot {
-        None => put_unbooted(tx, op, station, registered),
-        Some(boot) => put_booted(tx, op, station, registered, boot),
+        None => put_unbooted(conn, op, station, registered),
+        Some(boot) => put_booted(conn, op, station, registered, boot),
     }
 }
 
 /// Keeps a boot of a station in place of the one before, and the state that it leads to. The station
 /// is on record, or else this answers Failed.
 pub(crate) fn see_boot<S: Alter>(
-    tx: &mut Transaction<'_, S>,
+    conn: &mut Connection<S>,
     op: &str,
     station: &str,
     boot: &Boot,
     answered: State,
 ) -> Result<(), StoreFault>
-    ensures makes { Makes S.Store (edit op.now (Stations (BootSeen station.now boot.now answered))) tx.old tx.new result }
+    ensures edits { Edits (edit op.now (Stations (BootSeen station.now boot.now answered))) (state S.Store conn.old) (state S.Store conn.new) result }
 {
-    match station_inside(tx, op, station)? {
+    match station_inside(conn, op, station)? {
         Some(row) => {
             let op = row.op.as_str();
             let station = row.station.as_str();
@@ -152,7 +153,7 @@ pub(crate) fn see_boot<S: Alter>(
                 interval: row.interval,
                 state: answered,
             };
-            put_booted(tx, op, station, registered, boot)
+            put_booted(conn, op, station, registered, boot)
         }
         None => Err(StoreFault::Failed),
     }
@@ -161,17 +162,17 @@ pub(crate) fn see_boot<S: Alter>(
 /// Sets what a station's next boot is answered. The station is on record, or else this answers
 /// Failed.
 pub(crate) fn set_policy<S: Alter>(
-    tx: &mut Transaction<'_, S>,
+    conn: &mut Connection<S>,
     op: &str,
     station: &str,
     policy: Policy,
     interval: u32,
 ) -> Result<(), StoreFault>
-    ensures makes { Makes S.Store (edit op.now (Stations (PolicySet station.now policy interval))) tx.old tx.new result }
+    ensures edits { Edits (edit op.now (Stations (PolicySet station.now policy interval))) (state S.Store conn.old) (state S.Store conn.new) result }
 {
-    match station_inside(tx, op, station)? {
+    match station_inside(conn, op, station)? {
         Some(row) => put_station(
-            tx,
+            conn,
             &StationRow {
                 policy,
                 interval,

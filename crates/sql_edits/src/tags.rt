@@ -1,6 +1,7 @@
 //! Edits of id tags.
 ghost use Rattle.std.specs.Prelude.{◌≡◌, option_map};
-ghost use Rattle.sql_rows.specs.Kept.{Makes, Ran};
+ghost use Rattle.sqlite.specs.Held.{state};
+ghost use Rattle.sql_rows.specs.Kept.{Edits, Ran};
 ghost use Rattle.sql_rows.specs.TypedTables.{tags};
 ghost use Rattle.hub_rows.specs.Changes.{edit, tag_row};
 ghost use Rattle.hub_rows.specs.declared.change.Edit.TheVariants.{Tags};
@@ -9,12 +10,12 @@ ghost use Rattle.ocpp_types.specs.TagKey.{key_of};
 
 use crate::binds::{added, done, key_if_any, lent, lent_key, seconds_if_any};
 use hub_rows::{StoreFault, Tag};
-use sqlite::{Alter, Error, Transaction, params};
+use sqlite::{Alter, Connection, Error, params};
 use std::alloc::Global;
 
 /// Runs a statement on the row of a tag, with the key of its parent.
 fn run_row<S: Alter>(
-    tx: &mut Transaction<'_, S>,
+    conn: &mut Connection<S>,
     sql: &str,
     op: &str,
     key: &str,
@@ -22,9 +23,9 @@ fn run_row<S: Alter>(
     parent_key: Option<&str>,
 ) -> Result<usize, Error>
     requires { option_map (λ k. k.now) parent_key ≡ option_map key_of tag.now.parent }
-    ensures ran { Ran S.Store sql.now (tags.row (tag_row op.now key.now tag.now)) tx.old tx.new result }
+    ensures ran { Ran sql.now (tags.row (tag_row op.now key.now tag.now)) (state S.Store conn.old) (state S.Store conn.new) result }
 {
-    tx.execute(
+    conn.execute(
         sql,
         params![
             op,
@@ -40,43 +41,43 @@ fn run_row<S: Alter>(
 
 /// Puts the row of a tag, with the key of its parent. Most often none is there.
 fn put_row<S: Alter>(
-    tx: &mut Transaction<'_, S>,
+    conn: &mut Connection<S>,
     op: &str,
     key: &str,
     tag: &Tag,
     parent_key: Option<&str>,
 ) -> Result<(), StoreFault>
     requires { option_map (λ k. k.now) parent_key ≡ option_map key_of tag.now.parent }
-    ensures makes { Makes S.Store (edit op.now (Tags (TagPut key.now tag.now))) tx.old tx.new result }
+    ensures edits { Edits (edit op.now (Tags (TagPut key.now tag.now))) (state S.Store conn.old) (state S.Store conn.new) result }
 {
-    if added(run_row(tx, sql_tables::tags::ADD, op, key, tag, parent_key))? {
+    if added(run_row(conn, sql_tables::tags::ADD, op, key, tag, parent_key))? {
         Ok(())
     } else {
-        done(run_row(tx, sql_tables::tags::PUT, op, key, tag, parent_key))
+        done(run_row(conn, sql_tables::tags::PUT, op, key, tag, parent_key))
     }
 }
 
 /// Drops a tag and its grants.
 pub(crate) fn drop_tag<S: Alter>(
-    tx: &mut Transaction<'_, S>,
+    conn: &mut Connection<S>,
     op: &str,
     key: &str,
 ) -> Result<(), StoreFault>
-    ensures makes { Makes S.Store (edit op.now (Tags (TagDropped key.now))) tx.old tx.new result }
+    ensures edits { Edits (edit op.now (Tags (TagDropped key.now))) (state S.Store conn.old) (state S.Store conn.new) result }
 {
-    done(tx.execute(sql_tables::tags::DROP, params![op, key]))
+    done(conn.execute(sql_tables::tags::DROP, params![op, key]))
 }
 
 /// Puts a tag, in place of the one with its key, whose grants it keeps.
 pub(crate) fn put_tag<S: Alter>(
-    tx: &mut Transaction<'_, S>,
+    conn: &mut Connection<S>,
     alloc: Global,
     op: &str,
     key: &str,
     tag: &Tag,
 ) -> Result<(), StoreFault>
-    ensures makes { Makes S.Store (edit op.now (Tags (TagPut key.now tag.now))) tx.old tx.new result }
+    ensures edits { Edits (edit op.now (Tags (TagPut key.now tag.now))) (state S.Store conn.old) (state S.Store conn.new) result }
 {
     let parent_key = key_if_any(alloc, &tag.parent)?;
-    put_row(tx, op, key, tag, lent_key(&parent_key))
+    put_row(conn, op, key, tag, lent_key(&parent_key))
 }

@@ -1,4 +1,3 @@
-pub mod Asking
 pub mod GrantedLaws
 pub mod PageLaws
 pub mod FirstLaws

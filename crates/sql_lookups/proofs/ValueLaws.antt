@@ -16,8 +16,9 @@ use Rattle.sql_rows.specs.TypedTable.{rows_in}
 use Rattle.sql_rows.specs.TypedTables.{first_and_count, first_and_count_cells, meter_values}
 use Rattle.sql_rows.specs.Values.{numbers_in}
 use Rattle.sql_rows.proofs.Calls.{any_filtered}
-use Rattle.sql_rows.proofs.StoreLemmas.{commits_as}
-use Rattle.sql_lookups.specs.Asks.{AreLastNumbers, AsksIn}
+use Rattle.sql_rows.proofs.StoreLemmas.{commits_as, leaves_as}
+use Rattle.sql_rows.specs.Kept.{AsksIn}
+use Rattle.sql_lookups.specs.Asks.{AreLastNumbers}
 use Rattle.sql_lookups.specs.Pages.{last_in}
 use Rattle.sql_lookups.proofs.PageLaws.{IsInOrder, top_last}
 
@@ -39,7 +40,7 @@ pub asks_numbers : {V F : Type 0} {items : V → List Row} {p : MeterValueRow �
     → IfOk r (λ v. IfOk q (λ pair. pair ≡ option_map numbers_in (first (items v)))) → AsksIn old new q (λ db. AreLastNumbers (filter p (rows_in meter_values db)))
 asks_numbers {V} {F} {items} {p} {old} {new} {r} {q} shows ok pair = record {
   found = λ serves up. numbers_found items (filter p (rows_in meter_values old.now.trees)) r q ok pair ((shows serves).ok up);
-  same = λ serves up. (shows serves).same up;
+  same = λ serves up. leaves_as old new r q ok ((shows serves).same up);
   stops = commits_as old new r q ok (λ serves. (shows serves).stops);
 }
 

@@ -4,7 +4,7 @@ ghost use Rattle.sqlite.specs.Held.{state};
 ghost use Rattle.hub_rows.specs.Forgetting.{count_readings, oldest_values};
 ghost use Rattle.hub_rows.specs.MeterValues.{meter_values_in};
 ghost use Rattle.hub_rows.specs.declared.forgettable.TheConstants.{MAX_FORGOTTEN};
-ghost use Rattle.sql_lookups.specs.Asks.{Asks};
+ghost use Rattle.sql_rows.specs.Kept.{Asks};
 
 use crate::station_values::after_page;
 use crate::values::next_value;

@@ -5,7 +5,7 @@ ghost use Rattle.hub_rows.specs.Forgetting.{goes_with, may_go, named_tx, old_met
 ghost use Rattle.hub_rows.specs.Lookups.{forgettable_in};
 ghost use Rattle.hub_rows.specs.MeterValues.{meter_values_in};
 ghost use Rattle.hub_rows.specs.Transactions.{txs_in};
-ghost use Rattle.sql_lookups.specs.Asks.{Asks};
+ghost use Rattle.sql_rows.specs.Kept.{Asks};
 ghost use Rattle.sql_lookups.specs.Forgotten.{IsNamed};
 
 use crate::first_values::{first_values, oldest_values_of};

@@ -4,7 +4,7 @@ ghost use Rattle.std.specs.List.{cons_option, filter_map};
 ghost use Rattle.sqlite.specs.Held.{state};
 ghost use Rattle.hub_rows.specs.Grants.{entry_by, granted_in, granted_tag_in, grants_to, info_by, received_key};
 ghost use Rattle.hub_rows.specs.Keyed.{by_key, first, in_order};
-ghost use Rattle.sql_lookups.specs.Asks.{Asks};
+ghost use Rattle.sql_rows.specs.Kept.{Asks};
 
 use crate::grants::{list_received, received_of_key};
 use crate::tags::own_tag;

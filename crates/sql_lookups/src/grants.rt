@@ -5,7 +5,7 @@ ghost use Rattle.sqlite.specs.Held.{state};
 ghost use Rattle.hub_rows.specs.Grants.{grants_in, grants_of_key, has_grant_in, is_grant};
 ghost use Rattle.hub_rows.specs.Keyed.{found};
 ghost use Rattle.sql_rows.specs.Kept.{IsServing, Shows};
-ghost use Rattle.sql_lookups.specs.Asks.{Asks};
+ghost use Rattle.sql_rows.specs.Kept.{Asks};
 ghost use Rattle.sql_rows.specs.TypedTables.{grants};
 
 use crate::bounds::ABOVE_ALL;

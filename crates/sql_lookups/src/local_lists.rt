@@ -4,7 +4,7 @@ ghost use Rattle.std.specs.Str.{bytes_eq};
 ghost use Rattle.sqlite.specs.Held.{state};
 ghost use Rattle.hub_rows.specs.Lookups.{local_list_in};
 ghost use Rattle.sql_rows.specs.Kept.{IsServing, Shows};
-ghost use Rattle.sql_lookups.specs.Asks.{Asks, AsksIn};
+ghost use Rattle.sql_rows.specs.Kept.{Asks, AsksIn};
 ghost use Rattle.sql_rows.specs.TypedTable.{rows_in};
 ghost use Rattle.sql_rows.specs.TypedTables.{entries, lists};
 

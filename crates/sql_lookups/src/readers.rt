@@ -5,7 +5,7 @@ ghost use Rattle.sqlite.specs.Held.{state};
 ghost use Rattle.hub_rows.specs.Keyed.{found};
 ghost use Rattle.hub_rows.specs.Readers.{chosen, reader_in, readers_in};
 ghost use Rattle.sql_rows.specs.Kept.{IsServing, Shows};
-ghost use Rattle.sql_lookups.specs.Asks.{Asks};
+ghost use Rattle.sql_rows.specs.Kept.{Asks};
 ghost use Rattle.sql_rows.specs.TypedTables.{readers};
 
 use crate::bounds::ABOVE_ALL;

@@ -5,7 +5,7 @@ ghost use Rattle.sqlite.specs.Held.{state};
 ghost use Rattle.hub_rows.specs.MeterValues.{is_sent_with, meter_values_in};
 ghost use Rattle.sql_rows.specs.Kept.{IsServing, ShowsPage};
 ghost use Rattle.sql_rows.specs.TypedTables.{meter_values};
-ghost use Rattle.sql_lookups.specs.Asks.{Asks};
+ghost use Rattle.sql_rows.specs.Kept.{Asks};
 ghost use Rattle.sql_tables.specs.declared.pages.TheConstants.{PAGE_ROWS};
 ghost use Rattle.sql_lookups.specs.Pages.{page_from, IsAfter};
 

@@ -7,7 +7,8 @@ ghost use Rattle.hub_rows.specs.Keyed.{text_cmp};
 ghost use Rattle.hub_rows.specs.Lookups.{stations_in};
 ghost use Rattle.hub_rows.specs.Rows.{registration_in, station_in};
 ghost use Rattle.sql_rows.specs.Kept.{IsServing, Shows, ShowsText};
-ghost use Rattle.sql_lookups.specs.Asks.{Asks, next_operator_in};
+ghost use Rattle.sql_rows.specs.Kept.{Asks};
+ghost use Rattle.sql_lookups.specs.Asks.{next_operator_in};
 ghost use Rattle.sql_rows.specs.TypedTables.{stations};
 
 use crate::bounds::ABOVE_ALL;

@@ -5,7 +5,7 @@ ghost use Rattle.sqlite.specs.Held.{state};
 ghost use Rattle.hub_rows.specs.Lookups.{tags_in};
 ghost use Rattle.hub_rows.specs.Tags.{tag_in, own_tag_in, is_blocked, is_parent_blocked};
 ghost use Rattle.sql_rows.specs.Kept.{IsServing, Shows};
-ghost use Rattle.sql_lookups.specs.Asks.{Asks};
+ghost use Rattle.sql_rows.specs.Kept.{Asks};
 ghost use Rattle.sql_rows.specs.TypedTables.{tags};
 
 use crate::bounds::ABOVE_ALL;

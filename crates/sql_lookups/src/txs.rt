@@ -6,7 +6,7 @@ ghost use Rattle.sqlite.specs.Held.{state};
 ghost use Rattle.hub_rows.specs.Keyed.{found};
 ghost use Rattle.hub_rows.specs.Transactions.{counts, has_open_in, is_left_out, is_open, is_started, is_tx, is_used_in, last_tx_in, open_txs_in, same_start_in, tx_in, txs_from_in, txs_in};
 ghost use Rattle.sql_rows.specs.Kept.{IsServing, Shows, ShowsLast, ShowsPage};
-ghost use Rattle.sql_lookups.specs.Asks.{Asks};
+ghost use Rattle.sql_rows.specs.Kept.{Asks};
 ghost use Rattle.sql_tables.specs.declared.pages.TheConstants.{PAGE_ROWS};
 ghost use Rattle.sql_lookups.specs.Pages.{page_from};
 ghost use Rattle.sql_rows.specs.TypedTables.{txs};

@@ -7,7 +7,8 @@ ghost use Rattle.hub_rows.specs.MeterValues.{is_meter_value, is_sent_with, last_
 ghost use Rattle.sql_rows.specs.Kept.{IsServing, ShowsPage, ShowsTopCells};
 ghost use Rattle.sql_rows.specs.TypedTable.{rows_in};
 ghost use Rattle.sql_rows.specs.TypedTables.{first_and_count_cells, meter_values};
-ghost use Rattle.sql_lookups.specs.Asks.{Asks, AsksIn, AreLastNumbers};
+ghost use Rattle.sql_rows.specs.Kept.{Asks, AsksIn};
+ghost use Rattle.sql_lookups.specs.Asks.{AreLastNumbers};
 ghost use Rattle.sql_tables.specs.declared.pages.TheConstants.{PAGE_ROWS};
 ghost use Rattle.sql_lookups.specs.Pages.{last_in, page_from};
 

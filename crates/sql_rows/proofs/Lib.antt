@@ -40,3 +40,5 @@ pub mod StayLaws
 pub mod RaisingLemmas
 pub mod OpeningLemmas
 pub mod Calls
+pub mod Asking
+pub mod EditLaws

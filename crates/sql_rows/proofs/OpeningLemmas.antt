@@ -96,7 +96,7 @@ module _ {A E : Type 0} (old mid new : State) (r : Result A E) (spared : IsSpare
 -- ---- what is looked at after it was prepared is what was prepared
 
 serves_spared : (old new : State) → Serves old → IsSpared old new → IsTrue new.is_open → Serves new
-serves_spared old new was spared up = serves_as old new was (spared.now up) (spared.committed up ∙ was.committed) (spared.mode ∙ was.mode)
+serves_spared old new was spared up = serves_as old new was (spared.now up) (spared.committed up) spared.mode
 
 module _ {A E : Type 0} (old mid new : State) (x : A) (prepared : Prepares {A = A} {E = E} old mid (Ok x)) (spared : IsSpared mid new) (opens : HasCleanDisk new → IsTrue new.is_open) (clean : IsTrue new.is_open → HasCleanDisk new) where
   still_serves : IsOurs old → IsTrue new.is_open → Serves new × WellFormedRows (rows_of new.now.trees)

@@ -22,6 +22,7 @@ use Rattle.hub_rows.specs.Rows.{Rows}
 use Rattle.hub_rows.specs.WellFormed.{WellFormedRows}
 use Rattle.sql_rows.specs.TypedTable.{cmp, rows_in, typed, AreTyped}
 use Rattle.sql_rows.specs.TypedTables.{metas, meter_values, hub_good, rows_of}
+use Rattle.sql_rows.proofs.StoreLemmas.{serves_at}
 use Rattle.sql_rows.specs.Kept.{Leaves, IsInside, IsNumbered, Inside, IsPutIn, our_meta}
 use Rattle.sql_rows.specs.Opening.{IsInsideAs, IsInsideWith, HasTables, MakesOurs, Rested, Prepares, rows_at, rows_before, rows_from, trees_at, values_form, IsCut, Holds, IsRaised}
 use Rattle.sql_rows.proofs.HubTables.{rest_is}
@@ -246,14 +247,12 @@ module _ {S : Type 0} (g : Ghosts S) (old tx mid end : Held S) (n : ℕ) (lower 
             let shows = (ok (clean up)).1 in
             let it = ours n (was (leaves.was_open shows.was_open)) in
             let h = tables it.typed shows.was_open in (
-              record {
+              serves_at (state g end) (record {
                 schema = ap (λ (d : Database). d.schema) shows.now_is ∙ h.schema_is;
                 sound = subst IsDatabase (sym shows.now_is) (subst (λ s. IsDatabase (record { schema = s; trees = (state g mid).now.trees })) (sym h.schema_is) h.holds.whole);
                 rows = subst (λ (d : Database). AreTyped hub_schema hub_good d.trees) (sym shows.now_is) h.holds.are_typed;
                 numbered = subst (λ (d : Database). IsNumbered d.trees) (sym shows.now_is) h.holds.numbered;
-                committed = shows.committed_is ∙ sym shows.now_is;
-                mode = shows.mode;
-              },
+              }) (shows.committed_is ∙ sym shows.now_is),
               subst WellFormedRows (sym (ap (λ (d : Database). rows_of d.trees) shows.now_is ∙ h.holds.rows)) it.good,
             );
         taken = λ up. let shows = (ok (clean up)).1 in inr (raised shows.was_open (state g end).now.trees (ap (λ (d : Database). d.trees) shows.now_is));

@@ -20,7 +20,7 @@ use Rattle.sql_tables.specs.Forms.{any_query, plain_query, last_query, page_quer
 use Rattle.sql_tables.specs.Meanings.{IsRead}
 use Rattle.sql_rows.specs.TypedTable.{TypedTable, cmp, rows_in, AreTyped}
 use Rattle.sql_rows.specs.TypedTables.{hub_good}
-use Rattle.sql_rows.specs.Kept.{AreTopCells, IsServing, IsAsBefore, IsUncommitted, CommitsNothing, Shows, ShowsLast, ShowsPage, ShowsText, ShowsTopCells}
+use Rattle.sql_rows.specs.Kept.{AreTopCells, IsServing, LeavesAll, IsUncommitted, CommitsNothing, Shows, ShowsLast, ShowsPage, ShowsText, ShowsTopCells}
 use Rattle.sql_rows.specs.Values.{count_in, first_text}
 use Rattle.sql_rows.proofs.TypedTableLemmas.{IsTypedTable}
 use Rattle.sql_rows.proofs.ReadLaws.{AreCells, IsNumbered, IsTest, IsWhole, lists_those, once}
@@ -36,18 +36,18 @@ module _ (sql : List ℕ) (body : Query) (names : List (List ℕ)) (text : IsRea
   answers Holds holds items old new values (Ok v) given h shown =
       let there : Shown sql params old new (items v) = subst (λ q. Shown sql q old new (items v)) given shown in
       let was = h (shown_was sql params old new (items v) there) in
-      let read = reads_as sql params old new hub_schema was.schema (Select (record { lets = []; body = body }) names) text.0 text.1 text.2 (items v) there in
-      holds old.now.trees was.rows (obeys_in old was) (items v) (read.answer Null)
+      let read = reads_as sql params old new hub_schema was.now.schema (Select (record { lets = []; body = body }) names) text.0 text.1 text.2 (items v) there in
+      holds old.now.trees was.now.rows (obeys_in old was) (items v) (read.answer Null)
   answers Holds holds items old new values (Err e) given h shown = tt
 
   stays : {V : Type 0} (items : V → List Row) (old new : State) (values : Row) (r : Result V Error) → IsServing old → IsTrue new.is_open
-      → IfOk r (λ v. Shown sql values old new (items v)) → IfErr r (FailsToQuery sql values old new) → IsAsBefore old new
+      → IfOk r (λ v. Shown sql values old new (items v)) → IfErr r (FailsToQuery sql values old new) → LeavesAll old new r
   stays items old new values (Ok v) h up shown failed =
       let was = shown_was sql values old new (items v) shown in
-      serves_still old new h (shown_unchanged sql values old new (items v) (subst (λ k. IsPlain (understood k sql)) (sym (h was).schema) text.1) shown)
+      serves_still old new h (shown_unchanged sql values old new (items v) (subst (λ k. IsPlain (understood k sql)) (sym (h was).now.schema) text.1) shown)
   stays items old new values (Err e) h up shown failed =
       let was = failed_was sql values old new e up failed in
-      fails_before sql values old new h up e (subst (λ k. IsPlain (understood k sql)) (sym (h was).schema) text.1) failed
+      fails_before sql values old new h up e (subst (λ k. IsPlain (understood k sql)) (sym (h was).now.schema) text.1) failed
 
   stops : {V : Type 0} (items : V → List Row) (old new : State) (values : Row) (r : Result V Error) → Survives old new (CommitsShowing sql values old)
       → (HasCleanDisk new → IfOk r (λ v. Shown sql values old new (items v))) → CommitsNothing old new r
@@ -58,7 +58,7 @@ module _ (sql : List ℕ) (body : Query) (names : List (List ℕ)) (text : IsRea
         clean = survives.clean;
         leaves = λ up sure db left. elim (survives.crash sure db left) [
           | inl was ↦ was
-          | inr written ↦ absurd (commits_none sql values old new db (subst (λ k. IsPlain (understood k sql)) (sym (h up).schema) text.1) written)
+          | inr written ↦ absurd (commits_none sql values old new db (subst (λ k. IsPlain (understood k sql)) (sym (h up).now.schema) text.1) written)
         ];
       }
 

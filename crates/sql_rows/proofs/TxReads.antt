@@ -1,7 +1,7 @@
 -- What a SELECT answers inside a transaction.
 use Rattle.std.proofs.Common.{◌≡◌, ◌⊎◌, ℕ, List, Bool, true, Option, Some, None, Ok, Err, Result, IsTrue, IfOk, IfErr, [], map, filter, sym, ap, ◌∙◌, subst, inl, inr}
 use Rattle.sqlite_value.specs.declared.value.Value.TheVariants.{Null}
-use Rattle.sqlite_value.specs.Order.{Row, column}
+use Rattle.sqlite_value.specs.Order.{Row}
 use Rattle.sqlite_trees.specs.Tree.{Trees}
 use Rattle.sqlite_sql.specs.Query.{Query, inner, end, IsAnswer}
 use Rattle.sqlite_sql.specs.Program.{overlay}
@@ -17,18 +17,16 @@ use Rattle.sqlite.specs.Listing.{understood}
 use Rattle.sqlite.specs.State.{State, HasCleanDisk, Survives, Shown, ShowsRows, FailsToQuery, FailsToShow, IsNotRun, IsTooLate, IsUnchanged}
 use Rattle.sqlite.specs.Store.{Ghosts}
 use Rattle.sqlite.proofs.Callers.{IsPlain, reads_as}
-use Rattle.hub_rows.specs.Keyed.{put_all, greatest}
+use Rattle.hub_rows.specs.Keyed.{put_all}
 use Rattle.sql_tables.specs.Tables.{hub_schema}
-use Rattle.sql_tables.specs.Forms.{any_query, plain_query, last_query}
+use Rattle.sql_tables.specs.Forms.{any_query, plain_query}
 use Rattle.sql_tables.specs.Meanings.{IsRead}
 use Rattle.sql_rows.specs.TypedTable.{TypedTable, cmp, rows_in, AreTyped}
 use Rattle.sql_rows.specs.TypedTables.{hub_good}
-use Rattle.sql_rows.specs.Values.{count_in}
-use Rattle.sql_rows.specs.Kept.{Within, IsAny, IsInside, IsNumbered, IsSame, Goes, ShowsAnyInside, ShowsInside, ShowsLastInside}
+use Rattle.sql_rows.specs.Kept.{Within, IsAny, IsInside, IsNumbered, IsSame, Goes, ShowsAnyInside, ShowsInside}
 use Rattle.sql_rows.proofs.ReadLaws.{lists_those}
 use Rattle.sql_rows.proofs.AnyLaws.{any_is}
-use Rattle.sql_rows.proofs.DownLaws.{last_is}
-use Rattle.sql_rows.proofs.Selects.{ReadsAny, ReadsRows, ReadsLast}
+use Rattle.sql_rows.proofs.Selects.{ReadsAny, ReadsRows}
 use Rattle.sql_rows.proofs.StoreLemmas.{shown_unchanged, shown_was, failed_was}
 
 -- ---- of a text that may mean anything
@@ -123,17 +121,6 @@ shows_inside {T} {sql} {params} {s} {p} f {V} {S} {g} {items} {old} {new} {value
   ok = λ h. answers sql (plain_query (inner s.table.tree end) f.wanted f.project f.order) f.names f.text params items (state g old.conn.now) (state g new.conn.now) values survives given clean h (λ db rows. put_all (cmp s) (map s.read rows) [] ≡ filter p (rows_in s db))
       (λ db kept obeys rows answer. lists_those hub_schema hub_good f.at s f.is f.wanted params p f.test db kept f.project f.whole f.order obeys rows answer) r ok;
   goes = λ h. goes_still sql (plain_query (inner s.table.tree end) f.wanted f.project f.order) f.names f.text params items (state g old.conn.now) (state g new.conn.now) values survives given clean h r ok err;
-}
-
-pub shows_last_inside : {T : Type 0} {sql : List ℕ} {params : Row} {s : TypedTable T} {cells : T → Row} {number : T → ℕ} {p : T → Bool} → ReadsLast sql params s cells number p → (at : ℕ) → ((t : T) → count_in (column (cells t) at) ≡ number t)
-    → {V S : Type 0} {g : Ghosts S} {items : V → List Row} {old new : Transaction S} {values : Row} {r : Result V Error} → new.conn.ghost_name ≡ old.conn.ghost_name → (HasCleanDisk (state g new.conn.now) → IfOk r (λ v. Shown sql values (state g old.conn.now) (state g new.conn.now) (items v)))
-    → (HasCleanDisk (state g new.conn.now) → IfErr r (λ e. FailsToQuery sql values (state g old.conn.now) (state g new.conn.now) e ⊎ IsTooLate sql values (state g old.conn.now) (state g new.conn.now) e)) → Survives (state g old.conn.now) (state g new.conn.now) (λ _. ⊥) → values ≡ params
-    → (IsTrue (state g new.conn.now).is_open → HasCleanDisk (state g new.conn.now)) → ShowsLastInside g items at s number p old new r
-shows_last_inside {T} {sql} {params} {s} {cells} {number} {p} f at counted {V} {S} {g} {items} {old} {new} {values} {r} same ok err survives given clean = record {
-  same_reference = same;
-  ok = λ h. answers sql (last_query s.table.tree f.wanted f.project f.place) f.names f.text params items (state g old.conn.now) (state g new.conn.now) values survives given clean h (λ db rows. greatest (map (λ x. count_in (column x at)) rows) ≡ greatest (map number (filter p (rows_in s db))))
-      (λ db kept obeys rows answer. last_is f.at s f.is f.wanted f.project cells f.shown params p f.test f.place number f.numbered db kept obeys rows answer at counted) r ok;
-  goes = λ h. goes_still sql (last_query s.table.tree f.wanted f.project f.place) f.names f.text params items (state g old.conn.now) (state g new.conn.now) values survives given clean h r ok err;
 }
 
 pub shows_any_inside : {T : Type 0} {sql : List ℕ} {params : Row} {s : TypedTable T} → ReadsAny sql s

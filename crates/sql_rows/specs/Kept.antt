@@ -9,11 +9,11 @@ use Rattle.sqlite_trees.specs.View.{doubt}
 use Rattle.sqlite_schema.specs.declared.schema.Constraint.{Constraint}
 use Rattle.sqlite.specs.declared.error.Error.{Error}
 use Rattle.sqlite.specs.declared.error.Error.TheVariants.{SqliteFailure}
-use Rattle.sqlite.specs.declared.error.ErrorCode.TheVariants.{ConstraintViolation, TransactionState}
+use Rattle.sqlite.specs.declared.error.ErrorCode.TheVariants.{ConstraintViolation}
 use Rattle.sqlite.specs.declared.transaction.Transaction.{Transaction}
-use Rattle.sqlite.specs.Effect.{IsDatabase}
+use Rattle.sqlite.specs.Effect.{Database, IsDatabase}
 use Rattle.sqlite.specs.Held.{state}
-use Rattle.sqlite.specs.State.{State, HasCleanDisk, Survives, ExecutesInside}
+use Rattle.sqlite.specs.State.{State, CommitsBy, Executes, HasCleanDisk, Survives}
 use Rattle.sqlite.specs.Store.{Ghosts}
 use Rattle.hub_rows.specs.Keyed.{first, greatest, put, put_all}
 use Rattle.hub_rows.specs.Rows.{Rows}
@@ -56,14 +56,19 @@ is_between op station number b st first last r = bytes_eq (op r) b && (bytes_eq 
 
 -- ---- a connection
 
--- kept while the connection is open, between transactions
+-- a database with our tables, rows that this project writes, and the number of our schema
+pub record IsHub (d : Database) : Type 0 where
+  pub schema : d.schema ≡ hub_schema
+  pub sound : IsDatabase d
+  pub rows : AreTyped hub_schema hub_good d.trees
+  pub numbered : IsNumbered d.trees
+
+-- kept while the connection is open, between changes: of what they have made, and of what the last commit left, which is
+-- all where no transaction is open
 pub record Serves (s : State) : Type 0 where
-  pub schema : s.now.schema ≡ hub_schema
-  pub sound : IsDatabase s.now
-  pub rows : AreTyped hub_schema hub_good s.now.trees
-  pub numbered : IsNumbered s.now.trees
-  pub committed : s.committed ≡ s.now
-  pub mode : s.in_transaction ≡ false
+  pub now : IsHub s.now
+  pub last : IsHub s.committed
+  pub settled : s.in_transaction ≡ false → s.committed ≡ s.now
 
 abbrev pub IsServing : State → Type 0
 IsServing s = IsTrue s.is_open → Serves s
@@ -71,13 +76,34 @@ IsServing s = IsTrue s.is_open → Serves s
 pub record IsAsBefore (old new : State) : Type 0 where
   pub was_open : IsTrue old.is_open
   pub now : new.now ≡ old.now
+  pub committed : new.committed ≡ old.committed
+  pub mode : new.in_transaction ≡ old.in_transaction
+  pub marks : old.in_transaction ≡ true → new.marks ≡ old.marks
   pub serves : Serves new
+
+-- a failure has undone the transaction that was open
+pub record IsUndone (old new : State) : Type 0 where
+  pub was_open : IsTrue old.is_open
+  pub begun : old.in_transaction ≡ true
+  pub ended : new.in_transaction ≡ false
+  pub now : new.now ≡ old.committed
+  pub committed : new.committed ≡ old.committed
+  pub serves : Serves new
+
+-- all is as it was, or undone
+abbrev pub IsAsBeforeOrUndone : State → State → Type 0
+IsAsBeforeOrUndone old new = IsAsBefore old new ⊎ IsUndone old new
+
+-- what a call leaves that changes nothing, by its answer
+abbrev pub LeavesAll : {A E : Type 0} → State → State → Result A E → Type 0
+LeavesAll old new (Ok x) = IsAsBefore old new
+LeavesAll old new (Err e) = IsAsBeforeOrUndone old new
 
 -- ---- reads
 
--- a call that leaves all as it was
-abbrev pub Rests : State → State → Type 0
-Rests old new = IsServing old → IsTrue new.is_open → IsAsBefore old new
+-- a call that changes nothing
+abbrev pub Rests : {A E : Type 0} → State → State → Result A E → Type 0
+Rests old new r = IsServing old → IsTrue new.is_open → LeavesAll old new r
 
 -- nothing is committed and no fault of the disk is forgotten: a stop leaves what it would have left before the call
 pub record IsUncommitted (old new : State) : Type 0 where
@@ -103,19 +129,19 @@ pub record Shows {V T : Type 0} (items : V → List Row) (s : TypedTable T) (p :
   pub ok : IsTrue new.is_open → IfOk r (λ v. put_all (cmp s) (map s.read (items v)) [] ≡ filter p (rows_in s old.now.trees))
   -- each key is shown once
   pub once : IsTrue new.is_open → IfOk r (λ v. (a b : T) → Has (map s.read (items v)) a → Has (map s.read (items v)) b → cmp s a b ≡ Equal → a ≡ b)
-  pub same : IsTrue new.is_open → IsAsBefore old new
+  pub same : IsTrue new.is_open → LeavesAll old new r
   pub stops : CommitsNothing old new r
 
 -- the number that is shown in that column is the greatest of the rows that pass, and nothing changes
 pub record ShowsLast {V T : Type 0} (items : V → List Row) (at : ℕ) (s : TypedTable T) (number : T → ℕ) (p : T → Bool) (old new : State) (r : Result V Error) : Type 0 where
   pub ok : IsTrue new.is_open → IfOk r (λ v. greatest (map (λ x. count_in (column x at)) (items v)) ≡ greatest (map number (filter p (rows_in s old.now.trees))))
-  pub same : IsTrue new.is_open → IsAsBefore old new
+  pub same : IsTrue new.is_open → LeavesAll old new r
   pub stops : CommitsNothing old new r
 
 -- the first rows that pass are shown, at most n of them, and nothing changes
 pub record ShowsPage {V T : Type 0} (n : ℕ) (items : V → List Row) (s : TypedTable T) (p : T → Bool) (old new : State) (r : Result V Error) : Type 0 where
   pub ok : IsTrue new.is_open → IfOk r (λ v. put_all (cmp s) (map s.read (items v)) [] ≡ take n (filter p (rows_in s old.now.trees)))
-  pub same : IsTrue new.is_open → IsAsBefore old new
+  pub same : IsTrue new.is_open → LeavesAll old new r
   pub stops : CommitsNothing old new r
 
 -- none of none, or one of some with the greatest number
@@ -130,13 +156,13 @@ AreTopCells {T} cells number all rows = (ts : List T) × IsTop number all ts × 
 -- the cells that are shown are those of the row with the greatest number of those that pass, and nothing changes
 pub record ShowsTopCells {V T : Type 0} (items : V → List Row) (s : TypedTable T) (cells : T → Row) (number : T → ℕ) (p : T → Bool) (old new : State) (r : Result V Error) : Type 0 where
   pub ok : IsTrue new.is_open → IfOk r (λ v. AreTopCells cells number (filter p (rows_in s old.now.trees)) (items v))
-  pub same : IsTrue new.is_open → IsAsBefore old new
+  pub same : IsTrue new.is_open → LeavesAll old new r
   pub stops : CommitsNothing old new r
 
 -- the text that is shown is that of the first row that passes, if there are any, and nothing changes
 pub record ShowsText {V T : Type 0} (items : V → List Row) (s : TypedTable T) (text : T → List ℕ) (p : T → Bool) (old new : State) (r : Result V Error) : Type 0 where
   pub ok : IsTrue new.is_open → IfOk r (λ v. option_map first_text (first (items v)) ≡ option_map text (find p (rows_in s old.now.trees)))
-  pub same : IsTrue new.is_open → IsAsBefore old new
+  pub same : IsTrue new.is_open → LeavesAll old new r
   pub stops : CommitsNothing old new r
 
 -- ---- edits of the tables
@@ -164,25 +190,88 @@ IsMade f old new = rows_of new ≡ f (rows_of old)
 abbrev pub IsMadeAfter : ℕ → (Rows → Rows) → Trees → Trees → Type 0
 IsMadeAfter n f old new = IsMade f old new × (changes_in old ≡ n → changes_in new ≡ n + 1)
 
--- ---- writes
+-- ---- changes
 
-pub record Made (Edit : Trees → Trees → Type 0) (old new : State) : Type 0 where
+-- a batch of changes is open: a transaction, before whose commit a stop leaves the last one
+pub record InBatch (s : State) : Type 0 where
+  pub serves : Serves s
+  pub begun : s.in_transaction ≡ true
+
+abbrev pub IsInBatch : State → Type 0
+IsInBatch s = IsTrue s.is_open → InBatch s
+
+-- it goes on, with the savepoints that it had
+pub record GoesOn (old new : State) : Type 0 where
   pub was_open : IsTrue old.is_open
+  pub was_begun : old.in_transaction ≡ true
+  pub batch : InBatch new
+  pub committed : new.committed ≡ old.committed
+  pub marks : new.marks ≡ old.marks
+
+-- a part of a change has made an edit of the tables
+pub record Edited (Edit : Trees → Trees → Type 0) (old new : State) : Type 0 where
+  pub on : GoesOn old new
   pub edit : Edit old.now.trees new.now.trees
-  pub serves : Serves new
 
--- The edit is made and stays, or all is as it was. A stop of the program in the call leaves the tables from before
--- it or from after it.
-pub record Changes {A E : Type 0} (Edit : Trees → Trees → Type 0) (old new : State) (r : Result A E) : Type 0 where
-  pub ok : IsTrue new.is_open → OnOk r (Made Edit old new)
-  pub err : IsTrue new.is_open → OnErr r (IsAsBefore old new)
-  pub crash : IsTrue old.is_open → HasCleanDisk new → (db : Trees) → new.may_leave db → (db ≡ old.now.trees) ⊎ Edit old.now.trees db
-  pub durable : IsTrue new.is_open → OnOk r ((db : Trees) → new.may_leave db → db ≡ new.now.trees)
-  -- no fault of the disk is forgotten, and with none an Ok leaves the connection open
-  pub clean : doubt old.is_clean ≤ doubt new.is_clean
-  pub up : HasCleanDisk new → OnOk r (IsTrue new.is_open)
+-- what a part of a change leaves, by its answer: its edit; or some of it, or nothing of the batch
+abbrev pub LeavesEdit : {A E : Type 0} → (Trees → Trees → Type 0) → State → State → Result A E → Type 0
+LeavesEdit Edit old new (Ok x) = Edited Edit old new
+LeavesEdit Edit old new (Err e) = GoesOn old new ⊎ IsUndone old new
 
--- ---- transactions of several statements
+-- what a call says of stops, by its answer
+abbrev pub Stops : {A E : Type 0} → State → State → Result A E → Type 0
+Stops old new (Ok x) = StaysOpen old new
+Stops old new (Err e) = IsUncommitted old new
+
+-- a part of a change makes an edit of the tables, if this holds where it begins
+pub record EditsIf {A E : Type 0} (Begins : State → Type 0) (Edit : Trees → Trees → Type 0) (old new : State) (r : Result A E) : Type 0 where
+  pub leaves : Begins old → IsTrue new.is_open → LeavesEdit Edit old new r
+  pub stops : Begins old → Stops old new r
+
+-- in a batch
+abbrev pub EditsIn : {A E : Type 0} → (Trees → Trees → Type 0) → State → State → Result A E → Type 0
+EditsIn Edit old new r = EditsIf IsInBatch Edit old new r
+
+-- it makes this of the rows of the hub
+abbrev pub Edits : {A E : Type 0} → (Rows → Rows) → State → State → Result A E → Type 0
+Edits f old new r = EditsIn (IsMade f) old new r
+
+-- nothing is changed
+abbrev pub IsSame : Trees → Trees → Type 0
+IsSame old new = new ≡ old
+
+-- how many rows a statement says that it changed
+abbrev pub rows_changed : Result ℕ Error → ℕ
+rows_changed (Ok n) = n
+rows_changed (Err e) = 0
+
+-- a row is added, or a constraint refuses it
+abbrev pub IsAdded : Bool → Result ℕ Error → Type 0
+IsAdded true r = IsOk r
+IsAdded false r = (rule : Constraint) × (r ≡ Err (SqliteFailure (ConstraintViolation rule)))
+
+-- a statement ran with these values
+pub record Ran (sql : List ℕ) (values : Row) (old new : State) (r : Result ℕ Error) : Type 0 where
+  pub runs : HasCleanDisk new → Executes sql values old new r
+  pub survives : Survives old new (CommitsBy sql values old)
+  pub clean : IsTrue new.is_open → HasCleanDisk new
+
+-- ---- look-ups
+
+-- what a look-up says, of the tables
+pub record AsksIn {A E : Type 0} (old new : State) (r : Result A E) (P : Trees → A → Type 0) : Type 0 where
+  -- what it answers
+  pub found : FindsIn old new r P
+  -- nothing changes
+  pub same : Rests old new r
+  -- a stop of the program leaves what it would have left before the call
+  pub stops : CommitsNothing old new r
+
+-- what a look-up says, of the rows of the hub
+abbrev pub Asks : {A E : Type 0} → State → State → Result A E → (Rows → A → Type 0) → Type 0
+Asks old new r P = AsksIn old new r (λ db. P (rows_of db))
+
+-- ---- the transaction that raises a database of an earlier form
 
 -- kept while the connection is open, inside a transaction
 pub record Within (s : State) : Type 0 where
@@ -224,45 +313,11 @@ pub record MakesIf {S A E : Type 0} (g : Ghosts S) (Begins : State → Type 0) (
 abbrev pub MakesIn : {S A E : Type 0} → Ghosts S → (Trees → Trees → Type 0) → Transaction S → Transaction S → Result A E → Type 0
 MakesIn g Edit old new r = MakesIf g IsInside Edit old new r
 
--- a part of a transaction makes this of the rows of the hub
-abbrev pub Makes : {S A E : Type 0} → Ghosts S → (Rows → Rows) → Transaction S → Transaction S → Result A E → Type 0
-Makes g f old new r = MakesIn g (IsMade f) old new r
-
--- nothing is changed
-abbrev pub IsSame : Trees → Trees → Type 0
-IsSame old new = new ≡ old
-
--- a statement ran with these values inside a transaction
-pub record Ran {S : Type 0} (g : Ghosts S) (sql : List ℕ) (values : Row) (old new : Transaction S) (r : Result ℕ Error) : Type 0 where
-  pub same_reference : new.conn.ghost_name ≡ old.conn.ghost_name
-  pub runs : HasCleanDisk (state g new.conn.now) → IsTrue (state g old.conn.now).in_transaction → ExecutesInside 0 sql values (state g old.conn.now) (state g new.conn.now) r
-  pub ended : (state g old.conn.now).in_transaction ≡ false → (r ≡ Err (SqliteFailure TransactionState)) × (new.conn.now ≡ old.conn.now)
-  pub survives : Survives (state g old.conn.now) (state g new.conn.now) (λ _. ⊥)
-  pub clean : IsTrue (state g new.conn.now).is_open → HasCleanDisk (state g new.conn.now)
-
--- how many rows a statement says that it changed
-abbrev pub rows_changed : Result ℕ Error → ℕ
-rows_changed (Ok n) = n
-rows_changed (Err e) = 0
-
--- a row is added, or a constraint refuses it
-abbrev pub IsAdded : Bool → Result ℕ Error → Type 0
-IsAdded true r = IsOk r
-IsAdded false r = (rule : Constraint) × (r ≡ Err (SqliteFailure (ConstraintViolation rule)))
-
 -- what a look-up inside a transaction says, of the tables
 pub record AsksInsideIn {S A E : Type 0} (g : Ghosts S) (old new : Transaction S) (r : Result A E) (P : Trees → A → Type 0) : Type 0 where
   pub same_reference : new.conn.ghost_name ≡ old.conn.ghost_name
   -- what it answers
   pub found : IsInside (state g old.conn.now) → IsTrue (state g new.conn.now).is_open → IfOk r (P (state g old.conn.now).now.trees)
-  -- nothing changes
-  pub goes : IsInside (state g old.conn.now) → Goes IsSame (state g old.conn.now) (state g new.conn.now) r
-
--- what a look-up inside a transaction says, of the rows of the hub
-pub record AsksInside {S A E : Type 0} (g : Ghosts S) (old new : Transaction S) (r : Result A E) (P : Rows → A → Type 0) : Type 0 where
-  pub same_reference : new.conn.ghost_name ≡ old.conn.ghost_name
-  -- what it answers
-  pub found : IsInside (state g old.conn.now) → IsTrue (state g new.conn.now).is_open → IfOk r (P (rows_of (state g old.conn.now).now.trees))
   -- nothing changes
   pub goes : IsInside (state g old.conn.now) → Goes IsSame (state g old.conn.now) (state g new.conn.now) r
 
@@ -281,10 +336,4 @@ IsAny rows (t ∷ ts) = (ts ≡ []) × Has rows t
 pub record ShowsAnyInside {V T S : Type 0} (g : Ghosts S) (items : V → List Row) (s : TypedTable T) (old new : Transaction S) (r : Result V Error) : Type 0 where
   pub same_reference : new.conn.ghost_name ≡ old.conn.ghost_name
   pub ok : IsInside (state g old.conn.now) → IsTrue (state g new.conn.now).is_open → IfOk r (λ v. IsAny (rows_in s (state g old.conn.now).now.trees) (map s.read (items v)))
-  pub goes : IsInside (state g old.conn.now) → Goes IsSame (state g old.conn.now) (state g new.conn.now) r
-
--- the number that is shown in that column inside a transaction is the greatest of the rows that pass, and nothing changes
-pub record ShowsLastInside {V T S : Type 0} (g : Ghosts S) (items : V → List Row) (at : ℕ) (s : TypedTable T) (number : T → ℕ) (p : T → Bool) (old new : Transaction S) (r : Result V Error) : Type 0 where
-  pub same_reference : new.conn.ghost_name ≡ old.conn.ghost_name
-  pub ok : IsInside (state g old.conn.now) → IsTrue (state g new.conn.now).is_open → IfOk r (λ v. greatest (map (λ x. count_in (column x at)) (items v)) ≡ greatest (map number (filter p (rows_in s (state g old.conn.now).now.trees))))
   pub goes : IsInside (state g old.conn.now) → Goes IsSame (state g old.conn.now) (state g new.conn.now) r

@@ -2,6 +2,7 @@
 //! text means.
 #![tactic(auto)]
 
+pub mod batches;
 pub mod connectors;
 pub mod grants;
 pub mod list_entries;

@@ -14,9 +14,9 @@ use crate::reservations::reserved_until;
 use crate::station_copies::{copies_of_station, local_list_of};
 use crate::stations::{ANYWHERE, place_of_station, registration_of};
 use hub_rows::{
-    Change, ConnectorRow, GrantRow, GrantedTag, History, Info, LocalList, MeterValueRow, Reader,
-    ReaderRow, Registration, ReportRow, ReservationId, ReservationRow, StartKey, StationRow, Store,
-    StoreFault, TagRow, TxKey, TxRow, TxState, UseRow,
+    Change, ConnectorRow, Flush, GrantRow, GrantedTag, History, Info, LocalList, MeterValueRow,
+    Reader, ReaderRow, Recovered, Registration, ReportRow, ReservationId, ReservationRow, StartKey,
+    StationRow, Store, StoreFault, TagRow, TxKey, TxRow, TxState, UseRow,
 };
 use ocpp_types::{Listed, Moment, TagKey};
 use std::alloc::Global;
@@ -40,7 +40,7 @@ impl MemStore {
 }
 
 impl Store for MemStore {
-    ghost view = { λ s. record { rows = rows_in s.lists; failures = 0; clean = Unit {0}; may_find = λ _. Unit {0} } };
+    ghost view = { λ s. record { rows = rows_in s.lists; failures = 0; clean = Unit {0}; sound = Unit {0}; was_sound = λ clean. clean; may_find = λ _. Unit {0} } };
 
     ghost well_formed = { λ s _. s.good };
 
@@ -194,7 +194,16 @@ impl Store for MemStore {
         Ok(own_copies(self.lists.alloc, &self.lists.readers, op)?)
     }
 
-    fn apply(&mut self, change: &Change<'_>) -> Result<(), StoreFault> {
+    fn apply(&mut self, change: &Change<'_>, _when: Flush) -> Result<(), StoreFault> {
         Ok(self.lists.make(change.op, change.edit)?)
+    }
+
+    /// No change waits.
+    fn flush(&mut self) -> Result<(), StoreFault> {
+        Ok(())
+    }
+
+    fn recover(&mut self) -> Result<Recovered, StoreFault> {
+        Ok(Recovered::Whole)
     }
 }

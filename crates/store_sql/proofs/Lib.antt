@@ -1,3 +1,5 @@
+pub mod ChangeLaws
+pub mod RecoverLaws
 pub mod MetaLaws
 pub mod OursLaws
 pub mod StopLaws

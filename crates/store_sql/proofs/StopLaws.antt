@@ -1,5 +1,6 @@
 -- What a stop of the work leaves of the store, by what a call on the connection says of it.
-use Rattle.std.proofs.Common.{◌≡◌, ◌≢◌, ◌≤◌, ◌<◌, ℕ, Bool, true, false, IsTrue, Result, Ok, Err, OnOk, IfOk, refl, sym, ap, ◌∙◌, subst, subst₂, inl, inr, true≢false, arith}
+use Rattle.std.proofs.Common.{◌≡◌, ◌≢◌, ◌≤◌, ◌<◌, ℕ, Bool, true, false, not, IsTrue, Result, Ok, Err, IfOk, refl, sym, ap, ◌∙◌, subst, inl, inr, true≢false, arith}
+use Rattle.std.specs.Prelude.{⊤}
 use Rattle.std.proofs.Math.Logic.{∥∥₁_elim}
 use Rattle.std.proofs.Props.{props}
 use Rattle.sqlite_trees.specs.Tree.{Trees}
@@ -9,135 +10,109 @@ use Rattle.sqlite.specs.Effect.{Database}
 use Rattle.sqlite.specs.Held.{Held, state}
 use Rattle.sqlite.specs.State.{State, HasCleanDisk}
 use Rattle.hub_rows.specs.Rows.{Rows}
-use Rattle.hub_rows.specs.Stops.{IsKept, FindsOld, FindsOldOr}
+use Rattle.hub_rows.specs.Stops.{HasOnRecord, IsKept, PutsOnRecord}
 use Rattle.hub_rows.specs.WellFormed.{WellFormedRows}
 use Rattle.sql_tables.specs.Opening.{our_form, schema_at}
-use Rattle.sql_rows.specs.Kept.{Serves, IsServing, Rests, IsUncommitted, CommitsNothing, Changes, IsMade}
-use Rattle.sql_rows.specs.Opening.{IsOurs, Prepares}
+use Rattle.sql_rows.specs.Kept.{IsServing, changes_in}
+use Rattle.sql_rows.specs.Opening.{IsOurs, IsSpared, Prepares}
 use Rattle.sql_rows.specs.TypedTables.{rows_of}
+use Rattle.sql_rows.proofs.OpeningLemmas.{still_prepared}
 use Rattle.sql_rows.proofs.StoreLemmas.{open_is_clean}
-use Rattle.store_sql.specs.Store.{SqlView, ServesIfOurs, sql_rows, sql_may_find, sql_view, IsCleanSql}
+use Rattle.store_sql.specs.declared.fault.PrepareFault.{PrepareFault}
+use Rattle.store_sql.specs.Store.{KeepsIfOurs, SqlView, sql_rows, sql_may_find, sql_view, IsCleanSql}
 
--- ---- what a read says, whatever it answers
-
-uncommitted : {A E : Type 0} (a b : State) (r : Result A E) → CommitsNothing a b r → IsServing a → IsUncommitted a b
-uncommitted a b (Ok x) h = λ serves. (h serves).stops
-uncommitted a b (Err e) h = h
-
--- a stop leaves something of a clean disk, also where the connection is shut
-abbrev pub LeavesSome : {S : Type 0} → Ghosts S → Held S → Type 0
-LeavesSome g h = HasCleanDisk (state g h) → ∥ ((db : Trees) × (state g h).may_leave db) ∥₁
-
--- a connection that is open has a clean disk, of which a stop may leave the last commit
-abbrev pub LeavesLast : {S : Type 0} → Ghosts S → Held S → Type 0
-LeavesLast g h = IsTrue (state g h).is_open → HasCleanDisk (state g h) × (state g h).may_leave (state g h).committed.trees
-
-pub leaves_last : {S : Type 0} (g : Ghosts S) (h : Held S) → ((g.view h.store).is_clean ≡ false → (g.view h.store).is_open ≡ false) → (IsTrue (state g h).is_open → (state g h).may_leave (state g h).committed.trees) → LeavesLast g h
-leaves_last g h shut last = λ up. (open_is_clean _ _ shut up, last up)
+-- what the disk of a connection promises
+pub record IsDisk {S : Type 0} (g : Ghosts S) : Type 0 where
+  pub survives : (s : S) → IsClean (g.view s) → ∥ ((db : Trees) × g.recovers s db) ∥₁
+  pub shut : (s : S) → (g.view s).is_clean ≡ false → (g.view s).is_open ≡ false
+  pub stays : (s : S) → IsTrue (g.view s).is_open → g.recovers s (g.view s).committed
+  pub settled : (s : S) (db : Trees) → IsTrue (g.view s).is_open → g.recovers s db → db ≡ (g.view s).committed
 
 module _ {S : Type 0} (g : Ghosts S) where
-  -- A stop leaves something of a clean disk, so a kept store whose disk is clean was open.
-  was_open : (s : SqlView S) → IsKept (sql_view g s) → HasCleanDisk (state g s.conn) → ∥ ((db : Trees) × (state g s.conn).may_leave db) ∥₁ → IsTrue (state g s.conn).is_open
-  was_open s kept sure some = ∥∥₁_elim some (Prim.hlevel props) (λ it. (kept.alone (rows_of it.0) (sure, it.0, it.1, refl)).0.up)
+  abbrev pub IsKeeping : SqlView S → Type 0
+  IsKeeping s = KeepsIfOurs (state g s.taken) (state g s.conn) s.changes s.waiting s.lost
 
-  -- A kept store is clean, if its disk is clean where its connection is shut.
-  was_clean : (s : SqlView S) → LeavesSome g s.conn → LeavesLast g s.conn → IsKept (sql_view g s) → ((state g s.conn).is_open ≡ false → HasCleanDisk (state g s.conn)) → IsCleanSql g s
-  was_clean s some last kept sure = go (state g s.conn).is_open refl
+  abbrev pub last_rows : SqlView S → Rows
+  last_rows s = rows_of (state g s.conn).committed.trees
+
+module _ {S : Type 0} (g : Ghosts S) (disk : IsDisk g) where
+  pub finds_last : (s : SqlView S) → IsTrue (state g s.conn).is_open → sql_may_find g s (last_rows g s)
+  finds_last s up = (open_is_clean _ _ (disk.shut s.conn.store) up, (state g s.conn).committed.trees, disk.stays s.conn.store up, refl)
+
+  -- A stop leaves something of a clean disk, so a store with rows on record whose disk is clean was open.
+  was_open : (s : SqlView S) (on_record : Rows) → HasOnRecord on_record (sql_view g s) → HasCleanDisk (state g s.conn) → IsTrue (state g s.conn).is_open
+  was_open s on_record kept sure = ∥∥₁_elim (disk.survives s.conn.store sure) (Prim.hlevel props) (λ it. (kept.alone (rows_of it.0) (sure, it.0, it.1, refl)).0.up)
+
+  -- A store with rows on record is clean, if its disk is clean where its connection is shut.
+  pub was_clean : (s : SqlView S) (on_record : Rows) → HasOnRecord on_record (sql_view g s) → ((state g s.conn).is_open ≡ false → HasCleanDisk (state g s.conn)) → IsCleanSql g s
+  was_clean s on_record kept sure = go (state g s.conn).is_open refl
     where
       go : (b : Bool) → (state g s.conn).is_open ≡ b → IsCleanSql g s
-      go true up = let it = last up in (kept.alone (rows_of (state g s.conn).committed.trees) (it.0, (state g s.conn).committed.trees, it.1, refl)).0
-      go false shut = absurd (true≢false (sym (was_open s kept (sure shut) (some (sure shut))) ∙ shut))
+      go true up = (kept.alone (last_rows g s) (finds_last s up)).0
+      go false shut = absurd (true≢false (sym (was_open s on_record kept (sure shut)) ∙ shut))
 
-  -- an open connection that serves may be found as it is
-  takes_now : (s : SqlView S) → LeavesLast g s.conn → IsCleanSql g s → Serves (state g s.conn) → sql_may_find g s (sql_rows g s)
-  takes_now s last clean serves = let it = last clean.up in (it.0, (state g s.conn).now.trees, subst (λ (d : Database). (state g s.conn).may_leave d.trees) serves.committed it.1, refl)
+  -- what an open store has on record is what its last commit left
+  pub record_is : (s : SqlView S) (on_record : Rows) → HasOnRecord on_record (sql_view g s) → IsTrue (state g s.conn).is_open → last_rows g s ≡ on_record
+  record_is s on_record kept up = (kept.alone (last_rows g s) (finds_last s up)).1
 
-  -- a connection that was prepared is kept
-  pub prepared_kept : (s : SqlView S) (taken conn : Held S) → s.taken ≡ taken → s.conn ≡ conn → {A E : Type 0} (x : A) → Prepares {A = A} {E = E} (state g taken) (state g conn) (Ok x) → LeavesLast g conn → IsOurs (state g taken) → IsKept (sql_view g s)
-  prepared_kept s taken conn same_taken same_conn {A} {E} x prepared last ours_taken = record {
-    alone = λ r found.
-        let up = done.up found.0 in
-        (record { ours = ours; up = up; good = (done.serves ours up).1 }, found.3 ∙ ap rows_of (done.durable up found.1 found.2));
-    takes = λ clean. takes_now s (subst (LeavesLast g) (sym same_conn) last) clean (done.serves clean.ours clean.up).0;
+  pub has_last : (s : SqlView S) (on_record : Rows) → (HasCleanDisk (state g s.conn) → IsCleanSql g s) → (IsCleanSql g s → last_rows g s ≡ on_record) → HasOnRecord on_record (sql_view g s)
+  has_last s on_record clean is = record {
+    alone = λ r found. let it = clean found.0 in (it, found.3 ∙ ap rows_of (disk.settled s.conn.store found.1 it.up found.2) ∙ is it);
+    takes = λ it. subst (sql_may_find g s) (is it) (finds_last s it.up);
   }
-    where
-      ours : IsOurs (state g s.taken)
-      ours = subst (λ t. IsOurs (state g t)) (sym same_taken) ours_taken
 
-      done : Prepares {A = A} {E = E} (state g s.taken) (state g s.conn) (Ok x)
-      done = subst₂ (λ t h. Prepares {A = A} {E = E} (state g t) (state g h) (Ok x)) (sym same_taken) (sym same_conn) prepared
+  -- where no change waits, the last commit left the rows of now
+  rested_last : (s : SqlView S) → IsKeeping g s → s.waiting ≡ 0 → IsCleanSql g s → last_rows g s ≡ sql_rows g s
+  rested_last s keeps none clean = let it = keeps clean.ours clean.up in ap (λ (d : Database). rows_of d.trees) (it.serves.settled (it.rested clean.all.kept none))
 
-  module _ (inside new : SqlView S) (kept : ServesIfOurs (state g inside.taken) (state g inside.conn)) (same_taken : new.taken ≡ inside.taken)
-      (some : LeavesSome g inside.conn) (last_inside : LeavesLast g inside.conn) (last : LeavesLast g new.conn) where
-    serving_of : IsCleanSql g inside → IsServing (state g inside.conn)
-    serving_of clean up = (kept clean.ours up).0
+  pub none_waits : (s : SqlView S) → IsKeeping g s → s.waiting ≡ 0 → PutsOnRecord (sql_view g s) (sql_view g s)
+  none_waits s keeps none on_record was = has_last s (sql_rows g s) (λ sure. was_clean s on_record was (λ shut. sure)) (rested_last s keeps none)
 
-    ours_new : IsCleanSql g inside → IsOurs (state g new.taken)
-    ours_new clean = subst (λ h. IsOurs (state g h)) (sym same_taken) clean.ours
+-- ---- opened
 
-    -- ---- a read
+-- a connection that was prepared, on which so many changes are on record
+pub keeps_prepared : (taken new : State) (n : ℕ) {A E : Type 0} (x : A) → Prepares {A = A} {E = E} taken new (Ok x) → new.in_transaction ≡ false → (IsOurs taken → IsTrue new.is_open → n ≡ changes_in new.now.trees) → KeepsIfOurs taken new n 0 false
+keeps_prepared taken new n x prepared over counted ours up =
+    let it = prepared.serves ours up in
+    let same = it.0.settled over in
+    record {
+      serves = it.0;
+      now = λ kept. it.1;
+      last = subst (λ (d : Database). WellFormedRows (rows_of d.trees)) (sym same) it.1;
+      counted = counted ours up ∙ sym (ap (λ (d : Database). changes_in d.trees) same);
+      rested = λ kept none. over;
+    }
 
-    module _ {A E : Type 0} (result : Result A E) (rests : Rests (state g inside.conn) (state g new.conn)) (stops : CommitsNothing (state g inside.conn) (state g new.conn) result) where
-      sure_before : IsServing (state g inside.conn) → HasCleanDisk (state g new.conn) → HasCleanDisk (state g inside.conn)
-      sure_before serving sure =
-          let doubts = (uncommitted (state g inside.conn) (state g new.conn) result stops serving).clean in
-          omega (arith, doubts, sure)
+-- the store over it
+abbrev pub opened : {S : Type 0} → Held S → Held S → ℕ → SqlView S
+opened taken conn n = record { conn = conn; failures = 0; taken = taken; changes = n; waiting = 0; lost = false }
 
-      clean_before : IsKept (sql_view g inside) → HasCleanDisk (state g new.conn) → IsCleanSql g inside
-      clean_before was sure = was_clean inside some last_inside was (λ shut. sure_before (λ up. absurd (true≢false (sym up ∙ shut))) sure)
+pub opened_clean : {S : Type 0} (g : Ghosts S) (taken conn : Held S) (n : ℕ) → KeepsIfOurs (state g taken) (state g conn) n 0 false → IsOurs (state g taken) → IsTrue (state g conn).is_open → IsCleanSql g (opened taken conn n)
+opened_clean g taken conn n keeps ours up = record { ours = ours; up = up; good = (keeps ours up).now refl; all = record { kept = refl; begun = inl refl } }
 
-      pub read_stopped : FindsOld (sql_view g inside) (sql_view g new)
-      read_stopped was r found =
-          let old = clean_before was found.0 in
-          let it = uncommitted (state g inside.conn) (state g new.conn) result stops (serving_of old) in
-          was.alone r (sure_before (serving_of old) found.0, found.1, it.leaves old.up found.0 found.1 found.2, found.3)
+pub opened_kept : {S : Type 0} (g : Ghosts S) (taken conn : Held S) (n : ℕ) → KeepsIfOurs (state g taken) (state g conn) n 0 false → IsDisk g → {A E : Type 0} (x : A) → Prepares {A = A} {E = E} (state g taken) (state g conn) (Ok x) → IsOurs (state g taken) → IsKept (sql_view g (opened taken conn n))
+opened_kept g taken conn n keeps disk x prepared ours =
+    has_last g disk (opened taken conn n) (sql_rows g (opened taken conn n)) (λ sure. opened_clean g taken conn n keeps ours (prepared.up sure)) (rested_last g disk (opened taken conn n) keeps refl)
 
-      found_again : IsKept (sql_view g inside) → OnOk result ((r : Rows) → sql_may_find g new r → IsTrue (state g new.conn).is_open)
-      found_again was = go result stops
-        where
-          go : (q : Result A E) → CommitsNothing (state g inside.conn) (state g new.conn) q → OnOk q ((r : Rows) → sql_may_find g new r → IsTrue (state g new.conn).is_open)
-          go (Ok x) h = λ r found. let old = clean_before was found.0 in (h (serving_of old)).up old.up found.0
-          go (Err e) h = tt
+pub over_if : (b : Bool) → not b ≡ true → b ≡ false
+over_if true over = absurd (true≢false (sym over))
+over_if false over = refl
 
-      pub read_stays : IsKept (sql_view g inside) → OnOk result (IsKept (sql_view g new))
-      read_stays was = go result (found_again was)
-        where
-          go : (q : Result A E) → OnOk q ((r : Rows) → sql_may_find g new r → IsTrue (state g new.conn).is_open) → OnOk q (IsKept (sql_view g new))
-          go (Ok x) opens = record {
-            alone = λ r found.
-                let up = opens r found in
-                let old = read_stopped was r found in
-                let same = ap (λ (d : Database). rows_of d.trees) (rests (serving_of old.0) up).now in
-                (record { ours = ours_new old.0; up = up; good = subst WellFormedRows (sym same) old.0.good }, old.1 ∙ sym same);
-            takes = λ clean. takes_now new last clean (rests (λ up. (kept (subst (λ h. IsOurs (state g h)) same_taken clean.ours) up).0) clean.up).serves;
-          }
-          go (Err e) opens = tt
+-- a connection that was prepared, and then asked for the count of changes
+pub record Adopts {S : Type 0} (g : Ghosts S) (old new : Held S) (n : ℕ) : Type 0 where
+  pub prepared : Prepares {A = ⊤} {E = PrepareFault} (state g old) (state g new) (Ok tt)
+  pub keeps : KeepsIfOurs (state g old) (state g new) n 0 false
 
-    -- ---- a change
-
-    module _ {A E : Type 0} (result : Result A E) (after : Rows → Rows) (made : (IsTrue (state g inside.conn).is_open → IsOurs (state g inside.taken)) → Changes (IsMade after) (state g inside.conn) (state g new.conn) result)
-        (kept_new : ServesIfOurs (state g new.taken) (state g new.conn)) where
-      clean_inside : IsKept (sql_view g inside) → HasCleanDisk (state g new.conn) → IsCleanSql g inside
-      clean_inside was sure = was_clean inside some last_inside was (λ shut. let doubts = (made (λ up. absurd (true≢false (sym up ∙ shut)))).clean in omega (arith, doubts, sure))
-
-      pub change_stopped : FindsOldOr (after (sql_rows g inside)) (sql_view g inside) (sql_view g new)
-      change_stopped was r found =
-          let old = clean_inside was found.0 in
-          (old, elim ((made (λ _. old.ours)).crash old.up found.0 found.1 found.2) [ inl before ↦ inl (found.3 ∙ ap rows_of before) | inr edited ↦ inr (found.3 ∙ edited) ])
-
-      pub change_stays : IsKept (sql_view g inside) → OnOk result (IsKept (sql_view g new))
-      change_stays was = go result made
-        where
-          go : (q : Result A E) → ((IsTrue (state g inside.conn).is_open → IsOurs (state g inside.taken)) → Changes (IsMade after) (state g inside.conn) (state g new.conn) q) → OnOk q (IsKept (sql_view g new))
-          go (Ok x) made = record {
-            alone = λ r found.
-                let old = clean_inside was found.0 in
-                let it = made (λ _. old.ours) in
-                let up = it.up found.0 in
-                (record { ours = ours_new old; up = up; good = (kept_new (ours_new old) up).1 }, found.3 ∙ ap rows_of (it.durable up found.1 found.2));
-            takes = λ clean. takes_now new last clean (kept_new clean.ours clean.up).0;
-          }
-          go (Err e) made = tt
+pub adopts : {S : Type 0} (g : Ghosts S) → IsDisk g → (old mid new : Held S) (n : ℕ) (x : ⊤) → Prepares {A = ⊤} {E = PrepareFault} (state g old) (state g mid) (Ok x) → IsSpared (state g mid) (state g new) → (HasCleanDisk (state g new) → IsTrue (state g new).is_open)
+    → (IsServing (state g mid) → IsTrue (state g new).is_open → n ≡ changes_in (state g mid).now.trees) → not new.in_transaction ≡ true → Adopts g old new n
+adopts g disk old mid new n x prepares spared up found over = record {
+  prepared = prepared;
+  keeps = keeps_prepared (state g old) (state g new) n x prepared (over_if new.in_transaction over)
+      (λ ours still. found (λ was. (prepares.serves ours was).0) still ∙ sym (ap (λ (d : Database). changes_in d.trees) (spared.now still)));
+}
+  where
+    prepared : Prepares {A = ⊤} {E = PrepareFault} (state g old) (state g new) (Ok tt)
+    prepared = still_prepared (state g old) (state g mid) (state g new) x prepares spared up (open_is_clean _ _ (disk.shut new.store))
 
 -- ---- opened again
 

@@ -1,6 +1,7 @@
 //! The store of the records of all operators in SQLite, in memory or in a file.
 #![tactic(auto)]
 
+mod batch;
 mod fault;
 mod mark;
 mod opening;

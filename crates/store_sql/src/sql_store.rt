@@ -7,9 +7,9 @@ use crate::fault::{PrepareFault, fault};
 use crate::mark::Mark;
 use crate::opening::{changes, prepare};
 use hub_rows::{
-    Change, ConnectorRow, GrantRow, GrantedTag, History, Info, LocalList, MeterValueRow, Reader,
-    ReaderRow, Registration, ReportRow, ReservationId, ReservationRow, StartKey, StationRow, Store,
-    StoreFault, TagRow, TxKey, TxRow, TxState, UseRow,
+    Change, ConnectorRow, Flush, GrantRow, GrantedTag, History, Info, LocalList, MeterValueRow,
+    Reader, ReaderRow, Recovered, Registration, ReportRow, ReservationId, ReservationRow, StartKey,
+    StationRow, Store, StoreFault, TagRow, TxKey, TxRow, TxState, UseRow,
 };
 use ocpp_types::{Listed, Moment, TagKey, Text};
 use sql_lookups::{
@@ -28,33 +28,21 @@ use std::snapshot::Snapshot;
 /// opened again.
 #[derive(Drop)]
 pub struct SqlStore<A: Alter> {
-    alloc: Global,
-    conn: Connection<A>,
+    pub(crate) alloc: Global,
+    pub(crate) conn: Connection<A>,
     failures: u64,
     /// The connection as it was taken over, which takes no memory.
     taken: Snapshot<Connection<A>>,
     /// How many changes are on record.
-    changes: u64,
-    /// Where that is noted too, beside the file of the database.
-    mark: Option<Mark>,
+    pub(crate) changes: u64,
+    /// How many changes wait for a flush, in the batch that is open.
+    pub(crate) waiting: u64,
+    /// Whether changes that waited are gone.
+    pub(crate) lost: bool,
+    /// Where the count of changes is noted too, beside the file of the database.
+    pub(crate) mark: Option<Mark>,
     /// As how many rows the meter values of a listing may count.
     longest: usize,
-}
-
-/// How many changes are on record after one that was tried after so many. One that was made is noted in the mark too.
-fn on_record(mark: &Option<Mark>, done: &Result<(), StoreFault>, changes: u64) -> u64
-    requires small { OnOk done.now (changes < 2 ^ 63) }
-    ensures made { OnOk done.now (result ≡ changes + 1) }
-    ensures failed { OnErr done.now (result ≡ changes) }
-{
-    if done.is_err() {
-        return changes;
-    }
-    let all = changes + 1;
-    if let Some(mark) = mark {
-        mark.put(all);
-    }
-    all
 }
 
 /// The steps of a statement that visits so many rows, each by its place in an index, and then finds no more.
@@ -70,14 +58,14 @@ impl<A: Alter> Model for SqlStore<A> {
 
     ghost coded = { sql_code A.code };
 
-    ghost view = { λ s. record { conn = s.conn; failures = s.failures; taken = s.taken.value; changes = s.changes } };
+    ghost view = { λ s. record { conn = s.conn; failures = s.failures; taken = s.taken.value; changes = s.changes; waiting = s.waiting; lost = s.lost } };
 
-    ghost invariant = { λ s. KeepsIfOurs (state A.Store s.taken.value) (state A.Store s.conn) s.changes };
+    ghost invariant = { λ s. KeepsIfOurs (state A.Store s.taken.value) (state A.Store s.conn) s.changes s.waiting s.lost };
 }
 
 impl<A: Alter> SqlStore<A> {
-    ghost use Rattle.std.specs.Prelude.{IfOk};
-    ghost use Rattle.store_sql.specs.Store.{CountsIfOurs, IsCleanSql, ServesIfOurs, sql_rows, sql_view};
+    ghost use Rattle.std.specs.Prelude.{IfOk, false};
+    ghost use Rattle.store_sql.specs.Store.{IsCleanSql, KeepsIfOurs, sql_rows, sql_view};
     ghost use Rattle.hub_rows.specs.Reads.{OnlyReads};
     ghost use Rattle.sql_lookups.specs.Asks.{next_operator_in};
     ghost use Rattle.sql_rows.specs.Kept.{changes_in};
@@ -91,12 +79,8 @@ impl<A: Alter> SqlStore<A> {
         conn: Connection<A>,
         changes: u64,
     ) -> SqlStore<A>
-        requires prepared { ServesIfOurs (state A.Store taken.value) (state A.Store conn) }
-        requires count { CountsIfOurs (state A.Store taken.value) (state A.Store conn) changes }
-        ensures clean { IsOurs (state A.Store taken.value) → IsTrue (state A.Store conn).is_open → IsCleanSql A.Store result }
-        ensures conn { result.conn ≡ conn }
-        ensures taken { result.taken ≡ taken.value }
-        ensures failures { result.failures ≡ 0 }
+        requires { KeepsIfOurs (state A.Store taken.value) (state A.Store conn) changes 0 false }
+        ensures { result ≡ record { conn = conn; failures = 0; taken = taken.value; changes = changes; waiting = 0; lost = false } }
     {
         SqlStore {
             alloc,
@@ -104,6 +88,8 @@ impl<A: Alter> SqlStore<A> {
             failures: 0,
             taken,
             changes,
+            waiting: 0,
+            lost: false,
             mark: None,
             longest: usize::MAX,
         }
@@ -111,12 +97,12 @@ impl<A: Alter> SqlStore<A> {
 
     /// How many changes are on record.
     pub fn changes(&self) -> u64
-        ensures counted { IsOurs (state A.Store self.now.taken) → IsTrue (state A.Store self.now.conn).is_open → result ≡ changes_in (state A.Store self.now.conn).now.trees }
+        ensures counted { IsOurs (state A.Store self.now.taken) → IsTrue (state A.Store self.now.conn).is_open → result ≡ changes_in (state A.Store self.now.conn).committed.trees }
     {
         self.changes
     }
 
-    /// From now on each change is noted in that mark, once it is on record.
+    /// From now on the count of changes is noted in that mark, once they are on record.
     pub fn keep_mark(&mut self, mark: Mark)
         ensures { self.new ≡ self.old }
     {
@@ -137,9 +123,7 @@ impl<A: Alter> SqlStore<A> {
         ensures same { result ≡ done }
         ensures failed { done ≡ Err store_fault.Failed → Rose self.old.failures self.new.failures }
         ensures count { self.old.failures ≤ self.new.failures }
-        ensures conn { self.new.conn ≡ self.old.conn }
-        ensures taken { self.new.taken ≡ self.old.taken }
-        ensures changes { self.new.changes ≡ self.old.changes }
+        ensures rest { self.new ≡ record self.old { failures = self.new.failures } }
     {
         if let Err(StoreFault::Failed) = &done {
             self.failures = self.failures.saturating_add(1);
@@ -167,6 +151,9 @@ impl<A: Alter + Drop> SqlStore<A> {
         let mut conn = conn;
         prepare(&mut conn, alloc)?;
         let changes = changes(&mut conn)?;
+        if !conn.is_autocommit() {
+            return Err(PrepareFault::Failed);
+        }
         Ok(SqlStore::over(alloc, taken, conn, changes))
     }
 
@@ -185,16 +172,17 @@ impl<A: Alter + Drop> SqlStore<A> {
             failures: self.failures,
             taken: self.taken,
             changes: self.changes,
+            waiting: self.waiting,
+            lost: self.lost,
             mark: self.mark,
             longest: rows as usize,
         }
     }
 
-    /// Its connection. Where this project wrote what was taken over, it wrote what is there now, so that can be taken over
-    /// again.
+    /// Its connection. What a clean store has can be taken over again, once the changes that wait are flushed.
     pub fn into_connection(self) -> Connection<A>
         ensures same { result ≡ self.conn }
-        ensures ours { IsOurs (state A.Store self.taken) → IsTrue (state A.Store result).is_open → IsOurs (state A.Store result) }
+        ensures ours { IsCleanSql A.Store self → IsOurs (state A.Store result) }
     {
         self.conn
     }
@@ -422,9 +410,22 @@ impl<A: Alter> Store for SqlStore<A> {
         self.counted(found)
     }
 
-    fn apply(&mut self, change: &Change<'_>) -> Result<(), StoreFault> {
-        let done = sql_edits::apply(&mut self.conn, self.alloc, change, self.changes);
-        self.changes = on_record(&self.mark, &done, self.changes);
+    fn apply(&mut self, change: &Change<'_>, when: Flush) -> Result<(), StoreFault> {
+        let done = self.put(change, when);
         self.counted(done)
+    }
+
+    fn flush(&mut self) -> Result<(), StoreFault> {
+        let done = self.commit();
+        self.counted(done)
+    }
+
+    fn recover(&mut self) -> Result<Recovered, StoreFault> {
+        if self.is_whole() {
+            return Ok(Recovered::Whole);
+        }
+        let done = self.renew();
+        self.counted(done)?;
+        Ok(Recovered::Renewed)
     }
 }

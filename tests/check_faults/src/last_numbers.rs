@@ -2,7 +2,7 @@
 
 use crate::scripts::{events, hub_of, run};
 use hub_rows::{
-    Change, Edit, MeterValue, Start, StartKey, StationEdit, Store, StoreFault, TransactionEdit,
+    Change, Edit, Flush, MeterValue, Start, StartKey, StationEdit, Store, StoreFault, TransactionEdit,
 };
 use ocpp_types::{
     AuthorizationStatus, Listed, Location, Measurand, Mem, Moment, Policy, ReadingContext, Refusal,
@@ -20,7 +20,7 @@ const LAST_NUMBER: u32 = 2147483647;
 /// Makes a change of ACME's records.
 fn apply<S: Store>(alloc: Global, store: &mut S, edit: &Edit) -> Result<(), StoreFault> {
     let op = Text::copy_of(alloc, "ACME")?;
-    store.apply(&Change { op: &op, edit })
+    store.apply(&Change { op: &op, edit }, Flush::AtOnce)
 }
 
 /// Adds CP01.

@@ -4,7 +4,7 @@ use crate::scripts::{BOOTED, BOOTED_OUTPUT, events, hosting, hub_of, lines_of, o
 use failing_store::Failing;
 use hub::Fault;
 use hub::worlds::{isolated, same_lists};
-use hub_rows::{Change, Edit, Store, StoreFault, Tag, TagEdit};
+use hub_rows::{Change, Edit, Flush, Store, StoreFault, Tag, TagEdit};
 use ocpp_types::{Mem, TagKey, Text};
 use station_calls::Echo;
 use std::alloc::Global;
@@ -329,10 +329,11 @@ fn put_tag<S: Store>(alloc: Global, store: &mut S) -> Result<(), StoreFault> {
     };
     let op = Text::copy_of(alloc, "BETA")?;
     let edit = Edit::Tags(TagEdit::TagPut { key, tag });
-    store.apply(&Change {
+    let change = Change {
         op: &op,
         edit: &edit,
-    })
+    };
+    store.apply(&change, Flush::AtOnce)
 }
 
 /// A grant of BETA's tag K2 to another.
@@ -343,10 +344,11 @@ fn grant<S: Store>(alloc: Global, store: &mut S, to: &str) -> Result<(), StoreFa
         until: None,
     });
     let op = Text::copy_of(alloc, "BETA")?;
-    store.apply(&Change {
+    let change = Change {
         op: &op,
         edit: &edit,
-    })
+    };
+    store.apply(&change, Flush::AtOnce)
 }
 
 #[test]

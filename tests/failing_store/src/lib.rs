@@ -4,8 +4,8 @@
 ghost use Rattle.std.specs.Prelude.{◌+◌};
 
 use hub_rows::{
-    Change, ConnectorRow, GrantRow, GrantedTag, History, Info, LocalList, MeterValueRow, Reader,
-    ReaderRow, Registration, ReportRow, ReservationId, ReservationRow, StartKey, StationRow, Store,
+    Change, ConnectorRow, Flush, GrantRow, GrantedTag, History, Info, LocalList, MeterValueRow, Reader,
+    ReaderRow, Recovered, Registration, ReportRow, ReservationId, ReservationRow, StartKey, StationRow, Store,
     StoreFault, TagRow, TxKey, TxRow, TxState, UseRow,
 };
 use ocpp_types::{Listed, Moment, TagKey};
@@ -209,8 +209,16 @@ impl<S: Store> Store for Failing<S> {
         self.store.readers(op)
     }
 
-    fn apply(&mut self, change: &Change<'_>) -> Result<(), StoreFault> {
+    fn apply(&mut self, change: &Change<'_>, when: Flush) -> Result<(), StoreFault> {
         self.count_call()?;
-        self.store.apply(change)
+        self.store.apply(change, when)
+    }
+
+    fn flush(&mut self) -> Result<(), StoreFault> {
+        self.store.flush()
+    }
+
+    fn recover(&mut self) -> Result<Recovered, StoreFault> {
+        self.store.recover()
     }
 }

@@ -4,7 +4,7 @@ use crate::scripts::runs::{events, take_all};
 use anyhow::Result;
 use cached::Cached;
 use failing_store::Failing;
-use hub_rows::{Change, Edit, Info, MeterValue, Registration, Store, StoreFault, TransactionEdit};
+use hub_rows::{Change, Edit, Flush, Info, MeterValue, Registration, Store, StoreFault, TransactionEdit};
 use ocpp_types::{
     Listed, Location, Measurand, ReadingContext, SampledValue, TagKey, Text, UnitOfMeasure,
     ValueFormat,
@@ -45,10 +45,11 @@ fn knows_last(alloc: Global, lines: &[u8]) -> Result<bool> {
         values: Listed::one(alloc, meter_value(alloc)?)?,
     });
     let op = Text::copy_of(alloc, "ACME")?;
-    cache.apply(&Change {
+    let change = Change {
         op: &op,
         edit: &edit,
-    })?;
+    };
+    cache.apply(&change, Flush::AtOnce)?;
     let known = cache.last_reading("ACME", "CP01")? == last + 2;
     let asked = cache.last_reading("ACME", "CP02");
     Ok(known && matches!(asked, Err(StoreFault::Failed)))

@@ -3,6 +3,8 @@ use Rattle.replay.proofs.Facts.{on_err}
 use Rattle.replay.proofs.Parts.{reads_none, reads_both}
 use Rattle.replay.proofs.Progress.{progress_none, progress_line, progress_write, progress_end_text, progress_stop_world, progress_stop_text, progress_line_world, progress_line_text, progress_stop_rows, progress_line_rows, falls_kept}
 use Rattle.replay.proofs.input.pass.Goals as goal
+use Rattle.hub_rows.proofs.OnRecord.{record_as}
+use Rattle.hub.specs.Hub.{hub_view}
 
 pub loop-answers-init : goal.loop-answers-init
 loop-answers-init g c = record {
@@ -104,7 +106,8 @@ returns-in-Err-clause-stopped g c = λ kept r found.
 pub returns-in_err-line-clause-stopped : goal.returns-in_err-line-clause-stopped
 returns-in_err-line-clause-stopped g c = λ kept r found.
     progress_line_rows _ _ _ _ _ _ _ _ _ _ _ _ _ _ _ _ c.loop-answers.invariant.progress (c.in_ok-next.ensures.line c.if-branch.true) c.loop-answers.invariant.same
-    (λ line held. c.in_err-line.ensures.stopped line (c.held.ensures line held) (c.loop-answers.invariant.kept kept) r found)
+    (λ on_record same line held. (c.in_err-line.ensures.stopped line (c.held.ensures line held) on_record
+    (record_as (hub_view g.S.Store.view c.loop-answers.hub) (hub_view g.S.Store.view c.loop-answers.hub).rows on_record same (c.loop-answers.invariant.kept kept)) r found).1)
 
 pub returns-in_err-write_if_long-clause-stopped : goal.returns-in_err-write_if_long-clause-stopped
 returns-in_err-write_if_long-clause-stopped g c = λ kept r found.

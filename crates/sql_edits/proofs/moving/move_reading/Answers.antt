@@ -18,15 +18,15 @@ returns g c =
     let station = c.as_str-station.result.now in
     let a = (state g.S.Store c.args.tx.now.conn.now).now.trees in
     let b = (state g.S.Store c.drop_reading.new.tx.conn.now).now.trees in
-    let e = (state g.S.Store c.put_value.new.tx.conn.now).now.trees in
+    let e = (state g.S.Store c.put_moved.new.tx.conn.now).now.trees in
     let is : value ≡ as_meter_value row = c.in_ok-row.ensures in
     let its_op : op ≡ row.op = c.as_str-op.ensures ∙ ap (λ (v : MeterValueRow). v.op) is in
     let its_station : station ≡ row.station = c.as_str-station.ensures ∙ ap (λ (v : MeterValueRow). v.station) is in
     let its_number : value.first ≡ row.number = ap (λ (v : MeterValueRow). v.first) is in
     record {
-      makes = makes_then c.in_ok-drop_reading.ensures.makes c.put_value.ensures.makes (λ inside up dropped put.
+      makes = makes_then c.in_ok-drop_reading.ensures.makes c.put_moved.ensures.makes (λ inside up dropped put.
           row_moved row a b e
           (subst (λ (test : ReadingRow → _). IsDropped readings test a b) (λ i. is_between (λ r. r.op) (λ r. r.station) (λ r. r.number) (its_op i) (its_station i) (its_number i) (its_number i)) dropped)
-          (subst (λ (v : MeterValueRow). IsPutIn meter_values v b e) (λ i. record { op = its_op i; station = its_station i; first = its_number i; value = (is i).value }) put));
-      stays = stays_then c.in_ok-drop_reading.ensures.stays c.put_value.ensures.stays;
+          (subst (λ (v : MeterValueRow). IsPutIn meter_values v b e) is put));
+      stays = stays_then c.in_ok-drop_reading.ensures.stays c.put_moved.ensures.stays;
     }

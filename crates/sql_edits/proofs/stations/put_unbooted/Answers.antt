@@ -3,14 +3,14 @@ use Rattle.sqlite.specs.Values.{bound_value}
 use Rattle.sqlite_value.specs.declared.value.Value.TheVariants.{Text}
 use Rattle.sql_rows.proofs.StationTables.{puts_station}
 use Rattle.sql_rows.proofs.StoreLemmas.{open_is_clean}
-use Rattle.sql_rows.proofs.TxLemmas.{makes_step}
+use Rattle.sql_rows.proofs.EditLaws.{edits_step}
 use Rattle.sql_edits.proofs.stations.put_unbooted.Goals as goal
 
 pub returns : goal.returns
 returns g c =
     let registered = c.args.registered in
     record {
-      makes = makes_step (puts_station (record { op = c.args.op.now; station = c.args.station.now; policy = registered.policy; interval = registered.interval; state = registered.state; boot = None })) c.execute.ensures.same_reference c.execute.ensures.runs c.execute.ensures.ended c.execute.ensures.survives
+      edits = edits_step (puts_station (record { op = c.args.op.now; station = c.args.station.now; policy = registered.policy; interval = registered.interval; state = registered.state; boot = None })) c.execute.result c.execute.ensures.runs c.execute.ensures.survives
           (λ i. (ap bound_value c.params-to_sql.ensures) i ∷
           (ap bound_value c.params-to_sql-2.ensures) i ∷
           (ap bound_value c.params-to_sql-3.ensures ∙ ap Text c.name.ensures.value) i ∷
@@ -25,5 +25,5 @@ returns g c =
           (ap bound_value c.params-to_sql-12.ensures) i ∷
           (ap bound_value c.params-to_sql-13.ensures) i ∷
           (ap bound_value c.params-to_sql-14.ensures) i ∷
-          (ap bound_value c.params-to_sql-15.ensures) i ∷ []) (open_is_clean _ _ (g.met.S.Store.shut_if_dirty c.execute.new.self.conn.now.store)) c.done.ensures.ok c.done.ensures.err;
+          (ap bound_value c.params-to_sql-15.ensures) i ∷ []) (open_is_clean _ _ (g.met.S.Store.shut_if_dirty c.execute.new.self.store)) c.done.ensures.ok c.done.ensures.err;
     }

@@ -6,7 +6,7 @@ use Rattle.sqlite_value.specs.declared.value.Value.TheVariants.{Int, Text}
 use Rattle.sql_rows.specs.Values.{flag}
 use Rattle.sql_rows.proofs.TxTables.{adds_tx}
 use Rattle.sql_rows.proofs.StoreLemmas.{open_is_clean}
-use Rattle.sql_rows.proofs.TxLemmas.{makes_step}
+use Rattle.sql_rows.proofs.EditLaws.{edits_step}
 use Rattle.sql_edits.proofs.txs.put_started.Goals as goal
 
 pub returns : goal.returns
@@ -16,7 +16,7 @@ returns g c =
     let at : SFits w64 id.at = search rules in
     let begun : SFits w64 c.seconds.result = search rules in
     record {
-      makes = makes_step (adds_tx (tx_row c.args.op.now c.args.station.now c.args.number c.args.start.now)) c.execute.ensures.same_reference c.execute.ensures.runs c.execute.ensures.ended c.execute.ensures.survives
+      edits = edits_step (adds_tx (tx_row c.args.op.now c.args.station.now c.args.number c.args.start.now)) c.execute.result c.execute.ensures.runs c.execute.ensures.survives
           (λ i. (ap bound_value c.params-to_sql.ensures) i ∷
           (ap bound_value c.params-to_sql-2.ensures) i ∷
           (ap bound_value c.params-to_sql-3.ensures) i ∷
@@ -34,5 +34,5 @@ returns g c =
           (ap bound_value c.params-to_sql-15.ensures) i ∷
           (ap bound_value c.params-to_sql-16.ensures) i ∷
           (ap bound_value c.params-to_sql-17.ensures) i ∷
-          (ap bound_value c.params-to_sql-18.ensures) i ∷ []) (open_is_clean _ _ (g.met.S.Store.shut_if_dirty c.execute.new.self.conn.now.store)) c.done.ensures.ok c.done.ensures.err;
+          (ap bound_value c.params-to_sql-18.ensures) i ∷ []) (open_is_clean _ _ (g.met.S.Store.shut_if_dirty c.execute.new.self.store)) c.done.ensures.ok c.done.ensures.err;
     }

@@ -4,8 +4,8 @@ use Rattle.sqlite.specs.Values.{bound_value}
 use Rattle.sqlite_value.specs.declared.value.Value.TheVariants.{Int, Text}
 use Rattle.sql_rows.specs.Values.{text_or_null}
 use Rattle.sql_rows.proofs.StoreLemmas.{open_is_clean}
-use Rattle.sql_rows.proofs.TxLemmas.{ran_as}
 use Rattle.sql_rows.proofs.ValueLaws.{optional}
+use Rattle.sql_rows.proofs.EditLaws.{ran_as}
 use Rattle.sql_edits.proofs.txs.run_ended.Goals as goal
 
 pub returns : goal.returns
@@ -19,7 +19,7 @@ returns g c =
     let stop_at : SFits w64 stop.at = search rules in
     let ended : SFits w64 c.seconds-2.result = search rules in
     record {
-      ran = ran_as c.execute.ensures.same_reference c.execute.ensures.runs c.execute.ensures.ended c.execute.ensures.survives
+      ran = ran_as c.execute.ensures.runs c.execute.ensures.survives
           (λ i. (ap bound_value c.params-to_sql.ensures ∙ ap Text c.as_str.ensures) i ∷
           (ap bound_value c.params-to_sql-2.ensures ∙ ap Text c.as_str-2.ensures) i ∷
           (ap bound_value c.params-to_sql-3.ensures) i ∷
@@ -37,5 +37,5 @@ returns g c =
           (ap bound_value c.params-to_sql-15.ensures ∙ ap Int (to_z-of_z w64 stop.at stop_at)) i ∷
           (ap bound_value c.params-to_sql-16.ensures ∙ ap Text c.name-2.ensures.value) i ∷
           (ap bound_value c.params-to_sql-17.ensures ∙ optional (λ t. t.now) c.lent.result ∙ ap text_or_null c.lent.ensures) i ∷
-          (ap bound_value c.params-to_sql-18.ensures ∙ ap Int (to_z-of_z w64 c.seconds-2.result ended ∙ c.seconds-2.ensures)) i ∷ []) (open_is_clean _ _ (g.met.S.Store.shut_if_dirty c.execute.new.self.conn.now.store));
+          (ap bound_value c.params-to_sql-18.ensures ∙ ap Int (to_z-of_z w64 c.seconds-2.result ended ∙ c.seconds-2.ensures)) i ∷ []) (open_is_clean _ _ (g.met.S.Store.shut_if_dirty c.execute.new.self.store));
     }

@@ -13,7 +13,7 @@ use Rattle.sql_rows.specs.Kept.{IsMade, IsSame}
 use Rattle.sql_rows.specs.TypedTables.{rows_of}
 use Rattle.sql_rows.proofs.ChangedLaws.{find_has}
 use Rattle.sql_rows.proofs.RowEdits.{tx_changed, tx_settled}
-use Rattle.sql_edits.proofs.Making.{makes_fails, makes_same, makes_then}
+use Rattle.sql_rows.proofs.EditLaws.{edits_fail, edits_same, edits_then}
 use Rattle.sql_edits.proofs.txs.stop_tx.Goals as goal
 
 -- the transaction that is found has the operator, the station and the number that were sought
@@ -30,17 +30,17 @@ returns-in_ok-put_ended-in-Some g c =
     let number = c.args.number in
     let stop = c.args.stop.now in
     let row = c.in-Some.row in
-    let old = (state g.S.Store c.args.tx.now.conn.now).now.trees in
-    let found = (state g.S.Store c.tx_inside.new.tx.conn.now).now.trees in
-    let ended = (state g.S.Store c.put_ended.new.tx.conn.now).now.trees in
-    let new = (state g.S.Store c.settle.new.tx.conn.now).now.trees in
+    let old = (state g.S.Store c.args.conn.now).now.trees in
+    let found = (state g.S.Store c.tx_inside.new.conn).now.trees in
+    let ended = (state g.S.Store c.put_ended.new.conn).now.trees in
+    let new = (state g.S.Store c.settle.new.conn).now.trees in
     let RowIs = found_in (λ r. r.op) op (is_tx station number) (rows_of old).transactions ≡ Some row in
     let Ends = IsMade (λ rows. record rows { transactions = put (by_key tx_key) (with_stop stop row) rows.transactions }) in
     let Settles : (List ℕ → List ℕ → ℕ → Type 0) = (λ b s n. rows_of new ≡ record (rows_of ended) { uses = with_use (use_by b stop (rows_of ended).uses (owner_in b s n (rows_of ended).tx_owners) (Some row)) (rows_of ended).uses }) in
-    let both = makes_then {Both = λ _ _. RowIs × IsSame old found × Ends found ended} (makes_same c.in_ok-row.ensures.asks) c.in_ok-put_ended-in-Some.ensures.makes
-    (λ inside up same made. (sym (c.in_ok-row.ensures.asks.found inside up) ∙ c.in-Some.is, same, made)) in
+    let both = edits_then {Both = λ _ _. RowIs × IsSame old found × Ends found ended} (edits_same c.in_ok-row.ensures.asks) c.in_ok-put_ended-in-Some.ensures.edits
+    (λ inside up same made. (sym (c.in_ok-row.ensures.asks.found (λ u. (inside u).serves) up) ∙ c.in-Some.is, same, made)) in
     record {
-      makes = makes_then both c.settle.ensures.makes
+      edits = edits_then both c.settle.ensures.edits
           (λ inside up parts made. let key = key_is op station number (rows_of old).transactions row parts.0 in
           tx_settled op station number stop old ended new row parts.0
           (tx_changed op station number (with_stop stop) (λ x. refl) old found ended row parts.0 parts.1 parts.2)
@@ -48,4 +48,4 @@ returns-in_ok-put_ended-in-Some g c =
     }
 
 pub returns-in_err-put_ended-in-Some : goal.returns-in_err-put_ended-in-Some
-returns-in_err-put_ended-in-Some g c = record { makes = makes_fails (makes_same c.in_ok-row.ensures.asks) c.in_err-put_ended-in-Some.ensures.makes c.from_residual-in_err-put_ended-in-Some.ensures.0 }
+returns-in_err-put_ended-in-Some g c = record { edits = edits_fail (edits_same c.in_ok-row.ensures.asks) c.in_err-put_ended-in-Some.ensures.edits c.from_residual-in_err-put_ended-in-Some.ensures.0 }

@@ -1,4 +1,4 @@
-use Rattle.sql_edits.proofs.Making.{asks_last}
+use Rattle.sql_rows.proofs.Asking.{asks_last}
 use Rattle.sql_edits.proofs.uses.last_number.Goals as goal
 
 pub returns : goal.returns

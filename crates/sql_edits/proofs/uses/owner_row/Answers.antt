@@ -1,4 +1,4 @@
-use Rattle.sql_edits.proofs.Making.{asks_first}
+use Rattle.sql_rows.proofs.Asking.{asks_first}
 use Rattle.sql_edits.proofs.uses.owner_row.Goals as goal
 
 pub returns : goal.returns

@@ -1,4 +1,4 @@
 use Rattle.sql_edits.proofs.values.put_value.Goals as goal
 
 pub returns : goal.returns
-returns g c = record { makes = c.put_row.ensures.makes; stays = c.put_row.ensures.stays }
+returns g c = record { edits = c.put_row.ensures.edits }

@@ -5,7 +5,7 @@ use Rattle.hub_rows.specs.MeterValues.{meter_values_in}
 use Rattle.sql_rows.specs.TypedTable.{rows_in}
 use Rattle.sql_rows.specs.TypedTables.{meter_values}
 use Rattle.sql_lookups.specs.Pages.{from, IsAfter}
-use Rattle.sql_lookups.proofs.Asking.{asks_err, asks_none, asks_of, asks_then}
+use Rattle.sql_rows.proofs.Asking.{asks_err, asks_none, asks_of, asks_then}
 use Rattle.sql_lookups.proofs.FirstLaws.{left_after, oldest_found}
 use Rattle.sql_lookups.proofs.PageLaws.{follows, from_none, listed_more, own_up, rest}
 use Rattle.sql_lookups.proofs.first_values.first_values.Goals as goal

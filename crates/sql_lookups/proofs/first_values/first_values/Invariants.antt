@@ -7,7 +7,7 @@ use Rattle.hub_rows.specs.MeterValues.{meter_values_in}
 use Rattle.hub_rows.specs.declared.store.StoreFault.{StoreFault}
 use Rattle.sql_rows.specs.TypedTable.{rows_in}
 use Rattle.sql_rows.specs.TypedTables.{meter_values}
-use Rattle.sql_lookups.specs.Asks.{AsksIn}
+use Rattle.sql_rows.specs.Kept.{AsksIn}
 use Rattle.sql_lookups.proofs.PageLaws.{numbers_left, rest}
 use Rattle.sql_lookups.proofs.first_values.first_values.Given as goal
 

@@ -4,7 +4,7 @@ use Rattle.hub_rows.specs.Lookups.{forgettable_in}
 use Rattle.hub_rows.specs.MeterValues.{meter_values_in}
 use Rattle.hub_rows.specs.Transactions.{txs_in}
 use Rattle.sql_rows.specs.TypedTables.{rows_of}
-use Rattle.sql_lookups.proofs.Asking.{asks_err, asks_of, asks_then}
+use Rattle.sql_rows.proofs.Asking.{asks_err, asks_of, asks_then}
 use Rattle.sql_lookups.proofs.ForgetLaws.{none_goes, some_go}
 use Rattle.sql_lookups.proofs.forget.forgettable.Goals as goal
 

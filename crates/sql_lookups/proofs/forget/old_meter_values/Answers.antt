@@ -2,7 +2,7 @@ use Rattle.std.proofs.Common.{◌∙◌, ap, filter}
 use Rattle.hub_rows.specs.Forgetting.{may_go}
 use Rattle.hub_rows.specs.Transactions.{txs_in}
 use Rattle.sql_rows.specs.TypedTables.{rows_of}
-use Rattle.sql_lookups.proofs.Asking.{asks_also, asks_then}
+use Rattle.sql_rows.proofs.Asking.{asks_also, asks_then}
 use Rattle.sql_lookups.proofs.forget.old_meter_values.Goals as goal
 
 pub returns : goal.returns

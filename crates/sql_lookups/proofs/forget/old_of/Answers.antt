@@ -3,7 +3,7 @@ use Rattle.hub_rows.specs.Forgetting.{goes_with, may_go, named_tx}
 use Rattle.hub_rows.specs.Transactions.{txs_in}
 use Rattle.sql_rows.specs.TypedTable.{rows_in}
 use Rattle.sql_rows.specs.TypedTables.{txs}
-use Rattle.sql_lookups.proofs.Asking.{asks_err, asks_of, asks_then}
+use Rattle.sql_rows.proofs.Asking.{asks_err, asks_of, asks_then}
 use Rattle.sql_lookups.proofs.ForgetLaws.{one_found}
 use Rattle.sql_lookups.proofs.forget.old_of.Goals as goal
 

@@ -4,7 +4,7 @@ use Rattle.sqlite.specs.Held.{state}
 use Rattle.hub_rows.specs.Forgetting.{may_go}
 use Rattle.hub_rows.specs.Transactions.{txs_in}
 use Rattle.hub_rows.specs.declared.store.StoreFault.{StoreFault}
-use Rattle.sql_lookups.specs.Asks.{Asks}
+use Rattle.sql_rows.specs.Kept.{Asks}
 use Rattle.sql_lookups.specs.Forgotten.{IsNamed}
 use Rattle.sql_lookups.proofs.forget.old_of.Given as goal
 

@@ -3,7 +3,7 @@ use Rattle.hub_rows.specs.Forgetting.{tx_goes}
 use Rattle.hub_rows.specs.MeterValues.{meter_values_in}
 use Rattle.hub_rows.specs.Transactions.{txs_in}
 use Rattle.sql_rows.specs.TypedTables.{rows_of}
-use Rattle.sql_lookups.proofs.Asking.{asks_also, asks_then}
+use Rattle.sql_rows.proofs.Asking.{asks_also, asks_then}
 use Rattle.sql_lookups.proofs.PageLaws.{oldest_is}
 use Rattle.sql_lookups.proofs.forget.old_txs.Goals as goal
 

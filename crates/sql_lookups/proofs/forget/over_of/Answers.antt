@@ -3,7 +3,7 @@ use Rattle.hub_rows.specs.Forgetting.{tx_goes}
 use Rattle.hub_rows.specs.MeterValues.{meter_values_in}
 use Rattle.sql_rows.specs.TypedTable.{rows_in}
 use Rattle.sql_rows.specs.TypedTables.{meter_values}
-use Rattle.sql_lookups.proofs.Asking.{asks_err, asks_of, asks_then}
+use Rattle.sql_rows.proofs.Asking.{asks_err, asks_of, asks_then}
 use Rattle.sql_lookups.proofs.ForgetLaws.{one_found}
 use Rattle.sql_lookups.proofs.forget.over_of.Goals as goal
 

@@ -4,7 +4,7 @@ use Rattle.sqlite.specs.Held.{state}
 use Rattle.hub_rows.specs.Forgetting.{tx_goes}
 use Rattle.hub_rows.specs.MeterValues.{meter_values_in}
 use Rattle.hub_rows.specs.declared.store.StoreFault.{StoreFault}
-use Rattle.sql_lookups.specs.Asks.{Asks}
+use Rattle.sql_rows.specs.Kept.{Asks}
 use Rattle.sql_lookups.proofs.forget.over_of.Given as goal
 
 abbrev pub invariant-txs : goal.invariant-txs

@@ -6,7 +6,7 @@ use Rattle.hub_rows.specs.Transactions.{txs_in}
 use Rattle.hub_rows.proofs.ForgetLaws.{named-none, named-some}
 use Rattle.hub_rows.proofs.NumberLaws.{found-those}
 use Rattle.sql_rows.specs.TypedTables.{rows_of}
-use Rattle.sql_lookups.proofs.Asking.{asks_also, asks_none}
+use Rattle.sql_rows.proofs.Asking.{asks_also, asks_none}
 use Rattle.sql_lookups.proofs.forget.tx_named.Goals as goal
 
 pub returns-in-Some : goal.returns-in-Some

@@ -3,7 +3,7 @@ use Rattle.std.proofs.lemmas.List.{take_all, take_more}
 use Rattle.std.specs.List.{cons_option, filter_map}
 use Rattle.sql_rows.specs.TypedTables.{rows_of}
 use Rattle.hub_rows.specs.Grants.{entry_by}
-use Rattle.sql_lookups.proofs.Asking.{asks_err, asks_none, asks_of, asks_then}
+use Rattle.sql_rows.proofs.Asking.{asks_err, asks_none, asks_of, asks_then}
 use Rattle.sql_lookups.proofs.GrantedLaws.{mapped_more}
 use Rattle.sql_lookups.proofs.granted.entries.Goals as goal
 

@@ -3,7 +3,7 @@ use Rattle.std.specs.List.{filter_map}
 use Rattle.sqlite.specs.Held.{state}
 use Rattle.hub_rows.specs.Grants.{entry_by}
 use Rattle.hub_rows.specs.declared.store.StoreFault.{StoreFault}
-use Rattle.sql_lookups.specs.Asks.{Asks}
+use Rattle.sql_rows.specs.Kept.{Asks}
 use Rattle.sql_lookups.proofs.granted.entries.Given as goal
 
 abbrev pub invariant-grants : goal.invariant-grants

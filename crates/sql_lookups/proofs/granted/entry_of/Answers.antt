@@ -1,4 +1,4 @@
-use Rattle.sql_lookups.proofs.Asking.{asks_err}
+use Rattle.sql_rows.proofs.Asking.{asks_err}
 use Rattle.sql_lookups.proofs.granted.entry_of.Goals as goal
 
 pub returns-in_err-clone-in-Some : goal.returns-in_err-clone-in-Some

@@ -4,7 +4,7 @@ use Rattle.std.specs.List.{filter_map}
 use Rattle.sql_rows.specs.TypedTables.{rows_of}
 use Rattle.hub_rows.specs.Grants.{info_by}
 use Rattle.hub_rows.specs.Keyed.{first}
-use Rattle.sql_lookups.proofs.Asking.{asks_err, asks_none, asks_of, asks_then}
+use Rattle.sql_rows.proofs.Asking.{asks_err, asks_none, asks_of, asks_then}
 use Rattle.sql_lookups.proofs.GrantedLaws.{found_first, none_more}
 use Rattle.sql_lookups.proofs.granted.first_info.Goals as goal
 

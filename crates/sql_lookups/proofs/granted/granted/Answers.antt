@@ -2,7 +2,7 @@ use Rattle.std.proofs.Common.{ap, ◌∙◌}
 use Rattle.std.specs.List.{filter_map}
 use Rattle.sql_rows.specs.TypedTables.{rows_of}
 use Rattle.hub_rows.specs.Grants.{entry_by}
-use Rattle.sql_lookups.proofs.Asking.{asks_also, asks_then}
+use Rattle.sql_rows.proofs.Asking.{asks_also, asks_then}
 use Rattle.sql_lookups.proofs.GrantedLaws.{granted_is}
 use Rattle.sql_lookups.proofs.granted.granted.Goals as goal
 

@@ -3,7 +3,7 @@ use Rattle.std.specs.List.{filter_map}
 use Rattle.sql_rows.specs.TypedTables.{rows_of}
 use Rattle.hub_rows.specs.Grants.{info_by}
 use Rattle.hub_rows.specs.Keyed.{first}
-use Rattle.sql_lookups.proofs.Asking.{asks_also, asks_then}
+use Rattle.sql_rows.proofs.Asking.{asks_also, asks_then}
 use Rattle.sql_lookups.proofs.GrantedLaws.{granted_tag_is}
 use Rattle.sql_lookups.proofs.granted.granted_tag.Goals as goal
 

@@ -1,5 +1,5 @@
 use Rattle.sqlite.specs.Held.{state}
-use Rattle.sql_rows.proofs.StoreLemmas.{commits_as}
+use Rattle.sql_rows.proofs.StoreLemmas.{commits_as, leaves_as}
 use Rattle.sql_lookups.proofs.GrantedLaws.{list_received_finds}
 use Rattle.sql_lookups.proofs.granted.grants_received.Goals as goal
 
@@ -11,7 +11,7 @@ returns g c =
     record {
       asks = record {
         found = λ serves up. list_received_finds (λ v. v.items) c.args.to.now old.now.trees c.list_received.result c.listed.result c.listed.ensures.ok c.listed.ensures.rows ((shows serves).ok up) ((shows serves).once up);
-        same = λ serves up. (shows serves).same up;
+        same = λ serves up. leaves_as old new c.list_received.result c.listed.result c.listed.ensures.ok ((shows serves).same up);
         stops = commits_as old new c.list_received.result c.listed.result c.listed.ensures.ok (λ serves. (shows serves).stops);
       };
     }

@@ -1,5 +1,5 @@
 use Rattle.std.proofs.Common.{rules}
-use Rattle.sql_lookups.proofs.Asking.{asks_err, asks_of}
+use Rattle.sql_rows.proofs.Asking.{asks_err, asks_of}
 use Rattle.sql_lookups.proofs.granted.info_of.Goals as goal
 
 pub returns-in_err-clone-in-Some : goal.returns-in_err-clone-in-Some

@@ -4,7 +4,7 @@ use Rattle.sql_rows.specs.TypedTable.{rows_in}
 use Rattle.sql_rows.specs.TypedTables.{grants}
 use Rattle.hub_rows.specs.Grants.{is_grant}
 use Rattle.sql_rows.proofs.Calls.{any_finds}
-use Rattle.sql_lookups.proofs.Asking.{asks_as}
+use Rattle.sql_rows.proofs.Asking.{asks_as}
 use Rattle.sql_lookups.proofs.grants.has_grant.Goals as goal
 
 pub returns : goal.returns

@@ -2,7 +2,7 @@ use Rattle.std.proofs.Common.{Some, map, option_map, sym, ap, ◌∙◌}
 use Rattle.sql_rows.specs.TypedTable.{rows_in}
 use Rattle.sql_rows.specs.TypedTables.{entries, lists}
 use Rattle.sql_rows.proofs.ListEdits.{local, list_found}
-use Rattle.sql_lookups.proofs.Asking.{asks_err, asks_of, asks_then}
+use Rattle.sql_rows.proofs.Asking.{asks_err, asks_of, asks_then}
 use Rattle.sql_lookups.proofs.local_lists.local_list.Goals as goal
 
 pub returns-in-None : goal.returns-in-None

@@ -1,4 +1,4 @@
-use Rattle.sql_lookups.proofs.Asking.{asks_first}
+use Rattle.sql_rows.proofs.Asking.{asks_first}
 use Rattle.sql_lookups.proofs.reservations.find_reservation.Goals as goal
 
 pub returns : goal.returns

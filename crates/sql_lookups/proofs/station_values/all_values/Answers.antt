@@ -4,7 +4,7 @@ use Rattle.sql_tables.specs.declared.pages.TheConstants.{PAGE_ROWS}
 use Rattle.sql_rows.specs.TypedTable.{rows_in}
 use Rattle.sql_rows.specs.TypedTables.{meter_values}
 use Rattle.sql_lookups.specs.Pages.{from, IsAfter}
-use Rattle.sql_lookups.proofs.Asking.{asks_err, asks_none, asks_of, asks_then}
+use Rattle.sql_rows.proofs.Asking.{asks_err, asks_none, asks_of, asks_then}
 use Rattle.sql_lookups.proofs.PageLaws.{follows, from_none, listed_more, own_up}
 use Rattle.sql_lookups.proofs.station_values.all_values.Goals as goal
 

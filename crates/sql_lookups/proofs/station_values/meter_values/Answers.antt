@@ -2,7 +2,7 @@ use Rattle.std.proofs.Common.{◌∙◌, Some, ap, filter, sym}
 use Rattle.hub_rows.specs.MeterValues.{is_sent_with, meter_values_in}
 use Rattle.sql_rows.specs.TypedTable.{rows_in}
 use Rattle.sql_rows.specs.TypedTables.{meter_values}
-use Rattle.sql_lookups.proofs.Asking.{asks_of}
+use Rattle.sql_rows.proofs.Asking.{asks_of}
 use Rattle.sql_lookups.proofs.PageLaws.{sent_of}
 use Rattle.sql_lookups.proofs.station_values.meter_values.Goals as goal
 

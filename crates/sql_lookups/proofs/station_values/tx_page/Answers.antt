@@ -5,7 +5,7 @@ use Rattle.hub_rows.specs.MeterValues.{is_sent_with}
 use Rattle.sql_tables.specs.declared.pages.TheConstants.{PAGE_ROWS}
 use Rattle.sql_rows.specs.TypedTable.{rows_in}
 use Rattle.sql_rows.specs.TypedTables.{meter_values}
-use Rattle.sql_lookups.proofs.Asking.{asks_page}
+use Rattle.sql_rows.proofs.Asking.{asks_page}
 use Rattle.sql_lookups.proofs.PageLaws.{values_are}
 use Rattle.sql_lookups.proofs.station_values.tx_page.Goals as goal
 

@@ -1,4 +1,4 @@
-use Rattle.sql_lookups.proofs.Asking.{asks_text}
+use Rattle.sql_rows.proofs.Asking.{asks_text}
 use Rattle.sql_lookups.proofs.stations.next_operator.Goals as goal
 
 pub returns : goal.returns

@@ -1,5 +1,5 @@
 use Rattle.std.proofs.Common.{rules}
-use Rattle.sql_lookups.proofs.Asking.{asks_err, asks_of, asks_then}
+use Rattle.sql_rows.proofs.Asking.{asks_err, asks_of, asks_then}
 use Rattle.sql_lookups.proofs.tags.own_tag.Goals as goal
 
 pub returns-in_err-by_parent-in-Some : goal.returns-in_err-by_parent-in-Some

@@ -6,7 +6,7 @@ use Rattle.hub_rows.specs.declared.tx_row.TxRow.{TxRow}
 use Rattle.sql_rows.specs.TypedTable.{rows_in}
 use Rattle.sql_rows.specs.TypedTables.{txs}
 use Rattle.sql_rows.proofs.Calls.{any_filtered, regrouped}
-use Rattle.sql_lookups.proofs.Asking.{asks_of}
+use Rattle.sql_rows.proofs.Asking.{asks_of}
 use Rattle.sql_lookups.proofs.txs.is_used.Goals as goal
 
 pub returns : goal.returns

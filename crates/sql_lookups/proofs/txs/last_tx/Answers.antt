@@ -1,4 +1,4 @@
-use Rattle.sql_lookups.proofs.Asking.{asks_last}
+use Rattle.sql_rows.proofs.Asking.{asks_last}
 use Rattle.sql_lookups.proofs.txs.last_tx.Goals as goal
 
 pub returns : goal.returns

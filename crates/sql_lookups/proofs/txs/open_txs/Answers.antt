@@ -1,4 +1,4 @@
-use Rattle.sql_lookups.proofs.Asking.{asks_rows}
+use Rattle.sql_rows.proofs.Asking.{asks_rows}
 use Rattle.sql_lookups.proofs.txs.open_txs.Goals as goal
 
 pub returns : goal.returns

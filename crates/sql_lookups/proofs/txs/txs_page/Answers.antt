@@ -4,7 +4,7 @@ use Rattle.hub_rows.proofs.NumberLaws.{those-those}
 use Rattle.sql_tables.specs.declared.pages.TheConstants.{PAGE_ROWS}
 use Rattle.sql_rows.specs.TypedTable.{rows_in}
 use Rattle.sql_rows.specs.TypedTables.{txs}
-use Rattle.sql_lookups.proofs.Asking.{asks_page}
+use Rattle.sql_rows.proofs.Asking.{asks_page}
 use Rattle.sql_lookups.proofs.txs.txs_page.Goals as goal
 
 pub returns : goal.returns

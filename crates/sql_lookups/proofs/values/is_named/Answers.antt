@@ -1,6 +1,6 @@
 use Rattle.sql_rows.specs.TypedTable.{rows_in}
 use Rattle.sql_rows.specs.TypedTables.{meter_values}
-use Rattle.sql_lookups.proofs.Asking.{asks_as}
+use Rattle.sql_rows.proofs.Asking.{asks_as}
 use Rattle.sql_lookups.proofs.ValueLaws.{named_found}
 use Rattle.sql_lookups.proofs.values.is_named.Goals as goal
 

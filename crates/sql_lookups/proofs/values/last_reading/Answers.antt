@@ -2,7 +2,7 @@ use Rattle.std.proofs.Common.{◌≡◌, IfOk, None, subst}
 use Rattle.hub_rows.specs.MeterValues.{meter_values_in}
 use Rattle.sql_rows.specs.TypedTable.{rows_in}
 use Rattle.sql_rows.specs.TypedTables.{meter_values}
-use Rattle.sql_lookups.proofs.Asking.{asks_of}
+use Rattle.sql_rows.proofs.Asking.{asks_of}
 use Rattle.sql_lookups.proofs.PageLaws.{own_up}
 use Rattle.sql_lookups.proofs.ValueLaws.{last_found}
 use Rattle.sql_lookups.proofs.values.last_reading.Goals as goal

@@ -3,7 +3,7 @@ use Rattle.std.specs.Str.{bytes_eq}
 use Rattle.hub_rows.proofs.ListLaws.{and-true}
 use Rattle.sql_rows.specs.TypedTable.{rows_in}
 use Rattle.sql_rows.specs.TypedTables.{meter_values}
-use Rattle.sql_lookups.proofs.Asking.{asks_page}
+use Rattle.sql_rows.proofs.Asking.{asks_page}
 use Rattle.sql_lookups.proofs.PageLaws.{values_are}
 use Rattle.sql_lookups.proofs.values.next_value.Goals as goal
 

@@ -32,7 +32,7 @@ returns-clause-shown g c = λ serving.
     let mid = c.query_all-rows.new.self.conn.now in
     let clean = open_is_clean _ _ (g.met.S.Store.shut_if_dirty end.store) in
     let same : end ≡ c.conn-1.given.0 = search rules in
-    let inside : IsInside (state g.S.Store tx) = begun_inside g.S.Store old tx mid end c.transaction-tx.ensures.begun serving clean (λ up db. g.met.S.Store.settled old.store db up) in
+    let inside : IsInside (state g.S.Store tx) = begun_inside g.S.Store old tx c.transaction-tx.ensures.begun serving in
     let shows : ShowsInside g.S.Store (λ v. v.items) metas is_count c.transaction-tx.result c.query_all-rows.new.self c.query_all-rows.result =
     shows_inside reads_count c.query_all-rows.ensures.same_reference c.query_all-rows.ensures.ok c.query_all-rows.ensures.err c.query_all-rows.ensures.survives (rw c.params-to_sql.ensures refl) (open_is_clean _ _ (g.met.S.Store.shut_if_dirty mid.store)) in
     let begun : (state g.S.Store tx).now ≡ (state g.S.Store old).now = ap (λ h. (state g.S.Store h).now) c.transaction-tx.ensures.begun in

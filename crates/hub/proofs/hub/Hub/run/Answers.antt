@@ -1,7 +1,8 @@
 use Rattle.std.proofs.Common.{◌≡◌, ◌∙◌, ◌+◌, inl, inr, refl, true, take, ap, sym, subst, arith}
 use Rattle.std.proofs.lemmas.List.Elements.{AllWithin-more, at_read}
 use Rattle.pending_calls.proofs.OwnSlots.{slots-sorted}
-use Rattle.hub.specs.Hub.{world, setting, is_taken}
+use Rattle.hub_rows.proofs.OnRecord.{record_as}
+use Rattle.hub.specs.Hub.{hub_view, world, setting, is_taken}
 use Rattle.hub.specs.View.{view}
 use Rattle.hub.specs.WellFormed.{WellFormed, ConnectedAreOnRecord}
 use Rattle.hub.specs.World.{Setting, World, outputs_of, run_outputs, world_run, world_step}
@@ -68,7 +69,7 @@ loop-event-preserved g c =
       world = λ clean. let before = c.in-Ok.ensures.counted.was_clean clean in
           world_goes_on st w es i c.event-item.result (world g.S.Store.view c.take.new.self) mine (world g.S.Store.view at.self) c.loop-event-test.true c.event-item.is inv.setting (inv.world before) (c.in-Ok.ensures.world clean);
       setting = c.in-Ok.ensures.setting ∙ inv.setting;
-      kept = λ kept. c.in-Ok.ensures.kept (inv.kept kept);
+      kept = λ kept. c.in-Ok.ensures.records.kept refl (inv.kept kept);
       count = omega (arith, c.in-Ok.ensures.counted.count);
     }
 
@@ -102,16 +103,18 @@ returns-in-Err-clause-stopped g c = λ kept r found.
     let i = c.loop-event.event-index in
     let es = c.args.events.now in
     let mine : Setting = setting g.V.VendorHandler.view at.self in
-    let one = c.in-Err.ensures.stopped (inv.kept kept) r found in
-    let now : world g.S.Store.view at.self ≡ world_run st w (take i es) = inv.world one.0 in
-    elim one.1 [
-      | inl before ↦ inl (before ∙ ap (λ v. v.rows) now ∙ ap (λ n. (world_run st w (take n es)).rows) (sym inv.at))
-      | inr after ↦ inr (
-        refl,
-        after
-            ∙ ap (λ v. v.rows) (world_goes_on st w es i c.event-item.result (world_step mine (world g.S.Store.view at.self) c.event-item.result) mine (world g.S.Store.view at.self) c.loop-event-test.true c.event-item.is inv.setting now refl)
-            ∙ ap (λ n. (world_run st w (take (n + 1) es)).rows) (sym inv.at),
-      )
+    let taken = (world_run st w (take i es)).rows in
+    let on = record_as (hub_view g.S.Store.view at.self) (hub_view g.S.Store.view at.self).rows taken (λ clean. ap (λ v. v.rows) (inv.world clean)) (inv.kept kept) in
+    elim (c.in-Err.ensures.records.stopped refl taken on r found).1 [
+      | inl before ↦ inl (before ∙ ap (λ n. (world_run st w (take n es)).rows) (sym inv.at))
+      | inr after ↦
+          let now : world g.S.Store.view at.self ≡ world_run st w (take i es) = inv.world after.0 in
+          inr (
+            refl,
+            after.1
+                ∙ ap (λ v. v.rows) (world_goes_on st w es i c.event-item.result (world_step mine (world g.S.Store.view at.self) c.event-item.result) mine (world g.S.Store.view at.self) c.loop-event-test.true c.event-item.is inv.setting now refl)
+                ∙ ap (λ n. (world_run st w (take (n + 1) es)).rows) (sym inv.at),
+          )
     ]
 
 pub returns-clause-stopped : goal.returns-clause-stopped

@@ -1,9 +1,10 @@
+use Rattle.std.proofs.Common.{Ok}
 use Rattle.hub_rows.specs.Changes.{edit}
 use Rattle.hub_rows.specs.WellFormed.{WellFormedRows}
 use Rattle.hub_rows.proofs.WellFormedLaws.{well_formed-edit}
 use Rattle.store_mem.specs.Lists.{rows_in}
 use Rattle.store_mem.proofs.Kept.{by_result}
-use Rattle.store_mem.proofs.NeverKept.{never_kept, stops_whole}
+use Rattle.store_mem.proofs.NeverKept.{records_all}
 use Rattle.store_mem.proofs.mem_store.MemStoreStore.apply.Goals as goal
 
 pub invariant_of-self : goal.invariant_of-self
@@ -17,11 +18,8 @@ invariant_of-self c =
     }
 
 -- it is never kept
-pub returns-in_err-make-clause-stopped : goal.returns-in_err-make-clause-stopped
-returns-in_err-make-clause-stopped c = stops_whole _ _
+pub returns-in_err-make-clause-records : goal.returns-in_err-make-clause-records
+returns-in_err-make-clause-records c = records_all c.args._when _ (rows_in c.args.self.now.lists) (rows_in c.make.new.self) c.from_residual.result
 
-pub returns-clause-stopped : goal.returns-clause-stopped
-returns-clause-stopped c = stops_whole _ _
-
-pub returns-clause-kept : goal.returns-clause-kept
-returns-clause-kept c = λ kept. absurd (never_kept _ kept)
+pub returns-clause-records : goal.returns-clause-records
+returns-clause-records c = records_all c.args._when _ (rows_in c.args.self.now.lists) (rows_in c.make.new.self) (Ok tt)

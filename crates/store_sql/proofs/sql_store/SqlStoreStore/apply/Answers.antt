@@ -1,44 +1,32 @@
-use Rattle.std.proofs.Common.{sym, subst}
-use Rattle.hub_rows.specs.Changes.{EditFits}
-use Rattle.store_sql.specs.Store.{SqlView, sql_rows, IsCleanSql}
-use Rattle.store_sql.proofs.StopLaws.{leaves_last}
-use Rattle.store_sql.proofs.StoreLaws.{change_kept, change_counted, change_ok, change_err, change_finds, change_keeps}
+use Rattle.std.proofs.Common.{◌≡◌, ◌≤◌, OnErr, OnOk, subst, sym, ◌∙◌}
+use Rattle.hub_rows.specs.Changes.{edit}
+use Rattle.hub_rows.specs.Failures.{Rose}
+use Rattle.hub_rows.specs.Stops.{Records}
+use Rattle.store_sql.specs.Store.{IsCleanSql, sql_rows, sql_view}
 use Rattle.store_sql.proofs.sql_store.SqlStoreStore.apply.Goals as goal
 
-pub invariant_of-self : goal.invariant_of-self
-invariant_of-self g c =
-    let inside : SqlView _ = record { conn = c.self.inside.conn; failures = c.self.inside.failures; taken = c.self.inside.taken.value; changes = c.self.inside.changes } in
-    let fits : IsCleanSql g.A.Store inside → EditFits c.args.change.now.op.now c.args.change.now.edit.now (sql_rows g.A.Store inside) = subst (λ o. IsCleanSql g.A.Store o → EditFits c.args.change.now.op.now c.args.change.now.edit.now (sql_rows g.A.Store o)) (sym c.self.view_is) c.requires in
-    change_kept g.A.Store inside c.apply-done.new.conn c.self.invariant c.args.change.now.op.now c.args.change.now.edit.now fits c.apply-done.result c.apply-done.ensures.changes c.on_record-self-inside.result c.on_record-self-inside.ensures.made c.on_record-self-inside.ensures.failed
-
 pub returns-clause-counted : goal.returns-clause-counted
-returns-clause-counted g c =
-    let inside : SqlView _ = record { conn = c.self.inside.conn; failures = c.self.inside.failures; taken = c.self.inside.taken.value; changes = c.self.inside.changes } in
-    let fits : IsCleanSql g.A.Store inside → EditFits c.args.change.now.op.now c.args.change.now.edit.now (sql_rows g.A.Store inside) = subst (λ o. IsCleanSql g.A.Store o → EditFits c.args.change.now.op.now c.args.change.now.edit.now (sql_rows g.A.Store o)) (sym c.self.view_is) c.requires in
-    change_counted g.A.Store inside c.apply-done.new.conn c.self.invariant c.args.change.now.op.now c.args.change.now.edit.now fits c.apply-done.result c.apply-done.ensures.changes c.args.self.now c.counted.new.self c.self.view_is c.counted.ensures.taken c.counted.ensures.conn c.counted.result c.counted.ensures.same c.counted.ensures.failed c.counted.ensures.count
+returns-clause-counted g c = record {
+  was_clean = λ clean. c.put-done.ensures.was_clean (subst (IsCleanSql g.A.Store) c.counted.ensures.rest clean);
+  failed = λ e. subst (λ n. Rose n c.counted.new.self.failures) c.put-done.ensures.failures (c.counted.ensures.failed (sym c.counted.ensures.same ∙ e));
+  count = subst (λ n. n ≤ c.counted.new.self.failures) c.put-done.ensures.failures c.counted.ensures.count;
+}
 
 pub returns-clause-ok : goal.returns-clause-ok
 returns-clause-ok g c =
-    let inside : SqlView _ = record { conn = c.self.inside.conn; failures = c.self.inside.failures; taken = c.self.inside.taken.value; changes = c.self.inside.changes } in
-    let fits : IsCleanSql g.A.Store inside → EditFits c.args.change.now.op.now c.args.change.now.edit.now (sql_rows g.A.Store inside) = subst (λ o. IsCleanSql g.A.Store o → EditFits c.args.change.now.op.now c.args.change.now.edit.now (sql_rows g.A.Store o)) (sym c.self.view_is) c.requires in
-    change_ok g.A.Store inside c.apply-done.new.conn c.self.invariant c.args.change.now.op.now c.args.change.now.edit.now fits c.apply-done.result c.apply-done.ensures.changes c.args.self.now c.counted.new.self c.self.view_is c.counted.ensures.taken c.counted.ensures.conn c.counted.result c.counted.ensures.same
+    let made = edit c.args.change.now.op.now c.args.change.now.edit.now (sql_rows g.A.Store c.args.self.now) in
+    subst (λ s. IsCleanSql g.A.Store s → OnOk c.counted.result (sql_rows g.A.Store s ≡ made)) (sym c.counted.ensures.rest)
+    (subst (λ r. IsCleanSql g.A.Store c.put-done.new.self → OnOk r (sql_rows g.A.Store c.put-done.new.self ≡ made)) (sym c.counted.ensures.same) c.put-done.ensures.ok)
 
 pub returns-clause-err : goal.returns-clause-err
 returns-clause-err g c =
-    let inside : SqlView _ = record { conn = c.self.inside.conn; failures = c.self.inside.failures; taken = c.self.inside.taken.value; changes = c.self.inside.changes } in
-    let fits : IsCleanSql g.A.Store inside → EditFits c.args.change.now.op.now c.args.change.now.edit.now (sql_rows g.A.Store inside) = subst (λ o. IsCleanSql g.A.Store o → EditFits c.args.change.now.op.now c.args.change.now.edit.now (sql_rows g.A.Store o)) (sym c.self.view_is) c.requires in
-    change_err g.A.Store inside c.apply-done.new.conn c.self.invariant c.args.change.now.op.now c.args.change.now.edit.now fits c.apply-done.result c.apply-done.ensures.changes c.args.self.now c.counted.new.self c.self.view_is c.counted.ensures.taken c.counted.ensures.conn c.counted.result c.counted.ensures.same
+    let old = sql_rows g.A.Store c.args.self.now in
+    subst (λ s. IsCleanSql g.A.Store s → OnErr c.counted.result (sql_rows g.A.Store s ≡ old)) (sym c.counted.ensures.rest)
+    (subst (λ r. IsCleanSql g.A.Store c.put-done.new.self → OnErr r (sql_rows g.A.Store c.put-done.new.self ≡ old)) (sym c.counted.ensures.same) c.put-done.ensures.err)
 
-pub returns-clause-stopped : goal.returns-clause-stopped
-returns-clause-stopped g c =
-    let inside : SqlView _ = record { conn = c.self.inside.conn; failures = c.self.inside.failures; taken = c.self.inside.taken.value; changes = c.self.inside.changes } in
-    let fits : IsCleanSql g.A.Store inside → EditFits c.args.change.now.op.now c.args.change.now.edit.now (sql_rows g.A.Store inside) = subst (λ o. IsCleanSql g.A.Store o → EditFits c.args.change.now.op.now c.args.change.now.edit.now (sql_rows g.A.Store o)) (sym c.self.view_is) c.requires in
-    change_finds g.A.Store inside c.apply-done.new.conn c.self.invariant c.args.change.now.op.now c.args.change.now.edit.now fits c.apply-done.result c.apply-done.ensures.changes c.args.self.now c.counted.new.self c.self.view_is c.counted.ensures.taken c.counted.ensures.conn c.counted.result c.counted.ensures.same
-    (g.met.A.Store.survives c.self.inside.conn.store) (leaves_last g.A.Store c.self.inside.conn (g.met.A.Store.shut_if_dirty c.self.inside.conn.store) (g.met.A.Store.stays c.self.inside.conn.store)) (leaves_last g.A.Store c.apply-done.new.conn (g.met.A.Store.shut_if_dirty c.apply-done.new.conn.store) (g.met.A.Store.stays c.apply-done.new.conn.store))
-
-pub returns-clause-kept : goal.returns-clause-kept
-returns-clause-kept g c =
-    let inside : SqlView _ = record { conn = c.self.inside.conn; failures = c.self.inside.failures; taken = c.self.inside.taken.value; changes = c.self.inside.changes } in
-    let fits : IsCleanSql g.A.Store inside → EditFits c.args.change.now.op.now c.args.change.now.edit.now (sql_rows g.A.Store inside) = subst (λ o. IsCleanSql g.A.Store o → EditFits c.args.change.now.op.now c.args.change.now.edit.now (sql_rows g.A.Store o)) (sym c.self.view_is) c.requires in
-    change_keeps g.A.Store inside c.apply-done.new.conn c.self.invariant c.args.change.now.op.now c.args.change.now.edit.now fits c.apply-done.result c.apply-done.ensures.changes c.args.self.now c.counted.new.self c.self.view_is c.counted.ensures.taken c.counted.ensures.conn c.counted.result c.counted.ensures.same
-    (g.met.A.Store.survives c.self.inside.conn.store) (leaves_last g.A.Store c.self.inside.conn (g.met.A.Store.shut_if_dirty c.self.inside.conn.store) (g.met.A.Store.stays c.self.inside.conn.store)) (leaves_last g.A.Store c.apply-done.new.conn (g.met.A.Store.shut_if_dirty c.apply-done.new.conn.store) (g.met.A.Store.stays c.apply-done.new.conn.store))
+pub returns-clause-records : goal.returns-clause-records
+returns-clause-records g c =
+    let made = edit c.args.change.now.op.now c.args.change.now.edit.now (sql_rows g.A.Store c.args.self.now) in
+    let it : Records c.args.when made (sql_view g.A.Store c.args.self.now) (sql_view g.A.Store c.put-done.new.self) c.counted.result
+    = subst (λ r. Records c.args.when made (sql_view g.A.Store c.args.self.now) (sql_view g.A.Store c.put-done.new.self) r) (sym c.counted.ensures.same) c.put-done.ensures.records in
+    subst (λ s. Records c.args.when made (sql_view g.A.Store c.args.self.now) (sql_view g.A.Store s) c.counted.result) (sym c.counted.ensures.rest) (record { stopped = it.stopped; kept = it.kept; waits = it.waits; left = it.left })

@@ -7,12 +7,11 @@ use Rattle.sqlite.specs.declared.error.Error.{Error}
 use Rattle.sqlite.specs.Effect.{Database}
 use Rattle.sqlite.specs.State.{State}
 use Rattle.hub_rows.specs.Keyed.{first, greatest, put_all}
-use Rattle.sql_rows.specs.Kept.{IsServing, Shows, ShowsLast, ShowsPage, ShowsText}
+use Rattle.sql_rows.specs.Kept.{AsksIn, IsServing, Shows, ShowsLast, ShowsPage, ShowsText}
 use Rattle.sql_rows.specs.TypedTable.{TypedTable, cmp, rows_in}
 use Rattle.sql_rows.specs.Values.{count_in, first_text}
 use Rattle.sql_rows.proofs.Calls.{first_finds, last_finds}
-use Rattle.sql_rows.proofs.StoreLemmas.{commits_after, commits_as, commits_then, rests_before, rests_then}
-use Rattle.sql_lookups.specs.Asks.{AsksIn}
+use Rattle.sql_rows.proofs.StoreLemmas.{commits_after, commits_as, commits_then, leaves_after, leaves_as, rests_before, rests_then}
 
 if_ok : {A E : Type 0} {P Q : A → Type 0} (r : Result A E) → ((a : A) → P a → Q a) → IfOk r P → IfOk r Q
 if_ok (Ok a) turn is = turn a is
@@ -43,7 +42,7 @@ pub asks_rows : {V T F : Type 0} {items : V → List Row} {s : TypedTable T} {p 
     → IfOk r (λ v. IfOk q (λ l. l ≡ put_all (cmp s) (map s.read (items v)) [])) → ((db : Trees) (l : List T) → l ≡ filter p (rows_in s db) → P db l) → AsksIn old new q P
 asks_rows {V} {T} {F} {items} {s} {p} {old} {new} {r} {q} {P} shows ok rows means = record {
   found = λ serves up. if_ok q (means old.now.trees) (rows_find items s (filter p (rows_in s old.now.trees)) r q ok rows ((shows serves).ok up));
-  same = λ serves up. (shows serves).same up;
+  same = λ serves up. leaves_as old new r q ok ((shows serves).same up);
   stops = commits_as old new r q ok (λ serves. (shows serves).stops);
 }
 
@@ -52,7 +51,7 @@ pub asks_page : {V T F : Type 0} {n : ℕ} {items : V → List Row} {s : TypedTa
     → IfOk r (λ v. IfOk q (λ l. l ≡ put_all (cmp s) (map s.read (items v)) [])) → ((db : Trees) (l : List T) → l ≡ take n (filter p (rows_in s db)) → P db l) → AsksIn old new q P
 asks_page {V} {T} {F} {n} {items} {s} {p} {old} {new} {r} {q} {P} shows ok rows means = record {
   found = λ serves up. if_ok q (means old.now.trees) (rows_find items s (take n (filter p (rows_in s old.now.trees))) r q ok rows ((shows serves).ok up));
-  same = λ serves up. (shows serves).same up;
+  same = λ serves up. leaves_as old new r q ok ((shows serves).same up);
   stops = commits_as old new r q ok (λ serves. (shows serves).stops);
 }
 
@@ -61,7 +60,7 @@ pub asks_first : {V T F : Type 0} {items : V → List Row} {s : TypedTable T} {p
     → IfOk r (λ v. IfOk q (λ o. o ≡ first (put_all (cmp s) (map s.read (items v)) []))) → ((db : Trees) (o : Option T) → o ≡ find p (rows_in s db) → P db o) → AsksIn old new q P
 asks_first {V} {T} {F} {items} {s} {p} {old} {new} {r} {q} {P} shows ok row means = record {
   found = λ serves up. if_ok q (means old.now.trees) (first_finds items s p old.now.trees r q ok row ((shows serves).ok up));
-  same = λ serves up. (shows serves).same up;
+  same = λ serves up. leaves_as old new r q ok ((shows serves).same up);
   stops = commits_as old new r q ok (λ serves. (shows serves).stops);
 }
 
@@ -70,7 +69,7 @@ pub asks_last : {V T F : Type 0} {items : V → List Row} {at : ℕ} {s : TypedT
     → IfOk r (λ v. IfOk q (λ n. n ≡ greatest (map (λ x. count_in (column x at)) (items v)))) → ((db : Trees) (n : ℕ) → n ≡ greatest (map number (filter p (rows_in s db))) → P db n) → AsksIn old new q P
 asks_last {V} {T} {F} {items} {at} {s} {number} {p} {old} {new} {r} {q} {P} shows ok last means = record {
   found = λ serves up. if_ok q (means old.now.trees) (last_finds items at (greatest (map number (filter p (rows_in s old.now.trees)))) r q ok last ((shows serves).ok up));
-  same = λ serves up. (shows serves).same up;
+  same = λ serves up. leaves_as old new r q ok ((shows serves).same up);
   stops = commits_as old new r q ok (λ serves. (shows serves).stops);
 }
 
@@ -79,7 +78,7 @@ pub asks_text : {V T F : Type 0} {items : V → List Row} {s : TypedTable T} {te
     → IfOk r (λ v. IfOk q (λ o. o ≡ option_map first_text (first (items v)))) → ((db : Trees) (o : Option (List ℕ)) → o ≡ option_map text (find p (rows_in s db)) → P db o) → AsksIn old new q P
 asks_text {V} {T} {F} {items} {s} {text} {p} {old} {new} {r} {q} {P} shows ok is means = record {
   found = λ serves up. if_ok q (means old.now.trees) (text_finds items (option_map text (find p (rows_in s old.now.trees))) r q ok is ((shows serves).ok up));
-  same = λ serves up. (shows serves).same up;
+  same = λ serves up. leaves_as old new r q ok ((shows serves).same up);
   stops = commits_as old new r q ok (λ serves. (shows serves).stops);
 }
 
@@ -89,7 +88,7 @@ asks_text {V} {T} {F} {items} {s} {text} {p} {old} {new} {r} {q} {P} shows ok is
 pub asks_none : {A E : Type 0} {old : State} {x : A} {P : Trees → A → Type 0} → ((db : Trees) → P db x) → AsksIn {E = E} old old (Ok x) P
 asks_none {A} {E} {old} {x} {P} means = record {
   found = λ serves up. means old.now.trees;
-  same = λ serves up. record { was_open = up; now = refl; serves = serves up };
+  same = λ serves up. record { was_open = up; now = refl; committed = refl; mode = refl; marks = λ begun. refl; serves = serves up };
   stops = λ serves. record { stops = record { clean = omega arith; leaves = λ up sure db left. left }; up = λ up sure. up };
 }
 
@@ -97,7 +96,7 @@ asks_none {A} {E} {old} {x} {P} means = record {
 pub asks_as : {A B E F : Type 0} {old new : State} {r : Result A E} {q : Result B F} {P : Trees → A → Type 0} {Q : Trees → B → Type 0} → AsksIn old new r P → OnOk q (IsOk r) → ((db : Trees) → IfOk r (P db) → IfOk q (Q db)) → AsksIn old new q Q
 asks_as {A} {B} {E} {F} {old} {new} {r} {q} {P} {Q} asks ok means = record {
   found = λ serves up. means old.now.trees (asks.found serves up);
-  same = asks.same;
+  same = λ serves up. leaves_as old new r q ok (asks.same serves up);
   stops = commits_as old new r q ok (λ serves. asks.stops);
 }
 
@@ -113,7 +112,7 @@ asks_also {A} {E} {old} {new} {r} {P} {Q} asks means = record {
 pub asks_of : {A B E F : Type 0} {old new : State} {x : A} {q : Result B F} {P : Trees → A → Type 0} {Q : Trees → B → Type 0} → AsksIn {E = E} old new (Ok x) P → ((db : Trees) → P db x → IfOk q (Q db)) → AsksIn old new q Q
 asks_of {A} {B} {E} {F} {old} {new} {x} {q} {P} {Q} asks means = record {
   found = λ serves up. means old.now.trees (asks.found serves up);
-  same = asks.same;
+  same = λ serves up. leaves_after old new q (asks.same serves up);
   stops = commits_after old new q asks.stops;
 }
 
@@ -125,9 +124,9 @@ asks_err {A} {B} {E} {F} {old} {new} {r} {q} {P} {Q} asks failed = asks_as asks 
 pub asks_then : {A B E F : Type 0} {a b c : State} {x : A} {q : Result B F} {P : Trees → A → Type 0} {Q : Trees → B → Type 0} → AsksIn {E = E} a b (Ok x) P → AsksIn b c q Q → AsksIn a c q (λ db y. P db x × Q db y)
 asks_then {A} {B} {E} {F} {a} {b} {c} {x} {q} {P} {Q} one two = record {
   found = λ serves up.
-      let between = rests_before a b c one.same two.same serves up in
-      let was = one.found serves (two.same between.0 up).was_open in
+      let between = rests_before E a b c x q one.same two.same serves up in
+      let was = one.found serves between.2 in
       if_ok q (λ y is. (was, is)) (subst (λ (d : Database). IfOk q (Q d.trees)) between.1 (two.found between.0 up));
-  same = rests_then a b c one.same two.same;
-  stops = commits_then a b c one.same one.stops q two.stops;
+  same = rests_then E a b c x q one.same two.same;
+  stops = commits_then E a b c x one.same one.stops q two.stops;
 }
