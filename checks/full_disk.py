@@ -2,7 +2,9 @@
 is acknowledged to nobody, and once there is room changes are taken again. The system refuses all writes to files that
 go past a limit (RLIMIT_FSIZE), which is moved while the server runs. Prints `N passed, M failed`.
 
-    python3 checks/full_disk.py crates/central/out/central
+    python3 checks/full_disk.py crates/central/out/central [WORDS..]
+
+The words are handed to `serve`.
 """
 
 import os
@@ -59,7 +61,7 @@ class Server:
     def __init__(self, program, folder):
         self.db = os.path.join(folder, "hub.db")
         read, write = os.pipe()
-        words = [program, "serve", "--port", str(PORT), "--db", self.db, "--operators", "ACME,BETA", "--log", "none"]
+        words = [program, "serve", "--port", str(PORT), "--db", self.db, "--operators", "ACME,BETA", "--log", "none", *sys.argv[2:]]
         # SIGXFSZ stays ignored, as Python has it, so that a write past the limit is refused and ends nothing
         self.process = subprocess.Popen(words, stderr=write, restore_signals=False)
         os.close(write)

@@ -4,7 +4,9 @@ that began with a granted tag has settled one use, and numbers go on. Then kills
 earlier schema: each has that schema or this one, whole, and its records. Prints how many of the changes in flight were
 found made, how many uses there are, how many of the copies were found with this schema, then `N passed, M failed`.
 
-    python3 checks/kills.py crates/central/out/central [KILLS] [SEED]
+    python3 checks/kills.py crates/central/out/central [KILLS] [SEED] [WORDS..]
+
+The words are handed to `serve`.
 """
 
 import contextlib
@@ -25,6 +27,8 @@ from harness import EARLIER, MORE, SCHEMA, SCRIPTS, Counts, begun, copy_database
 from peer import BOOT, Peer
 
 PORT = 9289
+# More words for `serve`.
+WORDS = sys.argv[4:] if __name__ == "__main__" else []
 OPERATORS = {"ACME": "BETA", "BETA": "ACME"}
 STATIONS = {op: [f"CP{n}" for n in range(1, 5)] for op in OPERATORS}
 AT = '"timestamp":"2024-01-01T00:00:00Z"'
@@ -324,7 +328,7 @@ class Operator(Load):
 
 
 def server_words(program, db):
-    return [program, "serve", "--port", str(PORT), "--db", db, "--operators", "ACME,BETA", "--log", "none"]
+    return [program, "serve", "--port", str(PORT), "--db", db, "--operators", "ACME,BETA", "--log", "none", *WORDS]
 
 
 class Server:

@@ -10,6 +10,9 @@ pub const VERSION: &str = "0.1.0";
 /// The words of `--log`.
 const LOGS: &[&str] = &["none", "errors", "connections"];
 
+/// The words of `--commit`.
+const COMMITS: &[&str] = &["each", "turn"];
+
 /// The address to listen on, if nothing else is said.
 const ADDRESS: &str = "127.0.0.1";
 
@@ -73,6 +76,8 @@ enum Takes {
     Address,
     /// A word of `LOGS`.
     Log,
+    /// A word of `COMMITS`.
+    Commit,
 }
 
 /// An argument of a command.
@@ -207,6 +212,7 @@ fn taking<'a>(arg: Arg<'a>, takes: Takes) -> Arg<'a> {
         Takes::Port => arg.value_parser(value_parser!(u16).range(1..)),
         Takes::Address => arg.default_value(ADDRESS),
         Takes::Log => arg.value_parser(LOGS),
+        Takes::Commit => arg.value_parser(COMMITS),
         Takes::Nothing | Takes::Word | Takes::Place => arg,
     }
 }
@@ -260,6 +266,7 @@ fn serve_command<'a>(alloc: Global) -> Result<Command<'a>, AllocError> {
             longest(),
             turns(),
             stop_file(),
+            commit(),
             optional(
                 "journal",
                 "FILE",
@@ -283,6 +290,15 @@ fn most_stations() -> Argument {
         "N",
         Takes::Number(1, MAX_STATIONS),
         "The most connections of stations that an operator has at once, 10000 if it isn't given",
+    )
+}
+
+fn commit() -> Argument {
+    optional(
+        "commit",
+        "WHEN",
+        Takes::Commit,
+        "When changes are committed: each alone, or all of a turn together, before anybody is told of them; each if it isn't given. With --journal each alone",
     )
 }
 

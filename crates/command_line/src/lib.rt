@@ -9,4 +9,6 @@ mod sim_command;
 
 pub use arguments::VERSION;
 pub use command::{Plan, asks_for_forms, read};
-pub use options::{FileOptions, FollowOptions, JournalOptions, ReplayOptions, ServeOptions};
+pub use options::{
+    Commit, FileOptions, FollowOptions, JournalOptions, ReplayOptions, ServeOptions,
+};

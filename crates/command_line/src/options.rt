@@ -50,6 +50,15 @@ pub struct ReplayOptions {
     pub is_strict: bool,
 }
 
+/// When the changes of a server are committed.
+#[derive(Clone, Copy, Debug, PartialEq, Eq, Drop)]
+pub enum Commit {
+    /// Each alone.
+    Each,
+    /// All of a turn together.
+    Turn,
+}
+
 /// What a server is to do.
 #[derive(Drop)]
 pub struct ServeOptions {
@@ -71,6 +80,8 @@ pub struct ServeOptions {
     pub longest: u32,
     /// The path of a file that ends it as it appears.
     pub stop_file: Option<Text>,
+    /// When its changes are committed.
+    pub commit: Commit,
     /// The journal that it keeps, if it keeps one.
     pub journal: Option<JournalOptions>,
     /// The path of a journal that is followed to its end first. `-` is standard input.

@@ -40,6 +40,8 @@ pub struct Link {
     pub is_listed: Cell<bool>,
     /// It is noted as used in this turn.
     pub is_noted: Cell<bool>,
+    /// The system has taken some bytes, and all that were written before this turn.
+    is_even: Cell<bool>,
 }
 
 impl Link {
@@ -56,6 +58,7 @@ impl Link {
             place: Cell::new(NOWHERE),
             is_listed: Cell::new(true),
             is_noted: Cell::new(false),
+            is_even: Cell::new(false),
         }
     }
 
@@ -172,7 +175,10 @@ impl Link {
     /// Gives the system what it takes of the bytes that wait.
     pub fn give(&self) {
         if let Ok(mut unsent) = self.unsent.try_borrow_mut() {
-            unsent.give(&mut &self.stream);
+            if unsent.len() > 0 {
+                unsent.give(&mut &self.stream);
+                self.is_even.set(unsent.len() == 0);
+            }
         }
     }
 
@@ -180,7 +186,19 @@ impl Link {
     pub fn unblock(&self) {
         if let Ok(mut unsent) = self.unsent.try_borrow_mut() {
             unsent.unblock();
-            unsent.give(&mut &self.stream);
+        }
+        self.give();
+    }
+
+    /// Drops what was written in this turn, where the system is given nothing within a turn. A stream of which older bytes
+    /// wait takes nothing any more, since its peer has a part of a message; neither does one to which none was given.
+    pub fn drop_turn(&self) {
+        if let Ok(mut unsent) = self.unsent.try_borrow_mut() {
+            if self.is_even.get() {
+                unsent.clear();
+            } else {
+                unsent.fail();
+            }
         }
     }
 }

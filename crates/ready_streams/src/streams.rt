@@ -238,6 +238,17 @@ impl Streams {
         self.unlist();
     }
 
+    /// Drops what was written in this turn, if the streams hold it. A stream that can't do without it takes nothing any more.
+    pub fn drop_turn(&mut self) {
+        for index in 0..self.turn.count_used() {
+            if let Some(token) = self.turn.used_at(index) {
+                if let Some(Some(link)) = self.links.get(token) {
+                    link.drop_turn();
+                }
+            }
+        }
+    }
+
     /// Gives the system what waits in the stream with that token, and closes it if it is gone.
     fn give_and_release(&mut self, token: usize) {
         if let Some(Some(link)) = self.links.get(token) {

@@ -119,6 +119,14 @@ impl Turn {
         }
     }
 
+    /// One of the places that were noted.
+    pub fn used_at(&self, index: usize) -> Option<usize> {
+        match self.used.try_borrow() {
+            Ok(used) => used.get(index).copied(),
+            Err(_) => None,
+        }
+    }
+
     /// One of the places that were noted, which is then no longer kept.
     pub fn take_used(&self) -> Option<usize> {
         match self.used.try_borrow_mut() {

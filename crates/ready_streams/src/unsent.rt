@@ -151,7 +151,18 @@ impl Unsent {
         }
     }
 
-    fn fail(&mut self)
+    /// Drops what waits.
+    pub fn clear(&mut self)
+        ensures waits { waiting self.new ≡ [] }
+        ensures lasts { self.new.has_failed ≡ self.old.has_failed }
+    {
+        self.blocks.clear();
+        self.sent = 0;
+        self.count = 0;
+    }
+
+    /// Drops what waits, and takes nothing any more.
+    pub fn fail(&mut self)
         ensures waits { waiting self.new ≡ [] }
         ensures failed { self.new.has_failed ≡ true }
     {

@@ -1,25 +1,24 @@
 //! The server.
 
+use crate::batches::Batches;
 use crate::measured::connected_of;
 use crate::prepared::Prepared;
 use crate::service::Service;
 use crate::stop_file::StopFile;
 use clients::now;
 use command_line::{JournalOptions, VERSION};
-use hub::{Fault, Hub};
-use hub_rows::Store;
+use hub::Hub;
+use hub_rows::{Flush, Store};
 use journal::Journal;
 use ocpp_types::{Mem, Moment, Text};
 use ready_streams::{ReadyStream, Streams};
 use runs::{KeptJournal, RunFault, begin_journal};
 use station_calls::VendorHandler;
 use std::alloc::Global;
-use std::fmt::Display;
 use std::net::SocketAddr;
 use std::rc::Rc;
 use std::time::{Duration, Instant};
 use telemetry::{Counts, Metrics, ServerLog, now_of, page_of};
-use ws_peers::Route;
 use ws_server::{Gateway, Lobby};
 
 /// The most seconds between two turns. Calls that stations leave unanswered end in such turns.
@@ -27,11 +26,6 @@ const MAX_WAIT: u64 = 1;
 
 /// The nanoseconds after a turn that ended in a fault, if nothing is reported meanwhile.
 const PAUSE: u64 = 10_000_000;
-
-/// The nanoseconds in which a turn begins to serve connections; where more have passed since it began, as many as those,
-/// since what a turn does first takes as long as there are connections to read. Those that are left are served in the next
-/// one, after what is reported meanwhile.
-const SERVES: u64 = 1_000_000;
 
 /// The nanoseconds that peers have at most, as the server ends, to take what waits for them.
 const LAST_WAIT: u64 = 2_000_000_000;
@@ -57,43 +51,45 @@ const MAX_ACCEPTS: usize = 64;
 /// A server as it runs.
 #[derive(Drop)]
 pub struct Server<S, V> {
-    alloc: Global,
+    pub(crate) alloc: Global,
     /// Where it listens.
-    address: SocketAddr,
-    hub: Hub<S, V>,
-    gateway: Gateway<ReadyStream>,
-    lobby: Lobby<ReadyStream>,
-    streams: Streams,
+    pub(crate) address: SocketAddr,
+    pub(crate) hub: Hub<S, V>,
+    pub(crate) gateway: Gateway<ReadyStream>,
+    pub(crate) lobby: Lobby<ReadyStream>,
+    pub(crate) streams: Streams,
     /// The moment of the last turn.
-    moment: Moment,
+    pub(crate) moment: Moment,
     /// When it began.
-    begun: Instant,
+    pub(crate) begun: Instant,
     /// The nanoseconds since then, as they were read last.
-    now: u64,
+    pub(crate) now: u64,
     /// The seconds since then, in the last turn.
-    second: u64,
-    service: Service,
-    log: ServerLog,
-    metrics: Metrics,
+    pub(crate) second: u64,
+    pub(crate) service: Service,
+    pub(crate) log: ServerLog,
+    pub(crate) metrics: Metrics,
     /// The metrics as they were printed last, and in which second.
-    page: Option<(u64, String)>,
+    pub(crate) page: Option<(u64, String)>,
     /// The most connections of stations that an operator has.
-    most_stations: u64,
-    journal: KeptJournal,
+    pub(crate) most_stations: u64,
+    pub(crate) journal: KeptJournal,
     /// The path of the file of the records.
-    db: Text,
-    stop_file: StopFile,
+    pub(crate) db: Text,
+    pub(crate) stop_file: StopFile,
     /// Accepting a connection failed in this second. It isn't tried again in it.
-    failed_accept: bool,
+    pub(crate) failed_accept: bool,
     /// The last turn ended in a fault.
-    has_faulted: bool,
+    pub(crate) has_faulted: bool,
     /// The second in which the store failed last, though it still answers.
-    hurt: Option<u64>,
+    pub(crate) hurt: Option<u64>,
     /// The store answers no more. Nothing is handed to the hub.
-    is_store_shut: bool,
+    pub(crate) is_store_shut: bool,
+    /// What becomes of the changes of a turn.
+    pub(crate) batches: Batches,
     /// Memory that is set aside. It is given up after an event that found none, so that connections can end, and no
     /// connection is accepted until it is set aside again.
-    reserve: Option<Vec<u8>>,
+    pub(crate) reserve: Option<Vec<u8>>,
 }
 
 impl<S: Store + Drop, V: VendorHandler> Server<S, V> {
@@ -139,6 +135,7 @@ impl<S: Store + Drop, V: VendorHandler> Server<S, V> {
             has_faulted: false,
             hurt: None,
             is_store_shut: false,
+            batches: Batches::each(),
             reserve: set_aside(alloc).ok(),
         }
     }
@@ -157,6 +154,13 @@ impl<S: Store + Drop, V: VendorHandler> Server<S, V> {
         let operators = self.hub.hosted();
         self.journal.keep(self.alloc, journal, options, operators)?;
         Ok(())
+    }
+
+    /// From now on the changes of a turn are committed together. They are counted in that journal.
+    pub fn commit_turns(&mut self, journal: Rc<Journal>) {
+        self.batches = Batches::of_turns(journal);
+        self.gateway.set_flush(Flush::Later);
+        self.streams.hold();
     }
 
     /// Writes the line with which its log begins.
@@ -187,7 +191,7 @@ impl<S: Store + Drop, V: VendorHandler> Server<S, V> {
     }
 
     /// Reads the nanoseconds since the start.
-    fn read_clock(&mut self, rt: &HostRuntime) -> u64 {
+    pub(crate) fn read_clock(&mut self, rt: &HostRuntime) -> u64 {
         let nanoseconds = self.begun.elapsed(rt).map_or(0, |time| time.as_nanos());
         let now = u64::try_from(nanoseconds).unwrap_or(u64::MAX);
         self.now = self.now.max(now);
@@ -287,65 +291,8 @@ impl<S: Store + Drop, V: VendorHandler> Server<S, V> {
         self.gateway.end_silent(self.streams.to_end());
     }
 
-    /// One turn: accepts connections, polls those that wait, and serves peers whose streams may be read. Where the database
-    /// is shut, all connections are closed. What was written is then given to the system, once the journal has what was taken.
-    fn turn(&mut self, rt: &HostRuntime) {
-        if let Err(fault) = self.accept() {
-            self.failed_accept = true;
-            if self.tell_fault(&fault, matches!(&fault, RunFault::NoMemory)) {
-                let _lost = fault.write_detail(rt);
-            }
-        }
-        let welcomed = self
-            .lobby
-            .serve(&mut self.gateway, &mut self.hub, self.moment, self.second);
-        self.has_faulted = false;
-        self.report(welcomed);
-        if self.lobby.has_readers() {
-            self.answer_readers(rt);
-        }
-        if !self.is_store_shut {
-            self.serve_some(rt);
-        }
-        if !self.is_store_shut {
-            let ended = self.gateway.turn(&mut self.hub, self.moment, &[]);
-            self.report(ended);
-        }
-        if self.is_store_shut {
-            self.gateway.fail_all();
-        }
-        if self.journal.write() {
-            self.streams.end_turn();
-        }
-    }
-
-    /// Tells the fault of a turn, if it ended in one. That of a store that is shut is told as the server ends.
-    fn report(&mut self, answer: Result<(), Fault>) {
-        let Err(fault) = answer else {
-            return;
-        };
-        self.has_faulted = !matches!(fault, Fault::TooLong);
-        if matches!(fault, Fault::Store) {
-            self.hurt = Some(self.second);
-            self.lobby.set_hurt(true);
-            self.is_store_shut = matches!(self.hub.probe(), Err(Fault::Store));
-        }
-        if !self.is_store_shut {
-            let _told = self.tell_fault(&fault, matches!(fault, Fault::NoMemory));
-        }
-    }
-
-    /// Writes a fault to standard error, and gives up the memory that is set aside where none was found. It gives whether the
-    /// fault was written.
-    fn tell_fault<F: Display>(&mut self, fault: &F, found_no_memory: bool) -> bool {
-        if found_no_memory {
-            self.reserve = None;
-        }
-        self.log.write_fault(fault)
-    }
-
     /// Answers those that ask for the metrics, which are printed once in a second at most.
-    fn answer_readers(&mut self, rt: &HostRuntime) {
+    pub(crate) fn answer_readers(&mut self, rt: &HostRuntime) {
         let is_new = self.page.as_ref().is_none_or(|page| page.0 != self.second);
         if is_new {
             let second = self.second;
@@ -369,47 +316,6 @@ impl<S: Store + Drop, V: VendorHandler> Server<S, V> {
             connected.as_slice(),
             &now,
         )
-    }
-
-    /// Serves connections that have something to read, until none has, the time for it is over, or an event ends in a
-    /// fault. Each operator is charged for the time of its events, and the one that was charged least is next.
-    fn serve_some(&mut self, rt: &HostRuntime) {
-        let turn = self.now;
-        let places = self.streams.readable_peers();
-        self.service.begin(&self.gateway, places);
-        let begun = self.read_clock(rt);
-        let time = SERVES.max(begun.saturating_sub(turn));
-        for _ in 0..u64::MAX {
-            let Some((owner, place)) = self.service.next(self.now) else {
-                return;
-            };
-            let served = self.serve_one(rt, owner, place);
-            let is_over = served.is_err() || self.now.saturating_sub(begun) >= time;
-            self.report(served);
-            if is_over {
-                return;
-            }
-        }
-    }
-
-    /// Serves the connection at a place, if it is one of that operator, and charges the operator for it.
-    fn serve_one(&mut self, rt: &HostRuntime, owner: usize, place: usize) -> Result<(), Fault> {
-        if place >= self.gateway.count() {
-            return Ok(());
-        }
-        if self.service.owner_of(&self.gateway, place) != Some(owner) {
-            return Ok(());
-        }
-        let before = self.now;
-        let taken = self.gateway.taken();
-        let is_station = matches!(self.gateway.route(place), Some(Route::Station(_, _)));
-        let served = self.gateway.serve(&mut self.hub, place, self.moment);
-        let events = self.gateway.taken().wrapping_sub(taken);
-        let cost = self.read_clock(rt).saturating_sub(before);
-        self.metrics
-            .serve(owner, is_station, events, cost, self.second);
-        self.service.charge(&self.gateway, owner, cost, self.now);
-        served
     }
 
     /// Counts the notes of a turn, and writes them to the log.
@@ -452,7 +358,7 @@ impl<S: Store + Drop, V: VendorHandler> Server<S, V> {
     }
 
     /// Accepts connections until none waits, up to a bound.
-    fn accept(&mut self) -> Result<(), RunFault> {
+    pub(crate) fn accept(&mut self) -> Result<(), RunFault> {
         if !self.may_accept() {
             return Ok(());
         }

@@ -78,6 +78,11 @@ impl Service {
         Ok(())
     }
 
+    /// How many operators wait.
+    pub fn count_waiting(&self) -> usize {
+        self.waits.iter().filter(|waits| **waits).count()
+    }
+
     /// The number of the operator of the connection at that place. One of an operator that isn't hosted has none.
     pub fn owner_of(&self, gateway: &Gateway<ReadyStream>, place: usize) -> Option<usize> {
         let operator = gateway.route(place)?.operator();

@@ -3,7 +3,7 @@
 use crate::opening::Opened;
 use crate::prepared::Prepared;
 use crate::server::Server;
-use command_line::{ServeOptions, VERSION};
+use command_line::{Commit, ServeOptions, VERSION};
 use hub_rows::Store;
 use journal::Journal;
 use ocpp_types::{Mem, Text};
@@ -126,8 +126,10 @@ fn begin_and_run<S: Store + Drop, V: VendorHandler>(
     options: &ServeOptions,
     start: &str,
 ) -> Result<(), RunFault> {
-    if let Some(kept) = &options.journal {
-        server.keep_journal(rt, kept, journal)?;
+    match &options.journal {
+        Some(kept) => server.keep_journal(rt, kept, journal)?,
+        None if options.commit == Commit::Turn => server.commit_turns(journal),
+        None => {}
     }
     warn_of(rt, options.address);
     server.tell_start(start);

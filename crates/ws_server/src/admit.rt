@@ -96,7 +96,7 @@ impl<T: Read + Write + Served + Drop> Gateway<T> {
     {
         self.peers.reserve()?;
         self.begin_line(event, "");
-        let outs = match hub.handle(event) {
+        let outs = match hub.handle_by(event, self.flush) {
             Ok(outs) => outs,
             Err(fault) => {
                 self.refuse_line();

@@ -93,7 +93,7 @@ impl<T: Read + Write + Served + Drop> Gateway<T> {
             return Ok(());
         };
         self.begin_line(event, order_text(text));
-        let outs = match hub.handle(event) {
+        let outs = match hub.handle_by(event, self.flush) {
             Ok(outs) => outs,
             Err(fault) => {
                 self.refuse_line();

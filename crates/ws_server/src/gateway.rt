@@ -2,6 +2,7 @@
 ghost use Rattle.std.specs.Prelude.{◌≡◌, ◌<◌, ◌≤◌, [], length, slice_index_or, option_map, Some, None};
 
 use connection_notes::{Note, Notes};
+use hub_rows::Flush;
 use journal::Journal;
 use ocpp_types::Text;
 use ready_streams::Served;
@@ -24,6 +25,8 @@ pub struct Gateway<T> {
     pub(crate) taken: u64,
     /// Where the lines of events go, if they are kept.
     pub(crate) journal: Option<Rc<Journal>>,
+    /// When changes of the records are flushed.
+    pub(crate) flush: Flush,
 }
 
 impl<T: Read + Write + Served + Drop> Gateway<T> {
@@ -44,7 +47,15 @@ impl<T: Read + Write + Served + Drop> Gateway<T> {
             full: Vec::new(alloc),
             taken: 0,
             journal: None,
+            flush: Flush::AtOnce,
         }
+    }
+
+    /// From now on changes of the records are flushed at once, or wait for `Hub::flush`.
+    pub fn set_flush(&mut self, flush: Flush)
+        ensures { peers_of self.new ≡ peers_of self.old }
+    {
+        self.flush = flush;
     }
 
     /// From now on the lines of events go to a journal.

@@ -38,7 +38,7 @@ impl<T: Read + Write + Served + Drop> Gateway<T> {
         ensures count { length (peers_of self.new) ≡ length (peers_of self.old) }
     {
         self.begin_line(event, order);
-        let outs = match hub.handle(event) {
+        let outs = match hub.handle_by(event, self.flush) {
             Ok(outs) => outs,
             Err(fault) => {
                 self.refuse_line();

@@ -2,7 +2,8 @@
 
 use crate::scripts::{events, hub_of, run};
 use hub_rows::{
-    Change, Edit, Flush, MeterValue, Start, StartKey, StationEdit, Store, StoreFault, TransactionEdit,
+    Change, Edit, Flush, MeterValue, Start, StartKey, StationEdit, Store, StoreFault,
+    TransactionEdit,
 };
 use ocpp_types::{
     AuthorizationStatus, Listed, Location, Measurand, Mem, Moment, Policy, ReadingContext, Refusal,

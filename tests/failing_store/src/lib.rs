@@ -4,9 +4,9 @@
 ghost use Rattle.std.specs.Prelude.{◌+◌};
 
 use hub_rows::{
-    Change, ConnectorRow, Flush, GrantRow, GrantedTag, History, Info, LocalList, MeterValueRow, Reader,
-    ReaderRow, Recovered, Registration, ReportRow, ReservationId, ReservationRow, StartKey, StationRow, Store,
-    StoreFault, TagRow, TxKey, TxRow, TxState, UseRow,
+    Change, ConnectorRow, Flush, GrantRow, GrantedTag, History, Info, LocalList, MeterValueRow,
+    Reader, ReaderRow, Recovered, Registration, ReportRow, ReservationId, ReservationRow, StartKey,
+    StationRow, Store, StoreFault, TagRow, TxKey, TxRow, TxState, UseRow,
 };
 use ocpp_types::{Listed, Moment, TagKey};
 

@@ -4,7 +4,9 @@ use crate::scripts::runs::{events, take_all};
 use anyhow::Result;
 use cached::Cached;
 use failing_store::Failing;
-use hub_rows::{Change, Edit, Flush, Info, MeterValue, Registration, Store, StoreFault, TransactionEdit};
+use hub_rows::{
+    Change, Edit, Flush, Info, MeterValue, Registration, Store, StoreFault, TransactionEdit,
+};
 use ocpp_types::{
     Listed, Location, Measurand, ReadingContext, SampledValue, TagKey, Text, UnitOfMeasure,
     ValueFormat,

@@ -1,0 +1,181 @@
+//! One turn of a server.
+
+use crate::server::Server;
+use hub::Fault;
+use hub_rows::{Recovered, Store};
+use runs::RunFault;
+use station_calls::VendorHandler;
+use std::fmt::Display;
+use ws_peers::Route;
+
+/// The nanoseconds in which a turn begins to serve connections; where more have passed since it began, as many as those,
+/// since what a turn does first takes as long as there are connections to read. Those that are left are served in the next
+/// one, after what is reported meanwhile.
+const SERVES: u64 = 1_000_000;
+
+impl<S: Store + Drop, V: VendorHandler> Server<S, V> {
+    /// Polls the connections that wait.
+    fn welcome(&mut self) {
+        let welcomed = self
+            .lobby
+            .serve(&mut self.gateway, &mut self.hub, self.moment, self.second);
+        self.report(welcomed);
+    }
+
+    /// One turn: accepts connections, polls those that wait, and serves peers whose streams may be read. Where the database
+    /// is shut, all connections are closed. What was written is then given to the system, once the journal has what was taken.
+    pub(crate) fn turn(&mut self, rt: &HostRuntime) {
+        if let Err(fault) = self.accept() {
+            self.failed_accept = true;
+            if self.tell_fault(&fault, matches!(&fault, RunFault::NoMemory)) {
+                let _lost = fault.write_detail(rt);
+            }
+        }
+        self.has_faulted = false;
+        if self.batches.is_unsure {
+            self.recover();
+        }
+        if self.goes_on() {
+            self.welcome();
+        }
+        if self.lobby.has_readers() {
+            self.answer_readers(rt);
+        }
+        if self.goes_on() {
+            self.serve_some(rt);
+        }
+        if self.goes_on() {
+            let ended = self.gateway.turn(&mut self.hub, self.moment, &[]);
+            self.report(ended);
+        }
+        if self.goes_on() && self.batches.has_some() {
+            self.flush(rt);
+        }
+        self.end_turn();
+    }
+
+    /// Whether events are handed to the hub in this turn.
+    fn goes_on(&self) -> bool {
+        !self.is_store_shut && !self.batches.is_lost && !self.batches.is_unsure
+    }
+
+    /// Commits the changes of the turn.
+    fn flush(&mut self, rt: &HostRuntime) {
+        let before = self.now;
+        let flushed = self.hub.flush();
+        let time = self.read_clock(rt).saturating_sub(before);
+        self.batches.commit(time);
+        self.report(flushed);
+    }
+
+    /// What was written is given to the system, once the changes of the turn are committed, and the journal has what was
+    /// taken. Where they are gone it is dropped, and all connections are closed.
+    fn end_turn(&mut self) {
+        if !self.goes_on() {
+            if self.batches.has_turns() {
+                self.streams.drop_turn();
+            }
+            self.gateway.fail_all();
+        }
+        if let Some(flush) = self.batches.end_turn() {
+            self.gateway.set_flush(flush);
+        }
+        if self.journal.write() {
+            self.streams.end_turn();
+        }
+    }
+
+    /// Tells the fault of a turn, if it ended in one. That of a store that is shut is told as the server ends.
+    fn report(&mut self, answer: Result<(), Fault>) {
+        let Err(fault) = answer else {
+            return;
+        };
+        self.has_faulted = !matches!(fault, Fault::TooLong);
+        if matches!(fault, Fault::NoMemory) {
+            self.reserve = None;
+        }
+        if matches!(fault, Fault::Store) {
+            self.hurt = Some(self.second);
+            self.lobby.set_hurt(true);
+        }
+        if matches!(fault, Fault::Store) || self.batches.has_turns() {
+            self.recover();
+        }
+        if !self.is_store_shut {
+            let _told = self.log.write_fault(&fault);
+        }
+    }
+
+    /// Looks for the changes that wait, after a fault.
+    fn recover(&mut self) {
+        self.batches.is_unsure = false;
+        match self.hub.recover() {
+            Ok(Recovered::Whole) => {}
+            Ok(Recovered::Renewed) => self.batches.lose(),
+            Err(Fault::Store) => self.is_store_shut = true,
+            Err(_) => {
+                self.batches.lose();
+                self.batches.is_unsure = true;
+            }
+        }
+    }
+
+    /// Writes a fault to standard error, and gives up the memory that is set aside where none was found. It gives whether the
+    /// fault was written.
+    fn tell_fault<F: Display>(&mut self, fault: &F, found_no_memory: bool) -> bool {
+        if found_no_memory {
+            self.reserve = None;
+        }
+        self.log.write_fault(fault)
+    }
+
+    /// Serves connections that have something to read, until none has, the time for it is over, or an event ends in a
+    /// fault. Each operator is charged for the time of its events, and the one that was charged least is next.
+    fn serve_some(&mut self, rt: &HostRuntime) {
+        let turn = self.now;
+        let places = self.streams.readable_peers();
+        self.service.begin(&self.gateway, places);
+        let begun = self.read_clock(rt);
+        let time = SERVES.max(begun.saturating_sub(turn)).max(self.wide());
+        for _ in 0..u64::MAX {
+            let Some((owner, place)) = self.service.next(self.now) else {
+                return;
+            };
+            let served = self.serve_one(rt, owner, place);
+            let is_over = served.is_err() || self.now.saturating_sub(begun) >= time;
+            self.report(served);
+            if is_over {
+                return;
+            }
+        }
+    }
+
+    /// Where one operator alone waits a turn is as long as its last commit took, so that a slow disk makes larger batches.
+    fn wide(&self) -> u64 {
+        if self.service.count_waiting() > 1 {
+            0
+        } else {
+            self.batches.time
+        }
+    }
+
+    /// Serves the connection at a place, if it is one of that operator, and charges the operator for it.
+    fn serve_one(&mut self, rt: &HostRuntime, owner: usize, place: usize) -> Result<(), Fault> {
+        if place >= self.gateway.count() {
+            return Ok(());
+        }
+        if self.service.owner_of(&self.gateway, place) != Some(owner) {
+            return Ok(());
+        }
+        let before = self.now;
+        let taken = self.gateway.taken();
+        let is_station = matches!(self.gateway.route(place), Some(Route::Station(_, _)));
+        let served = self.gateway.serve(&mut self.hub, place, self.moment);
+        let events = self.gateway.taken().wrapping_sub(taken);
+        let cost = self.read_clock(rt).saturating_sub(before);
+        self.metrics
+            .serve(owner, is_station, events, cost, self.second);
+        self.service.charge(&self.gateway, owner, cost, self.now);
+        served
+    }
+}
