@@ -298,7 +298,7 @@ fn commit() -> Argument {
         "commit",
         "WHEN",
         Takes::Commit,
-        "When changes are committed: each alone, or all of a turn together, before anybody is told of them; each if it isn't given. With --journal each alone",
+        "How changes are committed: `each` commits each change alone (the default), `turn` commits those of a turn together and answers after that. `turn` can't be used with --journal",
     )
 }
 

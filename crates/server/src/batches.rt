@@ -1,23 +1,23 @@
-//! Changes that are committed together, before anybody is told of them.
+//! Group commit: a turn's changes share one commit, which comes before its answers.
 
 use hub_rows::Flush;
 use journal::Journal;
 use std::rc::Rc;
 
-/// What becomes of the changes of a turn.
+/// How the changes of a turn are committed.
 #[derive(Drop)]
 pub struct Batches {
-    /// Where changes are counted, if those of a turn are committed together.
+    /// Counts the changes, where a turn's changes share one commit.
     journal: Option<Rc<Journal>>,
-    /// How many had been made as a batch was lost. Until one more is, each is committed alone.
+    /// The count of changes when a batch was lost. Each change is committed alone until the count rises.
     lost_at: Option<u64>,
-    /// How many had been made as the last batch was committed.
+    /// The count of changes at the last commit.
     committed_at: u64,
-    /// The nanoseconds that this took.
+    /// How long the last commit took, in nanoseconds.
     pub time: u64,
-    /// The changes of this turn are gone, and nobody is told of what it took.
+    /// The turn lost its changes. Its answers are dropped.
     pub is_lost: bool,
-    /// Whether changes are gone couldn't be found.
+    /// The store couldn't tell whether changes were lost.
     pub is_unsure: bool,
 }
 
@@ -34,7 +34,7 @@ impl Batches {
         }
     }
 
-    /// Those of a turn are committed together.
+    /// The changes of a turn share one commit.
     pub fn of_turns(journal: Rc<Journal>) -> Batches {
         let mut batches = Batches::each();
         batches.committed_at = journal.changes();
@@ -42,7 +42,7 @@ impl Batches {
         batches
     }
 
-    /// Whether those of a turn are committed together.
+    /// Returns whether the changes of a turn share one commit.
     pub fn has_turns(&self) -> bool {
         self.journal.is_some()
     }
@@ -51,24 +51,24 @@ impl Batches {
         self.journal.as_ref().map_or(0, |journal| journal.changes())
     }
 
-    /// Whether changes wait for the end of the turn.
+    /// Returns whether changes wait for the commit at the end of the turn.
     pub fn has_some(&self) -> bool {
         self.has_turns() && self.lost_at.is_none() && self.changes() != self.committed_at
     }
 
-    /// Those that wait are committed, which took so many nanoseconds.
+    /// Notes a commit of the waiting changes, which took so many nanoseconds.
     pub fn commit(&mut self, time: u64) {
         self.committed_at = self.changes();
         self.time = time;
     }
 
-    /// Those that wait are gone.
+    /// Notes the loss of the waiting changes.
     pub fn lose(&mut self) {
         self.is_lost = true;
         self.lost_at = Some(self.changes());
     }
 
-    /// A turn ends. How changes are flushed in the next one, if those of a turn are committed together.
+    /// Ends a turn. Returns how the next turn flushes changes, if a turn's changes share one commit.
     pub fn end_turn(&mut self) -> Option<Flush> {
         self.is_lost = false;
         let lost_at = self.lost_at;

@@ -8,9 +8,8 @@ use station_calls::VendorHandler;
 use std::fmt::Display;
 use ws_peers::Route;
 
-/// The nanoseconds in which a turn begins to serve connections; where more have passed since it began, as many as those,
-/// since what a turn does first takes as long as there are connections to read. Those that are left are served in the next
-/// one, after what is reported meanwhile.
+/// How long a turn serves connections at least, in nanoseconds. It serves for as long as the turn has taken before, if that is
+/// longer. The next turn serves those that are left, after what is reported meanwhile.
 const SERVES: u64 = 1_000_000;
 
 impl<S: Store + Drop, V: VendorHandler> Server<S, V> {
@@ -59,17 +58,22 @@ impl<S: Store + Drop, V: VendorHandler> Server<S, V> {
         !self.is_store_shut && !self.batches.is_lost && !self.batches.is_unsure
     }
 
-    /// Commits the changes of the turn.
+    /// Commits the changes of the turn. A store that still has them after a commit that failed counts as shut, since nobody
+    /// may be told of changes that aren't on record.
     fn flush(&mut self, rt: &HostRuntime) {
         let before = self.now;
         let flushed = self.hub.flush();
         let time = self.read_clock(rt).saturating_sub(before);
         self.batches.commit(time);
+        let has_failed = flushed.is_err();
         self.report(flushed);
+        if has_failed && self.goes_on() {
+            self.is_store_shut = true;
+        }
     }
 
-    /// What was written is given to the system, once the changes of the turn are committed, and the journal has what was
-    /// taken. Where they are gone it is dropped, and all connections are closed.
+    /// Gives what was written to the system, once the changes of the turn are committed and the journal has what was taken.
+    /// Drops it and closes all connections where the changes are gone.
     fn end_turn(&mut self) {
         if !self.goes_on() {
             if self.batches.has_turns() {
@@ -85,7 +89,7 @@ impl<S: Store + Drop, V: VendorHandler> Server<S, V> {
         }
     }
 
-    /// Tells the fault of a turn, if it ended in one. That of a store that is shut is told as the server ends.
+    /// Writes the fault of a turn to the log, if it ended in one. The server writes that of a store that is shut as it ends.
     fn report(&mut self, answer: Result<(), Fault>) {
         let Err(fault) = answer else {
             return;

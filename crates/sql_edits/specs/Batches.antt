@@ -10,13 +10,13 @@ use Rattle.sql_edits.specs.declared.batches.NotMade.TheVariants.{Alone, WithBatc
 use Rattle.sql_rows.specs.Kept.{InBatch, IsHub, IsInBatch, IsServing, IsUncommitted, Serves, StaysOpen, Stops, changes_in}
 use Rattle.sql_rows.specs.TypedTables.{rows_of}
 
--- the last commit is as it was, and what is there serves
+-- a call keeps the last commit, and the connection serves
 pub record KeepsLast (old new : State) : Type 0 where
   pub was_open : IsTrue old.is_open
   pub committed : new.committed ≡ old.committed
   pub serves : Serves new
 
--- a batch is open, and all is as it was
+-- a batch is open, and the call keeps all rows
 pub record Begun (old new : State) : Type 0 where
   pub was_open : IsTrue old.is_open
   pub now : new.now ≡ old.now
@@ -130,7 +130,7 @@ pub record TakesBack {A E : Type 0} (old new : State) (r : Result A E) : Type 0 
   pub stops : (before : List Savepoint) (first : Database) → (IsTrue old.is_open → IsHub first) → IsInChange before first old → HasCleanDisk new → (db : Trees) → new.may_leave db → old.may_leave db
   pub up : HasCleanDisk new → OnOk r (IsTrue new.is_open)
 
--- a change is added to a batch that is open; one that isn't made alone leaves the batch as it was
+-- a call adds a change to an open batch; a change that fails alone keeps the batch
 abbrev pub LeavesMore : {A : Type 0} → (Trees → Trees → Type 0) → State → State → Result A NotMade → Type 0
 LeavesMore Edit old new (Ok x) = Added Edit old new
 LeavesMore Edit old new (Err (Alone f)) = Begun old new
