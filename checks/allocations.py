@@ -486,7 +486,7 @@ def kept(checks, recorded, number, usual):
         if not server.lives() and (server.process.returncode, how.split(":")[0]) not in ENDS:
             fault = f"it ended with {server.process.returncode}: {says}"
         server.end()
-        # the next server says which of the last events were taken
+        # the next server says whether the last turn was taken
         again = Server(checks, db, NEVER, keeps=True)
         fault = fault or (None if again.lives() else f"it doesn't begin again: {again.errors()}")
         again.end()
@@ -522,7 +522,7 @@ def check_journal(checks):
 
 def check_follow(checks, recorded, data):
     """A follower leaves the rows after some of the first marks of its journal."""
-    places = [match.end() for match in re.finditer(b"^taken .*\n", data, re.MULTILINE)]
+    places = [match.end() for match in re.finditer(b"^turn .*\n", data, re.MULTILINE)]
     states = {changes: rows for _, rows, changes in (follow(checks, recorded, data[:place]) for place in (0, *places))}
     follow(checks, recorded, data)
     count = checks.allocator.count

@@ -50,6 +50,7 @@ OF_PROGRAM = [
     ["python3", "checks/kills.py", PROGRAM, "10", "2", "--commit", "turn"],
     # what a server writes to its journal, and what a standby makes of it
     ["python3", "checks/standby.py", PROGRAM, "10"],
+    ["python3", "checks/standby.py", PROGRAM, "5", "2", "--commit", "turn"],
     # how the server tells what it does, what it bounds, and how it ends
     ["python3", "checks/serving.py", PROGRAM],
     # the program's statuses and texts, and sessions over sockets

@@ -5,11 +5,14 @@ the journal as it grows, and is killed now and then. After each kill the server 
 listings of both operators are compared with those of a server over the follower's file. Then: which lines an event has, which
 journals are refused, a standby that serves at the end of its input, and a journal that can't be written.
 
-    python3 checks/standby.py crates/central/out/central [KILLS] [SEED]
+    python3 checks/standby.py crates/central/out/central [KILLS] [SEED] [WORDS..]
+
+WORDS, as `--commit turn`, are handed to each server.
 """
 
 import contextlib
 import glob
+import hashlib
 import os
 import re
 import resource
@@ -29,12 +32,14 @@ from peer import BOOT, Peer
 OPERATOR_LIST = "ACME,BETA"
 # where a server over the follower's file listens
 STANDBY_PORT = 9290
+# what else each server is told
+WORDS = sys.argv[4:]
 OF_OPERATORS = ("stations", "tags", "grants", "granted", "uses", "readers", "open")
 OF_STATIONS = ("connectors", "transactions", "readings", "reservations", "reports", "locallist")
 
 
 def words(program, port, db, *more):
-    return [program, "serve", "--port", str(port), "--db", db, "--operators", OPERATOR_LIST, "--log", "none", *more]
+    return [program, "serve", "--port", str(port), "--db", db, "--operators", OPERATOR_LIST, "--log", "none", *WORDS, *more]
 
 
 def ended(process):
@@ -186,6 +191,17 @@ class Day(Checks):
         self.check(f"kill {number}: the standby", not differ, differ)
 
 
+def without_confirmations(data):
+    """The lines of a journal but those that say again how many changes are on record."""
+    return b"".join(line for line in data.splitlines(keepends=True) if not line.startswith(b"turn 0 "))
+
+
+def turn(before, after, *lines):
+    """Lines and the mark of their turn."""
+    digest = hashlib.sha1("".join(f"{line}\n" for line in lines).encode()).hexdigest()
+    return [*lines, f"turn {len(lines)} {before} {after} {digest}"]
+
+
 class Lines:
     """One server after the other over a file and its journal, and followers of what they wrote."""
 
@@ -245,24 +261,18 @@ class Lines:
         server.kill()
         server.wait()
         self.check("the call", call == '[2,"1","ClearCache",{}]', call)
-        with open(self.journal) as journal:
-            lines = [re.sub(r"^\d+ ", "M ", line) for line in journal.read().splitlines()]
+        with open(self.journal, "rb") as journal:
+            lines = without_confirmations(journal.read()).decode().splitlines()
+        moment = iter([line.split(" ", 1)[0] for line in lines if line[0].isdigit()] + ["0"] * 8)
         expected = [
             "begins 0 ACME,BETA",
-            "M ACME station add CP01 Accepted 300",
-            "taken 1 1 1",
-            "M ACME tag put TAG1 - 0 -",
-            "taken 1 1 2",
-            "M ACME connect CP01",
-            "taken 1 1 2",
-            f"M ACME frame CP01 {BOOT}",
-            "taken 1 1 3",
-            'M ACME quoted CP01 "[2,\\"3\\",\\n\\"Heartbeat\\",{}]"',
-            "taken 1 1 3",
-            "M ACME call CP01 ClearCache {}",
-            "taken 1 1 3",
-            'M ACME frame CP01 [3,"1",{"status":"Accepted"}]',
-            "taken 1 1 3",
+            *turn(0, 1, f"{next(moment)} ACME station add CP01 Accepted 300"),
+            *turn(1, 2, f"{next(moment)} ACME tag put TAG1 - 0 -"),
+            *turn(2, 2, f"{next(moment)} ACME connect CP01"),
+            *turn(2, 3, f"{next(moment)} ACME frame CP01 {BOOT}"),
+            *turn(3, 3, f'{next(moment)} ACME quoted CP01 "[2,\\"3\\",\\n\\"Heartbeat\\",{{}}]"'),
+            *turn(3, 3, f"{next(moment)} ACME call CP01 ClearCache {{}}"),
+            *turn(3, 3, f'{next(moment)} ACME frame CP01 [3,"1",{{"status":"Accepted"}}]'),
         ]
         self.check("the lines", lines == expected, lines)
 
@@ -272,7 +282,7 @@ class Lines:
         server.kill()
         server.wait()
         with open(self.journal) as journal:
-            self.check("another begin", journal.read().endswith("taken 1 1 3\nbegins 3 ACME,BETA\n"))
+            self.check("another begin", re.search(r"\nturn . 3 3 [0-9a-f]{40}\nbegins 3 ACME,BETA\n$", journal.read()))
         other = self.path("other.db")
         head = "fault Journal: "
         changes = f"{head}another number of changes is on record\n{self.journal}\n"
@@ -298,7 +308,7 @@ class Lines:
             self.check(f"a first line that is cut: {part!r}", data == left + end, data)
         nowhere = self.path("nowhere/journal")
         self.refused("no folder", f"{head}the file can't be opened\n{nowhere}\n", journal=nowhere)
-        for cut, events, taken in (("\n1704067200 ACME li", 1, None), ("\n1704067200 ACME list tags\ntak", 1, 0)):
+        for cut in ("\n1704067200 ACME li", "\n1704067200 ACME list tags\ntur"):
             with open(self.journal, "rb+") as journal:
                 journal.seek(-1, os.SEEK_END)
                 journal.write(cut.encode())
@@ -307,14 +317,13 @@ class Lines:
             server.wait()
             with open(self.journal, "rb") as journal:
                 data = journal.read()
-            mark = "" if taken is None else f"taken {taken} {events} 3\n"
-            end = f"{cut}\udcff\n{mark}begins 3 ACME,BETA\n".encode("utf-8", "surrogateescape")
+            end = f"{cut}\udcff\nbegins 3 ACME,BETA\n".encode("utf-8", "surrogateescape")
             self.check(f"a line that is cut: {cut}", data.endswith(end), data[-200:])
 
     def look_at_followers(self):
         """What a follower makes of a journal, and which it refuses."""
         with open(self.journal, "rb") as journal:
-            data = journal.read()
+            data = without_confirmations(journal.read())
         told = "follows: 3 changes on record\n"
         self.check("the journal", self.follow(data) == (0, told), self.follow(data))
         lines = data.splitlines(keepends=True)
@@ -322,6 +331,8 @@ class Lines:
         gap = (2, "fault Follow: Gap\n")
         self.check("a line left out", self.follow(b"".join(lines[:place] + lines[place + 1 :])) == gap)
         self.check("a line twice", self.follow(b"".join(lines[:place] + [lines[place]] + lines[place:])) == gap)
+        altered = data.replace(b"connect CP01", b"connect CP02")
+        self.check("a line that was altered", self.follow(altered) == gap)
         changes = (2, "fault Follow: Changes\n")
         self.check("a change left out", self.follow(b"".join(lines[:1] + lines[3:])) == changes)
         self.check("another begin", self.follow(data.replace(b"begins 3", b"begins 4", 1)) == changes)

@@ -4,13 +4,11 @@ use crate::fault::ProgramFault;
 use cached::Cached;
 use command_line::{FollowOptions, ReplayOptions, ServeOptions};
 use hub_rows::Store;
-use journal::{Journal, Journaled};
 use record_file::{open, warn_of_strangers};
 use runs::{follow_journal, replay_fresh, replay_over};
 use server::{Begun, Opened, begin};
 use sqlite::Alter;
 use station_calls::VendorHandler;
-use std::rc::Rc;
 use store_sql::SqlStore;
 
 /// How many answers of a kind are kept in front of a database.
@@ -68,17 +66,16 @@ fn follow_database<A: Alter + Drop>(
     follow_counted(rt, store, changes, options)
 }
 
-/// Follows a journal into a store that has `changes` changes on record.
+/// Follows a journal into a store that has so many changes on record.
 fn follow_counted<S: Store + Drop>(
     rt: &HostRuntime,
     store: S,
     changes: u64,
     options: &FollowOptions,
 ) -> Result<(), ProgramFault> {
-    let journal = Rc::new(rt.alloc(), Journal::new(rt.alloc(), changes))?;
-    let store = counted(rt, store, &journal)?;
+    let store = Cached::new(rt.alloc(), store, ANSWERS)?;
     let operators = options.operators.as_slice();
-    let _store = follow_journal(rt, store, &journal, options.journal.as_str(), operators)?;
+    let _followed = follow_journal(rt, store, changes, options.journal.as_str(), operators)?;
     Ok(())
 }
 
@@ -120,16 +117,6 @@ fn serve_counted<S: Store + Drop, V: VendorHandler>(
     options: &ServeOptions,
     vendors: Vec<V>,
 ) -> Result<(), ProgramFault> {
-    let store = counted(rt, store, &opened.journal)?;
+    let store = Cached::new(rt.alloc(), store, ANSWERS)?;
     Ok(server::serve(rt, store, opened, options, vendors)?)
-}
-
-/// A store behind a cache, whose changes a journal counts.
-fn counted<S: Store + Drop>(
-    rt: &HostRuntime,
-    store: S,
-    journal: &Rc<Journal>,
-) -> Result<Cached<Journaled<S>>, ProgramFault> {
-    let journaled = Journaled::new(store, Rc::clone(journal)?);
-    Ok(Cached::new(rt.alloc(), journaled, ANSWERS)?)
 }

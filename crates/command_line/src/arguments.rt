@@ -298,7 +298,7 @@ fn commit() -> Argument {
         "commit",
         "WHEN",
         Takes::Commit,
-        "How changes are committed: `each` commits each change alone (the default), `turn` commits those of a turn together and answers after that. `turn` can't be used with --journal",
+        "How changes are committed: `each` commits each change alone (the default), `turn` commits those of a turn together and answers after that",
     )
 }
 

@@ -116,23 +116,19 @@ fn serve_options(alloc: Global, found: &ArgMatches) -> Result<ServeOptions, Erro
             .unwrap_or(MOST_STATIONS),
         longest: found.get_one::<u32>("longest-listing").unwrap_or(LONGEST),
         stop_file: text_if_any(alloc, found.get_str("stop-file"))?,
-        commit: commit_of(alloc, found)?,
+        commit: commit_of(found.get_str("commit").unwrap_or("each")),
         journal: journal_options(alloc, found)?,
         follow: text_if_any(alloc, found.get_str("follow"))?,
         log: level_of(found.get_str("log").unwrap_or("connections")),
     })
 }
 
-/// When changes are committed, by the word of `--commit`. A server that keeps a journal commits each alone.
-fn commit_of(alloc: Global, found: &ArgMatches) -> Result<Commit, Error> {
-    if found.get_str("commit") != Some("turn") {
-        return Ok(Commit::Each);
+/// When changes are committed, by the word of `--commit`.
+fn commit_of(word: &str) -> Commit {
+    match word {
+        "turn" => Commit::Turn,
+        _ => Commit::Each,
     }
-    if found.get_str("journal").is_none() {
-        return Ok(Commit::Turn);
-    }
-    let reason = "the argument '--commit turn' cannot be used with '--journal <FILE>'";
-    Err(central(alloc)?.error(ErrorKind::ArgumentConflict, reason)?)
 }
 
 /// Which lines a log has, by the word of `--log`.

@@ -1,5 +1,5 @@
 -- What events do to the records and slots of all operators, and what is said.
-use Rattle.std.specs.Prelude.{ℕ, List, [], ◌∷◌, ◌++◌, Bool, Option, Some, None, map}
+use Rattle.std.specs.Prelude.{ℕ, ◌==◌, List, [], ◌∷◌, ◌++◌, length, Bool, false, Option, Some, None, map}
 use Rattle.hub_rows.specs.declared.change.Edit.{Edit}
 use Rattle.hub_rows.specs.Keyed.{own}
 use Rattle.hub_rows.specs.Rows.{Rows}
@@ -71,6 +71,11 @@ outputs_of a outs = own (λ o. o.op) a outs
 abbrev pub world_outputs : Setting → World → Event → List Out
 world_outputs setting w (At b m what) = plan_outputs b (plan_at setting w b m what) (facts_at setting.first_number b w)
 world_outputs setting w (Tick m) = tick_outputs m w.slots
+
+-- a tick at which no call ends
+abbrev pub is_idle : Event → List Out → Bool
+is_idle (At b m what) outs = false
+is_idle (Tick m) outs = length outs == 0
 
 -- the world after an event
 abbrev pub world_step : Setting → World → Event → World

@@ -7,6 +7,7 @@ ghost use Rattle.hub_rows.specs.Readers.{reader_in};
 ghost use Rattle.hub_rows.specs.Failures.{Rose};
 ghost use Rattle.hub_rows.specs.Rows.{registration_at};
 ghost use Rattle.hub_rows.specs.declared.store.Recovered.TheVariants as recovered;
+ghost use Rattle.hub.specs.Effects.{edit_of};
 
 use crate::commit::commit;
 use crate::tick::expire_all;
@@ -40,6 +41,19 @@ pub struct Hub<S, V> {
 #[derive(Drop)]
 pub struct Step {
     plan: Plan,
+}
+
+impl Step {
+    /// Whether it changes records.
+    pub fn has_change(&self) -> bool
+        ensures { result ≡ is_some (edit_of self.now.plan.effect) }
+    {
+        match &self.plan.effect {
+            Effect::Edit(_) => true,
+            Effect::Answer { edit, .. } => edit.is_some(),
+            _ => false,
+        }
+    }
 }
 
 /// These operators can't be hosted: there is none, one comes twice, or a name isn't of 1 to 32

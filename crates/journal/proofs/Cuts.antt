@@ -10,7 +10,7 @@ use Rattle.std.proofs.lemmas.List.{length-append}
 use Rattle.std.proofs.lemmas.List.Folds.{list_any-append}
 use Rattle.lines.specs.InputLines.{is_utf8}
 use Rattle.journal.specs.Entries.{entry_of}
-use Rattle.journal.specs.Journals.{entries_from, entries_of, EndsCut}
+use Rattle.journal.specs.Journals.{lines_from, lines_of, EndsCut}
 use Rattle.journal.specs.declared.entry.Entry.TheVariants.{Bad}
 
 abbrev is_last : ℕ → Bool
@@ -80,16 +80,24 @@ cut_bad : (is_hosted : List ℕ → Bool) (line : List ℕ) → entry_of is_host
 unfolding entry_of
 cut_bad is_hosted line = let none = cut_no_text line in rw none refl
 
-cut_from : (is_hosted : List ℕ → Bool) (line file : List ℕ) → entries_from is_hosted line (file ++ (255 ∷ 10 ∷ [])) ≡ entries_from is_hosted line file ++ (Bad ∷ [])
-unfolding entries_from
-cut_from is_hosted line [] = ap (λ e. e ∷ []) (cut_bad is_hosted line)
-cut_from is_hosted line (x ∷ file) =
-    elim (x == 10) as (λ b. (if b then entry_of is_hosted line ∷ entries_from is_hosted [] (file ++ (255 ∷ 10 ∷ [])) else entries_from is_hosted (line ++ (x ∷ [])) (file ++ (255 ∷ 10 ∷ [])))
-    ≡ (if b then entry_of is_hosted line ∷ entries_from is_hosted [] file else entries_from is_hosted (line ++ (x ∷ [])) file) ++ (Bad ∷ [])) [
-      | true ↦ ap (λ es. entry_of is_hosted line ∷ es) (cut_from is_hosted [] file)
-      | false ↦ cut_from is_hosted (line ++ (x ∷ [])) file
+-- the line that was cut, where one may have begun before
+unfoldable last_from : List ℕ → List ℕ → List ℕ
+last_from line [] = line
+last_from line (x ∷ file) = if x == 10 then last_from [] file else last_from (line ++ (x ∷ [])) file
+
+cut_from : (line file : List ℕ) → lines_from line (file ++ (255 ∷ 10 ∷ [])) ≡ lines_from line file ++ ((last_from line file ++ (255 ∷ [])) ∷ [])
+unfolding lines_from last_from
+cut_from line [] = refl
+cut_from line (x ∷ file) =
+    elim (x == 10) as (λ b. (if b then line ∷ lines_from [] (file ++ (255 ∷ 10 ∷ [])) else lines_from (line ++ (x ∷ [])) (file ++ (255 ∷ 10 ∷ [])))
+    ≡ (if b then line ∷ lines_from [] file else lines_from (line ++ (x ∷ [])) file) ++ (((if b then last_from [] file else last_from (line ++ (x ∷ [])) file) ++ (255 ∷ [])) ∷ [])) [
+      | true ↦ ap (λ ls. line ∷ ls) (cut_from [] file)
+      | false ↦ cut_from (line ++ (x ∷ [])) file
     ]
 
 pub ends_cut : (old new : List ℕ) → new ≡ old ++ (255 ∷ 10 ∷ []) → old ≡ [] → EndsCut new
-ends_cut old new is none = λ is_hosted file.
-    ap (λ bytes. entries_of is_hosted (file ++ bytes)) (is ∙ ap (λ bytes. bytes ++ (255 ∷ 10 ∷ [])) none) ∙ cut_from is_hosted [] file
+ends_cut old new is none = λ file. (
+  last_from [] file ++ (255 ∷ []),
+  ap (λ bytes. lines_of (file ++ bytes)) (is ∙ ap (λ bytes. bytes ++ (255 ∷ 10 ∷ [])) none) ∙ cut_from [] file,
+  λ is_hosted. cut_bad is_hosted (last_from [] file),
+)

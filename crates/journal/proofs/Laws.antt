@@ -1,14 +1,15 @@
 -- Lines of a journal.
-use Rattle.std.proofs.Common.{◌≡◌, ◌∙◌, ◌<◌, ◌+◌, ◌^◌, ℕ, List, [], ◌∷◌, ◌++◌, length, Some, None, Bool, true, false, codes, refl, sym, ap, arith, nat_eq, inl, inr, true≢false, if◌then◌else◌}
-use Rattle.std.specs.Prelude.{◌==◌, not, String, string_bytes}
+use Rattle.std.proofs.Common.{◌≡◌, ◌∙◌, ◌<◌, ◌+◌, ◌^◌, ℕ, List, [], ◌∷◌, ◌++◌, length, Some, None, Bool, true, false, codes, refl, sym, ap, arith, nat_eq, true≢false, if◌then◌else◌, zero, suc}
+use Rattle.std.specs.Prelude.{◌==◌, ◌||◌, ◌/◌, ◌%◌, not, slice_index, String, string_bytes}
 use Rattle.std.specs.Fmt.{decimal}
 use Rattle.std.specs.List.{list_any}
 use Rattle.std.specs.Str.Lossy.{utf8_valid_len}
 use Rattle.std.proofs.lemmas.Fmt.{decimal_is_IsNumeral, decimal_nonempty, length-decimal-le}
 use Rattle.std.proofs.lemmas.Str.{IsUtf8-string_bytes}
 use Rattle.std.proofs.lemmas.List.{append_assoc, append-nil, nil_from_length}
-use Rattle.hub_rows.specs.Failures.{Rose}
 use Rattle.hub_events.specs.declared.event.Event.{Event as HubEvent}
+use Rattle.hex.specs.Hex.{encode_lower, encode_with, lower_digits}
+use Rattle.sha1.specs.Sha1.{sha1}
 use Rattle.lines.specs.InputLines.{event_of}
 use Rattle.lines.specs.Journal.{is_feed, Stands, IsReadBack, IsOneLine}
 use Rattle.lines.specs.Words.{is_space}
@@ -16,10 +17,10 @@ use Rattle.lines.proofs.JournalLaws.{word_first, digits_plain}
 use Rattle.lines.proofs.JournalFeeds.{joined, of_digits}
 use Rattle.lines.proofs.Utf8Lines.{valid_text}
 use Rattle.ocpp_types.specs.Digits.{number_of_digits}
-use Rattle.journal.specs.Entries.{entry_of, entry_in, mark_in, event_or, begins_line, continues_line, taken_line, IsCount, AreCounts}
-use Rattle.journal.specs.Journals.{entries_from, entries_of, is_whole_from, is_whole, Adds, AddsLine, AddsMark}
+use Rattle.journal.specs.Entries.{entry_of, entry_in, mark_in, event_or, begins_line, continues_line, turn_line, digest_of, IsCount, AreCounts}
+use Rattle.journal.specs.Journals.{lines_from, lines_of, is_whole_from, is_whole, AddsLine}
 use Rattle.journal.specs.declared.entry.Entry.{Entry}
-use Rattle.journal.specs.declared.entry.Entry.TheVariants.{Begins, Continues, Event, Taken}
+use Rattle.journal.specs.declared.entry.Entry.TheVariants.{Begins, Continues, Event, Turn}
 
 -- ---- whole lines
 
@@ -60,41 +61,33 @@ pub whole_both : (b : Bool) (old other : List ℕ) → is_whole old ≡ true →
 whole_both true old other whole more = joined_from false old other whole more
 whole_both false old other whole more = whole
 
--- the entries of whole lines and of those that follow
-both_from : (is_hosted : List ℕ → Bool) (line front back : List ℕ) (begun : Bool) → is_whole_from begun front ≡ true → (begun ≡ false → line ≡ [])
-    → entries_from is_hosted line (front ++ back) ≡ entries_from is_hosted line front ++ entries_of is_hosted back
-unfolding entries_from is_whole_from
-both_from is_hosted line [] back true whole none = absurd (true≢false (sym whole))
-both_from is_hosted line [] back false whole none = ap (λ l. entries_from is_hosted l back) (none refl)
-both_from is_hosted line (x ∷ front) back begun whole none =
+-- the lines of whole lines and of those that follow
+both_from : (line front back : List ℕ) (begun : Bool) → is_whole_from begun front ≡ true → (begun ≡ false → line ≡ [])
+    → lines_from line (front ++ back) ≡ lines_from line front ++ lines_of back
+unfolding lines_from is_whole_from
+both_from line [] back true whole none = absurd (true≢false (sym whole))
+both_from line [] back false whole none = ap (λ l. lines_from l back) (none refl)
+both_from line (x ∷ front) back begun whole none =
     elim (x == 10) as (λ b. is_whole_from (not b) front ≡ true
-    → (if b then entry_of is_hosted line ∷ entries_from is_hosted [] (front ++ back) else entries_from is_hosted (line ++ (x ∷ [])) (front ++ back))
-    ≡ (if b then entry_of is_hosted line ∷ entries_from is_hosted [] front else entries_from is_hosted (line ++ (x ∷ [])) front) ++ entries_of is_hosted back) [
-      | true ↦ λ w. ap (λ es. entry_of is_hosted line ∷ es) (both_from is_hosted [] front back false w (λ _. refl))
-      | false ↦ λ w. both_from is_hosted (line ++ (x ∷ [])) front back true w (λ e. absurd (true≢false e))
+    → (if b then line ∷ lines_from [] (front ++ back) else lines_from (line ++ (x ∷ [])) (front ++ back))
+    ≡ (if b then line ∷ lines_from [] front else lines_from (line ++ (x ∷ [])) front) ++ lines_of back) [
+      | true ↦ λ w. ap (λ ls. line ∷ ls) (both_from [] front back false w (λ _. refl))
+      | false ↦ λ w. both_from (line ++ (x ∷ [])) front back true w (λ e. absurd (true≢false e))
     ] whole
 
-pub both : (is_hosted : List ℕ → Bool) (front back : List ℕ) → is_whole front ≡ true → entries_of is_hosted (front ++ back) ≡ entries_of is_hosted front ++ entries_of is_hosted back
-both is_hosted front back whole = both_from is_hosted [] front back false whole (λ _. refl)
+pub both : (front back : List ℕ) → is_whole front ≡ true → lines_of (front ++ back) ≡ lines_of front ++ lines_of back
+both front back whole = both_from [] front back false whole (λ _. refl)
 
--- a line without a line feed is one entry
-pub one_from : (is_hosted : List ℕ → Bool) (begun line : List ℕ) → list_any is_feed line ≡ false → entries_from is_hosted begun (line ++ (10 ∷ [])) ≡ entry_of is_hosted (begun ++ line) ∷ []
-unfolding entries_from
-one_from is_hosted begun [] none = ap (λ l. entry_of is_hosted l ∷ []) (sym (append-nil begun))
-one_from is_hosted begun (x ∷ line) none =
+-- a line without a line feed is one
+pub one_from : (begun line : List ℕ) → list_any is_feed line ≡ false → lines_from begun (line ++ (10 ∷ [])) ≡ (begun ++ line) ∷ []
+unfolding lines_from
+one_from begun [] none = ap (λ l. l ∷ []) (sym (append-nil begun))
+one_from begun (x ∷ line) none =
     elim (x == 10) as (λ b. (b ≡ true → (x == 10) ≡ true) → (b ≡ false → list_any is_feed line ≡ false) → (b ≡ true → false ≡ true)
-    → (if b then entry_of is_hosted begun ∷ entries_from is_hosted [] (line ++ (10 ∷ [])) else entries_from is_hosted (begun ++ (x ∷ [])) (line ++ (10 ∷ [])))
-    ≡ entry_of is_hosted (begun ++ (x ∷ line)) ∷ []) [
+    → (if b then begun ∷ lines_from [] (line ++ (10 ∷ [])) else lines_from (begun ++ (x ∷ [])) (line ++ (10 ∷ []))) ≡ (begun ++ (x ∷ line)) ∷ []) [
       | true ↦ λ is more never. absurd (true≢false (sym (never refl)))
-      | false ↦ λ is more never. one_from is_hosted (begun ++ (x ∷ [])) line (more refl) ∙ ap (λ l. entry_of is_hosted l ∷ []) (append_assoc begun (x ∷ []) line)
+      | false ↦ λ is more never. one_from (begun ++ (x ∷ [])) line (more refl) ∙ ap (λ l. l ∷ []) (append_assoc begun (x ∷ []) line)
     ] (λ e. e) (λ e. grind (arith, e, none)) (λ e. grind (arith, e, none))
-
--- the entries of lines, and of one more
-line_added : (is_hosted : List ℕ → Bool) (old line : List ℕ) (entry : Entry) → is_whole old ≡ true → list_any is_feed line ≡ false → entry_of is_hosted line ≡ entry
-    → entries_of is_hosted (old ++ (line ++ (10 ∷ []))) ≡ entries_of is_hosted old ++ (entry ∷ [])
-line_added is_hosted old line entry whole none is =
-    both is_hosted old (line ++ (10 ∷ [])) whole
-    ∙ ap (λ es. entries_of is_hosted old ++ es) (one_from is_hosted [] line none ∙ ap (λ e. e ∷ []) is)
 
 -- ---- the line of an event
 
@@ -114,18 +107,7 @@ pub event_line : {Z : Type 0} (event : HubEvent) (order old : List ℕ) (s : Str
 event_line event order old s read one = λ is_hosted stands.
     record { line = string_bytes s; is = refl; one = one is_hosted stands; says = event_says is_hosted event order s read stands }
 
-pub event_added : {Z : Type 0} (event : HubEvent) (order old : List ℕ) (s : String Z) → is_whole old ≡ true → IsReadBack event order (string_bytes s) → IsOneLine event order (string_bytes s)
-    → Adds event order old (old ++ (string_bytes s ++ (10 ∷ [])))
-event_added event order old s whole read one = λ is_hosted stands.
-    line_added is_hosted old (string_bytes s) (Event event) whole (one is_hosted stands)
-    (event_says is_hosted event order s read stands)
-
 -- ---- the lines of the marks
-
-mark_added : {Z : Type 0} (is_hosted : List ℕ → Bool) (mark : Entry) (old : List ℕ) (s : String Z) → is_whole old ≡ true
-    → AddsLine is_hosted mark old (old ++ (string_bytes s ++ (10 ∷ []))) → entries_of is_hosted (old ++ (string_bytes s ++ (10 ∷ []))) ≡ entries_of is_hosted old ++ (mark ∷ [])
-mark_added is_hosted mark old s whole adds =
-    ap (entries_of is_hosted) adds.is ∙ line_added is_hosted old adds.line mark whole adds.one adds.says
 
 pub record ReadsCount (n : ℕ) : Type 0 where
   pub value : number_of_digits 19 (decimal n) ≡ Some n
@@ -144,41 +126,62 @@ count_read n within =
     let value = numeral.1 in
     record { value = grind (arith, all, value, some, few); spaceless = digits.1; feedless = of_digits (decimal n) numeral.0.1; some = some }
 
-taken_feedless : (taken events changes : ℕ) → AreCounts taken events changes → list_any is_feed (taken_line taken events changes) ≡ false
-taken_feedless taken events changes counts =
-    joined (decimal taken) (codes " " ++ (decimal events ++ (codes " " ++ decimal changes))) (count_read taken counts.first).feedless
-    (joined (decimal events) (codes " " ++ decimal changes) (count_read events counts.all).feedless (count_read changes counts.total).feedless)
+-- no digit of a digest is a line feed
+either_false : (x y : Bool) → (x || y) ≡ false → (x ≡ false) × (y ≡ false)
+either_false true y e = absurd (true≢false e)
+either_false false y e = (refl, e)
 
-taken_no_event : (is_hosted : List ℕ → Bool) (taken events changes : ℕ) → event_of is_hosted (taken_line taken events changes) ≡ None
+picked : (digits : List ℕ) (n : ℕ) → list_any is_feed digits ≡ false → is_feed (slice_index digits n) ≡ false
+picked [] n none = refl
+picked (x ∷ digits) zero none = (either_false (is_feed x) (list_any is_feed digits) none).0
+picked (x ∷ digits) (suc n) none = picked digits n (either_false (is_feed x) (list_any is_feed digits) none).1
+
+hex_feedless : (xs : List ℕ) → list_any is_feed (encode_lower xs) ≡ false
+unfolding encode_with
+hex_feedless [] = refl
+hex_feedless (x ∷ xs) =
+    let high = picked lower_digits (x / 16) refl in
+    let low = picked lower_digits (x % 16) refl in
+    ap (λ b. b || (is_feed (slice_index lower_digits (x % 16)) || list_any is_feed (encode_lower xs))) high
+    ∙ ap (λ b. b || list_any is_feed (encode_lower xs)) low ∙ hex_feedless xs
+
+digest_feedless : (lines : List ℕ) → list_any is_feed (digest_of lines) ≡ false
+unfolding digest_of
+digest_feedless lines = hex_feedless (sha1 lines)
+
+turn_feedless : (events before after : ℕ) (digest : List ℕ) → AreCounts events before after → list_any is_feed digest ≡ false
+    → list_any is_feed (turn_line events before after digest) ≡ false
+turn_feedless events before after digest counts none =
+    joined (decimal events) (codes " " ++ (decimal before ++ (codes " " ++ (decimal after ++ (codes " " ++ digest))))) (count_read events counts.number).feedless
+    (joined (decimal before) (codes " " ++ (decimal after ++ (codes " " ++ digest))) (count_read before counts.old).feedless
+    (joined (decimal after) (codes " " ++ digest) (count_read after counts.new).feedless none))
+
+turn_no_event : (is_hosted : List ℕ → Bool) (events before after : ℕ) (digest : List ℕ) → event_of is_hosted (turn_line events before after digest) ≡ None
 unfolding event_of
-taken_no_event is_hosted taken events changes =
-    let first = word_first (codes "taken") (decimal taken ++ (codes " " ++ (decimal events ++ (codes " " ++ decimal changes)))) refl (omega arith) in
+turn_no_event is_hosted events before after digest =
+    let first = word_first (codes "turn") (decimal events ++ (codes " " ++ (decimal before ++ (codes " " ++ (decimal after ++ (codes " " ++ digest)))))) refl (omega arith) in
     rw first refl
 
-taken_mark : (taken events changes : ℕ) → AreCounts taken events changes → mark_in (taken_line taken events changes) ≡ Some (Taken taken events changes)
-taken_mark taken events changes counts =
-    let one = count_read taken counts.first in
-    let two = count_read events counts.all in
-    let three = count_read changes counts.total in
-    let first = word_first (codes "taken") (decimal taken ++ (codes " " ++ (decimal events ++ (codes " " ++ decimal changes)))) refl (omega arith) in
-    let second = word_first (decimal taken) (decimal events ++ (codes " " ++ decimal changes)) one.spaceless one.some in
-    let third = word_first (decimal events) (decimal changes) two.spaceless two.some in
-    rw first (rw second (rw third (rw one.value (rw two.value (rw three.value refl)))))
+turn_mark : (events before after : ℕ) (digest : List ℕ) → AreCounts events before after → mark_in (turn_line events before after digest) ≡ Some (Turn events before after digest)
+turn_mark events before after digest counts =
+    let one = count_read events counts.number in
+    let two = count_read before counts.old in
+    let three = count_read after counts.new in
+    let first = word_first (codes "turn") (decimal events ++ (codes " " ++ (decimal before ++ (codes " " ++ (decimal after ++ (codes " " ++ digest)))))) refl (omega arith) in
+    let second = word_first (decimal events) (decimal before ++ (codes " " ++ (decimal after ++ (codes " " ++ digest)))) one.spaceless one.some in
+    let third = word_first (decimal before) (decimal after ++ (codes " " ++ digest)) two.spaceless two.some in
+    let fourth = word_first (decimal after) digest three.spaceless three.some in
+    rw first (rw second (rw third (rw fourth (rw one.value (rw two.value (rw three.value refl))))))
 
-pub taken_adds : {Z : Type 0} (taken events changes : ℕ) (old : List ℕ) (s : String Z) → string_bytes s ≡ taken_line taken events changes → AreCounts taken events changes
-    → (is_hosted : List ℕ → Bool) → AddsLine is_hosted (Taken taken events changes) old (old ++ (string_bytes s ++ (10 ∷ [])))
-taken_adds taken events changes old s is counts = λ is_hosted. record {
+pub turn_adds : {Z : Type 0} (events before after : ℕ) (lines old : List ℕ) (s : String Z) → string_bytes s ≡ turn_line events before after (digest_of lines) → AreCounts events before after
+    → (is_hosted : List ℕ → Bool) → AddsLine is_hosted (Turn events before after (digest_of lines)) old (old ++ (string_bytes s ++ (10 ∷ [])))
+turn_adds events before after lines old s is counts = λ is_hosted. record {
   line = string_bytes s;
   is = refl;
-  one = ap (list_any is_feed) is ∙ taken_feedless taken events changes counts;
-  says = entry_is is_hosted s ∙ ap (entry_in is_hosted) is ∙ ap (λ e. event_or e (mark_in (taken_line taken events changes))) (taken_no_event is_hosted taken events changes)
-      ∙ ap (event_or None) (taken_mark taken events changes counts);
+  one = ap (list_any is_feed) is ∙ turn_feedless events before after (digest_of lines) counts (digest_feedless lines);
+  says = entry_is is_hosted s ∙ ap (entry_in is_hosted) is ∙ ap (λ e. event_or e (mark_in (turn_line events before after (digest_of lines)))) (turn_no_event is_hosted events before after (digest_of lines))
+      ∙ ap (event_or None) (turn_mark events before after (digest_of lines) counts);
 }
-
-pub taken_added : {Z : Type 0} (taken events changes : ℕ) (old : List ℕ) (s : String Z) → is_whole old ≡ true → string_bytes s ≡ taken_line taken events changes → AreCounts taken events changes
-    → AddsMark (Taken taken events changes) old (old ++ (string_bytes s ++ (10 ∷ [])))
-taken_added taken events changes old s whole is counts = λ is_hosted.
-    mark_added is_hosted (Taken taken events changes) old s whole (taken_adds taken events changes old s is counts is_hosted)
 
 begins_no_event : (is_hosted : List ℕ → Bool) (changes : ℕ) (operators : List ℕ) → event_of is_hosted (begins_line changes operators) ≡ None
 unfolding event_of
@@ -202,11 +205,6 @@ begins_adds changes operators old s is within none = λ is_hosted. record {
   says = entry_is is_hosted s ∙ ap (entry_in is_hosted) is ∙ ap (λ e. event_or e (mark_in (begins_line changes operators))) (begins_no_event is_hosted changes operators)
       ∙ ap (event_or None) (begins_mark changes operators within);
 }
-
-pub begins_added : {Z : Type 0} (changes : ℕ) (operators old : List ℕ) (s : String Z) → is_whole old ≡ true → string_bytes s ≡ begins_line changes operators → IsCount changes
-    → list_any is_feed operators ≡ false → AddsMark (Begins changes operators) old (old ++ (string_bytes s ++ (10 ∷ [])))
-begins_added changes operators old s whole is within none = λ is_hosted.
-    mark_added is_hosted (Begins changes operators) old s whole (begins_adds changes operators old s is within none is_hosted)
 
 continues_no_event : (is_hosted : List ℕ → Bool) (file changes : ℕ) (operators : List ℕ) → event_of is_hosted (continues_line file changes operators) ≡ None
 unfolding event_of
@@ -234,14 +232,3 @@ continues_adds file changes operators old s is number within none = λ is_hosted
   says = entry_is is_hosted s ∙ ap (entry_in is_hosted) is ∙ ap (λ e. event_or e (mark_in (continues_line file changes operators))) (continues_no_event is_hosted file changes operators)
       ∙ ap (event_or None) (continues_mark file changes operators number within);
 }
-
-pub continues_added : {Z : Type 0} (file changes : ℕ) (operators old : List ℕ) (s : String Z) → is_whole old ≡ true → string_bytes s ≡ continues_line file changes operators
-    → IsCount file → IsCount changes → list_any is_feed operators ≡ false → AddsMark (Continues file changes operators) old (old ++ (string_bytes s ++ (10 ∷ [])))
-continues_added file changes operators old s whole is number within none = λ is_hosted.
-    mark_added is_hosted (Continues file changes operators) old s whole (continues_adds file changes operators old s is number within none is_hosted)
-
--- ---- a count of failures
-
-pub rose_more : (a b n : ℕ) → Rose a b → Rose (a + n) (b + n)
-rose_more a b n (inl less) = inl (omega (arith, less))
-rose_more a b n (inr most) = inr (omega (arith, most))

@@ -1,5 +1,4 @@
 mod Cuts
 mod Laws
 mod Stops
-mod Turns
-mod Writers
+pub mod Writers

@@ -3,11 +3,13 @@ use Rattle.std.specs.Prelude.{ℕ, Bool, List, ◌++◌, ◌<◌, ◌^◌, codes
 use Rattle.std.specs.Fmt.{decimal}
 use Rattle.std.specs.Str.{bytes_eq}
 use Rattle.hub_events.specs.declared.event.Event.{Event as HubEvent}
+use Rattle.hex.specs.Hex.{encode_lower}
+use Rattle.sha1.specs.Sha1.{sha1}
 use Rattle.lines.specs.InputLines.{event_of, is_utf8}
 use Rattle.lines.specs.Words.{first_word, ◌>>=◌}
 use Rattle.ocpp_types.specs.Digits.{number_of_digits}
 use Rattle.journal.specs.declared.entry.Entry.{Entry}
-use Rattle.journal.specs.declared.entry.Entry.TheVariants.{Begins, Continues, Event, Taken, Bad}
+use Rattle.journal.specs.declared.entry.Entry.TheVariants.{Begins, Continues, Event, Turn, Taken, Bad}
 
 -- a count, in 1 to 19 decimal digits
 abbrev pub count_of : List ℕ → Option ℕ
@@ -29,7 +31,18 @@ continues_form rest = do
   count ← count_of changes.0
   Some (Continues number count changes.1)
 
--- `taken TAKEN EVENTS CHANGES`
+-- `turn EVENTS BEFORE AFTER DIGEST`
+abbrev pub turn_form : List ℕ → Option Entry
+turn_form rest = do
+  events ← first_word rest
+  before ← first_word events.1
+  after ← first_word before.1
+  number ← count_of events.0
+  old ← count_of before.0
+  new ← count_of after.0
+  Some (Turn number old new after.1)
+
+-- `taken TAKEN EVENTS CHANGES`, which earlier versions wrote
 abbrev pub taken_form : List ℕ → Option Entry
 taken_form rest = do
   taken ← first_word rest
@@ -43,7 +56,8 @@ taken_form rest = do
 abbrev pub form_of : List ℕ → List ℕ → Option Entry
 form_of word rest =
     if bytes_eq word (codes "begins") then begins_form rest
-    else (if bytes_eq word (codes "continues") then continues_form rest else (if bytes_eq word (codes "taken") then taken_form rest else None))
+    else (if bytes_eq word (codes "continues") then continues_form rest
+    else (if bytes_eq word (codes "turn") then turn_form rest else (if bytes_eq word (codes "taken") then taken_form rest else None)))
 
 abbrev pub mark_in : List ℕ → Option Entry
 mark_in text = do
@@ -70,14 +84,19 @@ begins_line changes operators = codes "begins " ++ (decimal changes ++ (codes " 
 abbrev pub continues_line : ℕ → ℕ → List ℕ → List ℕ
 continues_line file changes operators = codes "continues " ++ (decimal file ++ (codes " " ++ (decimal changes ++ (codes " " ++ operators))))
 
-abbrev pub taken_line : ℕ → ℕ → ℕ → List ℕ
-taken_line taken events changes = codes "taken " ++ (decimal taken ++ (codes " " ++ (decimal events ++ (codes " " ++ decimal changes))))
+abbrev pub turn_line : ℕ → ℕ → ℕ → List ℕ → List ℕ
+turn_line events before after digest =
+    codes "turn " ++ (decimal events ++ (codes " " ++ (decimal before ++ (codes " " ++ (decimal after ++ (codes " " ++ digest))))))
+
+-- the digest of lines with their line feeds
+unfoldable pub digest_of : List ℕ → List ℕ
+digest_of lines = encode_lower (sha1 lines)
 
 -- a count that can stand in a mark
 abbrev pub IsCount : ℕ → Type 0
 IsCount n = n < 10 ^ 19
 
-pub record AreCounts (taken events changes : ℕ) : Type 0 where
-  pub first : IsCount taken
-  pub all : IsCount events
-  pub total : IsCount changes
+pub record AreCounts (events before after : ℕ) : Type 0 where
+  pub number : IsCount events
+  pub old : IsCount before
+  pub new : IsCount after

@@ -1,58 +1,70 @@
 -- What a stop leaves of a journal.
 use Rattle.std.specs.Prelude.{◌≡◌, ℕ, ◌==◌, Bool, List, [], ◌∷◌, ◌++◌, length, take, Option, Some, None, if◌then◌else◌}
 use Rattle.hub_events.specs.declared.event.Event.{Event as HubEvent}
-use Rattle.journal.specs.Journals.{entries_of}
-use Rattle.journal.specs.Tails.{taken_by}
+use Rattle.journal.specs.Entries.{entry_of}
+use Rattle.journal.specs.Journals.{lines_of}
+use Rattle.journal.specs.Tails.{ends_turn, fits}
 use Rattle.journal.specs.declared.entry.Entry.{Entry}
-use Rattle.journal.specs.declared.entry.Entry.TheVariants.{Begins, Continues, Event, Taken, Bad}
+use Rattle.journal.specs.declared.entry.Entry.TheVariants.{Begins, Continues, Event, Turn, Taken, Bad}
+use Rattle.journal.specs.declared.tail.TurnCounts.{TurnCounts}
 
--- what entries say: the events that were taken by the marks, those without a mark, and how many changes were on record at the
--- last mark
+-- what lines say: the events that were taken, those of the last turn, which were taken if as many changes are on record as
+-- it says, and behind the last mark the events and the bytes of the lines
 pub record Found : Type 0 where
   pub taken : List HubEvent
+  pub held : List HubEvent
+  pub counts : Option TurnCounts
   pub waiting : List HubEvent
-  pub marked : Option ℕ
+  pub lines : List ℕ
 
--- a mark of so many changes, of the events without one so many were taken
-abbrev pub marked_at : Found → ℕ → ℕ → Found
-marked_at found first changes = record { taken = found.taken ++ take first found.waiting; waiting = []; marked = Some changes }
+-- the events that were taken, where so many changes are on record
+abbrev pub taken_with : List HubEvent → List HubEvent → Option TurnCounts → ℕ → List HubEvent
+taken_with taken held None changes = taken
+taken_with taken held (Some counts) changes = if changes == counts.after then taken ++ held else taken
 
-abbrev pub found_after : Found → Entry → Found
-found_after found (Event e) = record { taken = found.taken; waiting = found.waiting ++ (e ∷ []); marked = found.marked }
-found_after found (Taken first events changes) = marked_at found first changes
-found_after found (Begins changes operators) = marked_at found 0 changes
-found_after found (Continues file changes operators) = marked_at found 0 changes
-found_after found Bad = found
+abbrev pub taken_where : Found → ℕ → List HubEvent
+taken_where found changes = taken_with found.taken found.held found.counts changes
 
-unfoldable pub found_from : Found → List Entry → Found
-found_from found [] = found
-found_from found (entry ∷ rest) = found_from (found_after found entry) rest
+-- a mark of so many changes
+abbrev pub marked : Found → ℕ → Found
+marked found changes =
+    record { taken = taken_where found changes; held = []; counts = Some (record { before = changes; after = changes }); waiting = []; lines = [] }
 
-abbrev pub found_of : List Entry → Found
-found_of entries = found_from (record { taken = []; waiting = []; marked = None }) entries
+-- the mark that ends a turn; where it isn't that of the lines before it, these say nothing
+abbrev pub found_turn : Found → ℕ → ℕ → Bool → Found
+found_turn found before after ends =
+    if ends then record { taken = taken_where found before; held = found.waiting; counts = Some (record { before = before; after = after }); waiting = []; lines = [] }
+    else record found { waiting = []; lines = [] }
 
--- of those without a mark so many were taken
-abbrev pub told_with : Found → Option ℕ → Option (List HubEvent)
-told_with found None = None
-told_with found (Some first) = Some (found.taken ++ take first found.waiting)
+-- one line more
+abbrev pub found_by : Found → List ℕ → Entry → Found
+found_by found line (Event e) = record found { waiting = found.waiting ++ (e ∷ []); lines = found.lines ++ (line ++ (10 ∷ [])) }
+found_by found line (Turn events before after digest) = found_turn found before after (ends_turn (length found.waiting) found.lines events digest)
+found_by found line (Taken first events changes) =
+    record { taken = found.taken ++ (found.held ++ take first found.waiting); held = []; counts = Some (record { before = changes; after = changes }); waiting = []; lines = [] }
+found_by found line (Begins changes operators) = marked found changes
+found_by found line (Continues file changes operators) = marked found changes
+found_by found line Bad = record found { lines = found.lines ++ (line ++ (10 ∷ [])) }
 
--- the events that were taken, where so many changes are on record; without a mark and an event none was
-abbrev pub told_by : Found → Option ℕ → ℕ → Option (List HubEvent)
-told_by found None changes = if length found.waiting == 0 then Some found.taken else None
-told_by found (Some marked) changes = told_with found (taken_by (length found.waiting) marked changes)
+abbrev pub found_after : (List ℕ → Bool) → Found → List ℕ → Found
+found_after is_hosted found line = found_by found line (entry_of is_hosted line)
 
-abbrev pub told_at : List Entry → ℕ → Option (List HubEvent)
-told_at entries changes = told_by (found_of entries) (found_of entries).marked changes
+unfoldable pub found_from : (List ℕ → Bool) → Found → List (List ℕ) → Found
+found_from is_hosted found [] = found
+found_from is_hosted found (line ∷ rest) = found_from is_hosted (found_after is_hosted found line) rest
 
--- where so many changes are on record, a journal says that all events up to the last one that changed records were taken, and
--- of those since then none or some, from the first on
-pub record Tells (changes : ℕ) (recorded since : List HubEvent) (entries : List Entry) : Type 0 where
-  pub some : List HubEvent
-  pub more : List HubEvent
-  pub is : told_at entries changes ≡ Some (recorded ++ some)
-  pub all : some ++ more ≡ since
+abbrev pub found_of : (List ℕ → Bool) → List ℕ → Found
+found_of is_hosted bytes = found_from is_hosted (record { taken = []; held = []; counts = None; waiting = []; lines = [] }) (lines_of bytes)
 
--- it says so whatever a stop leaves of the bytes that are to be written behind a file
-abbrev pub Survives : (List ℕ → Bool) → List ℕ → List ℕ → ℕ → List HubEvent → List HubEvent → Type 0
-Survives is_hosted file ready changes recorded since =
-    (n : ℕ) → Tells changes recorded since (entries_of is_hosted (file ++ take n ready))
+-- the events that were taken by a journal of those bytes, where so many changes are on record; any other number than it may be
+-- doesn't fit it
+abbrev pub told_by : Found → ℕ → Option (List HubEvent)
+told_by found changes = if fits found.counts changes then Some (taken_where found changes) else None
+
+abbrev pub told_at : (List ℕ → Bool) → List ℕ → ℕ → Option (List HubEvent)
+told_at is_hosted bytes changes = told_by (found_of is_hosted bytes) changes
+
+-- where so many changes are on record, a journal says that those events were taken, whatever a stop leaves of the bytes that
+-- are to be written behind it
+abbrev pub Survives : (List ℕ → Bool) → List ℕ → List ℕ → ℕ → List HubEvent → Type 0
+Survives is_hosted file bytes changes taken = (n : ℕ) → told_at is_hosted (file ++ take n bytes) changes ≡ Some taken

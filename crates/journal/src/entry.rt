@@ -18,10 +18,18 @@ pub enum Entry {
         changes: u64,
         operators: Text,
     },
-    /// An event is handed to the hub.
+    /// An event of a turn.
     Event(Event),
-    /// Of the events since the last mark, which are so many, the first `taken` were taken. So many changes are on record
-    /// then.
+    /// A turn ends, of so many events: those since the last mark, whose lines have that digest. So many changes were on
+    /// record before it, and so many are if its events were taken.
+    Turn {
+        events: u64,
+        before: u64,
+        after: u64,
+        digest: Text,
+    },
+    /// Written by earlier versions: of the events since the last mark, which are so many, the first `taken` were taken. So
+    /// many changes are on record then.
     Taken {
         taken: u64,
         events: u64,

@@ -1,6 +1,6 @@
 //! The marks of a journal (docs/RULES.md, The journal).
 ghost use Rattle.std.specs.Prelude.{◌≡◌, IfOk, string_bytes};
-ghost use Rattle.journal.specs.Entries.{begins_line, continues_line, taken_line};
+ghost use Rattle.journal.specs.Entries.{begins_line, continues_line, turn_line};
 
 use ocpp_types::Mem;
 use std::alloc::Global;
@@ -19,9 +19,9 @@ pub fn continues_line(alloc: Global, file: u64, changes: u64, operators: &str) -
     Ok(format!(in alloc; "continues {file} {changes} {operators}")?)
 }
 
-/// The line that says which of the events before it were taken: of those the first `taken`.
-pub fn taken_line(alloc: Global, taken: u64, events: u64, changes: u64) -> Mem<String>
-    ensures { IfOk result (λ s. string_bytes s ≡ taken_line taken events changes) }
+/// The line that ends a turn of so many events, whose lines have that digest.
+pub fn turn_line(alloc: Global, events: u64, before: u64, after: u64, digest: &str) -> Mem<String>
+    ensures { IfOk result (λ s. string_bytes s ≡ turn_line events before after digest.now) }
 {
-    Ok(format!(in alloc; "taken {taken} {events} {changes}")?)
+    Ok(format!(in alloc; "turn {events} {before} {after} {digest}")?)
 }

@@ -4,11 +4,12 @@ ghost use Rattle.std.specs.List.{list_any};
 ghost use Rattle.std.specs.Io.KnownBytes.{Appends};
 ghost use Rattle.lines.specs.Journal.{is_feed, Stands};
 ghost use Rattle.journal.specs.declared.entry.Entry.TheVariants as said;
-ghost use Rattle.journal.specs.declared.entry.Entry.TheVariants.{Begins, Continues, Taken};
-ghost use Rattle.journal.specs.Entries.{AreCounts, IsCount};
-ghost use Rattle.journal.specs.Journals.{is_whole, entries_of, Adds, AddsLine, AddsMark, EndsCut};
+ghost use Rattle.journal.specs.declared.entry.Entry.TheVariants.{Begins, Continues, Turn};
+ghost use Rattle.journal.specs.Entries.{digest_of, AreCounts, IsCount};
+ghost use Rattle.journal.specs.Journals.{is_whole, AddsLine, EndsCut};
 
-use crate::marks::{begins_line, continues_line, taken_line};
+use crate::digest::digest_of;
+use crate::marks::{begins_line, continues_line, turn_line};
 use hub_events::Event;
 use lines::journal_line;
 use ocpp_types::Mem;
@@ -24,7 +25,7 @@ pub struct Pending {
     ghost whole: { is_whole bytes.items ≡ true },
 }
 
-#[tactic(auto, using(crate::proofs::Laws::whole_nothing, crate::proofs::Laws::nothing, crate::proofs::Laws::whole_if, crate::proofs::Laws::whole_cut, crate::proofs::Laws::whole_both, crate::proofs::Laws::event_line, crate::proofs::Laws::taken_adds, crate::proofs::Laws::begins_adds, crate::proofs::Laws::continues_adds, crate::proofs::Laws::event_added, crate::proofs::Laws::taken_added, crate::proofs::Laws::begins_added, crate::proofs::Laws::continues_added, crate::proofs::Laws::both, crate::proofs::Cuts::ends_cut))]
+#[tactic(auto, using(crate::proofs::Laws::whole_nothing, crate::proofs::Laws::nothing, crate::proofs::Laws::whole_if, crate::proofs::Laws::whole_cut, crate::proofs::Laws::whole_both, crate::proofs::Laws::event_line, crate::proofs::Laws::turn_adds, crate::proofs::Laws::begins_adds, crate::proofs::Laws::continues_adds, crate::proofs::Cuts::ends_cut))]
 impl Pending {
     /// No line.
     pub fn new(alloc: Global) -> Pending
@@ -54,7 +55,6 @@ impl Pending {
 
     /// Adds the line of an event. `order` is the text of an order, without its word.
     pub fn add_event(&mut self, event: &Event, order: &str) -> Mem<()>
-        ensures added { OnOk result (Adds event.now order.now self.old.bytes.items self.new.bytes.items) }
         ensures line { OnOk result ((is_hosted : List ℕ → Bool) → Stands is_hosted event.now order.now → AddsLine is_hosted (said.Event event.now) self.old.bytes.items self.new.bytes.items) }
         ensures kept { OnErr result (self.new.bytes.items ≡ self.old.bytes.items) }
     {
@@ -62,19 +62,18 @@ impl Pending {
         self.add_line(line)
     }
 
-    /// Adds the mark that of so many events the first `taken` were taken, and that so many changes are on record.
-    pub fn add_taken(&mut self, taken: u64, events: u64, changes: u64) -> Mem<()>
-        ensures added { AreCounts taken events changes → OnOk result (AddsMark (Taken taken events changes) self.old.bytes.items self.new.bytes.items) }
-        ensures line { AreCounts taken events changes → OnOk result ((is_hosted : List ℕ → Bool) → AddsLine is_hosted (Taken taken events changes) self.old.bytes.items self.new.bytes.items) }
+    /// Adds the mark that ends the turn of these lines, of which so many are events.
+    pub fn add_turn(&mut self, events: u64, before: u64, after: u64) -> Mem<()>
+        ensures line { AreCounts events before after → OnOk result ((is_hosted : List ℕ → Bool) → AddsLine is_hosted (Turn events before after (digest_of self.old.bytes.items)) self.old.bytes.items self.new.bytes.items) }
         ensures kept { OnErr result (self.new.bytes.items ≡ self.old.bytes.items) }
     {
-        let line = taken_line(self.alloc, taken, events, changes)?;
+        let digest = digest_of(self.alloc, self.bytes.as_slice())?;
+        let line = turn_line(self.alloc, events, before, after, digest.as_str())?;
         self.add_line(line)
     }
 
     /// Adds the mark that a server begins, with so many changes on record and those operators.
     pub fn add_begins(&mut self, changes: u64, operators: &str) -> Mem<()>
-        ensures added { IsCount changes → list_any is_feed operators.now ≡ false → OnOk result (AddsMark (Begins changes operators.now) self.old.bytes.items self.new.bytes.items) }
         ensures line { IsCount changes → list_any is_feed operators.now ≡ false → OnOk result ((is_hosted : List ℕ → Bool) → AddsLine is_hosted (Begins changes operators.now) self.old.bytes.items self.new.bytes.items) }
         ensures kept { OnErr result (self.new.bytes.items ≡ self.old.bytes.items) }
     {
@@ -84,7 +83,6 @@ impl Pending {
 
     /// Adds the mark that the next file of a server begins, with so many changes on record and those operators.
     pub fn add_continues(&mut self, file: u64, changes: u64, operators: &str) -> Mem<()>
-        ensures added { IsCount file → IsCount changes → list_any is_feed operators.now ≡ false → OnOk result (AddsMark (Continues file changes operators.now) self.old.bytes.items self.new.bytes.items) }
         ensures line { IsCount file → IsCount changes → list_any is_feed operators.now ≡ false → OnOk result ((is_hosted : List ℕ → Bool) → AddsLine is_hosted (Continues file changes operators.now) self.old.bytes.items self.new.bytes.items) }
         ensures kept { OnErr result (self.new.bytes.items ≡ self.old.bytes.items) }
     {
@@ -105,7 +103,6 @@ impl Pending {
     /// Adds all lines of another, which has none then.
     pub fn append(&mut self, other: &mut Pending) -> Mem<()>
         ensures bytes { OnOk result (self.new.bytes.items ≡ self.old.bytes.items ++ other.old.bytes.items) }
-        ensures added { OnOk result ((is_hosted : List ℕ → Bool) → entries_of is_hosted self.new.bytes.items ≡ entries_of is_hosted self.old.bytes.items ++ entries_of is_hosted other.old.bytes.items) }
         ensures taken { OnOk result (other.new.bytes.items ≡ []) }
         ensures kept { OnErr result (self.new.bytes.items ≡ self.old.bytes.items) }
     {

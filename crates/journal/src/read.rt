@@ -1,7 +1,7 @@
 //! Reading the lines of a journal (docs/RULES.md, The journal).
 ghost use Rattle.std.specs.Prelude.{◌≡◌, IfOk};
 ghost use Rattle.hub_rows.specs.Operators.{is_hosted};
-ghost use Rattle.journal.specs.Entries.{begins_form, continues_form, taken_form, form_of, mark_in, entry_in, entry_of, count_of};
+ghost use Rattle.journal.specs.Entries.{begins_form, continues_form, turn_form, taken_form, form_of, mark_in, entry_in, entry_of, count_of};
 
 use crate::entry::Entry;
 use lines::{first_word, read_event};
@@ -44,6 +44,7 @@ fn mark_in(alloc: Global, text: &str) -> Mem<Option<Entry>>
     match word {
         "begins" => begins(alloc, rest),
         "continues" => continues(alloc, rest),
+        "turn" => turn(alloc, rest),
         "taken" => Ok(taken(rest)),
         _ => Ok(None),
     }
@@ -79,6 +80,34 @@ fn continues(alloc: Global, rest: &str) -> Mem<Option<Entry>>
         file,
         changes,
         operators,
+    }))
+}
+
+fn turn(alloc: Global, rest: &str) -> Mem<Option<Entry>>
+    ensures { IfOk result (λ e. e ≡ turn_form rest.now) }
+{
+    let Some((events, rest)) = first_word(rest) else {
+        return Ok(None);
+    };
+    let Some((before, rest)) = first_word(rest) else {
+        return Ok(None);
+    };
+    let Some((after, digest)) = first_word(rest) else {
+        return Ok(None);
+    };
+    let (Some(events), Some(before), Some(after)) = (
+        count_of(events),
+        count_of(before),
+        count_of(after),
+    ) else {
+        return Ok(None);
+    };
+    let digest = Text::copy_of(alloc, digest)?;
+    Ok(Some(Entry::Turn {
+        events,
+        before,
+        after,
+        digest,
     }))
 }
 

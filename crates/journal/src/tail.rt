@@ -1,7 +1,8 @@
 //! The end of a journal.
-ghost use Rattle.std.specs.Prelude.{◌≡◌};
-ghost use Rattle.journal.specs.Tails.{taken_at, taken_by};
+ghost use Rattle.std.specs.Prelude.{◌≡◌, IfOk};
+ghost use Rattle.journal.specs.Tails.{ends_turn, fits};
 
+use crate::digest::digest_of;
 use crate::entry::Entry;
 use crate::read::read_entry;
 use ocpp_types::{Mem, NoMemory, Text};
@@ -10,13 +11,18 @@ use std::io;
 use std::io::BufRead;
 use thiserror::Error;
 
+/// How many changes were on record before a turn, and how many are if its events were taken.
+#[derive(Clone, Copy, Debug, PartialEq, Eq, Drop)]
+pub struct TurnCounts {
+    pub before: u64,
+    pub after: u64,
+}
+
 /// What a journal ends with.
 #[derive(Clone, Copy, Debug, PartialEq, Eq, Drop)]
 pub struct Tail {
-    /// How many events have no mark after them.
-    pub events: u64,
-    /// How many changes were on record at the last mark, if there is one.
-    pub marked: Option<u64>,
+    /// What the last mark says, if there is one.
+    pub counts: Option<TurnCounts>,
     /// The last line has no line feed.
     pub is_cut: bool,
     /// There is no line, or parts alone of one that begins a file.
@@ -55,74 +61,117 @@ impl Tail {
     /// The end of a journal without a line.
     pub fn new() -> Tail {
         Tail {
-            events: 0,
-            marked: None,
+            counts: None,
             is_cut: false,
             is_new: true,
         }
     }
 
-    /// Passes an entry. Gives the operators, where it says who is hosted from there on.
-    fn pass(&mut self, alloc: Global, entry: &Entry) -> Mem<Option<Vec<Text>>> {
-        match entry {
+    /// Whether so many changes may be on record: as many as the last mark says, or as before the turn that it ends. The events
+    /// of that turn were told to nobody then.
+    pub fn fits(&self, changes: u64) -> bool
+        ensures { result ≡ fits self.now.counts changes }
+    {
+        match &self.counts {
+            Some(counts) => changes == counts.after || changes == counts.before,
+            None => true,
+        }
+    }
+
+    /// A mark of so many changes.
+    fn mark(&mut self, before: u64, after: u64) {
+        self.counts = Some(TurnCounts { before, after });
+        self.is_new = false;
+    }
+}
+
+/// Whether the mark of a turn is that of the lines before it, of which so many are events.
+pub fn ends_turn(alloc: Global, number: u64, lines: &[u8], events: u64, digest: &str) -> Mem<bool>
+    ensures { IfOk result (λ ends. ends ≡ ends_turn number lines.now events digest.now) }
+{
+    let of_lines = digest_of(alloc, lines)?;
+    Ok(events == number && digest == of_lines.as_str())
+}
+
+/// A journal as far as it was read.
+#[derive(Drop)]
+struct Reading {
+    alloc: Global,
+    /// The operators that are hosted, as the last mark that names them says.
+    hosted: Vec<Text>,
+    /// How many events stand behind the last mark.
+    events: u64,
+    /// The lines there.
+    lines: Vec<u8>,
+    tail: Tail,
+}
+
+impl Reading {
+    /// Passes a line, which is without its line feed.
+    fn pass(&mut self, line: &[u8]) -> Mem<()> {
+        match read_entry(self.alloc, self.hosted.as_slice(), line)? {
             Entry::Event(_) => {
                 self.events = self.events.saturating_add(1);
-                Ok(None)
+                self.keep(line)
+            }
+            Entry::Bad => self.keep(line),
+            Entry::Turn {
+                events,
+                before,
+                after,
+                digest,
+            } => {
+                let lines = self.lines.as_slice();
+                if ends_turn(self.alloc, self.events, lines, events, digest.as_str())? {
+                    self.tail.mark(before, after);
+                }
+                self.begin_turn();
+                Ok(())
             }
             Entry::Taken { changes, .. } => {
-                self.mark(*changes);
-                Ok(None)
+                self.mark(changes);
+                Ok(())
             }
-            Entry::Begins { changes, operators } => {
-                self.mark(*changes);
-                Ok(Some(names_of(alloc, operators.as_str())?))
-            }
-            Entry::Continues {
+            Entry::Begins { changes, operators }
+            | Entry::Continues {
                 changes,
                 operators,
                 ..
             } => {
-                self.mark(*changes);
-                Ok(Some(names_of(alloc, operators.as_str())?))
+                self.mark(changes);
+                self.hosted = names_of(self.alloc, operators.as_str())?;
+                Ok(())
             }
-            Entry::Bad => Ok(None),
         }
+    }
+
+    fn keep(&mut self, line: &[u8]) -> Mem<()> {
+        self.lines.extend_from_slice(line)?;
+        self.lines.push(b'\n')?;
+        Ok(())
+    }
+
+    fn begin_turn(&mut self) {
+        self.events = 0;
+        self.lines.clear();
     }
 
     /// A mark says that so many changes are on record.
     fn mark(&mut self, changes: u64) {
-        self.marked = Some(changes);
-        self.events = 0;
-        self.is_new = false;
+        self.tail.mark(changes, changes);
+        self.begin_turn();
     }
-
-    /// Of the events without a mark those that were taken, from the first on, where so many changes are on record. `None` is
-    /// that the journal doesn't fit the records.
-    pub fn taken(&self, changes: u64) -> Option<u64>
-        ensures { result ≡ taken_at self.now changes }
-    {
-        taken_by(self.events, self.marked?, changes)
-    }
-}
-
-/// Of so many events without a mark those that were taken, where so many changes were on record at the last mark, and so many
-/// are.
-pub fn taken_by(events: u64, marked: u64, changes: u64) -> Option<u64>
-    ensures { result ≡ taken_by events marked changes }
-{
-    if changes == marked {
-        return Some(0);
-    }
-    if changes.checked_sub(1) == Some(marked) && events > 0 {
-        return Some(events);
-    }
-    None
 }
 
 /// What a journal ends with, by a reader of all of it.
 pub fn tail_of<R: BufRead>(alloc: Global, reader: &mut R) -> Result<Tail, TailFault> {
-    let mut hosted = Vec::new(alloc);
-    let mut tail = Tail::new();
+    let mut reading = Reading {
+        alloc,
+        hosted: Vec::new(alloc),
+        events: 0,
+        lines: Vec::new(alloc),
+        tail: Tail::new(),
+    };
     let mut line = Vec::new(alloc);
     for _ in 0..u64::MAX {
         line.clear();
@@ -130,12 +179,10 @@ pub fn tail_of<R: BufRead>(alloc: Global, reader: &mut R) -> Result<Tail, TailFa
         let [text @ .., b'\n'] = line.as_slice() else {
             break;
         };
-        tail.is_new = tail.is_new && begins_file(text);
-        let entry = read_entry(alloc, hosted.as_slice(), text)?;
-        if let Some(names) = tail.pass(alloc, &entry)? {
-            hosted = names;
-        }
+        reading.tail.is_new = reading.tail.is_new && begins_file(text);
+        reading.pass(text)?;
     }
+    let mut tail = reading.tail;
     if !line.is_empty() {
         tail.is_new = tail.is_new && begins_file(line.as_slice());
         tail.is_cut = true;

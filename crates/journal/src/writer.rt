@@ -1,19 +1,17 @@
 //! The writer of a journal.
-ghost use Rattle.std.specs.Prelude.{◌≡◌, ◌+◌, ◌++◌, ◌∷◌, ℕ, List, Bool, [], OnOk, IfOk, Some, true, false};
+ghost use Rattle.std.specs.Prelude.{◌≡◌, ◌≢◌, ◌+◌, ◌++◌, ◌∷◌, ℕ, List, Bool, [], OnOk, OnErr, IfOk, Some, not, true, false};
 ghost use Rattle.std.specs.List.{list_any};
 ghost use Rattle.std.specs.Io.KnownBytes.{Keeps, Appends};
 ghost use Rattle.hub_events.specs.declared.event.Event.{Event as HubEvent};
 ghost use Rattle.lines.specs.Journal.{Stands, is_feed};
 ghost use Rattle.journal.specs.declared.entry.Entry.TheVariants as said;
-ghost use Rattle.journal.specs.Entries.{IsCount};
-ghost use Rattle.journal.specs.Journals.{entries_of};
+ghost use Rattle.journal.specs.Entries.{AreCounts, IsCount};
+ghost use Rattle.journal.specs.Journals.{is_whole};
 ghost use Rattle.journal.specs.Stops.{told_at};
-ghost use Rattle.journal.specs.States.{AreSmall, IsEndOf, IsEnded};
-ghost use Rattle.journal.specs.Writers.{IsSettled, IsHandling, IsAhead, Wrote, IsTold, EndsTold, EndsWith};
+ghost use Rattle.journal.specs.Writers.{IsOpen, IsHandling, HasTurn, WroteTurn, Wrote, EndsWith, EndsTold, IsEnded, Says};
 
 use crate::pending::Pending;
 use crate::tail::Tail;
-use crate::turn::Turn;
 use hub_events::Event;
 use ocpp_types::{Mem, NoMemory};
 use std::alloc::Global;
@@ -52,19 +50,23 @@ impl JournalFile for File {
     }
 }
 
-/// The writer of a journal (docs/RULES.md, The journal). The line of an event that changes records is in the file before
-/// the change is made, all others at the end of the turn.
+/// The writer of a journal (docs/RULES.md, The journal). The lines of a turn are in the file before its changes are on record,
+/// and before anybody is told of it.
 #[derive(Drop)]
 pub struct Writer<W> {
     file: W,
     /// What is written is synced.
     syncs: bool,
-    /// The lines that are ready to be written.
-    turn: Turn,
-    /// The line of the event that is handled, until it is ready or in the file.
+    /// The lines of the events of this turn.
+    lines: Pending,
+    /// How many they are.
+    events: u64,
+    /// The line of the event that is handled.
     current: Pending,
-    /// The event that is handled has its line in the file.
-    is_written: bool,
+    /// How many changes are on record.
+    changes: u64,
+    /// The last turn in the file has changes, and no mark behind it says whether they are on record.
+    is_open: bool,
     /// How many files the server has begun after its first.
     files: u64,
     /// The file or the memory for a line failed.
@@ -72,16 +74,8 @@ pub struct Writer<W> {
 }
 
 impl<W: JournalFile + Drop> Writer<W> {
-    /// How many changes are on record.
-    pub fn changes(&self) -> u64
-        ensures { result ≡ self.now.turn.changes }
-    {
-        self.turn.changes()
-    }
-
     /// A server begins, with those operators, and its lines go to a file, behind what is there, which ends so. So many changes
-    /// are on record. Where `syncs`, what is written outlasts a power cut. Error: the file doesn't fit the records, or can't
-    /// be written.
+    /// are on record. Where `syncs`, what is written outlasts a power cut. Error: it can't be written.
     pub fn begin_server(
         alloc: Global,
         mut file: W,
@@ -90,157 +84,188 @@ impl<W: JournalFile + Drop> Writer<W> {
         changes: u64,
         operators: &str,
     ) -> Result<Writer<W>, JournalFault>
-        ensures { IsCount tail.now.events → IsCount changes → list_any is_feed operators.now ≡ false → IfOk result (λ writer. (is_hosted : List ℕ → Bool) (bytes : List ℕ) (recorded : List HubEvent)
-            → W.contents file ≡ Some bytes → IsEndOf is_hosted bytes tail.now → told_at (entries_of is_hosted bytes) changes ≡ Some recorded
-            → Wrote is_hosted (Some bytes) (W.contents writer.file) changes recorded [] × IsSettled W.contents is_hosted writer recorded []
+        ensures { IsCount changes → list_any is_feed operators.now ≡ false → IfOk result (λ writer. (is_hosted : List ℕ → Bool) (bytes : List ℕ) (taken : List HubEvent)
+            → W.contents file ≡ Some bytes → is_whole bytes ≡ not tail.now.is_cut → told_at is_hosted bytes changes ≡ Some taken
+            → Wrote is_hosted (Some bytes) (W.contents writer.file) changes taken × IsOpen W.contents is_hosted writer taken []
             × EndsWith is_hosted (said.Begins changes operators.now) (W.contents writer.file)) }
     {
         end_line(alloc, &mut file, tail)?;
-        let mut turn = Turn::behind(alloc, tail, changes)?;
-        turn.begin_server(operators)?;
+        let mut lines = Pending::new(alloc);
+        lines.add_begins(changes, operators)?;
         let mut writer = Writer {
             file,
             syncs,
-            turn,
+            lines,
+            events: 0,
             current: Pending::new(alloc),
-            is_written: false,
+            changes,
+            is_open: false,
             files: 0,
             has_failed: false,
         };
-        writer.write()?;
+        writer.write(syncs)?;
         Ok(writer)
+    }
+
+    /// The changes of the last turn aren't on record, and the server goes on as one that begins, with those operators. Error:
+    /// it can't be written.
+    pub fn begin_again(&mut self, operators: &str) -> Result<(), JournalFault>
+        ensures works { OnOk result ((self.old.has_failed ≡ false) × (self.new.has_failed ≡ false)) }
+        ensures same { self.new.changes ≡ self.old.changes }
+        ensures begun { IsCount self.old.changes → list_any is_feed operators.now ≡ false → OnOk result ((is_hosted : List ℕ → Bool) (taken : List HubEvent)
+            → Says W.contents is_hosted self.old taken → Wrote is_hosted (W.contents self.old.file) (W.contents self.new.file) self.old.changes taken
+            × IsOpen W.contents is_hosted self.new taken [] × EndsWith is_hosted (said.Begins self.old.changes operators.now) (W.contents self.new.file)) }
+    {
+        self.lines.clear();
+        self.events = 0;
+        self.lines.add_begins(self.changes, operators)?;
+        self.is_open = false;
+        self.write(self.syncs)
     }
 
     /// The lines go to the next file from now on, which is empty. It is the server's, with those operators. Error: it can't be
     /// written.
     pub fn continue_in(&mut self, file: W, operators: &str) -> Result<(), JournalFault>
-        ensures { AreSmall self.old.turn → IsCount (self.old.files + 1) → list_any is_feed operators.now ≡ false → OnOk result ((is_hosted : List ℕ → Bool) (recorded since : List HubEvent)
-            → IsSettled W.contents is_hosted self.old recorded since → W.contents file ≡ Some []
-            → EndsTold is_hosted (W.contents self.old.file) self.old.turn.changes recorded since
-            × Wrote is_hosted (Some []) (W.contents self.new.file) self.old.turn.changes [] [] × IsSettled W.contents is_hosted self.new [] []
-            × EndsWith is_hosted (said.Continues (self.old.files + 1) self.old.turn.changes operators.now) (W.contents self.new.file)) }
+        ensures { AreCounts self.old.events self.old.changes self.old.changes → IsCount (self.old.files + 1) → list_any is_feed operators.now ≡ false → OnOk result ((is_hosted : List ℕ → Bool) (taken now : List HubEvent)
+            → IsOpen W.contents is_hosted self.old taken now → W.contents file ≡ Some []
+            → EndsTold is_hosted (W.contents self.old.file) self.old.changes taken now
+            × Wrote is_hosted (Some []) (W.contents self.new.file) self.old.changes [] × IsOpen W.contents is_hosted self.new [] []
+            × EndsWith is_hosted (said.Continues (self.old.files + 1) self.old.changes operators.now) (W.contents self.new.file)) }
     {
         let next = self.files.saturating_add(1);
-        self.end_turn()?;
-        self.turn.begin_file(next, operators)?;
+        self.end_turn(self.changes)?;
+        self.lines.add_continues(next, self.changes, operators)?;
         self.files = next;
         self.file = file;
-        self.write()
+        self.write(self.syncs)
     }
 
-    /// An event is handed to the hub. `order` is the text of an order, without its word.
-    pub fn begin(&mut self, event: &Event, order: &str)
-        ensures { AreSmall self.old.turn → self.new.has_failed ≡ false → (is_hosted : List ℕ → Bool) (recorded since : List HubEvent) → Stands is_hosted event.now order.now
-            → IsSettled W.contents is_hosted self.old recorded since → IsHandling W.contents is_hosted self.new recorded since event.now }
+    /// An event is handled. `order` is the text of an order, without its word. Error: there is no memory for its line.
+    pub fn begin(&mut self, event: &Event, order: &str) -> Mem<()>
+        ensures handling { OnOk result ((is_hosted : List ℕ → Bool) (taken now : List HubEvent) → Stands is_hosted event.now order.now
+            → IsOpen W.contents is_hosted self.old taken now → IsHandling W.contents is_hosted self.new taken now event.now) }
+        ensures refused { OnErr result ((is_hosted : List ℕ → Bool) (taken now : List HubEvent)
+            → IsOpen W.contents is_hosted self.old taken now → IsOpen W.contents is_hosted self.new taken now) }
+        ensures same { (self.new.changes ≡ self.old.changes) × (self.new.events ≡ self.old.events) × (self.new.has_failed ≡ self.old.has_failed) }
     {
-        self.is_written = false;
-        if self.add_lines(event, order).is_err() {
-            self.has_failed = true;
-        }
-    }
-
-    fn add_lines(&mut self, event: &Event, order: &str) -> Mem<()>
-        ensures same { (self.new.file ≡ self.old.file) × (self.new.is_written ≡ self.old.is_written) × (self.new.has_failed ≡ self.old.has_failed) }
-        ensures handling { AreSmall self.old.turn → self.old.is_written ≡ false → OnOk result ((is_hosted : List ℕ → Bool) (recorded since : List HubEvent) → Stands is_hosted event.now order.now
-            → IsSettled W.contents is_hosted self.old recorded since → IsHandling W.contents is_hosted self.new recorded since event.now) }
-    {
-        self.turn.mark_change()?;
         self.current.clear();
         self.current.add_event(event, order)
     }
 
-    /// The event is about to change records: its line is written. Error: it can't be, or another change came before, and the
-    /// change must not be made.
-    pub fn write_ahead(&mut self) -> Result<(), JournalFault>
-        ensures { AreSmall self.old.turn → OnOk result ((is_hosted : List ℕ → Bool) (recorded since : List HubEvent) (event : HubEvent)
-            → IsHandling W.contents is_hosted self.old recorded since event
-            → Wrote is_hosted (W.contents self.old.file) (W.contents self.new.file) self.old.turn.changes recorded since
-            × IsAhead W.contents is_hosted self.new recorded since event) }
-    {
-        if self.is_written || self.current.is_empty() {
-            return Err(JournalFault);
-        }
-        self.turn.add_line(&mut self.current)?;
-        self.is_written = true;
-        self.write()
-    }
-
-    /// The event has changed records.
-    pub fn count_change(&mut self)
-        ensures settled { AreSmall self.old.turn → (is_hosted : List ℕ → Bool) (recorded since : List HubEvent) (event : HubEvent)
-            → IsAhead W.contents is_hosted self.old recorded since event → IsSettled W.contents is_hosted self.new ((recorded ++ since) ++ (event ∷ [])) [] }
-        ensures written { self.new.is_written ≡ self.old.is_written }
-    {
-        self.turn.count_change();
-    }
-
-    /// The event was taken.
+    /// The event that is handled is one of the turn.
     pub fn take(&mut self)
-        ensures settled { AreSmall self.old.turn → self.new.has_failed ≡ false → (is_hosted : List ℕ → Bool) (recorded since : List HubEvent) (event : HubEvent)
-            → IsHandling W.contents is_hosted self.old recorded since event → IsSettled W.contents is_hosted self.new recorded (since ++ (event ∷ [])) }
-        ensures written { self.old.is_written ≡ true → self.new ≡ self.old }
+        ensures taken { IsCount self.old.events → self.new.has_failed ≡ false → (is_hosted : List ℕ → Bool) (taken now : List HubEvent) (event : HubEvent)
+            → IsHandling W.contents is_hosted self.old taken now event → IsOpen W.contents is_hosted self.new taken (now ++ (event ∷ [])) }
+        ensures same { self.new.changes ≡ self.old.changes }
+        ensures works { self.new.has_failed ≡ false → self.old.has_failed ≡ false }
+        ensures events { self.old.events ≡ 0 → self.new.has_failed ≡ false → self.new.events ≡ 1 }
     {
-        if self.is_written {
+        if self.lines.append(&mut self.current).is_err() {
+            self.has_failed = true;
             return;
         }
-        if self.turn.add_line(&mut self.current).is_err() {
-            self.has_failed = true;
-        }
+        self.events = self.events.saturating_add(1);
     }
 
-    /// The event was not taken.
-    pub fn refuse(&mut self)
-        ensures settled { AreSmall self.old.turn → self.new.has_failed ≡ false → (is_hosted : List ℕ → Bool) (recorded since : List HubEvent) (event : HubEvent)
-            → IsAhead W.contents is_hosted self.old recorded since event → IsSettled W.contents is_hosted self.new recorded since }
-        ensures unwritten { self.old.is_written ≡ false → (is_hosted : List ℕ → Bool) (recorded since : List HubEvent)
-            → IsSettled W.contents is_hosted self.old recorded since → IsSettled W.contents is_hosted self.new recorded since }
-    {
-        if !self.is_written {
-            self.current.clear();
-            return;
-        }
-        if self.turn.leave_last().is_err() {
-            self.has_failed = true;
-        }
-    }
-
-    /// The event has changed nothing and said nothing, and gets no line.
-    pub fn leave_out(&mut self)
-        ensures { (is_hosted : List ℕ → Bool) (recorded since : List HubEvent) → IsSettled W.contents is_hosted self.old recorded since → IsSettled W.contents is_hosted self.new recorded since }
-    {
-        self.current.clear();
-    }
-
-    /// Ends a turn: what was taken is marked, and all is written. Error: it can't be, and no peer must be told of it.
-    pub fn end_turn(&mut self) -> Result<(), JournalFault>
-        ensures told { AreSmall self.old.turn → OnOk result ((is_hosted : List ℕ → Bool) (recorded since : List HubEvent)
-            → IsSettled W.contents is_hosted self.old recorded since
-            → Wrote is_hosted (W.contents self.old.file) (W.contents self.new.file) self.old.turn.changes recorded since
-            × IsSettled W.contents is_hosted self.new recorded since × IsTold W.contents is_hosted self.new (recorded ++ since)) }
-        ensures ended { OnOk result ((self.new.turn.ready.bytes.items ≡ []) × (self.new.turn.events ≡ 0) × (self.new.turn.changes ≡ self.old.turn.changes)) }
-    {
-        self.turn.mark_all()?;
-        self.write()
-    }
-
-    fn write(&mut self) -> Result<(), JournalFault>
-        ensures written { OnOk result (Appends (W.contents self.old.file) (W.contents self.new.file) self.old.turn.ready.bytes.items) }
-        ensures after { OnOk result ((self.new.turn.ready.bytes.items ≡ []) × (self.new.turn.events ≡ self.old.turn.events) × (self.new.turn.changes ≡ self.old.turn.changes)
-            × (self.new.turn.has_changed ≡ self.old.turn.has_changed) × (self.new.is_written ≡ self.old.is_written)) }
+    /// Ends a turn, after which so many changes are on record: its lines and its mark are written, if there are any. Error: they
+    /// can't be, and no change of it may be committed, and nobody told of it.
+    pub fn end_turn(&mut self, after: u64) -> Result<(), JournalFault>
+        ensures turn { AreCounts self.old.events self.old.changes after → OnOk result ((is_hosted : List ℕ → Bool) (taken now : List HubEvent)
+            → IsOpen W.contents is_hosted self.old taken now
+            → WroteTurn is_hosted (W.contents self.old.file) (W.contents self.new.file) self.old.changes after taken now
+            × HasTurn W.contents is_hosted self.new after taken now) }
+        ensures same { self.new.changes ≡ self.old.changes }
+        ensures works { OnOk result ((self.old.has_failed ≡ false) × (self.new.has_failed ≡ false)) }
+        ensures failed { OnErr result (self.new.has_failed ≡ true) }
     {
         if self.has_failed {
             return Err(JournalFault);
         }
-        let written = self.turn.write_to(&mut self.file, self.syncs);
+        if self.lines.is_empty() && after == self.changes {
+            return Ok(());
+        }
+        self.write_turn(after)
+    }
+
+    /// Says that the changes of the last turn in the file are on record, where no mark behind it says so and no event waits. A
+    /// follower takes them then. Error: it can't be written.
+    pub fn confirm(&mut self) -> Result<(), JournalFault>
+        ensures { AreCounts self.old.events self.old.changes self.old.changes → OnOk result ((is_hosted : List ℕ → Bool) (taken now : List HubEvent)
+            → IsOpen W.contents is_hosted self.old taken now
+            → WroteTurn is_hosted (W.contents self.old.file) (W.contents self.new.file) self.old.changes self.old.changes taken []
+            × IsOpen W.contents is_hosted self.new taken now) }
+    {
+        if !self.is_open || !self.lines.is_empty() {
+            return Ok(());
+        }
+        self.write_turn(self.changes)
+    }
+
+    fn write_turn(&mut self, after: u64) -> Result<(), JournalFault>
+        ensures turn { AreCounts self.old.events self.old.changes after → OnOk result ((is_hosted : List ℕ → Bool) (taken now : List HubEvent)
+            → IsOpen W.contents is_hosted self.old taken now
+            → WroteTurn is_hosted (W.contents self.old.file) (W.contents self.new.file) self.old.changes after taken now
+            × HasTurn W.contents is_hosted self.new after taken now) }
+        ensures same { self.new.changes ≡ self.old.changes }
+        ensures works { OnOk result (self.new.has_failed ≡ false) }
+        ensures failed { OnErr result (self.new.has_failed ≡ true) }
+    {
+        let syncs = self.syncs && self.events > 0;
+        let added = self.lines.add_turn(self.events, self.changes, after);
+        if added.is_err() {
+            self.has_failed = true;
+            return Err(JournalFault);
+        }
+        self.events = 0;
+        self.is_open = after != self.changes;
+        self.write(syncs)
+    }
+
+    /// So many changes are on record: those of the turn that ended are.
+    pub fn settle(&mut self, changes: u64)
+        ensures settled { (is_hosted : List ℕ → Bool) (taken now : List HubEvent) → HasTurn W.contents is_hosted self.old changes taken now
+            → IsOpen W.contents is_hosted self.new (taken ++ now) [] }
+        ensures same { (self.new.changes ≡ changes) × (self.new.has_failed ≡ self.old.has_failed) }
+    {
+        self.changes = changes;
+    }
+
+    fn write(&mut self, syncs: bool) -> Result<(), JournalFault>
+        ensures written { OnOk result (Appends (W.contents self.old.file) (W.contents self.new.file) self.old.lines.bytes.items) }
+        ensures empty { OnOk result (self.new.lines.bytes.items ≡ []) }
+        ensures same { (self.new.events ≡ self.old.events) × (self.new.changes ≡ self.old.changes) }
+        ensures works { OnOk result ((self.old.has_failed ≡ false) × (self.new.has_failed ≡ false)) }
+        ensures failed { OnErr result (self.new.has_failed ≡ true) }
+    {
+        if self.has_failed {
+            return Err(JournalFault);
+        }
+        let written = write_all(&mut self.lines, &mut self.file, syncs);
         self.has_failed = written.is_err();
         written
     }
 }
 
+/// Writes lines to a file, and syncs it where `syncs`.
+fn write_all<W: JournalFile>(
+    lines: &mut Pending,
+    file: &mut W,
+    syncs: bool,
+) -> Result<(), JournalFault>
+    ensures written { OnOk result (Appends (W.contents file.old) (W.contents file.new) lines.old.bytes.items) }
+    ensures empty { OnOk result (lines.new.bytes.items ≡ []) }
+{
+    lines.write_to(file)?;
+    if syncs {
+        file.sync()?;
+    }
+    Ok(())
+}
+
 /// Ends the line of which a part is at the end of a file, if there is one.
 fn end_line<W: Write>(alloc: Global, file: &mut W, tail: &Tail) -> Result<(), JournalFault>
-    ensures { OnOk result ((is_hosted : List ℕ → Bool) (bytes : List ℕ) (recorded : List HubEvent) (changes : ℕ) → W.contents file.old ≡ Some bytes → IsEndOf is_hosted bytes tail.now
-        → told_at (entries_of is_hosted bytes) changes ≡ Some recorded → IsEnded is_hosted bytes (W.contents file.new) changes recorded) }
+    ensures { OnOk result ((is_hosted : List ℕ → Bool) (bytes : List ℕ) (taken : List HubEvent) (changes : ℕ) → W.contents file.old ≡ Some bytes → is_whole bytes ≡ not tail.now.is_cut
+        → told_at is_hosted bytes changes ≡ Some taken → IsEnded is_hosted bytes (W.contents file.new) changes taken) }
 {
     if !tail.is_cut {
         return Ok(());

@@ -5,9 +5,8 @@ use crate::hosted::{copies_of, hub_of};
 use crate::journal_fault::{JournalFileFault, JournalProblem};
 use crate::journal_file::list_of;
 use hub_rows::Store;
-use journal::Journal;
 use ocpp_types::Text;
-use standby::{Counts, Ended, FollowFault, find_begin, follow};
+use standby::{Ended, FollowFault, Progress, find_begin, follow};
 use station_calls::Echo;
 use std::alloc::Global;
 use std::cell::Cell;
@@ -15,6 +14,7 @@ use std::fs::File;
 use std::io::{BufRead, BufReader};
 use std::time::Instant;
 use telemetry::takes_line;
+use turn_hub::{Commits, TurnHub};
 
 /// The path that stands for standard input.
 const STANDARD_INPUT: &str = "-";
@@ -22,32 +22,24 @@ const STANDARD_INPUT: &str = "-";
 /// The seconds between two lines that say how far a journal is followed.
 const TELLS: u64 = 10;
 
-/// How many changes are on record in a store that follows, and when that was told last.
+/// When it was told last how far a journal is followed.
 #[derive(Drop)]
-struct OnRecord<'a> {
+struct Told<'a> {
     rt: &'a HostRuntime,
-    journal: &'a Journal,
     begun: Instant,
     /// In which second.
-    told: Cell<u64>,
+    second: Cell<u64>,
 }
 
-impl OnRecord<'_> {
-    /// Tells how far the journal is followed, at most once in some seconds.
+impl Progress for Told<'_> {
+    /// Tells it at most once in some seconds.
     fn tell(&self, changes: u64) {
         let second = self.begun.elapsed(self.rt).map_or(0, |time| time.as_secs());
-        if second < self.told.get().saturating_add(TELLS) {
+        if second < self.second.get().saturating_add(TELLS) {
             return;
         }
-        self.told.set(second);
+        self.second.set(second);
         tell(self.rt, changes);
-    }
-}
-
-impl Counts for OnRecord<'_> {
-    fn has(&self, changes: u64) -> bool {
-        self.tell(changes);
-        self.journal.changes() == changes
     }
 }
 
@@ -58,88 +50,90 @@ fn tell(rt: &HostRuntime, changes: u64) {
     }
 }
 
-/// Follows the journal at a path to its end, over the records of a store of which `journal` counts the changes, and gives the
-/// store back.
+/// Follows the journal at a path to its end, over the records of a store, which has so many changes on record. It gives the
+/// store back, and how many changes are on record then.
 pub fn follow_journal<S: Store + Drop>(
     rt: &HostRuntime,
     store: S,
-    journal: &Journal,
+    changes: u64,
     path: &str,
     operators: &[Text],
-) -> Result<S, RunFault> {
-    let on_record = OnRecord {
-        rt,
-        journal,
-        begun: Instant::now(rt)?,
-        told: Cell::new(0),
-    };
+) -> Result<(S, u64), RunFault> {
     if path == STANDARD_INPUT {
         let mut reader = BufReader::new(rt.alloc(), rt.reader())?;
-        return follow_all(rt, store, &mut reader, &on_record, operators);
+        return follow_all(rt, store, changes, &mut reader, operators);
     }
     let Ok(file) = File::open(rt, path) else {
         let why = JournalProblem::CannotOpen;
         return Err(RunFault::from(JournalFileFault::at(rt.alloc(), why, path)));
     };
     let mut reader = BufReader::new(rt.alloc(), file)?;
-    follow_all(rt, store, &mut reader, &on_record, operators)
+    follow_all(rt, store, changes, &mut reader, operators)
 }
 
 /// Follows one server of a journal after the other.
 fn follow_all<S: Store + Drop, R: BufRead>(
     rt: &HostRuntime,
     mut store: S,
+    mut changes: u64,
     reader: &mut R,
-    on_record: &OnRecord<'_>,
     operators: &[Text],
-) -> Result<S, RunFault> {
+) -> Result<(S, u64), RunFault> {
+    let told = Told {
+        rt,
+        begun: Instant::now(rt)?,
+        second: Cell::new(0),
+    };
     let mut ended = find_begin(rt.alloc(), operators, reader)?;
     for _ in 0..u64::MAX {
         match &ended {
             Ended::End { waiting, is_cut } => {
-                tell(rt, on_record.journal.changes());
+                tell(rt, changes);
                 warn_of(rt, *waiting, *is_cut);
                 break;
             }
             Ended::Begins {
-                changes,
+                changes: on_record,
                 operators: names,
-            } => check_begin(rt.alloc(), on_record, *changes, names, operators)?,
+            } => check_begin(rt.alloc(), changes, *on_record, names, operators)?,
         }
-        let (followed, end) = follow_server(rt.alloc(), store, reader, on_record, operators)?;
-        store = followed;
+        let (hub, end) = follow_server(rt.alloc(), store, changes, reader, &told, operators)?;
+        changes = hub.changes();
+        store = hub.into_hub().into_store();
         ended = end;
     }
-    Ok(store)
+    Ok((store, changes))
 }
 
-/// Follows one server of a journal, behind the line with which it begins. It gives the store back, and where the server ends.
+/// Follows one server of a journal, behind the line with which it begins: the hub then, and where the server ends.
 fn follow_server<S: Store + Drop, R: BufRead>(
     alloc: Global,
     store: S,
+    changes: u64,
     reader: &mut R,
-    on_record: &OnRecord<'_>,
+    told: &Told<'_>,
     operators: &[Text],
-) -> Result<(S, Ended), RunFault> {
+) -> Result<(TurnHub<S, Echo, File>, Ended), RunFault> {
     let mut vendors = Vec::new(alloc);
     vendors.push(Echo { alloc })?;
-    let mut hub = hub_of(alloc, store, copies_of(alloc, operators)?, vendors)?;
-    let ended = follow(alloc, &mut hub, reader, on_record)?;
-    Ok((hub.into_store(), ended))
+    let hub = hub_of(alloc, store, copies_of(alloc, operators)?, vendors)?;
+    let mut hub = TurnHub::new(alloc, hub, changes, Commits::Turns);
+    let ended = follow(alloc, &mut hub, reader, told)?;
+    Ok((hub, ended))
 }
 
-/// Whether a server that begins has the records and the operators that are here.
+/// Whether a server that begins has the records and the operators that are here, where so many changes are on record.
 fn check_begin(
     alloc: Global,
-    on_record: &OnRecord<'_>,
     changes: u64,
+    on_record: u64,
     names: &Text,
     operators: &[Text],
 ) -> Result<(), RunFault> {
     if list_of(alloc, operators)?.as_str() != names.as_str() {
         return Err(RunFault::OtherOperators(names.clone()?));
     }
-    if !on_record.has(changes) {
+    if changes != on_record {
         return Err(RunFault::Follow(FollowFault::Changes));
     }
     Ok(())

@@ -2,7 +2,7 @@
 
 use crate::journal_fault::{JournalFileFault, JournalProblem};
 use command_line::JournalOptions;
-use journal::{Journal, Tail, TailFault, tail_of};
+use journal::{Tail, TailFault, Writer, tail_of};
 use ocpp_types::{Mem, Text};
 use std::alloc::Global;
 use std::fs::{File, OpenOptions};
@@ -12,26 +12,27 @@ use std::os::unix::fs::OpenOptionsExt;
 /// Who may read and write a new journal: its owner alone, since id tags are credentials.
 const MODE: u32 = 0o600;
 
-/// Has a server with those operators begin in the journal at a path, which is made if there is none.
+/// Has a server with those operators begin in the journal at a path, which is made if there is none, where so many changes
+/// are on record.
 pub fn begin_journal(
     rt: &HostRuntime,
     options: &JournalOptions,
     operators: &[Text],
-    journal: &Journal,
-) -> Result<(), JournalFileFault> {
+    changes: u64,
+) -> Result<Writer<File>, JournalFileFault> {
     let alloc = rt.alloc();
     let path = options.path.as_str();
     let file = open_file(rt, path)?;
     let tail = tail_at(rt, path)?;
-    if !tail.is_new && tail.marked.is_none() {
+    if !tail.is_new && tail.counts.is_none() {
         return Err(JournalFileFault::at(alloc, JournalProblem::Foreign, path));
     }
-    if tail.marked.is_some() && tail.taken(journal.changes()).is_none() {
+    if !tail.fits(changes) {
         return Err(JournalFileFault::at(alloc, JournalProblem::Changes, path));
     }
     let names = list_of(alloc, operators)?;
-    match journal.begin_server(file, options.syncs, &tail, names.as_str()) {
-        Ok(()) => Ok(()),
+    match Writer::begin_server(alloc, file, options.syncs, &tail, changes, names.as_str()) {
+        Ok(writer) => Ok(writer),
         Err(_) => Err(JournalFileFault::at(alloc, JournalProblem::Failed, path)),
     }
 }

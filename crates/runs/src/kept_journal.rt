@@ -3,13 +3,14 @@
 use crate::journal_fault::{JournalFileFault, JournalProblem};
 use crate::journal_file::{list_of, open_file};
 use command_line::JournalOptions;
-use journal::Journal;
+use hub_rows::Store;
 use ocpp_types::{Mem, Moment, Text, print_time};
+use station_calls::VendorHandler;
 use std::alloc::Global;
 use std::fs;
 use std::fs::File;
-use std::rc::Rc;
 use telemetry::{size_of, takes_line};
+use turn_hub::TurnHub;
 
 /// The nanoseconds between two looks at the size of the file.
 const LOOKS: u64 = 100_000_000;
@@ -19,13 +20,12 @@ const LOOKS: u64 = 100_000_000;
 pub struct KeptJournal {
     kept: Option<Kept>,
     /// It can't be written. What was taken in this turn is told to nobody.
-    is_lost: bool,
+    pub is_lost: bool,
 }
 
 /// A journal that is kept in a file.
 #[derive(Drop)]
 struct Kept {
-    journal: Rc<Journal>,
     /// The path of the file.
     path: Text,
     /// The operators of the server, with commas between them.
@@ -61,15 +61,8 @@ impl KeptJournal {
     }
 
     /// A journal is kept, as the options have it, in which a server with those operators has begun.
-    pub fn keep(
-        &mut self,
-        alloc: Global,
-        journal: Rc<Journal>,
-        options: &JournalOptions,
-        operators: &[Text],
-    ) -> Mem<()> {
+    pub fn keep(&mut self, alloc: Global, options: &JournalOptions, operators: &[Text]) -> Mem<()> {
         self.kept = Some(Kept {
-            journal,
             path: options.path.clone()?,
             operators: list_of(alloc, operators)?,
             size: options.size,
@@ -79,26 +72,26 @@ impl KeptJournal {
         Ok(())
     }
 
-    /// Writes what was taken in this turn. Whether it is in the file.
-    pub fn write(&mut self) -> bool {
-        if let Some(kept) = &self.kept {
-            self.is_lost = kept.journal.end_turn().is_err();
-        }
-        !self.is_lost
+    /// The operators of the server, with commas between them, if a journal is kept.
+    pub fn operators(&self) -> &str {
+        self.kept
+            .as_ref()
+            .map_or("", |kept| kept.operators.as_str())
     }
 
     /// Begins the next file, after a turn, where the one of now has as many bytes as it may have. Error: the journal can't be
     /// written.
-    pub fn go_on(
+    pub fn go_on<S: Store + Drop, V: VendorHandler>(
         &mut self,
         rt: &HostRuntime,
+        hub: &mut TurnHub<S, V, File>,
         now: u64,
         moment: Moment,
     ) -> Result<(), JournalFileFault> {
         let Some(kept) = &mut self.kept else {
             return Ok(());
         };
-        if self.is_lost || (kept.is_full(rt, now) && !kept.begin_file(rt, moment)) {
+        if self.is_lost || (kept.is_full(rt, now) && !kept.begin_file(rt, hub, moment)) {
             let path = kept.path.as_str();
             return Err(JournalFileFault::at(rt.alloc(), JournalProblem::Failed, path));
         }
@@ -121,11 +114,16 @@ impl Kept {
     }
 
     /// Begins the next file at the path. Where that can't be done it is tried again later. Whether the journal can be written.
-    fn begin_file(&mut self, rt: &HostRuntime, moment: Moment) -> bool {
+    fn begin_file<S: Store + Drop, V: VendorHandler>(
+        &mut self,
+        rt: &HostRuntime,
+        hub: &mut TurnHub<S, V, File>,
+        moment: Moment,
+    ) -> bool {
         match self.place_file(rt, moment) {
             Ok(Placed::There(file)) => {
                 let operators = self.operators.as_str();
-                self.journal.continue_in(file, operators).is_ok()
+                hub.continue_in(file, operators).is_ok()
             }
             Ok(Placed::Not) => {
                 self.warn(rt);

@@ -2,14 +2,12 @@
 
 use clients::now;
 use command_line::{ServeOptions, VERSION};
-use journal::Journal;
 use ocpp_types::Mem;
 use ready_streams::Streams;
 use runs::RunFault;
 use std::alloc::Global;
 use std::fs;
 use std::net::SocketAddr;
-use std::rc::Rc;
 use std::time::{Duration, Instant};
 use telemetry::{ServerLog, size_of};
 
@@ -33,8 +31,8 @@ pub struct Opened {
     pub(crate) streams: Streams,
     /// How long the opening of its file took.
     pub(crate) opening: Duration,
-    /// The journal in which its changes are counted. It has no file yet.
-    pub journal: Rc<Journal>,
+    /// How many changes are on record.
+    pub(crate) changes: u64,
 }
 
 /// Listens, so that who connects waits in the system's queue, and removes the file that would end the server. A log tells of
@@ -54,11 +52,10 @@ impl Begun {
     pub fn opened(self, rt: &HostRuntime, changes: u64) -> Result<Opened, RunFault> {
         let Begun { streams, began } = self;
         let opening = began.elapsed(rt)?;
-        let journal = Rc::new(rt.alloc(), Journal::new(rt.alloc(), changes))?;
         Ok(Opened {
             streams,
             opening,
-            journal,
+            changes,
         })
     }
 }

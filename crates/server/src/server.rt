@@ -7,18 +7,17 @@ use crate::service::Service;
 use crate::stop_file::StopFile;
 use clients::now;
 use command_line::{JournalOptions, VERSION};
-use hub::Hub;
-use hub_rows::{Flush, Store};
-use journal::Journal;
+use hub_rows::Store;
 use ocpp_types::{Mem, Moment, Text};
 use ready_streams::{ReadyStream, Streams};
 use runs::{KeptJournal, RunFault, begin_journal};
 use station_calls::VendorHandler;
 use std::alloc::Global;
+use std::fs::File;
 use std::net::SocketAddr;
-use std::rc::Rc;
 use std::time::{Duration, Instant};
 use telemetry::{Counts, Metrics, ServerLog, now_of, page_of};
+use turn_hub::TurnHub;
 use ws_server::{Gateway, Lobby};
 
 /// The most seconds between two turns. Calls that stations leave unanswered end in such turns.
@@ -54,7 +53,7 @@ pub struct Server<S, V> {
     pub(crate) alloc: Global,
     /// Where it listens.
     pub(crate) address: SocketAddr,
-    pub(crate) hub: Hub<S, V>,
+    pub(crate) hub: TurnHub<S, V, File>,
     pub(crate) gateway: Gateway<ReadyStream>,
     pub(crate) lobby: Lobby<ReadyStream>,
     pub(crate) streams: Streams,
@@ -95,7 +94,7 @@ pub struct Server<S, V> {
 impl<S: Store + Drop, V: VendorHandler> Server<S, V> {
     /// A server over a hub, which begins to take connections from these streams.
     pub fn new(
-        hub: Hub<S, V>,
+        hub: TurnHub<S, V, File>,
         streams: Streams,
         prepared: Prepared,
         log: ServerLog,
@@ -135,7 +134,7 @@ impl<S: Store + Drop, V: VendorHandler> Server<S, V> {
             has_faulted: false,
             hurt: None,
             is_store_shut: false,
-            batches: Batches::each(),
+            batches: Batches::new(),
             reserve: set_aside(alloc).ok(),
         }
     }
@@ -146,20 +145,18 @@ impl<S: Store + Drop, V: VendorHandler> Server<S, V> {
         &mut self,
         rt: &HostRuntime,
         options: &JournalOptions,
-        journal: Rc<Journal>,
     ) -> Result<(), RunFault> {
-        begin_journal(rt, options, self.hub.hosted(), &journal)?;
-        self.gateway.set_journal(Rc::clone(&journal)?);
-        self.streams.hold();
         let operators = self.hub.hosted();
-        self.journal.keep(self.alloc, journal, options, operators)?;
+        let writer = begin_journal(rt, options, operators, self.hub.changes())?;
+        self.journal.keep(self.alloc, options, operators)?;
+        self.hub.set_journal(writer);
+        self.streams.hold();
         Ok(())
     }
 
-    /// From now on the changes of a turn are committed together. They are counted in that journal.
-    pub fn commit_turns(&mut self, journal: Rc<Journal>) {
-        self.batches = Batches::of_turns(journal);
-        self.gateway.set_flush(Flush::Later);
+    /// From now on peers are told what is taken in a turn once its changes are committed.
+    pub fn commit_turns(&mut self) {
+        self.batches.has_turns = true;
         self.streams.hold();
     }
 
@@ -179,7 +176,8 @@ impl<S: Store + Drop, V: VendorHandler> Server<S, V> {
             self.write_log();
             let took = self.read_clock(rt).saturating_sub(began);
             self.metrics.turn.add(took, self.second);
-            self.journal.go_on(rt, self.now, self.moment)?;
+            self.journal
+                .go_on(rt, &mut self.hub, self.now, self.moment)?;
             if self.is_store_shut {
                 return Err(RunFault::Store);
             }
@@ -202,6 +200,7 @@ impl<S: Store + Drop, V: VendorHandler> Server<S, V> {
     /// have two seconds to take what waits for them.
     fn end(&mut self, rt: &HostRuntime) -> Result<(), RunFault> {
         let count = self.gateway.count();
+        self.confirm();
         self.gateway.end_all();
         self.streams.end_turn();
         self.wait_for_peers(rt)?;
@@ -278,6 +277,7 @@ impl<S: Store + Drop, V: VendorHandler> Server<S, V> {
             self.log.begin_second(moment);
             self.count_stations();
             self.probe();
+            self.confirm();
         }
         Ok(())
     }
@@ -303,7 +303,7 @@ impl<S: Store + Drop, V: VendorHandler> Server<S, V> {
     }
 
     fn print_page(&self, rt: &HostRuntime) -> Mem<String> {
-        let connected = connected_of(self.alloc, &self.service, &self.gateway, &self.hub)?;
+        let connected = connected_of(self.alloc, &self.service, &self.gateway, self.hub.hub())?;
         let mut now = now_of(rt, self.db.as_str())?;
         now.since_start = self.now;
         now.waiting = self.lobby.count() as u64;
@@ -345,7 +345,7 @@ impl<S: Store + Drop, V: VendorHandler> Server<S, V> {
         if !self.metrics.counts.iter().any(is_full) {
             return;
         }
-        let connected = connected_of(self.alloc, &self.service, &self.gateway, &self.hub);
+        let connected = connected_of(self.alloc, &self.service, &self.gateway, self.hub.hub());
         if let Ok(connected) = connected {
             self.metrics.set_stations(connected.as_slice());
             self.name_full();

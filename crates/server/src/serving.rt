@@ -5,19 +5,16 @@ use crate::prepared::Prepared;
 use crate::server::Server;
 use command_line::{Commit, ServeOptions, VERSION};
 use hub_rows::Store;
-use journal::Journal;
 use ocpp_types::{Mem, Text};
-use ready_streams::Streams;
 use runs::{RunFault, copies_of, follow_journal, hub_of, list_of};
 use station_calls::VendorHandler;
 use std::alloc::Global;
 use std::net::SocketAddr;
-use std::rc::Rc;
 use std::time::Duration;
 use telemetry::{ServerLog, takes_line};
+use turn_hub::{Commits, TurnHub};
 
-/// Follows a journal to its end, if it is to, and then serves, by the records of a store, whose changes are counted in the
-/// journal of `opened`, and by those handlers of vendors' messages. A fault of a turn is written to standard error as
+/// Follows a journal to its end, if it is to, and then serves, by the records of a store, and by those handlers of vendors' messages. A fault of a turn is written to standard error as
 /// `fault NAME`, and the next turn follows. Errors: a journal that can't be followed or kept, a store that fails later,
 /// operators that can't be hosted, a wait that fails, a clock without a moment, no memory at the start.
 pub fn serve<S: Store + Drop, V: VendorHandler>(
@@ -27,13 +24,13 @@ pub fn serve<S: Store + Drop, V: VendorHandler>(
     options: &ServeOptions,
     vendors: Vec<V>,
 ) -> Result<(), RunFault> {
-    let store = match &options.follow {
-        Some(path) => {
-            let operators = options.operators.as_slice();
-            follow_journal(rt, store, &opened.journal, path.as_str(), operators)?
-        }
-        None => store,
+    let mut opened = opened;
+    let Some(path) = &options.follow else {
+        return serve_over(rt, store, opened, options, vendors);
     };
+    let operators = options.operators.as_slice();
+    let (store, changes) = follow_journal(rt, store, opened.changes, path.as_str(), operators)?;
+    opened.changes = changes;
     serve_over(rt, store, opened, options, vendors)
 }
 
@@ -84,28 +81,34 @@ fn run_server<S: Store + Drop, V: VendorHandler>(
     vendors: Vec<V>,
     start: &str,
 ) -> Result<(), RunFault> {
-    let Opened {
-        streams,
-        journal,
-        ..
-    } = opened;
-    let mut server = server_over(rt, store, streams, options, vendors)?;
-    begin_and_run(rt, &mut server, journal, options, start)
+    let mut server = server_over(rt, store, opened, options, vendors)?;
+    begin_and_run(rt, &mut server, options, start)
 }
 
 /// A server over a store. Errors: operators that can't be hosted, a clock without a moment, no memory.
 fn server_over<S: Store + Drop, V: VendorHandler>(
     rt: &HostRuntime,
     store: S,
-    mut streams: Streams,
+    opened: Opened,
     options: &ServeOptions,
     vendors: Vec<V>,
 ) -> Result<Server<S, V>, RunFault> {
+    let alloc = rt.alloc();
     let (prepared, operators) = prepared_of(rt, options)?;
-    let hub = hub_of(rt.alloc(), store, operators, vendors)?;
+    let hub = hub_of(alloc, store, operators, vendors)?;
+    let hub = TurnHub::new(alloc, hub, opened.changes, commits_of(options.commit));
+    let mut streams = opened.streams;
     streams.set_second(0);
     let log = ServerLog::new(rt, options.log);
     Ok(Server::new(hub, streams, prepared, log))
+}
+
+/// When a hub commits changes, by the options of a server.
+fn commits_of(commit: Commit) -> Commits {
+    match commit {
+        Commit::Each => Commits::Each,
+        Commit::Turn => Commits::Turns,
+    }
 }
 
 /// What a server has by its options, and its operators.
@@ -122,14 +125,14 @@ fn prepared_of(
 fn begin_and_run<S: Store + Drop, V: VendorHandler>(
     rt: &HostRuntime,
     server: &mut Server<S, V>,
-    journal: Rc<Journal>,
     options: &ServeOptions,
     start: &str,
 ) -> Result<(), RunFault> {
-    match &options.journal {
-        Some(kept) => server.keep_journal(rt, kept, journal)?,
-        None if options.commit == Commit::Turn => server.commit_turns(journal),
-        None => {}
+    if let Some(kept) = &options.journal {
+        server.keep_journal(rt, kept)?;
+    }
+    if options.commit == Commit::Turn {
+        server.commit_turns();
     }
     warn_of(rt, options.address);
     server.tell_start(start);

@@ -6,6 +6,7 @@ use hub_rows::{Recovered, Store};
 use runs::RunFault;
 use station_calls::VendorHandler;
 use std::fmt::Display;
+use turn_hub::TurnFault;
 use ws_peers::Route;
 
 /// How long a turn serves connections at least, in nanoseconds. It serves for as long as the turn has taken before, if that is
@@ -47,8 +48,8 @@ impl<S: Store + Drop, V: VendorHandler> Server<S, V> {
             let ended = self.gateway.turn(&mut self.hub, self.moment, &[]);
             self.report(ended);
         }
-        if self.goes_on() && self.batches.has_some() {
-            self.flush(rt);
+        if self.goes_on() {
+            self.commit(rt);
         }
         self.end_turn();
     }
@@ -58,33 +59,35 @@ impl<S: Store + Drop, V: VendorHandler> Server<S, V> {
         !self.is_store_shut && !self.batches.is_lost && !self.batches.is_unsure
     }
 
-    /// Commits the changes of the turn. A store that still has them after a commit that failed counts as shut, since nobody
-    /// may be told of changes that aren't on record.
-    fn flush(&mut self, rt: &HostRuntime) {
+    /// Ends the turn of the hub: the journal has what was taken, and then the changes that wait are committed. A store that
+    /// still has them after a commit that failed answers no more: whether they are on record isn't known.
+    fn commit(&mut self, rt: &HostRuntime) {
+        let has_waiting = self.hub.has_waiting();
         let before = self.now;
-        let flushed = self.hub.flush();
-        let time = self.read_clock(rt).saturating_sub(before);
-        self.batches.commit(time);
-        let has_failed = flushed.is_err();
-        self.report(flushed);
-        if has_failed && self.goes_on() {
-            self.is_store_shut = true;
+        match self.hub.end_turn() {
+            Ok(()) => {}
+            Err(TurnFault::Journal) => self.journal.is_lost = true,
+            Err(TurnFault::Hub(fault)) => {
+                self.report(Err(fault));
+                self.is_store_shut = self.is_store_shut || self.goes_on();
+            }
+        }
+        if has_waiting {
+            self.batches.time = self.read_clock(rt).saturating_sub(before);
         }
     }
 
-    /// Gives what was written to the system, once the changes of the turn are committed and the journal has what was taken.
-    /// Drops it and closes all connections where the changes are gone.
+    /// Gives what was written to the system, once the journal has what was taken and its changes are committed. Drops it and
+    /// closes all connections where the changes are gone.
     fn end_turn(&mut self) {
         if !self.goes_on() {
-            if self.batches.has_turns() {
+            if self.batches.has_turns {
                 self.streams.drop_turn();
             }
             self.gateway.fail_all();
         }
-        if let Some(flush) = self.batches.end_turn() {
-            self.gateway.set_flush(flush);
-        }
-        if self.journal.write() {
+        self.batches.is_lost = false;
+        if !self.journal.is_lost {
             self.streams.end_turn();
         }
     }
@@ -102,7 +105,7 @@ impl<S: Store + Drop, V: VendorHandler> Server<S, V> {
             self.hurt = Some(self.second);
             self.lobby.set_hurt(true);
         }
-        if matches!(fault, Fault::Store) || self.batches.has_turns() {
+        if matches!(fault, Fault::Store) || self.batches.has_turns {
             self.recover();
         }
         if !self.is_store_shut {
@@ -115,13 +118,28 @@ impl<S: Store + Drop, V: VendorHandler> Server<S, V> {
         self.batches.is_unsure = false;
         match self.hub.recover() {
             Ok(Recovered::Whole) => {}
-            Ok(Recovered::Renewed) => self.batches.lose(),
+            Ok(Recovered::Renewed) => {
+                self.batches.is_lost = true;
+                self.begin_again();
+            }
             Err(Fault::Store) => self.is_store_shut = true,
             Err(_) => {
-                self.batches.lose();
+                self.batches.is_lost = true;
                 self.batches.is_unsure = true;
             }
         }
+    }
+
+    /// The journal says that the changes of the turn before are on record, if it hasn't said so.
+    pub(crate) fn confirm(&mut self) {
+        let confirmed = self.hub.confirm();
+        self.journal.is_lost = self.journal.is_lost || confirmed.is_err();
+    }
+
+    /// The journal says that the changes of the turn aren't on record.
+    fn begin_again(&mut self) {
+        let begun = self.hub.begin_again(self.journal.operators());
+        self.journal.is_lost = self.journal.is_lost || begun.is_err();
     }
 
     /// Writes a fault to standard error, and gives up the memory that is set aside where none was found. It gives whether the

@@ -5,6 +5,7 @@ use ocpp_types::NoMemory;
 use std::alloc::AllocError;
 use std::io;
 use thiserror::Error;
+use turn_hub::TurnFault;
 
 /// Why a journal isn't followed any further. The records are those after the events that were followed up to there, each
 /// whole.
@@ -53,6 +54,16 @@ impl From<Fault> for FollowFault {
             Fault::NoMemory => FollowFault::NoMemory,
             // a listing that is too long for this store was none for the other, and a line is of a hosted operator
             Fault::Store | Fault::TooLong | Fault::NoSuchOperator => FollowFault::Store,
+        }
+    }
+}
+
+impl From<TurnFault> for FollowFault {
+    fn from(fault: TurnFault) -> FollowFault {
+        match fault {
+            TurnFault::Hub(fault) => FollowFault::from(fault),
+            // a hub that follows has no journal
+            TurnFault::Journal => FollowFault::Store,
         }
     }
 }

@@ -4,6 +4,7 @@
 mod fault;
 mod following;
 mod group;
+mod waiting;
 
 pub use fault::FollowFault;
-pub use following::{Counts, Ended, find_begin, follow};
+pub use following::{Ended, Progress, find_begin, follow};

@@ -12,8 +12,9 @@ use Rattle.hub_events.specs.declared.event.What.{What}
 use Rattle.hub_events.specs.declared.out.Out.{Out}
 use Rattle.hub_events.specs.declared.fault.Fault.{Fault}
 use Rattle.hub_events.specs.declared.fault.Fault.TheVariants as fault
-use Rattle.hub.specs.declared.hub.Hub.{Hub}
-use Rattle.hub.specs.Hub.{hub_view, world, setting, is_clean, is_taken, is_of_hosted}
+use Rattle.turn_hub.specs.declared.turn_hub.TurnHub.{TurnHub}
+use Rattle.hub.specs.Hub.{is_taken, is_of_hosted}
+use Rattle.turn_hub.specs.TurnHub.{hub_view, world, setting, is_clean}
 use Rattle.hub.specs.World.{Setting, World, world_outputs, world_step}
 use Rattle.hub_rows.specs.Reads.{IsCounted}
 use Rattle.hub_rows.specs.StoreView.{StoreView}
@@ -113,7 +114,7 @@ runs-append : (st : Setting) (w v u : World) (before after : List Step) → Runs
 runs-append st w v u [] after e more = subst (λ x. Runs st x after u) e more
 runs-append st w v u (s ∷ before) after runs more = (runs.0, runs.1, runs-append st (world_step st w s.event) v u before after runs.2 more)
 
-module _ {S V : Type 0} (view : S → StoreView) (handlers : V → HandlerView) (old new : Hub S V) where
+module _ {S V W : Type 0} (view : S → StoreView) (handlers : V → HandlerView) (old new : TurnHub S V W) where
   -- one event
   pub handed : (Change : List Step → Type 0) (event : Event) (outs : List Out) → Change (record { event = event; outs = outs } ∷ [])
       → is_taken (setting handlers old) event ≡ true
@@ -136,7 +137,7 @@ module _ {S V : Type 0} (view : S → StoreView) (handlers : V → HandlerView) 
   pub changed : (C D : List Step → Type 0) → ((steps : List Step) → C steps → D steps) → Takes view handlers old new C → Takes view handlers old new D
   changed C D to takes = record { steps = takes.steps; change = to takes.steps takes.change; runs = takes.runs; stays = takes.stays }
 
-module _ {S V : Type 0} (view : S → StoreView) (handlers : V → HandlerView) (old mid new : Hub S V) where
+module _ {S V W : Type 0} (view : S → StoreView) (handlers : V → HandlerView) (old mid new : TurnHub S V W) where
   pub counted_more : (Early Late : Type 0) → IsCounted (hub_view view) old mid Early → IsCounted (hub_view view) mid new Late → IsCounted (hub_view view) old new ⊥
   counted_more Early Late first second = record {
     was_clean = λ c. first.was_clean (second.was_clean c);

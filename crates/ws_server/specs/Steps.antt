@@ -4,8 +4,9 @@ use Rattle.hub_events.specs.declared.event.Event.{Event}
 use Rattle.hub_events.specs.declared.out.Out.{Out}
 use Rattle.hub_rows.specs.StoreView.{StoreView}
 use Rattle.station_calls.specs.Vendors.{HandlerView}
-use Rattle.hub.specs.declared.hub.Hub.{Hub}
-use Rattle.hub.specs.Hub.{world, setting, is_clean, is_taken}
+use Rattle.turn_hub.specs.declared.turn_hub.TurnHub.{TurnHub}
+use Rattle.hub.specs.Hub.{is_taken}
+use Rattle.turn_hub.specs.TurnHub.{world, setting, is_clean}
 use Rattle.hub.specs.World.{Setting, World, world_outputs, world_step}
 
 -- an event that the hub took, and its outputs
@@ -19,9 +20,9 @@ Runs setting w [] v = v ≡ w
 Runs setting w (s ∷ steps) v =
     (is_taken setting s.event ≡ true) × (s.outs ≡ world_outputs setting w s.event) × Runs setting (world_step setting w s.event) steps v
 
-module _ {S V : Type 0} where
+module _ {S V W : Type 0} where
   -- a hub takes some steps, of which Change holds
-  pub record Takes (view : S → StoreView) (handlers : V → HandlerView) (old new : Hub S V) (Change : List Step → Type 0) : Type 0 where
+  pub record Takes (view : S → StoreView) (handlers : V → HandlerView) (old new : TurnHub S V W) (Change : List Step → Type 0) : Type 0 where
     pub steps : List Step
     pub change : Change steps
     pub runs : is_clean view new → Runs (setting handlers old) (world view old) steps (world view new)

@@ -1,7 +1,8 @@
 //! Admitting a connection.
 ghost use Rattle.std.specs.Prelude.{◌≡◌, true, false, [], codes, Err, IfErr, OnOk};
 ghost use Rattle.hub_rows.specs.Reads.{IsCounted};
-ghost use Rattle.hub.specs.Hub.{hub_view, setting, is_taken};
+ghost use Rattle.hub.specs.Hub.{is_taken};
+ghost use Rattle.turn_hub.specs.TurnHub.{hub_view, setting};
 ghost use Rattle.ws_peers.specs.Lists.{peers, has_room};
 ghost use Rattle.ws_server.specs.Admits.{Enters};
 ghost use Rattle.ws_server.specs.Steps.{Takes};
@@ -11,13 +12,15 @@ use crate::arrival::Arrival;
 use crate::events::{connect_of, turns_away};
 use crate::gateway::Gateway;
 use connection_notes::{Happened, Notes, Refusal};
-use hub::{Event, Fault, Hub};
+use hub::{Event, Fault};
 use hub_rows::Store;
+use journal::JournalFile;
 use ocpp_types::Moment;
 use ready_streams::Served;
 use station_calls::VendorHandler;
 use std::io::{Read, Write};
 use tungstenite::{NoMask, WebSocket};
+use turn_hub::TurnHub;
 use ws_peers::{Peers, Route};
 
 /// Why a station is closed whose handshake has no subprotocol.
@@ -35,9 +38,9 @@ impl<T: Read + Write + Served + Drop> Gateway<T> {
     /// connections of it are replaced. One that the hub turns away and one whose handshake has no subprotocol (OCPP-J 1.6,
     /// section 3.1.2) are closed with the code 1008 and a reason. An operator that isn't hosted is the fault
     /// `NoSuchOperator`. After a fault nothing was admitted, and the socket is dropped.
-    pub fn admit<S: Store + Drop, V: VendorHandler>(
+    pub fn admit<S: Store + Drop, V: VendorHandler, W: JournalFile + Drop>(
         &mut self,
-        hub: &mut Hub<S, V>,
+        hub: &mut TurnHub<S, V, W>,
         socket: WebSocket<T, NoMask>,
         arrival: Arrival,
         moment: Moment,
@@ -81,9 +84,9 @@ impl<T: Read + Write + Served + Drop> Gateway<T> {
         Ok(())
     }
 
-    fn connect<S: Store + Drop, V: VendorHandler>(
+    fn connect<S: Store + Drop, V: VendorHandler, W: JournalFile + Drop>(
         &mut self,
-        hub: &mut Hub<S, V>,
+        hub: &mut TurnHub<S, V, W>,
         socket: WebSocket<T, NoMask>,
         arrival: Arrival,
         event: &Event,
@@ -95,11 +98,9 @@ impl<T: Read + Write + Served + Drop> Gateway<T> {
         ensures counted { IsCounted (hub_view S.view) hub.old hub.new (result ≡ Err Fault.Store) }
     {
         self.peers.reserve()?;
-        self.begin_line(event, "");
-        let outs = match hub.handle_by(event, self.flush) {
+        let outs = match hub.handle(event, "") {
             Ok(outs) => outs,
             Err(fault) => {
-                self.refuse_line();
                 self.notes.add(
                     Some(&arrival.route),
                     arrival.address,
@@ -108,7 +109,6 @@ impl<T: Read + Write + Served + Drop> Gateway<T> {
                 return Err(fault);
             }
         };
-        self.take_line(event, &outs);
         let place = self.peers.count();
         let is_turned_away = turns_away(&outs);
         note_connect(&mut self.notes, &self.peers, &arrival, is_turned_away);

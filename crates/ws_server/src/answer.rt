@@ -1,20 +1,22 @@
 //! Answering the texts of peers.
 ghost use Rattle.std.specs.Prelude.{◌≡◌, ◌<◌, Err, List, codes, length, string_bytes};
 ghost use Rattle.hub_rows.specs.Reads.{IsCounted};
-ghost use Rattle.hub.specs.Hub.{hub_view, setting};
+ghost use Rattle.turn_hub.specs.TurnHub.{hub_view, setting};
 ghost use Rattle.ws_peers.specs.Lists.{At};
 ghost use Rattle.ws_server.specs.Steps.{Takes};
 ghost use Rattle.ws_server.specs.Tells.{SentWhileOpen, peers_of};
 
 use crate::events::{event_of, order_text, word_of};
 use crate::gateway::Gateway;
-use hub::{Event, Fault, Hub};
+use hub::{Event, Fault};
 use hub_rows::Store;
+use journal::JournalFile;
 use lines::{Bounds, bounds_of};
 use ocpp_types::Moment;
 use ready_streams::Served;
 use station_calls::VendorHandler;
 use std::io::{Read, Write};
+use turn_hub::TurnHub;
 use ws_peers::Peer;
 
 #[tactic(auto, using(crate::proofs::StepLaws::nothing))]
@@ -24,9 +26,9 @@ impl<T: Read + Write + Served + Drop> Gateway<T> {
     /// Hands a text of peer n to the hub, and sends the outputs. A text of an operator that is no order is answered
     /// `bad line`. Where it has a word, peer n alone is sent `#WORD begin` before the answer and `#WORD end` after it.
     /// After a fault nothing has changed.
-    pub(crate) fn hand_text<S: Store + Drop, V: VendorHandler>(
+    pub(crate) fn hand_text<S: Store + Drop, V: VendorHandler, W: JournalFile + Drop>(
         &mut self,
-        hub: &mut Hub<S, V>,
+        hub: &mut TurnHub<S, V, W>,
         n: usize,
         moment: Moment,
         text: &str,
@@ -50,9 +52,9 @@ impl<T: Read + Write + Served + Drop> Gateway<T> {
 
     /// Hands an event of peer n to the hub, and sends its outputs. `None` is a text that has none, which is answered
     /// `bad line` while the connection is open.
-    fn answer<S: Store + Drop, V: VendorHandler>(
+    fn answer<S: Store + Drop, V: VendorHandler, W: JournalFile + Drop>(
         &mut self,
-        hub: &mut Hub<S, V>,
+        hub: &mut TurnHub<S, V, W>,
         n: usize,
         event: &Option<Event>,
         text: &str,
@@ -73,9 +75,9 @@ impl<T: Read + Write + Served + Drop> Gateway<T> {
     }
 
     /// As `answer`, between two lines that peer n alone is sent. Neither is sent before the hub has taken the event.
-    fn answer_between<S: Store + Drop, V: VendorHandler>(
+    fn answer_between<S: Store + Drop, V: VendorHandler, W: JournalFile + Drop>(
         &mut self,
-        hub: &mut Hub<S, V>,
+        hub: &mut TurnHub<S, V, W>,
         n: usize,
         bounds: &Bounds,
         event: &Option<Event>,
@@ -92,15 +94,7 @@ impl<T: Read + Write + Served + Drop> Gateway<T> {
             self.refuse_between(n, bounds.begin.as_str(), bounds.end.as_str());
             return Ok(());
         };
-        self.begin_line(event, order_text(text));
-        let outs = match hub.handle_by(event, self.flush) {
-            Ok(outs) => outs,
-            Err(fault) => {
-                self.refuse_line();
-                return Err(fault);
-            }
-        };
-        self.take_line(event, &outs);
+        let outs = hub.handle(event, order_text(text))?;
         self.taken = self.taken.wrapping_add(1);
         self.say(n, bounds.begin.as_str());
         self.tell_all(n, &outs);

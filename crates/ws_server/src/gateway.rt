@@ -2,13 +2,10 @@
 ghost use Rattle.std.specs.Prelude.{◌≡◌, ◌<◌, ◌≤◌, [], length, slice_index_or, option_map, Some, None};
 
 use connection_notes::{Note, Notes};
-use hub_rows::Flush;
-use journal::Journal;
 use ocpp_types::Text;
 use ready_streams::Served;
 use std::alloc::Global;
 use std::io::{Read, Write};
-use std::rc::Rc;
 use ws_peers::{Peer, Peers, Route};
 
 /// The connected peers of one hub, by place.
@@ -23,10 +20,6 @@ pub struct Gateway<T> {
     pub(crate) full: Vec<Text>,
     /// How many events the hub has taken.
     pub(crate) taken: u64,
-    /// Where the lines of events go, if they are kept.
-    pub(crate) journal: Option<Rc<Journal>>,
-    /// When changes of the records are flushed.
-    pub(crate) flush: Flush,
 }
 
 impl<T: Read + Write + Served + Drop> Gateway<T> {
@@ -46,23 +39,7 @@ impl<T: Read + Write + Served + Drop> Gateway<T> {
             notes: Notes::new(alloc),
             full: Vec::new(alloc),
             taken: 0,
-            journal: None,
-            flush: Flush::AtOnce,
         }
-    }
-
-    /// From now on changes of the records are flushed at once, or wait for `Hub::flush`.
-    pub fn set_flush(&mut self, flush: Flush)
-        ensures { peers_of self.new ≡ peers_of self.old }
-    {
-        self.flush = flush;
-    }
-
-    /// From now on the lines of events go to a journal.
-    pub fn set_journal(&mut self, journal: Rc<Journal>)
-        ensures { peers_of self.new ≡ peers_of self.old }
-    {
-        self.journal = Some(journal);
     }
 
     /// From now on it keeps notes of what becomes of connections.

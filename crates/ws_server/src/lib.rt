@@ -5,7 +5,6 @@
 mod admit;
 mod answer;
 mod arrival;
-mod event_lines;
 mod events;
 mod gateway;
 mod lobby;

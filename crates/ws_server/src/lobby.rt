@@ -1,7 +1,7 @@
 //! Connections whose handshake is not done.
 ghost use Rattle.std.specs.Prelude.{◌≡◌, ◌≢◌, ◌++◌, ◌∷◌, ◌<◌, ◌≤◌, List, [], true, slice_index_or, Err, OnOk, OnErr, IfOk, IfErr, length};
 ghost use Rattle.hub_rows.specs.Reads.{IsCounted};
-ghost use Rattle.hub.specs.Hub.{hub_view, setting, is_clean};
+ghost use Rattle.turn_hub.specs.TurnHub.{hub_view, setting, is_clean};
 ghost use Rattle.ws_server.specs.Admits.{AsksFor};
 ghost use Rattle.ws_server.specs.Lobbies.{waiting_count, with_room, origins_of, is_late, IfWelcome};
 ghost use Rattle.ws_server.specs.Steps.{Takes};
@@ -10,8 +10,9 @@ ghost use Rattle.ws_server.specs.Tells.{peers_of};
 use crate::arrival::Client;
 use crate::gateway::Gateway;
 use connection_notes::{Happened, Note, Notes, Refusal};
-use hub::{Fault, Hub};
+use hub::Fault;
 use hub_rows::Store;
+use journal::JournalFile;
 use ocpp_types::{Mem, Moment, Text};
 use ready_streams::{Peek, Served};
 use station_calls::VendorHandler;
@@ -19,6 +20,7 @@ use std::alloc::Global;
 use std::io::{ErrorKind, Read, Write};
 use std::mem;
 use std::net::SocketAddr;
+use turn_hub::TurnHub;
 use ws_handshake::{Answer, Asked, MAX_HEAD, Upgrade, judge, refuse};
 
 /// The seconds that a head may take to come.
@@ -209,10 +211,10 @@ impl<T: Peek + Read + Write + Served + Drop> Lobby<T> {
     /// Polls each that waits once. One whose head asks for a handshake is welcomed by the gateway, and one that asks for
     /// anything else is answered and dropped; after a fault it is dropped, and the others wait for the next turn. One whose
     /// head isn't whole is dropped if that second is late.
-    pub fn serve<S: Store + Drop, V: VendorHandler>(
+    pub fn serve<S: Store + Drop, V: VendorHandler, W: JournalFile + Drop>(
         &mut self,
         gateway: &mut Gateway<T>,
-        hub: &mut Hub<S, V>,
+        hub: &mut TurnHub<S, V, W>,
         moment: Moment,
         second: u64,
     ) -> Result<(), Fault>
@@ -231,10 +233,10 @@ impl<T: Peek + Read + Write + Served + Drop> Lobby<T> {
     }
 
     /// Polls the one at place n, if there is one, and moves n to the next.
-    fn look<S: Store + Drop, V: VendorHandler>(
+    fn look<S: Store + Drop, V: VendorHandler, W: JournalFile + Drop>(
         &mut self,
         gateway: &mut Gateway<T>,
-        hub: &mut Hub<S, V>,
+        hub: &mut TurnHub<S, V, W>,
         n: &mut usize,
         moment: Moment,
         second: u64,

@@ -2,7 +2,7 @@
 ghost use Rattle.std.specs.Prelude.{◌≡◌, ◌<◌, Err, length};
 ghost use Rattle.std.specs.List.Sorted.{IsNonDecreasing};
 ghost use Rattle.hub_rows.specs.Reads.{IsCounted};
-ghost use Rattle.hub.specs.Hub.{hub_view, setting};
+ghost use Rattle.turn_hub.specs.TurnHub.{hub_view, setting};
 ghost use Rattle.ws_peers.specs.Peers.{FailsOnlyAt, is_open_peer};
 ghost use Rattle.ws_server.specs.Steps.{Takes};
 ghost use Rattle.ws_server.specs.Tells.{peers_of};
@@ -11,12 +11,14 @@ ghost use Rattle.ws_server.specs.Turns.{is_above};
 use crate::events::parting;
 use crate::gateway::Gateway;
 use connection_notes::{Happened, Notes};
-use hub::{Event, Fault, Hub};
+use hub::{Event, Fault};
 use hub_rows::Store;
+use journal::JournalFile;
 use ocpp_types::Moment;
 use ready_streams::Served;
 use station_calls::VendorHandler;
 use std::io::{Read, Write};
+use turn_hub::TurnHub;
 use ws_peers::{Peers, Stage};
 
 #[tactic(auto, using(crate::proofs::StepLaws::handed, crate::proofs::StepLaws::nothing))]
@@ -25,9 +27,9 @@ impl<T: Read + Write + Served + Drop> Gateway<T> {
 
     /// Hands an event to the hub, and sends its outputs. After a fault nothing has changed. `order` is the text of an order,
     /// without its word.
-    pub(crate) fn hand<S: Store + Drop, V: VendorHandler>(
+    pub(crate) fn hand<S: Store + Drop, V: VendorHandler, W: JournalFile + Drop>(
         &mut self,
-        hub: &mut Hub<S, V>,
+        hub: &mut TurnHub<S, V, W>,
         near: usize,
         event: &Event,
         order: &str,
@@ -37,15 +39,7 @@ impl<T: Read + Write + Served + Drop> Gateway<T> {
         ensures counted { IsCounted (hub_view S.view) hub.old hub.new (result ≡ Err Fault.Store) }
         ensures count { length (peers_of self.new) ≡ length (peers_of self.old) }
     {
-        self.begin_line(event, order);
-        let outs = match hub.handle_by(event, self.flush) {
-            Ok(outs) => outs,
-            Err(fault) => {
-                self.refuse_line();
-                return Err(fault);
-            }
-        };
-        self.take_line(event, &outs);
+        let outs = hub.handle(event, order)?;
         self.taken = self.taken.wrapping_add(1);
         self.tell_all(near, &outs);
         Ok(())
@@ -53,9 +47,9 @@ impl<T: Read + Write + Served + Drop> Gateway<T> {
 
     /// Serves peer n: reads once, and hands the text that was read, if there is one, to the hub.
     /// After a fault the text is lost, and the connection of peer n is closed with the code 1011; the hub is unchanged.
-    pub fn serve<S: Store + Drop, V: VendorHandler>(
+    pub fn serve<S: Store + Drop, V: VendorHandler, W: JournalFile + Drop>(
         &mut self,
-        hub: &mut Hub<S, V>,
+        hub: &mut TurnHub<S, V, W>,
         n: usize,
         moment: Moment,
     ) -> Result<(), Fault>
@@ -80,9 +74,9 @@ impl<T: Read + Write + Served + Drop> Gateway<T> {
     }
 
     /// Hands the disconnect of peer n to the hub, if it is to leave now.
-    fn part<S: Store + Drop, V: VendorHandler>(
+    fn part<S: Store + Drop, V: VendorHandler, W: JournalFile + Drop>(
         &mut self,
-        hub: &mut Hub<S, V>,
+        hub: &mut TurnHub<S, V, W>,
         n: usize,
         moment: Moment,
     ) -> Result<(), Fault>
@@ -109,9 +103,9 @@ impl<T: Read + Write + Served + Drop> Gateway<T> {
     }
 
     /// Hands the disconnects of those that are to leave now to the hub, by place, up to the first fault.
-    fn part_each<S: Store + Drop, V: VendorHandler>(
+    fn part_each<S: Store + Drop, V: VendorHandler, W: JournalFile + Drop>(
         &mut self,
-        hub: &mut Hub<S, V>,
+        hub: &mut TurnHub<S, V, W>,
         moment: Moment,
     ) -> Result<(), Fault>
         ensures takes { Takes S.view V.view hub.old hub.new
@@ -125,9 +119,9 @@ impl<T: Read + Write + Served + Drop> Gateway<T> {
     }
 
     /// The same, where those that aren't open are at those places.
-    fn part_at<S: Store + Drop, V: VendorHandler>(
+    fn part_at<S: Store + Drop, V: VendorHandler, W: JournalFile + Drop>(
         &mut self,
-        hub: &mut Hub<S, V>,
+        hub: &mut TurnHub<S, V, W>,
         moment: Moment,
         places: &[usize],
     ) -> Result<(), Fault>
@@ -152,9 +146,9 @@ impl<T: Read + Write + Served + Drop> Gateway<T> {
     }
 
     /// The same, where there was no memory for a list of places.
-    fn part_all<S: Store + Drop, V: VendorHandler>(
+    fn part_all<S: Store + Drop, V: VendorHandler, W: JournalFile + Drop>(
         &mut self,
-        hub: &mut Hub<S, V>,
+        hub: &mut TurnHub<S, V, W>,
         moment: Moment,
     ) -> Result<(), Fault>
         ensures takes { Takes S.view V.view hub.old hub.new
@@ -171,9 +165,9 @@ impl<T: Read + Write + Served + Drop> Gateway<T> {
     /// before it, is passed over, so that each peer is served once at most, by place. Then the turn hands the disconnects
     /// of those that have ended to the hub, by place; and then a tick. It stops at the first fault. A disconnect that met
     /// one is handed to the hub again in the next turn.
-    pub fn turn<S: Store + Drop, V: VendorHandler>(
+    pub fn turn<S: Store + Drop, V: VendorHandler, W: JournalFile + Drop>(
         &mut self,
-        hub: &mut Hub<S, V>,
+        hub: &mut TurnHub<S, V, W>,
         moment: Moment,
         places: &[usize],
     ) -> Result<(), Fault>
@@ -195,9 +189,9 @@ impl<T: Read + Write + Served + Drop> Gateway<T> {
     }
 
     /// Those that have ended leave; their disconnects and a tick are handed to the hub.
-    fn part_and_tick<S: Store + Drop, V: VendorHandler>(
+    fn part_and_tick<S: Store + Drop, V: VendorHandler, W: JournalFile + Drop>(
         &mut self,
-        hub: &mut Hub<S, V>,
+        hub: &mut TurnHub<S, V, W>,
         moment: Moment,
     ) -> Result<(), Fault>
         ensures takes { Takes S.view V.view hub.old hub.new
@@ -211,9 +205,9 @@ impl<T: Read + Write + Served + Drop> Gateway<T> {
     }
 
     /// Those that are gone are dropped, and a tick is handed to the hub.
-    fn sweep_and_tick<S: Store + Drop, V: VendorHandler>(
+    fn sweep_and_tick<S: Store + Drop, V: VendorHandler, W: JournalFile + Drop>(
         &mut self,
-        hub: &mut Hub<S, V>,
+        hub: &mut TurnHub<S, V, W>,
         moment: Moment,
     ) -> Result<(), Fault>
         ensures takes { Takes S.view V.view hub.old hub.new

@@ -2,7 +2,7 @@
 ghost use Rattle.std.specs.Prelude.{◌≡◌, ◌≢◌, IfOk, IfErr, Err, None, true, false, bytes_eq};
 ghost use Rattle.std.specs.List.{list_any};
 ghost use Rattle.hub_rows.specs.Reads.{IsCounted};
-ghost use Rattle.hub.specs.Hub.{hub_view, world, setting, is_clean};
+ghost use Rattle.turn_hub.specs.TurnHub.{hub_view, world, setting, is_clean};
 ghost use Rattle.ws_server.specs.Admits.{is_known, is_full, is_tolerant, is_tolerant_reader};
 ghost use Rattle.ws_server.specs.Steps.{Takes};
 ghost use Rattle.ws_server.specs.Tells.{peers_of, full_of};
@@ -10,13 +10,15 @@ ghost use Rattle.ws_server.specs.Tells.{peers_of, full_of};
 use crate::arrival::{Arrival, Client};
 use crate::gateway::Gateway;
 use connection_notes::{Happened, Refusal};
-use hub::{Fault, Hub};
+use hub::Fault;
 use hub_rows::{Reader, Store};
+use journal::JournalFile;
 use ocpp_types::Moment;
 use ready_streams::Served;
 use station_calls::VendorHandler;
 use std::io::{Read, Write};
 use std::net::SocketAddr;
+use turn_hub::TurnHub;
 use ws_handshake::{Answer, Upgrade, refuse, shake};
 use ws_peers::Route;
 
@@ -31,9 +33,9 @@ impl<T: Read + Write + Served + Drop> Gateway<T> {
     /// if it offers that. A station that the hub doesn't know and an
     /// operator that it doesn't host are answered 404; an operator that has 32 open connections is answered 503, and so is a
     /// station of one that is named full.
-    pub fn welcome<S: Store + Drop, V: VendorHandler>(
+    pub fn welcome<S: Store + Drop, V: VendorHandler, W: JournalFile + Drop>(
         &mut self,
-        hub: &mut Hub<S, V>,
+        hub: &mut TurnHub<S, V, W>,
         client: Client<T>,
         upgrade: Upgrade,
         moment: Moment,
@@ -133,8 +135,8 @@ struct Known {
 }
 
 /// What is on record of where an upgrade's path leads.
-fn look_up<S: Store + Drop, V: VendorHandler>(
-    hub: &mut Hub<S, V>,
+fn look_up<S: Store + Drop, V: VendorHandler, W: JournalFile + Drop>(
+    hub: &mut TurnHub<S, V, W>,
     upgrade: &Upgrade,
 ) -> Result<Known, Fault>
     ensures known { is_clean S.view hub.new → IfOk result (λ k. k.is_known ≡ is_known (setting V.view hub.old).is_hosted (world S.view hub.old).rows upgrade.now.route) }
@@ -153,8 +155,8 @@ fn look_up<S: Store + Drop, V: VendorHandler>(
 }
 
 /// Whether a path leads to a station whose requests are read tolerantly.
-fn is_tolerant<S: Store + Drop, V: VendorHandler>(
-    hub: &mut Hub<S, V>,
+fn is_tolerant<S: Store + Drop, V: VendorHandler, W: JournalFile + Drop>(
+    hub: &mut TurnHub<S, V, W>,
     route: &Route,
 ) -> Result<bool, Fault>
     ensures tolerant { is_clean S.view hub.new → IfOk result (λ t. t ≡ is_tolerant (world S.view hub.old).rows route.now) }
@@ -182,8 +184,8 @@ fn is_tolerant_reader(reader: Reader) -> bool
 }
 
 /// Whether a path leads to a station that the hub knows or to an operator that it hosts.
-fn is_known<S: Store + Drop, V: VendorHandler>(
-    hub: &mut Hub<S, V>,
+fn is_known<S: Store + Drop, V: VendorHandler, W: JournalFile + Drop>(
+    hub: &mut TurnHub<S, V, W>,
     route: &Route,
 ) -> Result<bool, Fault>
     ensures known { is_clean S.view hub.new → IfOk result (λ k. k ≡ is_known (setting V.view hub.old).is_hosted (world S.view hub.old).rows route.now) }

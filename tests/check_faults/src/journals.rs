@@ -1,12 +1,13 @@
-//! A writer of a journal that is stopped at each byte: what is left says, with the number of changes on record, that all
-//! events up to the last one that changed records were taken, and of those after it none or some.
+//! A writer of a journal that is stopped at each byte: what is left says, with the number of changes on record, which events
+//! were taken.
 
-use journal::{Entry, JournalFile, Tail, Writer, read_entry, tail_of};
+use journal::{Entry, JournalFile, Tail, Writer, ends_turn, read_entry, tail_of};
 use lines::read_event;
 use ocpp_types::Text;
 use std::alloc::Global;
 use std::cell::RefCell;
 use std::io::{Result as IoResult, Write};
+use std::mem;
 use std::rc::Rc;
 use std::test::Fail;
 
@@ -15,28 +16,31 @@ use std::test::Fail;
 enum Fate {
     Changes,
     ChangesNothing,
-    /// It ends in a fault as it is about to change records.
-    FailsAhead,
-    Fails,
-    IsIdle,
+    IsRefused,
     /// It changes nothing, and the turn ends after it.
     EndsTurn,
-    /// The same, and the next file begins.
+    /// The same, and the changes of the turn aren't committed.
+    EndsLost,
+    /// The turn ends, and the next file begins.
     EndsFile,
 }
 
-const DAY: [(&str, Fate); 14] = [
+const DAY: [(&str, Fate); 15] = [
     ("1 ACME connect CP01", Fate::ChangesNothing),
     ("2 ACME connect CP02", Fate::EndsTurn),
     ("3 ACME tag put TAG1 - 0 -", Fate::Changes),
     ("3 ACME tag put TAG2 - 0 -", Fate::Changes),
     ("4 ACME list tags", Fate::ChangesNothing),
-    ("4 ACME tag put TAG3 - 0 -", Fate::FailsAhead),
-    ("5 * tick", Fate::IsIdle),
+    ("4 ACME tag put TAG3 - 0 -", Fate::IsRefused),
     ("5 ACME list tags", Fate::EndsTurn),
     ("6 ACME tag put TAG4 - 0 -", Fate::Changes),
-    ("7 ACME frame CP01 [2,\"1\",\"Heartbeat\",{}]", Fate::Fails),
-    ("7 ACME disconnect CP02", Fate::EndsFile),
+    (
+        "7 ACME frame CP01 [2,\"1\",\"Heartbeat\",{}]",
+        Fate::EndsLost,
+    ),
+    ("7 ACME tag put TAG4 - 0 -", Fate::Changes),
+    ("7 ACME disconnect CP02", Fate::EndsTurn),
+    ("7 ACME connect CP02", Fate::EndsFile),
     ("8 ACME connect CP02", Fate::ChangesNothing),
     ("9 ACME tag drop TAG1", Fate::Changes),
     ("9 ACME disconnect CP01", Fate::EndsTurn),
@@ -73,9 +77,13 @@ struct Day {
     writer: Writer<Sheet>,
     /// How many bytes were looked at.
     seen: usize,
+    /// Those of earlier turns.
     taken: Vec<&'static str>,
-    /// How many of them come up to the last one that changed records.
-    recorded: usize,
+    /// Those of this turn.
+    now: Vec<&'static str>,
+    /// How many changes are on record, and how many were made.
+    on_record: u64,
+    made: u64,
 }
 
 fn hosted(alloc: Global) -> Result<Vec<Text>, Fail> {
@@ -95,22 +103,28 @@ impl Day {
             writer,
             seen: 0,
             taken: Vec::new(alloc),
-            recorded: 0,
+            now: Vec::new(alloc),
+            on_record: 40,
+            made: 40,
         })
     }
 
-    /// Each part of what was written since the last look says what it has to.
+    /// Each part of what was written since the last look says that the events of earlier turns were taken. Whole it may say
+    /// so of those of this turn too, where they changed nothing.
     fn look(&mut self) -> Result<(), Fail> {
         let bytes = self.bytes.try_borrow()?;
         for end in self.seen..=bytes.len() {
-            let told = told(self.alloc, &bytes[..end], self.writer.changes())?;
+            let told = told(self.alloc, &bytes[..end], self.on_record)?;
             let Some(told) = told else {
                 return Err(Fail::from("the journal doesn't fit the records"));
             };
-            if told.len() < self.recorded || self.taken.len() < told.len() {
+            let all = self.taken.len() + self.now.len();
+            let is_all = end == bytes.len() && self.made == self.on_record && told.len() == all;
+            if told.len() != self.taken.len() && !is_all {
                 return Err(Fail::from("another number of events is told"));
             }
-            for (event, line) in told.iter().zip(self.taken.iter()) {
+            let events = self.taken.iter().chain(self.now.iter());
+            for (event, line) in told.iter().zip(events) {
                 if event.as_slice() != line.as_bytes() {
                     return Err(Fail::from("another event is told"));
                 }
@@ -125,107 +139,159 @@ impl Day {
             return Err(Fail::from("no event"));
         };
         let order = line.splitn(3, ' ').nth(2).unwrap_or("");
-        self.writer.begin(&event, order);
-        match fate {
-            Fate::Changes | Fate::FailsAhead => self.go_ahead(line, fate)?,
-            Fate::Fails => self.writer.refuse(),
-            Fate::IsIdle => self.writer.leave_out(),
-            Fate::ChangesNothing | Fate::EndsTurn | Fate::EndsFile => {
-                self.writer.take();
-                self.taken.push(line)?;
-            }
+        self.writer.begin(&event, order)?;
+        if fate != Fate::IsRefused {
+            self.writer.take();
+            self.now.push(line)?;
+        }
+        if fate == Fate::Changes {
+            self.made += 1;
         }
         self.look()?;
         match fate {
             Fate::EndsTurn => self.end_turn(),
+            Fate::EndsLost => self.end_lost(),
             Fate::EndsFile => self.end_file(),
-            _ => Ok(()),
+            Fate::Changes | Fate::ChangesNothing | Fate::IsRefused => Ok(()),
         }
     }
 
-    fn go_ahead(&mut self, line: &'static str, fate: Fate) -> Result<(), Fail> {
-        self.writer.write_ahead()?;
-        self.look()?;
-        if fate == Fate::FailsAhead {
-            self.writer.refuse();
-            return Ok(());
-        }
-        self.writer.count_change();
-        self.taken.push(line)?;
-        self.recorded = self.taken.len();
-        self.look()?;
-        if self.writer.write_ahead().is_ok() {
-            return Err(Fail::from("a second change"));
-        }
-        self.writer.take();
-        Ok(())
-    }
-
+    /// The journal has the turn before it is committed, and with its changes on record it counts.
     fn end_turn(&mut self) -> Result<(), Fail> {
-        self.writer.end_turn()?;
+        self.writer.end_turn(self.made)?;
         self.look()?;
         let bytes = self.bytes.try_borrow()?;
-        let told = told(self.alloc, bytes.as_slice(), self.writer.changes())?;
-        if told.map(|told| told.len()) != Some(self.taken.len()) {
+        let told = told(self.alloc, bytes.as_slice(), self.made)?;
+        if told.map(|told| told.len()) != Some(self.taken.len() + self.now.len()) {
             return Err(Fail::from("an event is not told"));
         }
+        self.on_record = self.made;
+        self.writer.settle(self.made);
+        self.taken.append(&mut self.now)?;
         Ok(())
     }
 
-    /// The next file begins. Of the events before it each has a mark.
+    /// The changes of the turn aren't on record, and the server begins again.
+    fn end_lost(&mut self) -> Result<(), Fail> {
+        self.writer.end_turn(self.made)?;
+        self.look()?;
+        self.made = self.on_record;
+        self.now.clear();
+        self.writer.begin_again("ACME")?;
+        self.look()
+    }
+
+    /// The next file begins.
     fn end_file(&mut self) -> Result<(), Fail> {
         self.end_turn()?;
+        self.writer.confirm()?;
+        self.look()?;
         let bytes = Rc::new(self.alloc, RefCell::new(Vec::new(self.alloc)))?;
         self.writer.continue_in(Sheet(Rc::clone(&bytes)?), "ACME")?;
         self.bytes = bytes;
         self.taken.clear();
-        self.recorded = 0;
         self.seen = 0;
         self.look()
     }
 }
 
-/// The lines of the events that a journal says were taken, where so many changes are on record. `None`: it doesn't fit.
-fn told(alloc: Global, journal: &[u8], changes: u64) -> Result<Option<Vec<Vec<u8>>>, Fail> {
-    let hosted = hosted(alloc)?;
-    let mut told = Vec::new(alloc);
-    let mut waiting = Vec::new(alloc);
-    let end = journal
-        .iter()
-        .rposition(|byte| *byte == b'\n')
-        .map_or(0, |at| at + 1);
-    for line in journal[..end].split(|byte| *byte == b'\n') {
-        match read_entry(alloc, hosted.as_slice(), line)? {
+/// A journal as far as it was read.
+#[derive(Drop)]
+struct Reading {
+    told: Vec<Vec<u8>>,
+    held: Vec<Vec<u8>>,
+    after: u64,
+    waiting: Vec<Vec<u8>>,
+    lines: Vec<u8>,
+}
+
+impl Reading {
+    /// So many changes were on record.
+    fn confirm(&mut self, alloc: Global, changes: u64) -> Result<(), Fail> {
+        let mut held = mem::replace(&mut self.held, Vec::new(alloc));
+        if changes == self.after {
+            self.told.append(&mut held)?;
+        }
+        Ok(())
+    }
+
+    fn pass(&mut self, alloc: Global, line: &[u8]) -> Result<(), Fail> {
+        match read_entry(alloc, hosted(alloc)?.as_slice(), line)? {
             Entry::Event(_) => {
                 let mut event = Vec::new(alloc);
                 event.extend_from_slice(line)?;
-                waiting.push(event)?;
+                self.waiting.push(event)?;
+                self.lines.extend_from_slice(line)?;
+                self.lines.push(b'\n')?;
             }
-            Entry::Taken { taken, .. } => move_first(&mut waiting, taken, &mut told)?,
-            Entry::Begins { .. } | Entry::Continues { .. } | Entry::Bad => {}
+            Entry::Turn {
+                events,
+                before,
+                after,
+                digest,
+            } => {
+                let number = self.waiting.len() as u64;
+                assert_turn(
+                    alloc,
+                    number,
+                    self.lines.as_slice(),
+                    events,
+                    digest.as_str(),
+                )?;
+                self.confirm(alloc, before)?;
+                mem::swap(&mut self.held, &mut self.waiting);
+                self.after = after;
+                self.lines.clear();
+            }
+            Entry::Begins { changes, .. } | Entry::Continues { changes, .. } => {
+                self.confirm(alloc, changes)?;
+                self.after = changes;
+                self.waiting.clear();
+                self.lines.clear();
+            }
+            Entry::Taken { .. } | Entry::Bad => {}
         }
+        Ok(())
+    }
+}
+
+fn assert_turn(
+    alloc: Global,
+    number: u64,
+    lines: &[u8],
+    events: u64,
+    digest: &str,
+) -> Result<(), Fail> {
+    if ends_turn(alloc, number, lines, events, digest)? {
+        Ok(())
+    } else {
+        Err(Fail::from("a mark of other lines"))
+    }
+}
+
+/// The lines of the events that a journal says were taken, where so many changes are on record. `None`: it doesn't fit.
+fn told(alloc: Global, journal: &[u8], changes: u64) -> Result<Option<Vec<Vec<u8>>>, Fail> {
+    let mut reading = Reading {
+        told: Vec::new(alloc),
+        held: Vec::new(alloc),
+        after: 0,
+        waiting: Vec::new(alloc),
+        lines: Vec::new(alloc),
+    };
+    let end = journal
+        .iter()
+        .rposition(|byte| *byte == b'\n')
+        .map_or(0, |at| at);
+    for line in journal[..end].split(|byte| *byte == b'\n') {
+        reading.pass(alloc, line)?;
     }
     let mut reader = journal;
     let tail = tail_of(alloc, &mut reader)?;
-    if tail.events != waiting.len() as u64 {
-        return Err(Fail::from("another number of events"));
-    }
-    if tail.is_new {
-        return Ok(Some(told));
-    }
-    let Some(taken) = tail.taken(changes) else {
+    if !tail.fits(changes) {
         return Ok(None);
-    };
-    move_first(&mut waiting, taken, &mut told)?;
-    Ok(Some(told))
-}
-
-/// The first of them were taken, and the others not.
-fn move_first(waiting: &mut Vec<Vec<u8>>, first: u64, told: &mut Vec<Vec<u8>>) -> Result<(), Fail> {
-    for event in waiting.drain(..).take(first as usize) {
-        told.push(event)?;
     }
-    Ok(())
+    reading.confirm(alloc, changes)?;
+    Ok(Some(reading.told))
 }
 
 #[test]
@@ -241,21 +307,21 @@ fn a_stop_at_each_byte_leaves_what_is_on_record(rt: HostRuntime) -> Result<(), F
 #[test]
 fn a_cut_line_is_ended_as_a_server_begins(rt: HostRuntime) -> Result<(), Fail> {
     let alloc = rt.alloc();
-    for (left, changes) in [
-        ("begins 40 ACME\n3 ACME tag put TAG1 - 0 -\n4 ACME li", 41),
-        ("begins 40 ACME\n3 ACME tag put TAG1 - 0 -\n4 ACME li", 40),
-        ("begin", 40),
+    for left in [
+        "begins 40 ACME\n3 ACME tag put TAG1 - 0 -\n4 ACME li",
+        "begins 40 ACME\n3 ACME tag put TAG1 - 0 -\ntur",
+        "begin",
     ] {
         let mut reader = left.as_bytes();
         let tail = tail_of(alloc, &mut reader)?;
         let bytes = Rc::new(alloc, RefCell::new(Vec::new(alloc)))?;
-        let before = told(alloc, left.as_bytes(), changes)?.map(|told| told.len());
+        let before = told(alloc, left.as_bytes(), 40)?.map(|told| told.len());
         let mut file = Sheet(Rc::clone(&bytes)?);
         file.write_all(left.as_bytes())?;
-        let _writer = Writer::begin_server(alloc, file, false, &tail, changes, "ACME")?;
+        let _writer = Writer::begin_server(alloc, file, false, &tail, 40, "ACME")?;
         let bytes = bytes.try_borrow()?;
         for end in left.len()..=bytes.len() {
-            let after = told(alloc, &bytes[..end], changes)?.map(|told| told.len());
+            let after = told(alloc, &bytes[..end], 40)?.map(|told| told.len());
             assert_eq!(rt; after, before, "{end}");
         }
     }

@@ -3,17 +3,20 @@
 use crate::scripts::{events, hub_of, run};
 use failing_store::Failing;
 use hub::{Fault, Hub};
+use hub_rows::Store;
 use ocpp_types::{Moment, Text};
 use ready_streams::Served;
 use station_calls::Echo;
 use std::alloc::Global;
 use std::cell::RefCell;
+use std::fs::File;
 use std::io;
 use std::io::{Error, ErrorKind, Read, Write};
 use std::rc::Rc;
 use std::test::Fail;
 use store_mem::MemStore;
 use tungstenite::{NoMask, Role, WebSocket};
+use turn_hub::{Commits, TurnHub};
 use ws_peers::Route;
 use ws_server::{Arrival, Gateway};
 
@@ -136,11 +139,17 @@ fn no_vendors(alloc: Global) -> Vec<Echo> {
     Vec::new(alloc)
 }
 
+/// A hub that takes events in turns, without a journal.
+fn in_turns<S: Store + Drop>(alloc: Global, hub: Hub<S, Echo>) -> TurnHub<S, Echo, File> {
+    TurnHub::new(alloc, hub, 0, Commits::Each)
+}
+
 /// What the operator is then answered, and what CP02 was sent, where a call of CP01's stream fails.
 fn served(alloc: Global, before: u64) -> Result<(String, Sent), Fail> {
     let mut hub = hub_of(alloc, MemStore::new(alloc), no_vendors(alloc))?;
     let added = events(alloc, ADDED)?;
     let _added = run(alloc, &mut hub, added.as_slice())?;
+    let mut hub = in_turns(alloc, hub);
     let at = moment(1704067200)?;
     let mut gateway = Gateway::new(alloc);
     let first = socket(alloc, before, nothing_sent(alloc)?);
@@ -151,6 +160,7 @@ fn served(alloc: Global, before: u64) -> Result<(String, Sent), Fail> {
     for _ in 0..4 {
         gateway.turn(&mut hub, at, &[0, 1])?;
     }
+    let mut hub = hub.into_hub();
     let asked = events(alloc, ASKED)?;
     let text = run(alloc, &mut hub, asked.as_slice())?.text;
     Ok((text, sent))
@@ -184,6 +194,7 @@ fn answered(alloc: Global, before: u64) -> Result<String, Fail> {
     let mut hub = hub_of(alloc, store, no_vendors(alloc))?;
     let added = events(alloc, ONE_ADDED)?;
     let _added = run(alloc, &mut hub, added.as_slice())?;
+    let mut hub = in_turns(alloc, hub);
     let at = moment(1704067200)?;
     let mut gateway = Gateway::new(alloc);
     let socket = socket(alloc, u64::MAX, nothing_sent(alloc)?);
@@ -193,6 +204,7 @@ fn answered(alloc: Global, before: u64) -> Result<String, Fail> {
     if !is_fault || gateway.count() != 0 {
         return Ok(String::new(alloc));
     }
+    let mut hub = hub.into_hub();
     let call = events(alloc, CALL)?;
     Ok(run(alloc, &mut hub, call.as_slice())?.text)
 }

@@ -6,8 +6,10 @@ use lines::{Line, print_out, read_line};
 use ocpp_types::{Mem, Moment, Text};
 use station_calls::Echo;
 use std::alloc::Global;
+use std::fs::File;
 use std::net::{TcpListener, TcpStream};
 use store_mem::MemStore;
+use turn_hub::{Commits, TurnHub};
 use ws_server::{Gateway, Lobby};
 
 /// A hub of the operators ACME and BETA, its gateway and its listener.
@@ -15,7 +17,7 @@ use ws_server::{Gateway, Lobby};
 pub struct Server {
     alloc: Global,
     operators: Vec<Text>,
-    hub: Hub<MemStore, Echo>,
+    hub: TurnHub<MemStore, Echo, File>,
     gateway: Gateway<TcpStream>,
     lobby: Lobby<TcpStream>,
     listener: TcpListener,
@@ -34,7 +36,7 @@ impl Server {
         Ok(Server {
             alloc,
             operators,
-            hub: hub(alloc)?,
+            hub: TurnHub::new(alloc, hub(alloc)?, 0, Commits::Each),
             gateway: Gateway::new(alloc),
             lobby,
             listener,
@@ -82,7 +84,7 @@ impl Server {
 
     fn outputs(&mut self, line: &str) -> Result<Vec<Out>> {
         let event = self.event(line)?;
-        Ok(self.hub.handle(&event)?)
+        Ok(self.hub.handle(&event, "")?)
     }
 
     fn event(&self, line: &str) -> Result<Event> {

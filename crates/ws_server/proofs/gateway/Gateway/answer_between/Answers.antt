@@ -1,5 +1,5 @@
 use Rattle.std.proofs.Common.{◌≡◌, Ok, Some, refl, rules, string_bytes, subst}
-use Rattle.hub.specs.Hub.{setting}
+use Rattle.turn_hub.specs.TurnHub.{setting}
 use Rattle.ws_peers.specs.Lists.{At}
 use Rattle.ws_server.specs.Tells.{SentWhileOpen, TellsAll, peers_of}
 use Rattle.ws_server.specs.Turns.{HandsOrRefuses, Between}
@@ -17,7 +17,7 @@ returns-clause-takes g c =
     let begun = peers_of c.say.new.self in
     let told = peers_of c.tell_all.new.self in
     let new = peers_of c.say-2.new.self in
-    let outs = c.in-Ok.outs.items in
+    let outs = c.in_ok-outs.outs.items in
     let event = c.in-Some.event in
     let is : Some event ≡ c.args.event.now = search rules in
     let first = subst (λ text. At (SentWhileOpen contents text) n old begun) c.as_str-2.ensures.value c.say.ensures.said in
@@ -27,4 +27,4 @@ returns-clause-takes g c =
     (λ steps. Between contents n begin end (HandsOrRefuses contents hosts n c.args.event.now) old new steps (Ok tt))
     (λ steps change. subst (λ e. Between contents n begin end (HandsOrRefuses contents hosts n e) old new steps (Ok tt)) is change)
     (handed _ _ _ _ (λ steps. Between contents n begin end (HandsOrRefuses contents hosts n (Some event)) old new steps (Ok tt)) event outs
-    (begun, told, first, (outs, refl, sent), last) c.in-Ok.ensures.taken c.in-Ok.ensures.setting c.in-Ok.ensures.outputs c.in-Ok.ensures.world)
+    (begun, told, first, (outs, refl, sent), last) c.in_ok-outs.ensures.taken c.in_ok-outs.ensures.setting c.in_ok-outs.ensures.outputs c.in_ok-outs.ensures.world)

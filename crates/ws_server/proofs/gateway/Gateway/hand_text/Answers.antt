@@ -1,5 +1,5 @@
 use Rattle.std.proofs.Common.{None, ap, ◌∙◌}
-use Rattle.hub.specs.Hub.{setting}
+use Rattle.turn_hub.specs.TurnHub.{setting}
 use Rattle.ws_peers.specs.Peers.{route_of}
 use Rattle.ws_server.specs.Tells.{peers_of}
 use Rattle.ws_server.specs.Turns.{HandsText}

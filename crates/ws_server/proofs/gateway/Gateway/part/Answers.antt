@@ -1,5 +1,5 @@
 use Rattle.std.proofs.Common.{refl}
-use Rattle.hub.specs.Hub.{setting}
+use Rattle.turn_hub.specs.TurnHub.{setting}
 use Rattle.ws_server.proofs.StepLaws.{nothing, stays}
 use Rattle.ws_server.proofs.gateway.Gateway.part.Goals as goal
 

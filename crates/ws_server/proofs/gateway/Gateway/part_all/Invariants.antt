@@ -1,5 +1,5 @@
 use Rattle.std.proofs.Common.{◌≡◌, length}
-use Rattle.hub.specs.Hub.{hub_view, setting}
+use Rattle.turn_hub.specs.TurnHub.{hub_view, setting}
 use Rattle.hub_rows.specs.Reads.{IsCounted}
 use Rattle.ws_server.specs.Steps.{Takes}
 use Rattle.ws_server.specs.Tells.{peers_of}

@@ -1,5 +1,5 @@
 use Rattle.std.proofs.Common.{map, subst}
-use Rattle.hub.specs.Hub.{setting}
+use Rattle.turn_hub.specs.TurnHub.{setting}
 use Rattle.hub.specs.World.{Setting}
 use Rattle.ws_peers.specs.Peers.{leaves}
 use Rattle.ws_peers.specs.declared.peer.Peer.{Peer}

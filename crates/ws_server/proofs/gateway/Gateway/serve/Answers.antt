@@ -1,5 +1,5 @@
 use Rattle.std.proofs.Common.{subst, Some, Ok, Err}
-use Rattle.hub.specs.Hub.{setting}
+use Rattle.turn_hub.specs.TurnHub.{setting}
 use Rattle.ws_peers.specs.Lists as lists
 use Rattle.ws_peers.specs.Peers.{route_of}
 use Rattle.ws_peers.specs.Sends.{Failed}

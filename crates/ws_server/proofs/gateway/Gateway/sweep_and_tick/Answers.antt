@@ -1,5 +1,5 @@
 use Rattle.ws_peers.specs.Lists as lists
-use Rattle.hub.specs.Hub.{setting}
+use Rattle.turn_hub.specs.TurnHub.{setting}
 use Rattle.hub_events.specs.declared.event.Event.TheVariants.{Tick}
 use Rattle.ws_server.specs.Tells.{peers_of}
 use Rattle.ws_server.specs.Turns.{Hands, SweepsAndTicks}

@@ -1,6 +1,6 @@
 use Rattle.std.proofs.Common.{None, Ok, Err, Some, ap, get_or, drop, true, rules, ◌≡◌, ◌+◌, ◌∷◌, ◌++◌, ◌<◌, ◌≤◌, length, ℕ, subst, arith}
 use Rattle.std.proofs.lemmas.List.{drop_more, drop_all}
-use Rattle.hub.specs.Hub.{setting}
+use Rattle.turn_hub.specs.TurnHub.{setting}
 use Rattle.hub.specs.World.{Setting}
 use Rattle.ws_peers.specs.declared.peer.Peer.{Peer}
 use Rattle.ws_server.specs.Tells.{peers_of}

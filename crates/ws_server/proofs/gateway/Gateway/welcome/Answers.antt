@@ -1,4 +1,4 @@
-use Rattle.hub.specs.Hub.{is_clean, world}
+use Rattle.turn_hub.specs.TurnHub.{is_clean, world}
 use Rattle.std.proofs.Common.{Bool, ap, ◌∙◌, ◌≡◌, List, [], ◌++◌, refl, subst, sym, inr}
 use Rattle.std.specs.Option.{is_some}
 use Rattle.ws_handshake.specs.Shakes.{Shaken}

@@ -1,6 +1,6 @@
 use Rattle.std.proofs.Common.{Ok, ◌≡◌, ◌≤◌}
 use Rattle.hub_rows.specs.Reads.{IsCounted}
-use Rattle.hub.specs.Hub.{hub_view}
+use Rattle.turn_hub.specs.TurnHub.{hub_view}
 use Rattle.ws_server.specs.Admits.{WelcomesSome}
 use Rattle.ws_server.specs.Lobbies.{origins_of, waiting_count}
 use Rattle.ws_server.specs.Steps.{Takes}

@@ -1,0 +1,68 @@
+-- What a journal has.
+use Rattle.std.proofs.Common.{◌≡◌, ◌≢◌, ◌∙◌, ◌+◌, ◌<◌, ℕ, List, [], ◌∷◌, ◌++◌, length, Option, Some, None, Bool, true, false, refl, sym, subst, ap, arith, inl, inr}
+use Rattle.std.specs.Prelude.{OnErr, OnOk, Result, Ok, Err}
+use Rattle.std.proofs.lemmas.List.{append_assoc, append-nil}
+use Rattle.hub_events.specs.declared.event.Event.{Event}
+use Rattle.hub_events.specs.declared.out.Out.{Out}
+use Rattle.journal.proofs.Writers.{opened, waits_nothing}
+use Rattle.journal.specs.Entries.{AreCounts, IsCount}
+use Rattle.journal.specs.Writers.{HasTurn, IsOpen}
+use Rattle.journal.specs.declared.writer.Writer.{Writer}
+use Rattle.turn_hub.specs.Journals.{Handles, HasBegun, HasEvents, IsAhead, OfJournal}
+
+pub err_then : {T E P Q : Type 0} (r : Result T E) → (P → Q) → OnErr r P → OnErr r Q
+err_then (Ok x) f p = tt
+err_then (Err e) f p = f p
+
+pub on_ok_two : {T E P Q R : Type 0} (r : Result T E) → (P → Q → R) → OnOk r P → OnOk r Q → OnOk r R
+on_ok_two (Ok x) f p q = f p q
+on_ok_two (Err e) f p q = tt
+
+pub later : {T E P : Type 0} (r : Result T E) (Q : Type 0) → (P → OnOk r Q) → OnOk r (P → Q)
+later (Ok x) Q f = f
+later (Err e) Q f = tt
+
+pub any_err : {T E P : Type 0} (r : Result T E) → P → OnErr r P
+any_err (Ok x) p = tt
+any_err (Err e) p = p
+
+pub for_journal : {W : Type 0} (P Q : Writer W → Type 0) (journal : Option (Writer W)) → ((writer : Writer W) → P writer → Q writer) → OfJournal P journal → OfJournal Q journal
+for_journal P Q None f p = tt
+for_journal P Q (Some writer) f p = λ works. f writer (p works)
+
+pub below_one_more : (n : ℕ) → IsCount (n + 1) → IsCount n
+below_one_more n small = omega (arith, small)
+
+pub one_count : (n : ℕ) → n ≡ 1 → IsCount n
+one_count n is = omega (arith, is)
+
+pub no_count : (n : ℕ) → n ≡ 0 → IsCount n
+no_count n is = omega (arith, is)
+
+one_more_differs : (n : ℕ) → n + 1 ≢ n
+one_more_differs n same = omega (arith, same)
+
+module _ {W : Type 0} (contents : W → Option (List ℕ)) (is_hosted : List ℕ → Bool) (writer : Writer W) (on_record : ℕ) (events : List Event) where
+  -- all events are in the file
+  pub in_file : IsOpen contents is_hosted writer events [] → writer.changes ≡ on_record → HasEvents contents is_hosted writer on_record events
+  in_file was same = record { taken = events; now = []; was = was; all = append-nil events; same = same }
+
+  -- an event that isn't taken
+  pub left_out : (event : Event) → Handles contents is_hosted writer on_record events event → HasEvents contents is_hosted writer on_record events
+  left_out event it = record { taken = it.taken; now = it.now; was = it.was.was; all = it.all; same = it.same }
+
+  -- an event whose change isn't made
+  pub refused : (event : Event) → IsAhead contents is_hosted writer on_record events event → HasEvents contents is_hosted writer on_record events
+  refused event it =
+      let told = it.turn.says.refused (λ e. one_more_differs on_record (e ∙ it.same)) in
+      in_file (opened contents is_hosted writer it.turn.file writer.changes events it.turn.known (waits_nothing is_hosted it.turn.file writer.changes events it.turn.marked told) it.turn.empty refl it.turn.none) it.same
+
+  pub begun_only : (ahead : Bool) (event : Event) → HasBegun contents is_hosted ahead writer on_record events event → HasEvents contents is_hosted writer on_record events
+  begun_only true event it = refused event it
+  begun_only false event it = left_out event it
+
+  -- one event more
+  pub one_taken : (event : Event) (taken now : List Event) → taken ++ now ≡ events → IsOpen contents is_hosted writer taken (now ++ (event ∷ [])) → writer.changes ≡ on_record
+      → HasEvents contents is_hosted writer on_record (events ++ (event ∷ []))
+  one_taken event taken now all was same =
+      record { taken = taken; now = now ++ (event ∷ []); was = was; all = sym (append_assoc taken now (event ∷ [])) ∙ ap (λ es. es ++ (event ∷ [])) all; same = same }

@@ -1,0 +1,33 @@
+use Rattle.std.proofs.Common.{◌++◌, ◌∷◌, ◌+◌, List, [], true, inl, refl, subst, sym}
+use Rattle.hub_events.specs.declared.event.Event.{Event}
+use Rattle.journal.specs.Entries.{IsCount}
+use Rattle.turn_hub.specs.Journals.{BeginsLine, HasBegun, HasEvents, Journals, Notes}
+use Rattle.turn_hub.proofs.Laws.{any_err, begun_only, for_journal}
+use Rattle.turn_hub.proofs.turn_hub.TurnHub.handle.Goals as goal
+
+pub returns-in_err-begin_line-clause-refused : goal.returns-in_err-begin_line-clause-refused
+returns-in_err-begin_line-clause-refused g c = λ small. any_err c.from_residual-in_err-begin_line.result (λ is_hosted events stands was.
+    c.in_err-begin_line.ensures.refused (record { events = small.events; changes = small.changes; on_record = small.on_record }) is_hosted events was)
+
+pub returns-in_err-commit-clause-refused : goal.returns-in_err-commit-clause-refused
+returns-in_err-commit-clause-refused g c = λ small. any_err c.from_residual-in_err-commit.result (λ is_hosted events stands was.
+    let on_record = c.begin_line.new.self.on_record in
+    for_journal (λ writer. HasBegun g.W.Write.contents is_hosted c.if-has_change.is_ahead writer on_record events c.args.event.now) (λ writer. HasEvents g.W.Write.contents is_hosted writer on_record events)
+    c.begin_line.new.self.journal (λ writer it. begun_only g.W.Write.contents is_hosted writer on_record events c.if-has_change.is_ahead c.args.event.now it)
+    (c.in_ok-begin_line.ensures.begun (record { events = small.events; changes = small.changes; on_record = small.on_record }) is_hosted events stands was))
+
+pub returns-then-is_ahead-clause-journal : goal.returns-then-is_ahead-clause-journal
+returns-then-is_ahead-clause-journal g c = λ small is_hosted events stands was. (
+  events ++ (c.args.event.now ∷ []),
+  inl refl,
+  c.finish_change.ensures.journal (subst (λ n. IsCount (n + 1)) (sym c.begin_line.ensures.counts.0) small.on_record) is_hosted events c.args.event.now
+      (subst (λ ahead. BeginsLine g.W.Write.contents is_hosted ahead c.begin_line.new.self events c.args.event.now) c.if-is_ahead.true
+      (c.in_ok-begin_line.ensures.begun (record { events = small.events; changes = small.changes; on_record = small.on_record }) is_hosted events stands was)),
+)
+
+pub returns-clause-journal : goal.returns-clause-journal
+returns-clause-journal g c = λ small is_hosted events stands was.
+    subst (λ outs. (after : List Event) × Notes events c.args.event.now outs after × Journals g.W.Write.contents is_hosted c.finish.new.self after) c.as_slice.ensures.value
+    (c.finish.ensures.journal (subst (λ n. IsCount (n + 1)) (sym (c.begin_line.ensures.counts.1 c.if-is_ahead.false)) small.events) is_hosted events
+    (subst (λ ahead. BeginsLine g.W.Write.contents is_hosted ahead c.begin_line.new.self events c.args.event.now) c.if-is_ahead.false
+    (c.in_ok-begin_line.ensures.begun (record { events = small.events; changes = small.changes; on_record = small.on_record }) is_hosted events stands was)))
