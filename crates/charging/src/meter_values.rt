@@ -1,5 +1,5 @@
 //! Meter values of a connector (OCPP 1.6, section 4.7; docs/RULES.md, Readings).
-ghost use Rattle.std.specs.Prelude.{◌≡◌, Err, IfOk, map};
+ghost use Rattle.std.specs.Prelude.{◌≡◌, IfOk, map};
 ghost use Rattle.hub_rows.specs.Reads.{OnlyReads};
 ghost use Rattle.hub_rows.specs.Lookups.{lookups_at};
 ghost use Rattle.charging.specs.MeterValues.{meter_values_rule, decision_of_values, kept_value, kept_values};

@@ -1,6 +1,6 @@
 //! Numbers of readings, which each station counts from 1.
 ghost use Rattle.std.specs.Prelude.{◌≡◌};
-ghost use Rattle.hub_rows.specs.MeterValues.{all_taken, numbers_taken};
+ghost use Rattle.hub_rows.specs.MeterValues.{all_taken};
 ghost use Rattle.charging.specs.Numbers.{has_room};
 
 use hub_rows::{LAST_NUMBER, MeterValue};

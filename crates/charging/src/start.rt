@@ -1,5 +1,5 @@
 //! Transactions that begin (OCPP 1.6, section 4.8; docs/RULES.md, Transactions).
-ghost use Rattle.std.specs.Prelude.{◌≡◌, Err, IfOk, None};
+ghost use Rattle.std.specs.Prelude.{◌≡◌, IfOk, None};
 ghost use Rattle.hub_rows.specs.Reads.{OnlyReads};
 ghost use Rattle.hub_rows.specs.Lookups.{lookups_at};
 ghost use Rattle.id_tags.specs.Judge.{judge_with_owner};

@@ -1,5 +1,5 @@
 //! Transactions that end (OCPP 1.6, section 4.10; docs/RULES.md, Stops).
-ghost use Rattle.std.specs.Prelude.{◌≡◌, Err, IfOk};
+ghost use Rattle.std.specs.Prelude.{◌≡◌, IfOk};
 ghost use Rattle.hub_rows.specs.Reads.{OnlyReads};
 ghost use Rattle.hub_rows.specs.Lookups.{lookups_at};
 ghost use Rattle.charging.specs.Stop.{stop_rule, info_of, edit_of_stop, stop_edit, stop_of, number_of_id};

@@ -1,6 +1,6 @@
 //! The energy that readings show (OCPP 1.6, section 7.43, SampledValue; docs/RULES.md, Stops).
 ghost use Rattle.std.specs.Prelude.{◌≡◌, ◌≤◌, IfSome};
-ghost use Rattle.charging.specs.WattHours.{is_energy, is_import, is_outlet, is_raw, is_watt_hours, last_shown, last_watt_hours, watt_hours, whole_watt_hours};
+ghost use Rattle.charging.specs.WattHours.{is_energy, is_watt_hours, last_shown, last_watt_hours, watt_hours, whole_watt_hours};
 ghost use Rattle.charging.specs.declared.watt_hours.TheConstants.{MAX_WATT_HOURS};
 
 use hub_rows::MeterValueRow;

@@ -1,5 +1,5 @@
 //! The plan for an event of an operator: the store is asked, nothing is changed.
-ghost use Rattle.std.specs.Prelude.{◌≡◌, Err, IfOk};
+ghost use Rattle.std.specs.Prelude.{◌≡◌, IfOk};
 ghost use Rattle.hub_rows.specs.Reads.{OnlyReads};
 ghost use Rattle.hub_rows.specs.Operators.{is_hosted};
 ghost use Rattle.pending_calls.specs.Slots.{slot_at};

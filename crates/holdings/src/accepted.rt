@@ -1,5 +1,5 @@
 //! What a command that a station accepts changes on record (docs/RULES.md, Reservations and Local lists).
-ghost use Rattle.std.specs.Prelude.{◌≡◌, Err, IfOk};
+ghost use Rattle.std.specs.Prelude.{◌≡◌, IfOk};
 ghost use Rattle.hub_rows.specs.Reads.{OnlyReads};
 ghost use Rattle.hub_rows.specs.Lookups.{lookups_at};
 ghost use Rattle.holdings.specs.LocalList.{kept_for};

@@ -1,5 +1,5 @@
 //! Local lists (docs/RULES.md, Local lists).
-ghost use Rattle.std.specs.Prelude.{◌≡◌, ◌++◌, [], IfOk, OnOk, unwrap_or};
+ghost use Rattle.std.specs.Prelude.{◌≡◌, [], IfOk, OnOk, unwrap_or};
 ghost use Rattle.hub_rows.specs.Keyed.{by_key, put_all};
 ghost use Rattle.hub_rows.specs.LocalLists.{entry_key};
 ghost use Rattle.holdings.specs.Entries.{AreNamed};

@@ -1,5 +1,5 @@
 //! Carries out the effect of a plan. What may fail comes before what can't.
-ghost use Rattle.std.specs.Prelude.{◌≡◌, Some, ◌+◌, ◌≤◌, ◌++◌, length, map, take, IfOk, OnOk, OnErr, vec_len, vec_capacity};
+ghost use Rattle.std.specs.Prelude.{◌≡◌, Some, ◌+◌, ◌≤◌, ◌++◌, length, map, take, OnOk, OnErr, vec_len, vec_capacity};
 ghost use Rattle.std.specs.Option.{ForSome};
 ghost use Rattle.hub_rows.specs.Changes.{EditFits};
 ghost use Rattle.pending_calls.specs.Slots.{slot_at};

@@ -204,7 +204,7 @@ impl<S: Store + Drop, V: VendorHandler> Hub<S, V> {
         Ok(outs)
     }
 
-    /// Takes one event as `handle` does. Its change is flushed at once, or waits for `flush`, where the store lets it wait.
+    /// Takes one event as `handle` does. Its change is flushed at once, or waits for `flush`.
     pub fn handle_by(&mut self, event: &Event, when: Flush) -> Result<Vec<Out>, Fault>
         ensures counted { IsCounted (hub_view S.view) self.old self.new (result ≡ Err Fault.Store) }
         ensures outputs { is_clean S.view self.new → IfOk result (λ outs. outs.items
@@ -331,7 +331,7 @@ impl<S: Store + Drop, V: VendorHandler> Hub<S, V> {
     }
 
     /// Takes an event that was prepared, and adds its outputs at the end of `outs`. Its change is flushed at once, or waits
-    /// for `flush`, where the store lets it wait.
+    /// for `flush`.
     pub fn commit(
         &mut self,
         event: &Event,

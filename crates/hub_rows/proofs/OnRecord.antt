@@ -14,7 +14,7 @@ pub rests : {T E : Type 0} (when : Flush) (made : Rows) (s : StoreView) (result 
 rests when made s result = record {
   stopped = λ now on_record was r found. let it = finds_only s on_record was r found in (it.0, inl it.1);
   kept = λ now was. whichever_ok result was;
-  waits = λ later. whichever_ok result (λ on_record was. inl was);
+  waits = λ later. whichever_ok result (λ on_record was. was);
   left = λ later. whichever_err result (λ on_record was. finds_only s on_record was);
 }
   where

@@ -37,10 +37,6 @@ FindsOldOr made old new = (on_record : Rows) → HasOnRecord on_record old → (
 abbrev pub StaysOnRecord : StoreView → StoreView → Type 0
 StaysOnRecord old new = (on_record : Rows) → HasOnRecord on_record old → HasOnRecord on_record new
 
--- what was on record still is, and the change waits for a flush, or the change is on record too
-abbrev pub WaitsOrIsKept : StoreView → StoreView → Type 0
-WaitsOrIsKept old new = (on_record : Rows) → HasOnRecord on_record old → HasOnRecord on_record new ⊎ IsKept new
-
 -- where rows were on record, those of the store are
 abbrev pub PutsOnRecord : StoreView → StoreView → Type 0
 PutsOnRecord old new = (on_record : Rows) → HasOnRecord on_record old → IsKept new
@@ -49,7 +45,7 @@ PutsOnRecord old new = (on_record : Rows) → HasOnRecord on_record old → IsKe
 pub record Records {T E : Type 0} (when : Flush) (made : Rows) (old new : StoreView) (result : Result T E) : Type 0 where
   pub stopped : when ≡ AtOnce → FindsOldOr made old new
   pub kept : when ≡ AtOnce → IsKept old → OnOk result (IsKept new)
-  pub waits : when ≡ Later → OnOk result (WaitsOrIsKept old new)
+  pub waits : when ≡ Later → OnOk result (StaysOnRecord old new)
   pub left : when ≡ Later → OnErr result (FindsOld old new)
 
 -- ---- after a call that failed

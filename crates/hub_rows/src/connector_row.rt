@@ -1,5 +1,4 @@
 //! The record of a connector.
-ghost use Rattle.std.specs.Prelude.{◌≡◌};
 
 use crate::named_row::NamedRow;
 use crate::ordered::Keyed;

@@ -1,5 +1,5 @@
 //! What of a station's history may go.
-ghost use Rattle.std.specs.Prelude.{◌≡◌, map, IfOk, IfSome};
+ghost use Rattle.std.specs.Prelude.{◌≡◌, map, IfOk};
 ghost use Rattle.hub_rows.specs.Forgetting.{count_readings, has_no_rows, numbers_of, up_to};
 
 use crate::meter_value_row::MeterValueRow;

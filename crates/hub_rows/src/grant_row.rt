@@ -1,5 +1,4 @@
 //! The record of a grant.
-ghost use Rattle.std.specs.Prelude.{◌≡◌};
 
 use crate::ordered::Keyed;
 use ocpp_types::{Moment, TagKey, Text};

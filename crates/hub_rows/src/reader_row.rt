@@ -1,5 +1,4 @@
 //! The record of how a station's requests are read.
-ghost use Rattle.std.specs.Prelude.{◌≡◌};
 
 use crate::named_row::NamedRow;
 use crate::ordered::Keyed;

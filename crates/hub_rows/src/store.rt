@@ -53,7 +53,7 @@ pub enum StoreFault {
 pub enum Flush {
     /// With the change, and all that wait with it.
     AtOnce,
-    /// By a call of its own, after this change or later ones. A store may do it at once.
+    /// By a call of its own, after this change or later ones.
     Later,
 }
 

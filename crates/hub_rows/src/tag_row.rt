@@ -1,5 +1,4 @@
 //! The record of an id tag.
-ghost use Rattle.std.specs.Prelude.{◌≡◌};
 
 use crate::named_row::NamedRow;
 use crate::ordered::Keyed;

@@ -1,5 +1,4 @@
 //! The record of what a driver used at another operator's station by a granted id tag.
-ghost use Rattle.std.specs.Prelude.{◌≡◌};
 
 use crate::ordered::Keyed;
 use ocpp_types::{Moment, TagKey, Text};

@@ -1,5 +1,5 @@
 //! Judgement of id tags (OCPP 1.6, sections 4.1 and 7.2; docs/RULES.md, Tag keys and judgement).
-ghost use Rattle.std.specs.Prelude.{◌≡◌, Some, Err, IfOk};
+ghost use Rattle.std.specs.Prelude.{◌≡◌, Some, IfOk};
 ghost use Rattle.hub_rows.specs.Reads.{OnlyReads};
 ghost use Rattle.hub_rows.specs.Lookups.{lookups_at};
 ghost use Rattle.id_tags.specs.Judge.{found_tag, is_in_use, judged_tag, judge_rule, judge_with_owner, kept_owner, tag_status, is_past};

@@ -1,5 +1,5 @@
 //! Tags that an operator wants used (docs/RULES.md, Tag keys and judgement).
-ghost use Rattle.std.specs.Prelude.{◌≡◌, Err, IfOk};
+ghost use Rattle.std.specs.Prelude.{◌≡◌, IfOk};
 ghost use Rattle.hub_rows.specs.Reads.{OnlyReads};
 ghost use Rattle.hub_rows.specs.Lookups.{lookups_at};
 ghost use Rattle.id_tags.specs.Refusal.{refuse_rule, tag_refusal};

@@ -1,7 +1,7 @@
 //! Reading the lines of a journal (docs/RULES.md, The journal).
 ghost use Rattle.std.specs.Prelude.{◌≡◌, IfOk};
 ghost use Rattle.hub_rows.specs.Operators.{is_hosted};
-ghost use Rattle.journal.specs.Entries.{begins_form, continues_form, turn_form, taken_form, form_of, mark_in, entry_in, entry_of, count_of};
+ghost use Rattle.journal.specs.Entries.{begins_form, continues_form, turn_form, taken_form, mark_in, entry_in, entry_of, count_of};
 
 use crate::entry::Entry;
 use lines::{first_word, read_event};

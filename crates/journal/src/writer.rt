@@ -1,5 +1,5 @@
 //! The writer of a journal.
-ghost use Rattle.std.specs.Prelude.{◌≡◌, ◌≢◌, ◌+◌, ◌++◌, ◌∷◌, ℕ, List, Bool, [], OnOk, OnErr, IfOk, Some, not, true, false};
+ghost use Rattle.std.specs.Prelude.{◌≡◌, ◌+◌, ◌++◌, ◌∷◌, ℕ, List, Bool, [], OnOk, OnErr, IfOk, Some, not, true, false};
 ghost use Rattle.std.specs.List.{list_any};
 ghost use Rattle.std.specs.Io.KnownBytes.{Keeps, Appends};
 ghost use Rattle.hub_events.specs.declared.event.Event.{Event as HubEvent};

@@ -1,7 +1,7 @@
 //! Texts of an operator's connection (docs/RULES.md, Connections).
 ghost use Rattle.std.specs.Prelude.{◌≡◌, IfOk};
 ghost use Rattle.std.specs.Io.BufRead.{strip_last};
-ghost use Rattle.lines.specs.Orders.{order_of, order_in, is_order, has_line_feed};
+ghost use Rattle.lines.specs.Orders.{order_of, is_order, has_line_feed};
 
 use crate::forms::read_what;
 use crate::input_line::MAX_LINE;

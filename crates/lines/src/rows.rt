@@ -6,7 +6,7 @@ ghost use Rattle.serde_json.specs.Written.{has_float};
 ghost use Rattle.ocpp_types.specs.Phase.{phase_name};
 ghost use Rattle.ocpp_types.specs.UnitOfMeasure.{unit_of_measure_name};
 ghost use Rattle.hub_rows.specs.Reservations.{unshifted};
-ghost use Rattle.lines.specs.RowLines.{row_line, station_line, tag_line, grant_line, granted_line, use_line, connector_line, tx_line, reading_line, reservation_line, local_tag_line, report_line, reader_line, entry_data, report_fields, reservation_fields, start_fields, stop_fields, taken_fields, sampled_fields, meaning_fields, value_fields, name_field, micro_of};
+ghost use Rattle.lines.specs.RowLines.{row_line, station_line, tag_line, grant_line, granted_line, use_line, connector_line, tx_line, reading_line, reservation_line, local_tag_line, report_line, reader_line, entry_data, report_fields, reservation_fields, start_fields, stop_fields, taken_fields, sampled_fields, meaning_fields, name_field, micro_of};
 
 use crate::fields::{
     Signed, boot_field, mark, moment_field, quoted, signed_field, text_field, widened,

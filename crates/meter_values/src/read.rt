@@ -1,5 +1,5 @@
 //! Text to sampled values.
-ghost use Rattle.std.specs.Prelude.{◌≡◌, IfOk, option_map, option_and_then};
+ghost use Rattle.std.specs.Prelude.{◌≡◌, IfOk};
 ghost use Rattle.json.specs.Find.{get, as_str};
 ghost use Rattle.json.specs.Value.{value_view, items_view};
 ghost use Rattle.meter_values.specs.Read.{each_sampled, if_any, or_default, sampled_in, sampled_of_json, sampled_with};

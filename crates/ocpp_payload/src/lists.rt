@@ -1,5 +1,5 @@
 //! Objects and lists as the values of members.
-ghost use Rattle.std.specs.Prelude.{◌≡◌, Result};
+ghost use Rattle.std.specs.Prelude.{Result};
 ghost use Rattle.serde_json.specs.Data.{Data};
 ghost use Rattle.json_data.specs.View.{view, items_view};
 ghost use Rattle.ocpp_payload.specs.Gives.{Gives};

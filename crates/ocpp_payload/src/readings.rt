@@ -1,7 +1,4 @@
 //! Readings of a meter, as a station sends them.
-ghost use Rattle.std.specs.Prelude.{◌≡◌};
-ghost use Rattle.json_data.specs.View.{view};
-ghost use Rattle.ocpp_payload.specs.Gives.{Gives};
 
 use crate::fault::ReadResult;
 use crate::fields::{optional, required, with_default};

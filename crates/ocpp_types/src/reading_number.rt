@@ -1,5 +1,5 @@
 //! Numbers of readings (docs/RULES.md, Readings).
-ghost use Rattle.std.specs.Prelude.{◌≡◌, ◌≤◌, ◌<◌, ◌-◌, ◌*◌, ◌^◌, length, IfSome};
+ghost use Rattle.std.specs.Prelude.{◌≡◌, ◌≤◌, ◌<◌, ◌-◌, ◌*◌, ◌^◌, IfSome};
 ghost use Rattle.std.specs.Str.Parse.{without_leading_plus};
 ghost use Rattle.ocpp_types.specs.Micro.{scale, whole_billionths, fraction_billionths, billionths, thousandth, magnitude, micro};
 

@@ -1,7 +1,6 @@
 //! Objects that are repaired by a table, and lists that are repaired item by item.
 ghost use Rattle.std.specs.Prelude.{◌≡◌, ◌++◌, List, ℕ, IfOk, OnOk, option_map};
 ghost use Rattle.std.specs.Option.{option_to_list};
-ghost use Rattle.json.specs.Json.{Json};
 ghost use Rattle.json.specs.Tree.{HasNumbers, ItemsHaveNumbers, MembersHaveNumbers};
 ghost use Rattle.json.specs.Value.{value_view, items_view, members_view};
 ghost use Rattle.repairs.specs.Tables.{Repair, Table, repair_at, repaired_members, by_table, repaired_items};

@@ -1,5 +1,5 @@
 //! A replay over records in memory.
-ghost use Rattle.std.specs.Prelude.{◌≡◌, ◌≢◌, ◌<◌, ◌≤◌, List, [], ℕ, length, false, OnOk, OnErr, IfErr, IfSome, Err};
+ghost use Rattle.std.specs.Prelude.{◌≡◌, ◌≢◌, ◌<◌, ◌≤◌, [], length, false, OnOk, OnErr, IfErr, IfSome, Err};
 ghost use Rattle.std.specs.Io.KnownBytes.{Appends};
 ghost use Rattle.hub_rows.specs.Rows.{no_rows};
 ghost use Rattle.hub.specs.Hub.{setting_of};

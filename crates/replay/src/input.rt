@@ -1,6 +1,6 @@
 //! A replay: each line of an input is handed to the hub and answered.
-ghost use Rattle.std.specs.Prelude.{◌≡◌, ◌≢◌, ◌+◌, ◌*◌, ◌++◌, ◌<◌, ◌≤◌, ◌-◌, ◌^◌, List, [], ◌∷◌, ℕ, length, min, false, Option, Err, OnOk, OnErr, IfOk, IfErr, IfSome, vec_len};
-ghost use Rattle.std.specs.Io.KnownBytes.{Appends, IsAtEnd};
+ghost use Rattle.std.specs.Prelude.{◌≡◌, ◌≢◌, ◌+◌, ◌++◌, ◌<◌, ◌≤◌, ◌-◌, ◌^◌, List, [], ℕ, length, min, false, Option, Err, OnOk, OnErr, IfErr, IfSome, vec_len};
+ghost use Rattle.std.specs.Io.KnownBytes.{Appends};
 ghost use Rattle.hub_rows.specs.Reads.{IsCounted};
 ghost use Rattle.hub_rows.specs.Rows.{Rows};
 ghost use Rattle.hub_rows.specs.Stops.{IsKept};

@@ -1,5 +1,5 @@
 //! Batches of changes: how one begins, and how it is committed or undone.
-ghost use Rattle.std.specs.Prelude.{◌≡◌, ◌<◌, ◌^◌, OnOk};
+ghost use Rattle.std.specs.Prelude.{◌<◌, ◌^◌, OnOk};
 ghost use Rattle.sqlite.specs.Held.{state};
 ghost use Rattle.sql_rows.specs.Kept.{IsSame};
 ghost use Rattle.sql_edits.specs.Batches.{Begins, Commits, GoesBack, IsCounted, Marks, Releases, TellsGoing, Tries, Undoes, same_rows};

@@ -1,5 +1,5 @@
 //! Values as they are bound to the parameters of a statement.
-ghost use Rattle.std.specs.Prelude.{◌≡◌, ◌+◌, ◌<◌, ◌^◌, option_map, pos, nat_lt, IfOk, IfSome, IsErr, IsOk, OnErr, OnOk};
+ghost use Rattle.std.specs.Prelude.{◌≡◌, ◌<◌, ◌^◌, option_map, pos, nat_lt, IfOk, IfSome, IsErr, IsOk, OnErr, OnOk};
 ghost use Rattle.ocpp_types.specs.TagKey.{key_of};
 ghost use Rattle.sql_rows.specs.Kept.{IsAdded, rows_changed};
 

@@ -1,5 +1,4 @@
 //! The rows in which a local list is kept.
-ghost use Rattle.std.specs.Prelude.{◌≡◌};
 
 use hub_rows::{Keyed, LocalTag};
 use ocpp_types::Text;

@@ -1,5 +1,4 @@
 //! The rows of hub_meta.
-ghost use Rattle.std.specs.Prelude.{◌≡◌};
 
 use crate::columns::{text, whole};
 use crate::stored::Stored;

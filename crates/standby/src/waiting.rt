@@ -1,5 +1,5 @@
 //! The events of a journal that aren't taken yet.
-ghost use Rattle.std.specs.Prelude.{◌≡◌, ◌++◌, ◌∷◌, true, List, [], length, take, IfOk, OnOk};
+ghost use Rattle.std.specs.Prelude.{◌≡◌, ◌++◌, ◌∷◌, true, [], length, take, IfOk, OnOk};
 ghost use Rattle.journal.specs.Tails.{ends_turn};
 ghost use Rattle.standby.specs.Follows.{PassesTo, confirmed, none_waits, pending_of, taken_at_turn, taken_here, waiting_after, waiting_at_turn};
 

@@ -5,7 +5,7 @@ ghost use Rattle.ocpp_types.specs.Named.{named};
 ghost use Rattle.serde_json.specs.Data.{string};
 ghost use Rattle.json_data.specs.View as lent;
 ghost use Rattle.serde_json.specs.View.{view, items_view};
-ghost use Rattle.station_sim.specs.Replies.{commands, status, accepted_if, texts, keys_of, configuration, version_data, answer_payload, reply_with, reply_to};
+ghost use Rattle.station_sim.specs.Replies.{commands, status, accepted_if, texts, keys_of, configuration, answer_payload, reply_with, reply_to};
 ghost use Rattle.station_sim.specs.Written.{IsTextOf, IsWritten, IsWritable};
 
 use crate::command::{Answer, answer_of};

@@ -5,7 +5,7 @@ ghost use Rattle.ocpp_types.specs.TimeText.{time_text};
 ghost use Rattle.json_data.specs.View as lent;
 ghost use Rattle.serde_json.specs.View.{view};
 ghost use Rattle.station_sim.specs.Kept.{IsSession};
-ghost use Rattle.station_sim.specs.Session.{start, is_done, is_waiting, is_spent, heartbeat_at, wanted_call, due_call, next_call, moves_on, ends_session, metered, after_call, after_message, moved, answered, after_answer, begun, stopped, after_command, left_at, is_id};
+ghost use Rattle.station_sim.specs.Session.{start, is_done, is_waiting, is_spent, heartbeat_at, wanted_call, due_call, next_call, moves_on, ends_session, metered, after_call, after_message, moved, after_answer, begun, stopped, after_command, left_at, is_id};
 ghost use Rattle.station_sim.specs.Calls.{call_id};
 ghost use Rattle.station_sim.specs.Written.{IsWritten};
 

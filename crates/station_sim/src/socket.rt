@@ -1,6 +1,6 @@
 //! A station over its socket.
 ghost use Rattle.std.specs.Prelude.{◌≡◌, option_map, string_bytes};
-ghost use Rattle.station_sim.specs.Drives.{fault_of, failed_read, read_outcome, text_of, pair_of, texts_of, Sends, Hears, Calls, Replies, Answers, Drives};
+ghost use Rattle.station_sim.specs.Drives.{fault_of, read_outcome, text_of, pair_of, texts_of, Sends, Hears, Calls, Replies, Answers, Drives};
 ghost use Rattle.station_sim.specs.Sim.{session_of};
 
 use crate::sim::Sim;

@@ -1,10 +1,9 @@
 //! The tables, and how a database of an earlier form gets those that it lacks.
-ghost use Rattle.std.specs.Prelude.{◌≡◌, ◌<◌, ◌≤◌, ℕ, ◌+◌, IfErr, IsTrue, OnOk, false, ⊤};
-ghost use Rattle.sqlite_trees.specs.Tree.{Trees};
+ghost use Rattle.std.specs.Prelude.{◌≡◌, ◌<◌, ◌≤◌, ◌+◌, IfErr, IsTrue, OnOk, false, ⊤};
 ghost use Rattle.sqlite.specs.Held.{state};
 ghost use Rattle.sql_tables.specs.Tables.{first_tables, second_tables, third_tables, fourth_tables, fifth_tables, hub_schema};
 ghost use Rattle.sql_tables.specs.Opening.{create_by_transaction_at, create_tx_is_open_at, create_tx_start_at, drop_by_transaction_at, no_schema, our_form, schema_at, tables_at};
-ghost use Rattle.sql_rows.specs.Opening.{Alters, IsCutAs, IsCutTo, IsEarlier, IsInsideAs, IsInsideWith, IsPart, MakesOurs, MakesSchema, Prepares, Rested};
+ghost use Rattle.sql_rows.specs.Opening.{Alters, IsCutAs, IsCutTo, IsEarlier, IsInsideAs, IsInsideWith, MakesOurs, MakesSchema, Prepares, Rested};
 ghost use Rattle.store_sql.specs.Faults.{IsFailure};
 
 use crate::fault::{PrepareFault, told};

@@ -2,7 +2,6 @@
 ghost use Rattle.std.specs.Prelude.{◌≡◌, ℕ, List, [], Bool, false, Ok, Err, IfErr, OnOk};
 ghost use Rattle.std.specs.List.{list_any};
 ghost use Rattle.hub_events.specs.declared.event.Event.{Event as HubEvent};
-ghost use Rattle.hub_rows.specs.Reads.{IsCounted};
 ghost use Rattle.hub_rows.specs.Stops.{FindsOldOr, PutsOnRecord, Recovers};
 ghost use Rattle.hub_rows.specs.declared.store.Recovered.TheVariants as recovered;
 ghost use Rattle.lines.specs.Journal.{is_feed};

@@ -1,5 +1,5 @@
 //! The head of a request.
-ghost use Rattle.std.specs.Prelude.{◌≡◌, ℕ, List, ◌≤◌, true, length, IfOk, Some, option_map};
+ghost use Rattle.std.specs.Prelude.{◌≡◌, ℕ, List, ◌≤◌, length, IfOk, Some, option_map};
 ghost use Rattle.httparse.specs.Grammar.{RequestHead, ReadsRequest};
 ghost use Rattle.ws_handshake.specs.declared.head.TheConstants.{MAX_FIELDS};
 ghost use Rattle.ws_handshake.specs.Heads.{BytesJudged, HeadJudged, Judged, PathJudged, UpgradeJudged, VersionJudged, KeyJudged, HasFieldsWithin, fields_in, asks_upgrade, lacks_host, is_version, plain_answer, read_answer};

@@ -1,6 +1,6 @@
 //! All connected peers: sends to them, admission and removal.
-ghost use Rattle.std.specs.Prelude.{◌+◌, ◌≤◌, vec_len, vec_capacity, ℕ, List, ◌≡◌, ◌++◌, ◌∷◌, [], map, length, OnOk, OnErr, IfSome, IfNone, true, false, ◌<◌, slice_index_or, option_map};
-ghost use Rattle.std.specs.List.{AllZip, list_any, position};
+ghost use Rattle.std.specs.Prelude.{◌+◌, List, ◌≡◌, ◌++◌, ◌∷◌, [], map, length, OnOk, IfSome, IfNone, true, false, ◌<◌, slice_index_or, option_map};
+ghost use Rattle.std.specs.List.{AllZip, list_any};
 ghost use Rattle.ws_peers.specs.Lists.{is_open_at};
 
 use crate::cause::Cause;

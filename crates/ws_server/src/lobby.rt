@@ -1,7 +1,7 @@
 //! Connections whose handshake is not done.
 ghost use Rattle.std.specs.Prelude.{◌≡◌, ◌≢◌, ◌++◌, ◌∷◌, ◌<◌, ◌≤◌, List, [], true, slice_index_or, Err, OnOk, OnErr, IfOk, IfErr, length};
 ghost use Rattle.hub_rows.specs.Reads.{IsCounted};
-ghost use Rattle.turn_hub.specs.TurnHub.{hub_view, setting, is_clean};
+ghost use Rattle.turn_hub.specs.TurnHub.{hub_view, is_clean};
 ghost use Rattle.ws_server.specs.Admits.{AsksFor};
 ghost use Rattle.ws_server.specs.Lobbies.{waiting_count, with_room, origins_of, is_late, IfWelcome};
 ghost use Rattle.ws_server.specs.Steps.{Takes};

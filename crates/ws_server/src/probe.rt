@@ -1,5 +1,4 @@
 //! Peers that are silent.
-ghost use Rattle.std.specs.Prelude.{length};
 
 use crate::gateway::Gateway;
 use std::io::{Read, Write};
