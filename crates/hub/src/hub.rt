@@ -136,6 +136,8 @@ impl<S: Store + Drop, V: VendorHandler> Hub<S, V> {
         ensures known { is_clean S.view self.new → IfOk result (λ k. k ≡ (setting V.view self.old).is_hosted op.now
             && is_some (registration_at op.now station.now (world S.view self.old).rows)) }
         ensures world { is_clean S.view self.new → world S.view self.new ≡ world S.view self.old }
+        ensures stopped { FindsOld (hub_view S.view self.old) (hub_view S.view self.new) }
+        ensures stays { OnOk result (StaysOnRecord (hub_view S.view self.old) (hub_view S.view self.new)) }
         ensures setting { setting V.view self.new ≡ setting V.view self.old }
         ensures fault { IfErr result (λ f. f ≢ Fault.NoSuchOperator) }
     {
@@ -151,6 +153,8 @@ impl<S: Store + Drop, V: VendorHandler> Hub<S, V> {
         ensures counted { IsCounted (hub_view S.view) self.old self.new (result ≡ Err Fault.Store) }
         ensures reader { is_clean S.view self.new → IfOk result (λ r. r ≡ reader_in op.now station.now (world S.view self.old).rows.readers) }
         ensures world { is_clean S.view self.new → world S.view self.new ≡ world S.view self.old }
+        ensures stopped { FindsOld (hub_view S.view self.old) (hub_view S.view self.new) }
+        ensures stays { OnOk result (StaysOnRecord (hub_view S.view self.old) (hub_view S.view self.new)) }
         ensures setting { setting V.view self.new ≡ setting V.view self.old }
         ensures fault { IfErr result (λ f. f ≢ Fault.NoSuchOperator) }
     {
