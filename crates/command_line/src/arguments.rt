@@ -233,6 +233,9 @@ fn replay_command<'a>(alloc: Global) -> Result<Command<'a>, AllocError> {
             ),
             accept_loss(),
             page_sums(),
+            commit(
+                "How changes are committed: `each` commits each change alone (the default), `turn` commits those of up to 1000 lines together and answers after that",
+            ),
             flag("strict", "Ends with status 3 where a line was bad"),
         ],
     )
@@ -266,7 +269,9 @@ fn serve_command<'a>(alloc: Global) -> Result<Command<'a>, AllocError> {
             longest(),
             turns(),
             stop_file(),
-            commit(),
+            commit(
+                "How changes are committed: `turn` commits those of a turn together and answers after that (the default), `each` commits each change alone",
+            ),
             optional(
                 "journal",
                 "FILE",
@@ -293,13 +298,8 @@ fn most_stations() -> Argument {
     )
 }
 
-fn commit() -> Argument {
-    optional(
-        "commit",
-        "WHEN",
-        Takes::Commit,
-        "How changes are committed: `each` commits each change alone (the default), `turn` commits those of a turn together and answers after that",
-    )
+fn commit(help: &'static str) -> Argument {
+    optional("commit", "WHEN", Takes::Commit, help)
 }
 
 fn longest() -> Argument {

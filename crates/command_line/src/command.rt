@@ -81,6 +81,7 @@ fn replay_options(alloc: Global, found: &ArgMatches) -> Result<ReplayOptions, Al
         operators: parts(alloc, found.get_str("operators"))?,
         db: text_if_any(alloc, found.get_str("db"))?,
         file: file_options(found),
+        commit: commit_of(found, Commit::Each),
         is_strict: found.get_flag("strict"),
     })
 }
@@ -116,18 +117,19 @@ fn serve_options(alloc: Global, found: &ArgMatches) -> Result<ServeOptions, Erro
             .unwrap_or(MOST_STATIONS),
         longest: found.get_one::<u32>("longest-listing").unwrap_or(LONGEST),
         stop_file: text_if_any(alloc, found.get_str("stop-file"))?,
-        commit: commit_of(found.get_str("commit").unwrap_or("each")),
+        commit: commit_of(found, Commit::Turn),
         journal: journal_options(alloc, found)?,
         follow: text_if_any(alloc, found.get_str("follow"))?,
         log: level_of(found.get_str("log").unwrap_or("connections")),
     })
 }
 
-/// When changes are committed, by the word of `--commit`.
-fn commit_of(word: &str) -> Commit {
-    match word {
-        "turn" => Commit::Turn,
-        _ => Commit::Each,
+/// When changes are committed, by the word of `--commit`, if there is one.
+fn commit_of(found: &ArgMatches, default: Commit) -> Commit {
+    match found.get_str("commit") {
+        Some("turn") => Commit::Turn,
+        Some(_) => Commit::Each,
+        None => default,
     }
 }
 

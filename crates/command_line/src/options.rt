@@ -46,16 +46,18 @@ pub struct ReplayOptions {
     pub db: Option<Text>,
     /// How that file is opened, or made.
     pub file: FileOptions,
+    /// When changes are committed.
+    pub commit: Commit,
     /// Whether a bad line sets the exit status.
     pub is_strict: bool,
 }
 
-/// When the changes of a server are committed.
+/// When changes are committed.
 #[derive(Clone, Copy, Debug, PartialEq, Eq, Drop)]
 pub enum Commit {
     /// Each alone.
     Each,
-    /// All of a turn together.
+    /// All of a turn together: of a server's turn, or of up to 1,000 lines of a replay.
     Turn,
 }
 
