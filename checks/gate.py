@@ -40,17 +40,17 @@ OF_PROGRAM = [
     ["python3", "checks/hostile.py", PROGRAM],
     # what is served over a full disk
     ["python3", "checks/full_disk.py", PROGRAM],
-    ["python3", "checks/full_disk.py", PROGRAM, "--commit", "turn"],
+    ["python3", "checks/full_disk.py", PROGRAM, "--commit", "each"],
     # what is on record after a stop at a call on a file
     ["python3", "checks/stops.py", PROGRAM, "--small"],
     # what is told where the disk fails, and where changes are gone
     ["python3", "checks/hurt.py", PROGRAM],
     # what is on record after kills
     ["python3", "checks/kills.py", PROGRAM, "20"],
-    ["python3", "checks/kills.py", PROGRAM, "10", "2", "--commit", "turn"],
+    ["python3", "checks/kills.py", PROGRAM, "10", "2", "--commit", "each"],
     # what a server writes to its journal, and what a standby makes of it
     ["python3", "checks/standby.py", PROGRAM, "10"],
-    ["python3", "checks/standby.py", PROGRAM, "5", "2", "--commit", "turn"],
+    ["python3", "checks/standby.py", PROGRAM, "5", "2", "--commit", "each"],
     # how the server tells what it does, what it bounds, and how it ends
     ["python3", "checks/serving.py", PROGRAM],
     # the program's statuses and texts, and sessions over sockets

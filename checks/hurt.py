@@ -1,5 +1,5 @@
 """Checks that a database that is hurt says so. The disk fails while the server runs, by failing_disk.c under the
-program: where syncs fail the server closes its connections with 1011 and ends, and where writes fail it goes on. Parts
+program: where syncs fail the server closes its connections with 1011 and ends, and where writes fail it closes them and goes on. Parts
 of the log of a database are changed or lost: it is opened with --accept-loss alone, and the fault says how many changes
 are gone. With --page-sums each changed bit of the database file is found. Nobody but its owner may read its files. Prints `N passed, M failed`.
 
@@ -99,13 +99,18 @@ def check_syncs(checks, disk):
 
 
 def check_writes(checks, disk):
-    """Writes fail under a change: it is refused, and the server goes on."""
+    """Writes fail under a change: it is refused, all connections are closed with its turn, and the server goes on. The next
+    change is refused alone."""
     db, server, station, other = started(checks, disk)
     disk.fail(writes=True)
     operator = Peer(PORT, "/operator/ACME")
     operator.send("tag put SIM2 - 0 -")
-    checks.check("writes fail: the close of the one that asked", close_code(operator), (CLOSE, 1011))
+    for who, peer in (("the one that asked", operator), ("a station", station), ("another operator", other)):
+        checks.check(f"writes fail: the close of {who}", close_code(peer), (CLOSE, 1011))
     checks.check("writes fail: the health", health(PORT), "HTTP/1.1 503 Service Unavailable")
+    operator, station, other = (Peer(PORT, path) for path in ("/operator/ACME", "/ocpp/ACME/CP01", "/operator/BETA"))
+    operator.send("tag put SIM2 - 0 -")
+    checks.check("writes fail again: the close of the one that asked", close_code(operator), (CLOSE, 1011))
     checks.check("writes fail: a station", TIME.sub("T", station.ask(HEARTBEAT)), '[3,"2",{"currentTime":"T"}]')
     checks.check("writes fail: another operator", other.ask("list tags"), "BETA ok")
     disk.fail()

@@ -7,7 +7,7 @@ journals are refused, a standby that serves at the end of its input, and a journ
 
     python3 checks/standby.py crates/central/out/central [KILLS] [SEED] [WORDS..]
 
-WORDS, as `--commit turn`, are handed to each server.
+WORDS, as `--commit each`, are handed to each server.
 """
 
 import contextlib

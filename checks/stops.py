@@ -1,5 +1,6 @@
 """Stops the program at each call on its files, and opens the file again: the records found are those after the
-events that were answered, or after one more. A stop is a disk whose calls fail from one on, by failing_disk.c under the
+events that were answered, or after one more; with `--commit turn` those after the turns that were answered, or after one
+more. A stop is a disk whose calls fail from one on, by failing_disk.c under the
 program. It leaves what was written; or that and half of what the first call that fails was to write; or what was synced.
 The scripts are those of tests/check_cases/data/scripts/stopped, and the openings of files of each earlier schema.
 Prints how many stops there were of each, then `N passed, M failed`. With --small one call in four is stopped. Needs gcc.
@@ -9,6 +10,7 @@ Prints how many stops there were of each, then `N passed, M failed`. With --smal
 
 import os
 import shutil
+import socket
 import subprocess
 import sys
 import tempfile
@@ -22,6 +24,8 @@ LISTS = (STOPPED / "lists.txt").read_text()
 # A script whose log is copied into the database file under way has so many times the calls of another.
 LONG, OF_LONG = "log_is_copied", 23
 KINDS = ("written", "half written", "synced")
+# How many lines of a script each read gives where it is replayed in turns.
+TURN = 3
 
 
 class Stops(Checks):
@@ -31,21 +35,22 @@ class Stops(Checks):
         os.mkdir(self.synced)
         self.disk = Disk(folder, self.synced)
 
-    def replay(self, lines, db=None, fails=False, options=()):
+    def replay(self, lines, db=None, fails=False, commit="each"):
         """The status of a replay, and what it writes."""
-        words = [self.program, "replay", "--operators", "ACME,BETA", *(["--db", db] if db else []), *options]
+        words = [self.program, "replay", "--operators", "ACME,BETA", *(["--db", db] if db else []), "--commit", commit]
+        given = {"stdin": in_turns(lines)} if commit == "turn" else {"input": lines.encode()}
         environment = self.disk.environment if fails else None
-        ran = subprocess.run(words, input=lines.encode(), capture_output=True, timeout=60, env=environment)
+        ran = subprocess.run(words, capture_output=True, timeout=60, env=environment, **given)
         return ran.returncode, ran.stdout.decode()
 
-    def stopped(self, lines, db, calls, kind):
+    def stopped(self, lines, db, calls, kind, commit="each"):
         """What a replay writes that is stopped after so many calls, of whose files then is left what that kind leaves."""
         shutil.rmtree(self.synced)
         os.mkdir(self.synced)
         for path in files_of(db):
             shutil.copy(path, self.kept(path))
         self.disk.stop_after(calls, kind == "half written")
-        status, written = self.replay(lines, db, fails=True)
+        status, written = self.replay(lines, db, True, commit)
         if kind == "synced":
             self.lose(db)
         return status, written
@@ -69,6 +74,16 @@ class Stops(Checks):
         remove_database(db)
 
 
+def in_turns(lines):
+    """A socket of which each read gives the lines of a turn."""
+    ours, theirs = socket.socketpair(socket.AF_UNIX, socket.SOCK_SEQPACKET)
+    rows = lines.splitlines(keepends=True)
+    with ours:
+        for first in range(0, len(rows), TURN):
+            ours.send("".join(rows[first : first + TURN]).encode())
+    return theirs
+
+
 def fronts(checks, script):
     """What is written, and what is listed, after each number of the events of a script."""
     lines = script.splitlines(keepends=True)
@@ -79,31 +94,37 @@ def fronts(checks, script):
         yield written, all_written.removeprefix(written)
 
 
-def wanted_by_output(checks, script):
-    """The lists of records that may be found after a stop, by what was written before it."""
-    pairs = list(fronts(checks, script))
+def wanted_by_output(pairs, step):
+    """The lists of records that may be found after a stop, by what was written before it, where so many lines are committed
+    together."""
     wanted = {}
-    for taken, (written, _) in enumerate(pairs):
-        wanted.setdefault(written, set()).update(listed for _, listed in pairs[taken : taken + 2])
+    for taken in range(0, len(pairs) - 1 + step, step):
+        written, listed = pairs[min(taken, len(pairs) - 1)]
+        wanted.setdefault(written, set()).update({listed, pairs[min(taken + step, len(pairs) - 1)][1]})
     return wanted
 
 
 def check_script(checks, name, one_in):
     script = (STOPPED / f"{name}.script").read_text()
-    wanted = wanted_by_output(checks, script)
+    pairs = list(fronts(checks, script))
+    for commit, step in (("each", 1), ("turn", TURN)):
+        check_commits(checks, name, script, wanted_by_output(pairs, step), commit, one_in)
+
+
+def check_commits(checks, name, script, wanted, commit, one_in):
     db = checks.new_file()
     checks.disk.count()
-    status, _ = checks.replay(script, db, fails=True)
-    checks.check(f"{name}: a run that isn't stopped", status, 0)
+    status, _ = checks.replay(script, db, True, commit)
+    checks.check(f"{name}, {commit}: a run that isn't stopped", status, 0)
     count = checks.disk.calls
     remove_database(db)
     for kind in KINDS:
         for calls in range(0, count, one_in):
-            what, db = f"{name}, {kind}, after {calls} calls", checks.new_file()
-            status, written = checks.stopped(script, db, calls, kind)
+            what, db = f"{name}, {commit}, {kind}, after {calls} calls", checks.new_file()
+            status, written = checks.stopped(script, db, calls, kind, commit)
             checks.check(f"{what}: what was written", written in wanted, True)
             checks.found(what, db, wanted.get(written, ()))
-        print(f"{name}, {kind}: one in {one_in} of {count} calls", flush=True)
+        print(f"{name}, {commit}, {kind}: one in {one_in} of {count} calls", flush=True)
 
 
 def check_earlier(checks, schema, one_in):

@@ -1,5 +1,5 @@
 -- How far the lines of an input have been answered.
-use Rattle.std.proofs.Common.{subst, ◌≡◌, ◌∙◌, sym, ap, ◌+◌, ◌++◌, ◌⊎◌, inl, inr, List, ℕ, [], ◌∷◌, length, take, refl, Bool, false, append_assoc}
+use Rattle.std.proofs.Common.{arith, subst, ◌≡◌, ◌∙◌, sym, ap, ◌+◌, ◌++◌, ◌⊎◌, inl, inr, List, ℕ, [], ◌∷◌, length, length-append, take, refl, Bool, false, append_assoc, append-nil}
 use Rattle.std.specs.Prelude.{Option, Some, None, IfSome}
 use Rattle.std.specs.Io.KnownBytes.{Appends, Keeps}
 use Rattle.std.proofs.Math.Seq.{take-append_seam}
@@ -15,6 +15,7 @@ use Rattle.replay.proofs.Facts.{stands_start, stands_all, stands_begins, stands_
 pub record Progress (clean : Type 0) (st : Setting) (w v : World) (k n : ℕ) (begin now : Option (List ℕ)) (text text' : List ℕ) (all ahead : List (List ℕ)) : Type 0 where
   pub done : List (List ℕ)
   pub lines : all ≡ done ++ ahead
+  pub number : n ≡ k + length done
   pub world : clean → v ≡ world_after st w done
   pub written : clean → (start : Option (List ℕ)) (whole : List ℕ) → Stands start begin (text ++ answers_to st w k all) whole → Stands start now (text' ++ answers_to st v n ahead) whole
 
@@ -26,7 +27,7 @@ ProgressOf clean st w v k n begin now text text' (Some all) (Some ahead) = Progr
 pub progress_none : (clean : Type 0) (st : Setting) (w : World) (k : ℕ) (begin : Option (List ℕ)) (text : List ℕ) (all : Option (List (List ℕ))) → ProgressOf clean st w w k k begin begin text text all all
 unfolding world_after
 progress_none clean st w k begin text None = tt
-progress_none clean st w k begin text (Some all) = record { done = []; lines = refl; world = λ c. refl; written = λ c start whole s. s }
+progress_none clean st w k begin text (Some all) = record { done = []; lines = refl; number = omega arith; world = λ c. refl; written = λ c start whole s. s }
 
 world_more : (st : Setting) (w : World) (ls : List (List ℕ)) (l : List ℕ) → world_after st w (ls ++ l ∷ []) ≡ after st (world_after st w ls) (spelled st.is_hosted l)
 unfolding world_after
@@ -38,7 +39,7 @@ unfolding answers_to
 answers_more st w k l rest text = sym (append_assoc text (answer st w k (spelled st.is_hosted l)) (answers_to st (after st w (spelled st.is_hosted l)) (k + 1) rest))
 
 -- a line is answered
-line_done : (clean clean' : Type 0) (st mine : Setting) (w v v' : World) (k n n' : ℕ) (begin now : Option (List ℕ)) (text text' text'' : List ℕ) (all rest : List (List ℕ)) (l : List ℕ) →
+pub line_done : (clean clean' : Type 0) (st mine : Setting) (w v v' : World) (k n n' : ℕ) (begin now : Option (List ℕ)) (text text' text'' : List ℕ) (all rest : List (List ℕ)) (l : List ℕ) →
     Progress clean st w v k n begin now text text' all (l ∷ rest) → (clean' → clean) → mine ≡ st → n' ≡ n + 1 →
     (clean' → v' ≡ after mine v (spelled mine.is_hosted l)) → (clean' → text'' ≡ text' ++ answer mine v n (spelled mine.is_hosted l)) →
     Progress clean' st w v' k n' begin now text text'' all rest
@@ -48,6 +49,7 @@ line_done clean clean' st mine w v v' k n n' begin now text text' text'' all res
     record {
       done = p.done ++ l ∷ [];
       lines = p.lines ∙ sym (append_assoc p.done (l ∷ []) rest);
+      number = omega (arith, number, p.number, length-append p.done (l ∷ []));
       world = λ c. step c ∙ ap (λ x. after st x (spelled st.is_hosted l)) (p.world (back c)) ∙ sym (world_more st w p.done l);
       written = λ c start whole s.
           let before = subst (λ t. Stands start now t whole) (answers_more st v n l rest text') (p.written (back c) start whole s) in
@@ -70,7 +72,29 @@ pub progress_write : (clean : Type 0) (st : Setting) (w v : World) (k n : ℕ) (
     ProgressOf clean st w v k n begin new text text'' all ahead
 progress_write clean st w v k n begin now new text text' text'' None ahead p f = tt
 progress_write clean st w v k n begin now new text text' text'' (Some all) None p f = absurd p
-progress_write clean st w v k n begin now new text text' text'' (Some all) (Some ahead) p f = record { done = p.done; lines = p.lines; world = p.world; written = λ c start whole s. f start (answers_to st v n ahead) whole (p.written c start whole s) }
+progress_write clean st w v k n begin now new text text' text'' (Some all) (Some ahead) p f = record { done = p.done; lines = p.lines; number = p.number; world = p.world; written = λ c start whole s. f start (answers_to st v n ahead) whole (p.written c start whole s) }
+
+-- the same, where the world is the one before
+pub progress_settle : (clean clean' : Type 0) (st : Setting) (w v v' : World) (k n n' : ℕ) (begin now new : Option (List ℕ)) (text text' text'' : List ℕ) (all ahead : Option (List (List ℕ))) →
+    ProgressOf clean st w v k n begin now text text' all ahead → (clean' → clean) → (clean' → v' ≡ v) → n' ≡ n → ((start : Option (List ℕ)) (more whole : List ℕ) → Stands start now (text' ++ more) whole → Stands start new (text'' ++ more) whole) →
+    ProgressOf clean' st w v' k n' begin new text text'' all ahead
+progress_settle clean clean' st w v v' k n n' begin now new text text' text'' None ahead p back same number f = tt
+progress_settle clean clean' st w v v' k n n' begin now new text text' text'' (Some all) None p back same number f = absurd p
+progress_settle clean clean' st w v v' k n n' begin now new text text' text'' (Some all) (Some ahead) p back same number f = record {
+  done = p.done;
+  lines = p.lines;
+  number = number ∙ p.number;
+  world = λ c. same c ∙ p.world (back c);
+  written = λ c start whole s. subst (λ t. Stands start new t whole) (λ i. text'' ++ answers_to st (sym (same c) i) (sym number i) ahead)
+      (f start (answers_to st v n ahead) whole (p.written (back c) start whole s));
+}
+
+pub progress_end_world : (clean : Type 0) (st : Setting) (w v v' : World) (k n : ℕ) (begin now : Option (List ℕ)) (text text' : List ℕ) (all ahead : Option (List (List ℕ))) →
+    ProgressOf clean st w v k n begin now text text' all ahead → IsDone ahead → clean → v' ≡ v → IfSome all (λ ls. v' ≡ world_after st w ls)
+progress_end_world clean st w v v' k n begin now text text' None ahead p d c same = tt
+progress_end_world clean st w v v' k n begin now text text' (Some all) None p d c same = absurd p
+progress_end_world clean st w v v' k n begin now text text' (Some all) (Some ahead) p d c same =
+    same ∙ p.world c ∙ ap (world_after st w) (sym (p.lines ∙ ap (λ ls. p.done ++ ls) d ∙ append-nil p.done))
 
 pub progress_end_text : (clean : Type 0) (st : Setting) (w v : World) (k n : ℕ) (begin now new last : Option (List ℕ)) (text text' : List ℕ) (all ahead : Option (List (List ℕ))) →
     ProgressOf clean st w v k n begin now text text' all ahead → IsDone ahead → clean →
@@ -83,7 +107,7 @@ progress_end_text clean st w v k n begin now new last text text' (Some all) (Som
     stands_kept start new last [] whole kept (f start [] whole (subst (λ ls. Stands start now (text' ++ answers_to st v n ls) whole) d (p.written c start whole s)))
 
 -- it stops where it is
-reached : (st : Setting) (w v : World) (all done ahead : List (List ℕ)) → all ≡ done ++ ahead → v ≡ world_after st w done → IsReached st w all v
+pub reached : (st : Setting) (w v : World) (all done ahead : List (List ℕ)) → all ≡ done ++ ahead → v ≡ world_after st w done → IsReached st w all v
 reached st w v all done ahead lines world = record {
   taken = length done;
   is = world ∙ ap (world_after st w) (sym (ap (take (length done)) lines ∙ take-append_seam done ahead));
@@ -94,6 +118,12 @@ pub progress_stop_world : (clean clean' : Type 0) (st : Setting) (w v : World) (
 progress_stop_world clean clean' st w v k n begin now text text' None ahead p back c = tt
 progress_stop_world clean clean' st w v k n begin now text text' (Some all) None p back c = absurd p
 progress_stop_world clean clean' st w v k n begin now text text' (Some all) (Some ahead) p back c = reached st w v all p.done ahead p.lines (p.world (back c))
+
+-- the same, where the world is the one before
+pub progress_stop_settled : (clean clean' : Type 0) (st : Setting) (w v v' : World) (k n : ℕ) (begin now : Option (List ℕ)) (text text' : List ℕ) (all ahead : Option (List (List ℕ))) →
+    ProgressOf clean st w v k n begin now text text' all ahead → (clean' → clean) → clean' → v' ≡ v → IfSome all (λ ls. IsReached st w ls v')
+progress_stop_settled clean clean' st w v v' k n begin now text text' all ahead p back c same =
+    subst (λ x. IfSome all (λ ls. IsReached st w ls x)) (sym same) (progress_stop_world clean clean' st w v k n begin now text text' all ahead p back c)
 
 -- with what the text fell to
 pub progress_stop_text : (clean clean' : Type 0) (st : Setting) (w v : World) (k n : ℕ) (begin now new : Option (List ℕ)) (text text' text'' : List ℕ) (all ahead : Option (List (List ℕ))) →
@@ -119,7 +149,7 @@ progress_line_world clean clean' st mine w v v' k n begin now text text' (Some a
     line_reached st mine w v v' all p.done rest h.0 (p.lines ∙ ap (λ ls. p.done ++ ls) h.1) (p.world (back c)) alike (f h.0 h.2)
 
 -- a stop finds the rows of a world that is reached
-rows_reached : (st : Setting) (w v : World) (lines : List (List ℕ)) (r : Rows) → IsReached st w lines v → r ≡ v.rows → AreReached st w lines r
+pub rows_reached : (st : Setting) (w v : World) (lines : List (List ℕ)) (r : Rows) → IsReached st w lines v → r ≡ v.rows → AreReached st w lines r
 rows_reached st w v lines r at is = record { taken = at.taken; is = is ∙ ap (λ (u : World). u.rows) at.is }
 
 pub progress_stop_rows : (st : Setting) (w v : World) (all : Option (List (List ℕ))) (r : Rows) → IfSome all (λ ls. IsReached st w ls v) → r ≡ v.rows → IfSome all (λ ls. AreReached st w ls r)
@@ -162,6 +192,11 @@ falls_kept now new last text text' none kept f start more whole s = record {
   ahead = more;
   stands = subst (λ t. Stands start last (t ++ more) whole) (sym none) (stands_kept start new last more whole kept (f start more whole s));
 }
+
+-- all is written
+pub settled_text : (now new : Option (List ℕ)) (text text' : List ℕ) → text' ≡ [] → ((start : Option (List ℕ)) (more whole : List ℕ) → Stands start now (text ++ more) whole → Stands start new more whole) →
+    (start : Option (List ℕ)) (more whole : List ℕ) → Stands start now (text ++ more) whole → Stands start new (text' ++ more) whole
+settled_text now new text text' none f start more whole s = subst (λ t. Stands start new (t ++ more) whole) (sym none) (f start more whole s)
 
 -- the whole of an input is to come
 pub all_to_come : (Q : List (List ℕ) → Type 0) (P : List ℕ → Type 0) → ((input : List ℕ) → Q (lines_of input) → P input) → (ended : Bool) (bytes : List ℕ) (remaining : Option (List ℕ)) → ended ≡ false → bytes ≡ [] → IfSome (lines_from ended bytes remaining) Q → IfSome remaining P

@@ -1,8 +1,9 @@
 //! The answers to lines.
-ghost use Rattle.std.specs.Prelude.{◌≡◌, ◌+◌, ◌++◌, ◌<◌, ◌-◌, ◌^◌, List, ℕ, true, Err, OnOk, OnErr, IfOk};
+ghost use Rattle.std.specs.Prelude.{◌≡◌, ◌⊎◌, ◌+◌, ◌++◌, ◌<◌, ◌-◌, ◌^◌, List, ℕ, true, Err, OnOk, OnErr, IfOk};
 ghost use Rattle.hub_rows.specs.Operators.{is_hosted};
 ghost use Rattle.hub_rows.specs.Reads.{IsCounted};
-ghost use Rattle.hub_rows.specs.Stops.{IsKept, FindsOldOr};
+ghost use Rattle.hub_rows.specs.Stops.{IsKept, Records, StaysOnRecord};
+ghost use Rattle.hub_rows.specs.declared.store.Flush.TheVariants as when_flushed;
 ghost use Rattle.hub.specs.Hub.{hub_view, world, setting, is_taken, is_clean};
 ghost use Rattle.hub.specs.World.{world_outputs, world_step};
 ghost use Rattle.lines.specs.declared.input_line.Line.TheVariants as line;
@@ -13,7 +14,7 @@ ghost use Rattle.replay.specs.declared.fault.LineFault.TheVariants as line_fault
 
 use crate::fault::LineFault;
 use hub::{Event, Hub, Out};
-use hub_rows::Store;
+use hub_rows::{Flush, Store};
 use lines::{Line, add_line, read_line};
 use ocpp_types::{Mem, Text};
 use station_calls::VendorHandler;
@@ -29,11 +30,12 @@ pub struct Answers {
 
 #[tactic(auto, using(crate::proofs::Facts::begins))]
 impl Answers {
-    /// Answers the next line, of which none is held where it is too long.
+    /// Answers the next line, of which none is held where it is too long. Its change is flushed at once, or waits.
     pub fn line<S: Store + Drop, V: VendorHandler>(
         &mut self,
         hub: &mut Hub<S, V>,
         held: Option<&[u8]>,
+        when: Flush,
     ) -> Result<(), LineFault>
         requires { self.old.number < 2 ^ 64 - 1 }
         ensures number { OnOk result (self.new.number ≡ self.old.number + 1) }
@@ -47,12 +49,15 @@ impl Answers {
         ensures fault_text { is_clean S.view hub.new → OnErr result ((line : List ℕ) → IsLine held.entry line
             → Begins self.new.text.items (self.old.text.items ++ answer (setting V.view hub.old) (world S.view hub.old) self.old.number (spelled (setting V.view hub.old).is_hosted line))) }
         ensures counted { IsCounted (hub_view S.view) hub.old hub.new (result ≡ Err line_fault.Store) }
-        ensures stopped { (line : List ℕ) → IsLine held.entry line
-            → FindsOldOr (after (setting V.view hub.old) (world S.view hub.old) (spelled (setting V.view hub.old).is_hosted line)).rows (hub_view S.view hub.old) (hub_view S.view hub.new) }
-        ensures kept { IsKept (hub_view S.view hub.old) → OnOk result (IsKept (hub_view S.view hub.new)) }
+        ensures kept { when ≡ when_flushed.AtOnce → IsKept (hub_view S.view hub.old) → OnOk result (IsKept (hub_view S.view hub.new)) }
+        ensures waits { when ≡ when_flushed.Later → OnOk result (StaysOnRecord (hub_view S.view hub.old) (hub_view S.view hub.new)) }
+        ensures told { when ≡ when_flushed.AtOnce → OnErr result ((self.new.text.items ≡ self.old.text.items) ⊎ ((IsKept (hub_view S.view hub.old) → IsKept (hub_view S.view hub.new))
+            × (is_clean S.view hub.new → (line : List ℕ) → IsLine held.entry line → world S.view hub.new ≡ after (setting V.view hub.old) (world S.view hub.old) (spelled (setting V.view hub.old).is_hosted line)))) }
+        ensures records { (line : List ℕ) → IsLine held.entry line
+            → Records when (after (setting V.view hub.old) (world S.view hub.old) (spelled (setting V.view hub.old).is_hosted line)).rows (hub_view S.view hub.old) (hub_view S.view hub.new) result }
     {
         let said = read_held(self.alloc, hub.hosted(), held)?;
-        self.said(hub, &said)?;
+        self.said(hub, &said, when)?;
         self.number += 1;
         Ok(())
     }
@@ -62,6 +67,7 @@ impl Answers {
         &mut self,
         hub: &mut Hub<S, V>,
         said: &Line,
+        when: Flush,
     ) -> Result<(), LineFault>
         ensures number { self.new.number ≡ self.old.number }
         ensures setting { setting V.view hub.new ≡ setting V.view hub.old }
@@ -74,12 +80,13 @@ impl Answers {
         ensures fault_text { is_clean S.view hub.new → OnErr result (Begins self.new.text.items
             (self.old.text.items ++ answer (setting V.view hub.old) (world S.view hub.old) self.old.number said.now)) }
         ensures counted { IsCounted (hub_view S.view) hub.old hub.new (IsOfHosted (setting V.view hub.old).is_hosted said.now × (result ≡ Err line_fault.Store)) }
-        ensures stopped { FindsOldOr (after (setting V.view hub.old) (world S.view hub.old) said.now).rows (hub_view S.view hub.old) (hub_view S.view hub.new) }
-        ensures kept { IsKept (hub_view S.view hub.old) → OnOk result (IsKept (hub_view S.view hub.new)) }
+        ensures told { when ≡ when_flushed.AtOnce → OnErr result ((self.new.text.items ≡ self.old.text.items) ⊎ ((IsKept (hub_view S.view hub.old) → IsKept (hub_view S.view hub.new))
+            × (is_clean S.view hub.new → world S.view hub.new ≡ after (setting V.view hub.old) (world S.view hub.old) said.now))) }
+        ensures records { Records when (after (setting V.view hub.old) (world S.view hub.old) said.now).rows (hub_view S.view hub.old) (hub_view S.view hub.new) result }
     {
         match said {
             Line::Nothing => {}
-            Line::Event(event) => self.event(hub, event)?,
+            Line::Event(event) => self.event(hub, event, when)?,
             Line::Bad => push_bad(&mut self.text, self.alloc, self.number)?,
         }
         Ok(())
@@ -90,6 +97,7 @@ impl Answers {
         &mut self,
         hub: &mut Hub<S, V>,
         event: &Event,
+        when: Flush,
     ) -> Result<(), LineFault>
         ensures number { self.new.number ≡ self.old.number }
         ensures setting { setting V.view hub.new ≡ setting V.view hub.old }
@@ -102,10 +110,11 @@ impl Answers {
         ensures fault_text { is_clean S.view hub.new → OnErr result (Begins self.new.text.items (self.old.text.items
             ++ told_lines (world_outputs (setting V.view hub.old) (world S.view hub.old) event.now))) }
         ensures counted { IsCounted (hub_view S.view) hub.old hub.new ((is_taken (setting V.view hub.old) event.now ≡ true) × (result ≡ Err line_fault.Store)) }
-        ensures stopped { FindsOldOr (world_step (setting V.view hub.old) (world S.view hub.old) event.now).rows (hub_view S.view hub.old) (hub_view S.view hub.new) }
-        ensures kept { IsKept (hub_view S.view hub.old) → OnOk result (IsKept (hub_view S.view hub.new)) }
+        ensures told { when ≡ when_flushed.AtOnce → OnErr result ((self.new.text.items ≡ self.old.text.items) ⊎ ((IsKept (hub_view S.view hub.old) → IsKept (hub_view S.view hub.new))
+            × (is_clean S.view hub.new → world S.view hub.new ≡ world_step (setting V.view hub.old) (world S.view hub.old) event.now))) }
+        ensures records { Records when (world_step (setting V.view hub.old) (world S.view hub.old) event.now).rows (hub_view S.view hub.old) (hub_view S.view hub.new) result }
     {
-        let outs = hub.handle(event)?;
+        let outs = hub.handle_by(event, when)?;
         push_all(&mut self.text, self.alloc, outs.as_slice())?;
         Ok(())
     }

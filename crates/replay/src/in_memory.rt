@@ -10,6 +10,7 @@ ghost use Rattle.replay.specs.declared.fault.ReplayFault.TheVariants.{TooLong, B
 use crate::fault::ReplayFault;
 use crate::input::replay;
 use hub::Hub;
+use hub_rows::Flush;
 use ocpp_types::Text;
 use station_calls::VendorHandler;
 use std::alloc::Global;
@@ -43,5 +44,5 @@ pub fn replay_in_memory<V: VendorHandler, R: Read, W: Write>(
         Ok(hub) => hub,
         Err(_) => return Err(ReplayFault::BadOperators),
     };
-    replay(alloc, &mut hub, reader, writer)
+    replay(alloc, &mut hub, reader, writer, Flush::AtOnce)
 }

@@ -8,14 +8,16 @@ ghost use Rattle.hub.specs.Hub.{hub_view, world, setting, is_clean};
 ghost use Rattle.replay.specs.Held.{lines_of};
 ghost use Rattle.replay.specs.Lines.{to_come, most_turns};
 ghost use Rattle.replay.specs.Run.{Stands, Falls, AppendsFront, IsReached, AreReached, answers_to, world_after, output_of, world_of};
+ghost use Rattle.replay.specs.Told.{AreTold, Tells, pending};
 ghost use Rattle.replay.specs.declared.fault.ReplayFault.TheVariants as replay_fault;
 
 use crate::answers::Answers;
 use crate::fault::ReplayFault;
 use crate::input_lines::Lines;
-use crate::written::{write_if_long, write_last, write_out};
+use crate::settling::{settle, settle_if_due};
+use crate::written::write_last;
 use hub::Hub;
-use hub_rows::Store;
+use hub_rows::{Flush, Store};
 use station_calls::VendorHandler;
 use std::alloc::Global;
 use std::io::{Read, Write};
@@ -30,6 +32,7 @@ fn pass<S: Store + Drop, V: VendorHandler, R: Read, W: Write>(
     hub: &mut Hub<S, V>,
     reader: &mut R,
     writer: &mut W,
+    when: Flush,
 ) -> Result<(), ReplayFault>
     requires within { lines.old.start ≤ vec_len lines.old.buffer }
     requires unended { lines.old.ended ≡ false }
@@ -51,12 +54,15 @@ fn pass<S: Store + Drop, V: VendorHandler, R: Read, W: Write>(
     ensures counted { IsCounted (hub_view S.view) hub.old hub.new (result ≡ Err replay_fault.Store) }
     ensures stopped { IsKept (hub_view S.view hub.old) → (r : Rows) → (hub_view S.view hub.new).may_find r → IfSome (to_come lines.old (R.remaining reader.old)) (λ all.
         AreReached (setting V.view hub.old) (world S.view hub.old) all r) }
+    ensures kept { IsKept (hub_view S.view hub.old) → OnOk result (IsKept (hub_view S.view hub.new)) }
+    ensures recorded { IsKept (hub_view S.view hub.old) → (r : Rows) → (hub_view S.view hub.new).may_find r → IfSome (to_come lines.old (R.remaining reader.old)) (λ all.
+        Tells (setting V.view hub.old) (world S.view hub.old) answers.old.number (W.contents writer.old) (W.contents writer.new) answers.old.text.items (pending when answers.new.text.items) all r) }
 {
     while lines.next(reader)? {
-        answers.line(hub, lines.held())?;
-        write_if_long(&mut answers.text, writer)?;
+        answers.line(hub, lines.held(), when)?;
+        settle_if_due(lines, answers, hub, writer, when)?;
     }
-    write_out(&mut answers.text, writer)?;
+    settle(answers, hub, writer, when)?;
     match writer.flush() {
         Ok(()) => Ok(()),
         Err(_) => Err(ReplayFault::Write),
@@ -71,8 +77,13 @@ fn pass<S: Store + Drop, V: VendorHandler, R: Read, W: Write>(
 /// the hub is left as after a number of whole lines. A line whose event ended in a fault has
 /// changed nothing. An event whose output found no memory, or was not written, has happened.
 ///
+/// A change is flushed at once, or later together with others: then answers are written after the flush that puts the changes
+/// of their lines on record. A change waits for at most 1,000 lines, and for no read. After a fault no flush follows, and the
+/// answers that wait are dropped.
+///
 /// Where the work stops during the call and the store of a kept hub is opened again, its records are those after a
-/// number of whole lines (`stopped`).
+/// number of whole lines (`stopped`); once the call is Ok, those of the hub (`kept`). Of no line more was an answer written
+/// (`recorded`): what is written is on record.
 ///
 /// An input of `most` bytes or more is the fault TooLong, and so is one of 1,073,741,824.
 pub fn replay_within<S: Store + Drop, V: VendorHandler, R: Read, W: Write>(
@@ -80,6 +91,7 @@ pub fn replay_within<S: Store + Drop, V: VendorHandler, R: Read, W: Write>(
     hub: &mut Hub<S, V>,
     reader: &mut R,
     writer: &mut W,
+    when: Flush,
     most: u64,
 ) -> Result<(), ReplayFault>
     ensures setting { setting V.view hub.new ≡ setting V.view hub.old }
@@ -97,6 +109,9 @@ pub fn replay_within<S: Store + Drop, V: VendorHandler, R: Read, W: Write>(
     ensures counted { IsCounted (hub_view S.view) hub.old hub.new (result ≡ Err replay_fault.Store) }
     ensures stopped { IsKept (hub_view S.view hub.old) → (r : Rows) → (hub_view S.view hub.new).may_find r → IfSome (R.remaining reader.old) (λ input.
         AreReached (setting V.view hub.old) (world S.view hub.old) (lines_of input) r) }
+    ensures kept { IsKept (hub_view S.view hub.old) → OnOk result (IsKept (hub_view S.view hub.new)) }
+    ensures recorded { IsKept (hub_view S.view hub.old) → (r : Rows) → (hub_view S.view hub.new).may_find r → IfSome (R.remaining reader.old) (λ input.
+        AreTold (setting V.view hub.old) (world S.view hub.old) (lines_of input) r (W.contents writer.old) (W.contents writer.new)) }
 {
     let mut lines = Lines::new(alloc, bound(most));
     let mut answers = Answers {
@@ -104,10 +119,10 @@ pub fn replay_within<S: Store + Drop, V: VendorHandler, R: Read, W: Write>(
         number: 1,
         text: Vec::new(alloc),
     };
-    match pass(&mut lines, &mut answers, hub, reader, writer) {
+    match pass(&mut lines, &mut answers, hub, reader, writer, when) {
         Ok(()) => Ok(()),
         Err(fault) => {
-            write_last(&mut answers.text, writer);
+            write_last(&mut answers.text, writer, when);
             Err(fault)
         }
     }
@@ -126,6 +141,7 @@ pub fn replay<S: Store + Drop, V: VendorHandler, R: Read, W: Write>(
     hub: &mut Hub<S, V>,
     reader: &mut R,
     writer: &mut W,
+    when: Flush,
 ) -> Result<(), ReplayFault>
     ensures setting { setting V.view hub.new ≡ setting V.view hub.old }
     ensures ok { is_clean S.view hub.new → OnOk result (IfSome (R.remaining reader.old) (λ input.
@@ -142,6 +158,9 @@ pub fn replay<S: Store + Drop, V: VendorHandler, R: Read, W: Write>(
     ensures counted { IsCounted (hub_view S.view) hub.old hub.new (result ≡ Err replay_fault.Store) }
     ensures stopped { IsKept (hub_view S.view hub.old) → (r : Rows) → (hub_view S.view hub.new).may_find r → IfSome (R.remaining reader.old) (λ input.
         AreReached (setting V.view hub.old) (world S.view hub.old) (lines_of input) r) }
+    ensures kept { IsKept (hub_view S.view hub.old) → OnOk result (IsKept (hub_view S.view hub.new)) }
+    ensures recorded { IsKept (hub_view S.view hub.old) → (r : Rows) → (hub_view S.view hub.new).may_find r → IfSome (R.remaining reader.old) (λ input.
+        AreTold (setting V.view hub.old) (world S.view hub.old) (lines_of input) r (W.contents writer.old) (W.contents writer.new)) }
 {
-    replay_within(alloc, hub, reader, writer, MAX_INPUT)
+    replay_within(alloc, hub, reader, writer, when, MAX_INPUT)
 }

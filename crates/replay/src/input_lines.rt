@@ -60,6 +60,13 @@ impl Lines {
         }
     }
 
+    /// Whether the next line was read to its end, so that `next` doesn't read.
+    pub fn has_whole_line(&self) -> bool
+        requires within { self.now.start ≤ vec_len self.now.buffer }
+    {
+        memchr(b'\n', &self.buffer[self.start..]).is_some()
+    }
+
     /// Hands out the next line: whether there is one.
     pub fn next<R: Read>(&mut self, reader: &mut R) -> Result<bool, ReplayFault>
         requires within { self.old.start ≤ vec_len self.old.buffer }

@@ -6,6 +6,7 @@ mod fault;
 mod in_memory;
 mod input;
 mod input_lines;
+mod settling;
 mod written;
 
 pub use fault::{LineFault, ReplayFault};

@@ -1,10 +1,12 @@
 //! Writing text out.
-ghost use Rattle.std.specs.Prelude.{◌≡◌, ◌++◌, ◌<◌, List, [], ℕ, Option, OnOk, OnErr, IfErr, length};
+ghost use Rattle.std.specs.Prelude.{◌≡◌, ◌++◌, List, [], ℕ, Option, OnOk, OnErr, IfErr};
 ghost use Rattle.std.specs.Io.KnownBytes.{Appends};
 ghost use Rattle.replay.specs.Run.{AppendsFront, Stands, Falls};
+ghost use Rattle.replay.specs.Told.{pending};
 ghost use Rattle.replay.specs.declared.fault.LineFault.TheVariants as line_fault;
 
 use crate::fault::LineFault;
+use hub_rows::Flush;
 use std::io::Write;
 
 /// Writes the text, and leaves none of it.
@@ -24,38 +26,31 @@ pub fn write_out<W: Write>(text: &mut Vec<u8>, writer: &mut W) -> Result<(), Lin
     result
 }
 
-/// Writes of the text what can be written.
+/// Writes of the text what can be written after a fault, unless changes wait that it tells of.
 #[tactic(auto, using(crate::proofs::Facts::stands_part, crate::proofs::Facts::falls_part))]
-pub fn write_last<W: Write>(text: &mut Vec<u8>, writer: &mut W)
-    ensures empty { text.new.items ≡ [] }
+pub fn write_last<W: Write>(text: &mut Vec<u8>, writer: &mut W, when: Flush)
     ensures front { (start : Option (List ℕ)) (ahead whole : List ℕ) →
         Stands start (W.contents writer.old) (text.old.items ++ ahead) whole →
         AppendsFront start (W.contents writer.new) whole }
+    ensures pending { (start : Option (List ℕ)) (ahead whole : List ℕ) →
+        Stands start (W.contents writer.old) (pending when text.old.items ++ ahead) whole →
+        AppendsFront start (W.contents writer.new) whole }
 {
-    match write_out(text, writer) {
-        Ok(()) => {}
-        Err(_) => {}
+    match when {
+        Flush::AtOnce => match write_out(text, writer) {
+            Ok(()) => {}
+            Err(_) => {}
+        },
+        Flush::Later => {}
     }
 }
 
 /// A text of so many bytes is written at once.
 const WRITE_SIZE: usize = 65_536;
 
-/// Writes the text, if it is long.
-pub fn write_if_long<W: Write>(text: &mut Vec<u8>, writer: &mut W) -> Result<(), LineFault>
-    ensures short { OnOk result (length text.new.items < 65536) }
-    ensures ok { OnOk result ((start : Option (List ℕ)) (ahead whole : List ℕ) →
-        Stands start (W.contents writer.old) (text.old.items ++ ahead) whole →
-        Stands start (W.contents writer.new) (text.new.items ++ ahead) whole) }
-    ensures fault { OnErr result ((start : Option (List ℕ)) (ahead whole : List ℕ) →
-        Stands start (W.contents writer.old) (text.old.items ++ ahead) whole →
-        Falls start (W.contents writer.new) text.new.items whole) }
-    ensures kind { IfErr result (λ f. f ≡ line_fault.Write) }
-{
-    if text.len() < WRITE_SIZE {
-        return Ok(());
-    }
-    write_out(text, writer)
+/// Whether a text is written at once.
+pub fn is_long(text: &[u8]) -> bool {
+    text.len() >= WRITE_SIZE
 }
 
 /// Writes the text.

@@ -3,9 +3,9 @@
 use crate::bad_lines::watch;
 use crate::fault::RunFault;
 use crate::hosted::{copies_of, fault_of, hub_of};
-use command_line::ReplayOptions;
+use command_line::{Commit, ReplayOptions};
 use hub::Hub;
-use hub_rows::Store;
+use hub_rows::{Flush, Store};
 use replay::{replay, replay_in_memory};
 use station_calls::VendorHandler;
 use std::io;
@@ -48,6 +48,15 @@ fn replay_to<S: Store + Drop, V: VendorHandler>(
 ) -> Result<bool, RunFault> {
     let names = copies_of(rt.alloc(), options.operators.as_slice())?;
     let (mut reader, mut writer) = watch(rt, rt.reader(), io::writer(rt), names)?;
-    replay(rt.alloc(), hub, &mut reader, &mut writer)?;
+    let when = flush_of(options.commit);
+    replay(rt.alloc(), hub, &mut reader, &mut writer, when)?;
     Ok(!options.is_strict || writer.is_clean())
+}
+
+/// When the change of a line is flushed.
+fn flush_of(commit: Commit) -> Flush {
+    match commit {
+        Commit::Each => Flush::AtOnce,
+        Commit::Turn => Flush::Later,
+    }
 }

@@ -6,6 +6,7 @@ use crate::handlers::{Fixed, MESSAGES, handlers};
 use crate::scripts::{BOOTED, BOOTED_OUTPUT, hub_of, operators};
 use failing_store::Failing;
 use hub::Hub;
+use hub_rows::Flush;
 use replay::{ReplayFault, replay, replay_in_memory, replay_within};
 use station_calls::Echo;
 use std::alloc::Global;
@@ -104,7 +105,15 @@ fn an_input_past_its_bound_is_too_long(rt: HostRuntime) -> Result<(), Fail> {
     let alloc = rt.alloc();
     let mut hub = hub_of(alloc, MemStore::new(alloc), handlers(alloc, true)?)?;
     let mut written = Vec::new(alloc);
-    let answer = replay_within(alloc, &mut hub, &mut BOOTED.as_bytes(), &mut written, 10);
+    let mut reader = BOOTED.as_bytes();
+    let answer = replay_within(
+        alloc,
+        &mut hub,
+        &mut reader,
+        &mut written,
+        Flush::AtOnce,
+        10,
+    );
     assert_eq!(rt; named(alloc, answer)?.as_str(), "TooLong");
     assert!(rt; written.is_empty());
     Ok(())
@@ -116,7 +125,13 @@ fn replayed(
     script: &str,
 ) -> Result<(), ReplayFault> {
     let mut written = Vec::new(alloc);
-    replay(alloc, hub, &mut script.as_bytes(), &mut written)
+    replay(
+        alloc,
+        hub,
+        &mut script.as_bytes(),
+        &mut written,
+        Flush::AtOnce,
+    )
 }
 
 #[test]
@@ -129,4 +144,53 @@ fn a_failing_store_and_want_of_memory_are_named(rt: HostRuntime) -> Result<(), F
         assert_eq!(rt; named(alloc, answer)?.as_str(), name);
     }
     Ok(())
+}
+
+#[test]
+fn answers_wait_for_the_flush_of_their_changes(rt: HostRuntime) -> Result<(), Fail> {
+    let alloc = rt.alloc();
+    let mut has_ended = false;
+    for before in 0..100 {
+        let store = Failing::new(MemStore::new(alloc), before);
+        let mut hub = hub_of(alloc, store, handlers(alloc, true)?)?;
+        let mut written = Vec::new(alloc);
+        let mut reader = BOOTED.as_bytes();
+        let answer = replay(alloc, &mut hub, &mut reader, &mut written, Flush::Later);
+        has_ended = answer.is_ok();
+        let wanted = if has_ended { BOOTED_OUTPUT } else { "" };
+        assert_eq!(rt; str::from_utf8(written.as_slice())?, wanted, "{before}");
+        if has_ended {
+            break;
+        }
+    }
+    assert!(rt; has_ended);
+    Ok(())
+}
+
+#[test]
+fn no_answer_waits_while_the_reader_is_waited_for(rt: HostRuntime) -> Result<(), Fail> {
+    let alloc = rt.alloc();
+    for before in 0..4 {
+        let each = written_before(alloc, before, Flush::AtOnce)?;
+        let later = written_before(alloc, before, Flush::Later)?;
+        assert_eq!(rt; later, each, "{before}");
+    }
+    Ok(())
+}
+
+/// What is written before a fault of the reader, which comes after so many reads.
+fn written_before(alloc: Global, before: usize, when: Flush) -> Result<Vec<u8>, Fail> {
+    let mut hub = hub_of(alloc, MemStore::new(alloc), handlers(alloc, true)?)?;
+    let mut written = Vec::new(alloc);
+    let mut reader = FaultyReader {
+        rest: BOOTED.as_bytes(),
+        step: 100,
+        before,
+        kind: ErrorKind::Other,
+    };
+    let answer = replay(alloc, &mut hub, &mut reader, &mut written, when);
+    match answer {
+        Err(ReplayFault::Read) => Ok(written),
+        other => Err(Fail::from(named(alloc, other)?)),
+    }
 }

@@ -2,7 +2,7 @@
 
 use anyhow::Result;
 use hub::Hub;
-use hub_rows::Store;
+use hub_rows::{Flush, Store};
 use ocpp_types::Text;
 use replay::{ReplayFault, replay};
 use station_calls::Echo;
@@ -37,7 +37,7 @@ fn replayed<S: Store + Drop>(
     vendors.push(Echo { alloc })?;
     let mut reader = lines;
     match Hub::new(alloc, store, operators, vendors) {
-        Ok(mut hub) => Ok(replay(alloc, &mut hub, &mut reader, output)),
+        Ok(mut hub) => Ok(replay(alloc, &mut hub, &mut reader, output, Flush::AtOnce)),
         Err(_refused) => Ok(Err(ReplayFault::BadOperators)),
     }
 }
