@@ -1,7 +1,7 @@
 -- That what was written is on record. A store that isn't clean can't be told from one that is by what a reopening finds: so
 -- where nothing follows of it, any rows count as on record, and there are other ones than those found.
 use Rattle.std.proofs.Common.{◌≡◌, ◌∙◌, sym, ap, subst, ◌⊎◌, inl, inr, ◌+◌, ◌-◌, ◌++◌, List, ℕ, [], ◌∷◌, Bool, true, false, true≢false, length, length-append, take, drop, refl, append_assoc, append-nil, arith}
-use Rattle.std.specs.Prelude.{Option, Some, None, IfSome, Result, Ok, Err, OnErr}
+use Rattle.std.specs.Prelude.{Option, Some, None, IfSome, Err}
 use Rattle.std.specs.Str.{bytes_eq}
 use Rattle.std.proofs.lemmas.List.{append_cancel_right}
 use Rattle.std.proofs.Math.Seq.{take-append_seam, drop-append_seam}

@@ -1,5 +1,5 @@
 -- What is on record while changes wait.
-use Rattle.std.proofs.Common.{◌≡◌, ◌∙◌, sym, ap, subst, ◌⊎◌, inl, inr, List, ℕ, [], refl}
+use Rattle.std.proofs.Common.{◌≡◌, ◌∙◌, sym, ap, subst, inl, inr, List, ℕ, [], refl}
 use Rattle.std.specs.Prelude.{Option, Some, None, IfSome, Result, Ok, Err, OnOk, OnErr}
 use Rattle.hub_rows.proofs.OnRecord.{finds_only, record_as}
 use Rattle.hub_rows.specs.declared.store.Flush.{Flush}
