@@ -1,7 +1,8 @@
 """Checks that a database that is hurt says so. The disk fails while the server runs, by failing_disk.c under the
-program: where syncs fail the server closes its connections with 1011 and ends, and where writes fail it closes them and goes on. Parts
-of the log of a database are changed or lost: it is opened with --accept-loss alone, and the fault says how many changes
-are gone. With --page-sums each changed bit of the database file is found. Nobody but its owner may read its files. Prints `N passed, M failed`.
+program: where syncs fail the server closes its connections with 1011 and ends, and where writes fail it closes them and
+goes on. Parts of the log of a database are changed or lost: it is opened with --accept-loss alone, and the fault says how
+many changes are gone. With --page-sums each changed bit of the database file is found. Nobody but its owner may read its
+files. Prints `N passed, M failed`.
 
     python3 checks/hurt.py crates/central/out/central
 """

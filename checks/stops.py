@@ -1,9 +1,9 @@
 """Stops the program at each call on its files, and opens the file again: the records found are those after the
 events that were answered, or after one more; with `--commit turn` those after the turns that were answered, or after one
-more. A stop is a disk whose calls fail from one on, by failing_disk.c under the
-program. It leaves what was written; or that and half of what the first call that fails was to write; or what was synced.
-The scripts are those of tests/check_cases/data/scripts/stopped, and the openings of files of each earlier schema.
-Prints how many stops there were of each, then `N passed, M failed`. With --small one call in four is stopped. Needs gcc.
+more. A stop is a disk whose calls fail from one on, by failing_disk.c under the program. It leaves what was written; or
+that and half of what the first call that fails was to write; or what was synced. The scripts are those of
+tests/check_cases/data/scripts/stopped, and the openings of files of each earlier schema. Prints how many stops there were
+of each, then `N passed, M failed`. With --small one call in four is stopped, in turns one in eight. Needs gcc.
 
     python3 checks/stops.py crates/central/out/central [--small]
 """
@@ -107,8 +107,8 @@ def wanted_by_output(pairs, step):
 def check_script(checks, name, one_in):
     script = (STOPPED / f"{name}.script").read_text()
     pairs = list(fronts(checks, script))
-    for commit, step in (("each", 1), ("turn", TURN)):
-        check_commits(checks, name, script, wanted_by_output(pairs, step), commit, one_in)
+    for commit, step, least in (("each", 1, one_in), ("turn", TURN, 2 * one_in if one_in > 1 else 1)):
+        check_commits(checks, name, script, wanted_by_output(pairs, step), commit, least)
 
 
 def check_commits(checks, name, script, wanted, commit, one_in):
