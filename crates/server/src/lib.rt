@@ -1,7 +1,7 @@
 //! A server: it takes connections, serves them over a hub turn by turn, and tells of itself in a log and by metrics.
 #![tactic(auto)]
 
-mod batches;
+mod driver;
 mod measured;
 mod opening;
 mod prepared;

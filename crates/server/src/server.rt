@@ -1,9 +1,8 @@
 //! The server.
 
-use crate::batches::Batches;
+use crate::driver::{Clock, ServerDriver};
 use crate::measured::connected_of;
 use crate::prepared::Prepared;
-use crate::service::Service;
 use crate::stop_file::StopFile;
 use clients::now;
 use command_line::{JournalOptions, VERSION};
@@ -15,10 +14,10 @@ use station_calls::VendorHandler;
 use std::alloc::Global;
 use std::fs::File;
 use std::net::SocketAddr;
-use std::time::{Duration, Instant};
-use telemetry::{Counts, Metrics, ServerLog, now_of, page_of};
+use std::time::Duration;
+use telemetry::{Counts, ServerLog, now_of, page_of};
 use turn_hub::TurnHub;
-use ws_server::{Gateway, Lobby};
+use ws_server::{Gateway, State, TurnServer};
 
 /// The most seconds between two turns. Calls that stations leave unanswered end in such turns.
 const MAX_WAIT: u64 = 1;
@@ -53,21 +52,10 @@ pub struct Server<S, V> {
     pub(crate) alloc: Global,
     /// Where it listens.
     pub(crate) address: SocketAddr,
-    pub(crate) hub: TurnHub<S, V, File>,
-    pub(crate) gateway: Gateway<ReadyStream>,
-    pub(crate) lobby: Lobby<ReadyStream>,
-    pub(crate) streams: Streams,
+    pub(crate) turns: TurnServer<ReadyStream, S, V, File>,
+    pub(crate) driver: ServerDriver,
     /// The moment of the last turn.
     pub(crate) moment: Moment,
-    /// When it began.
-    pub(crate) begun: Instant,
-    /// The nanoseconds since then, as they were read last.
-    pub(crate) now: u64,
-    /// The seconds since then, in the last turn.
-    pub(crate) second: u64,
-    pub(crate) service: Service,
-    pub(crate) log: ServerLog,
-    pub(crate) metrics: Metrics,
     /// The metrics as they were printed last, and in which second.
     pub(crate) page: Option<(u64, String)>,
     /// The most connections of stations that an operator has.
@@ -78,17 +66,6 @@ pub struct Server<S, V> {
     pub(crate) stop_file: StopFile,
     /// Accepting a connection failed in this second. It isn't tried again in it.
     pub(crate) failed_accept: bool,
-    /// The last turn ended in a fault.
-    pub(crate) has_faulted: bool,
-    /// The second in which the store failed last, though it still answers.
-    pub(crate) hurt: Option<u64>,
-    /// The store answers no more. Nothing is handed to the hub.
-    pub(crate) is_store_shut: bool,
-    /// What becomes of the changes of a turn.
-    pub(crate) batches: Batches,
-    /// Memory that is set aside. It is given up after an event that found none, so that connections can end, and no
-    /// connection is accepted until it is set aside again.
-    pub(crate) reserve: Option<Vec<u8>>,
 }
 
 impl<S: Store + Drop, V: VendorHandler> Server<S, V> {
@@ -111,31 +88,20 @@ impl<S: Store + Drop, V: VendorHandler> Server<S, V> {
             db,
             stop_file,
         } = prepared;
+        let clock = Clock::new(begun);
+        let reserve = set_aside(alloc).ok();
         Server {
             alloc,
             address,
-            hub,
-            gateway: gateway_with_notes(alloc),
-            lobby,
-            streams,
+            turns: TurnServer::new(hub, gateway_with_notes(alloc), lobby),
+            driver: ServerDriver::new(streams, service, metrics, log, clock, reserve),
             moment,
-            begun,
-            now: 0,
-            second: 0,
-            service,
-            log,
-            metrics,
             page: None,
             most_stations,
             journal: KeptJournal::none(),
             db,
             stop_file,
             failed_accept: false,
-            has_faulted: false,
-            hurt: None,
-            is_store_shut: false,
-            batches: Batches::new(),
-            reserve: set_aside(alloc).ok(),
         }
     }
 
@@ -146,23 +112,23 @@ impl<S: Store + Drop, V: VendorHandler> Server<S, V> {
         rt: &HostRuntime,
         options: &JournalOptions,
     ) -> Result<(), RunFault> {
-        let operators = self.hub.hosted();
-        let writer = begin_journal(rt, options, operators, self.hub.changes())?;
+        let hub = &mut self.turns.hub;
+        let operators = hub.hosted();
+        let writer = begin_journal(rt, options, operators, hub.changes())?;
         self.journal.keep(self.alloc, options, operators)?;
-        self.hub.set_journal(writer);
-        self.streams.hold();
+        hub.set_journal(writer);
+        self.driver.streams.hold();
         Ok(())
     }
 
-    /// From now on peers are told what is taken in a turn once its changes are committed.
-    pub fn commit_turns(&mut self) {
-        self.batches.has_turns = true;
-        self.streams.hold();
+    /// From now on peers are told what is taken in a turn once it ends.
+    pub fn hold_turns(&mut self) {
+        self.driver.streams.hold();
     }
 
     /// Writes the line with which its log begins.
     pub fn tell_start(&mut self, text: &str) {
-        self.log.write_line(self.moment, text);
+        self.driver.log.write_line(self.moment, text);
     }
 
     /// Makes that many turns, without waiting, or goes on until it is ended. It ends where the database is shut, as it is
@@ -170,59 +136,55 @@ impl<S: Store + Drop, V: VendorHandler> Server<S, V> {
     pub fn run(&mut self, rt: &HostRuntime, turns: Option<u32>) -> Result<(), RunFault> {
         for _ in 0..turns.map_or(u64::MAX, u64::from) {
             self.wait(rt, turns.is_none())?;
-            let began = self.read_clock(rt);
+            let began = self.driver.clock.read(rt);
             self.tick(rt)?;
             self.turn(rt);
             self.write_log();
-            let took = self.read_clock(rt).saturating_sub(began);
-            self.metrics.turn.add(took, self.second);
-            self.journal
-                .go_on(rt, &mut self.hub, self.now, self.moment)?;
-            if self.is_store_shut {
+            let took = self.driver.clock.read(rt).saturating_sub(began);
+            self.driver.metrics.turn.add(took, self.driver.second);
+            self.journal.go_on(
+                rt,
+                &mut self.turns.hub,
+                self.driver.clock.now(),
+                self.moment,
+            )?;
+            if matches!(self.turns.state(), State::Shut) {
                 return Err(RunFault::Store);
             }
-            if self.stop_file.is_there(rt, self.now) {
+            if self.stop_file.is_there(rt, self.driver.clock.now()) {
                 return self.end(rt);
             }
         }
         Ok(())
     }
 
-    /// Reads the nanoseconds since the start.
-    pub(crate) fn read_clock(&mut self, rt: &HostRuntime) -> u64 {
-        let nanoseconds = self.begun.elapsed(rt).map_or(0, |time| time.as_nanos());
-        let now = u64::try_from(nanoseconds).unwrap_or(u64::MAX);
-        self.now = self.now.max(now);
-        self.now
-    }
-
     /// Ends: what was read is answered, and nothing more is read. Connections are closed with the code 1001. Their peers
     /// have two seconds to take what waits for them.
     fn end(&mut self, rt: &HostRuntime) -> Result<(), RunFault> {
-        let count = self.gateway.count();
+        let count = self.turns.gateway.count();
         self.confirm();
-        self.gateway.end_all();
-        self.streams.end_turn();
+        self.turns.gateway.end_all();
+        self.driver.streams.end_turn();
         self.wait_for_peers(rt)?;
         self.stop_file.remove(rt);
         let text = format!(in self.alloc; "central ends: {count} connections closed")?;
-        self.log.write_line(self.moment, text.as_str());
+        self.driver.log.write_line(self.moment, text.as_str());
         Ok(())
     }
 
     /// Waits until peers have taken what waits for them, within bounds.
     fn wait_for_peers(&mut self, rt: &HostRuntime) -> Result<(), RunFault> {
-        let begun = self.read_clock(rt);
+        let begun = self.driver.clock.read(rt);
         for _ in 0..u64::MAX {
-            let waited = self.read_clock(rt).saturating_sub(begun);
-            let is_taken = self.streams.count_unsent() == 0 && waited >= LEAST_WAIT;
+            let waited = self.driver.clock.read(rt).saturating_sub(begun);
+            let is_taken = self.driver.streams.count_unsent() == 0 && waited >= LEAST_WAIT;
             if is_taken || waited >= LAST_WAIT {
                 break;
             }
-            if let Err(error) = self.streams.wait(Duration::from_millis(100)) {
+            if let Err(error) = self.driver.streams.wait(Duration::from_millis(100)) {
                 return Err(RunFault::at(self.address, error));
             }
-            self.streams.end_turn();
+            self.driver.streams.end_turn();
         }
         Ok(())
     }
@@ -234,10 +196,10 @@ impl<S: Store + Drop, V: VendorHandler> Server<S, V> {
         } else {
             Duration::from_secs(0)
         };
-        let before = self.now;
-        let waited = self.streams.wait(time);
-        let idle = self.read_clock(rt).saturating_sub(before);
-        self.metrics.idle = self.metrics.idle.saturating_add(idle);
+        let before = self.driver.clock.now();
+        let waited = self.driver.streams.wait(time);
+        let idle = self.driver.clock.read(rt).saturating_sub(before);
+        self.driver.metrics.idle = self.driver.metrics.idle.saturating_add(idle);
         waited.map_err(|error| RunFault::at(self.address, error))
     }
 
@@ -245,13 +207,17 @@ impl<S: Store + Drop, V: VendorHandler> Server<S, V> {
     /// after a turn that ended in a fault, so that a fault that stays doesn't take a whole processor.
     fn pause(&mut self) -> Duration {
         let longest = Duration::from_secs(MAX_WAIT);
-        let accepts = self.may_accept() && self.lobby.has_room(self.second);
-        let least = if self.has_faulted { PAUSE } else { 0 };
-        if accepts && self.streams.may_accept() {
+        let accepts = self.may_accept() && self.turns.lobby.has_room(self.driver.second);
+        let least = if self.driver.has_faulted { PAUSE } else { 0 };
+        if accepts && self.driver.streams.may_accept() {
             return Duration::from_nanos(least);
         }
-        let places = self.streams.readable_peers();
-        match self.service.pause(&self.gateway, places, self.now) {
+        let places = self.driver.streams.readable_peers();
+        match self
+            .driver
+            .service
+            .pause(&self.turns.gateway, places, self.driver.clock.now())
+        {
             Some(pause) => Duration::from_nanos(pause.max(least)).min(longest),
             None => longest,
         }
@@ -265,16 +231,18 @@ impl<S: Store + Drop, V: VendorHandler> Server<S, V> {
         if moment > self.moment {
             self.moment = moment;
         }
-        let second = self.now / 1_000_000_000;
-        if second != self.second {
-            self.second = second;
+        let second = self.driver.clock.now() / 1_000_000_000;
+        if second != self.driver.second {
+            self.driver.second = second;
             self.failed_accept = false;
-            self.streams.release_all();
-            if self.reserve.is_none() {
-                self.reserve = set_aside(self.alloc).ok();
+            self.driver.streams.release_all();
+            if self.driver.reserve.is_none() {
+                self.driver.reserve = set_aside(self.alloc).ok();
             }
-            self.lobby.set_hurt(is_recent(self.hurt, second));
-            self.log.begin_second(moment);
+            self.turns
+                .lobby
+                .set_hurt(is_recent(self.driver.hurt, second));
+            self.driver.log.begin_second(moment);
             self.count_stations();
             self.probe();
             self.confirm();
@@ -285,34 +253,42 @@ impl<S: Store + Drop, V: VendorHandler> Server<S, V> {
     /// Sends a Ping to the peers that are silent, and ends the connections of those that stay silent after one: their
     /// system or the way to it may be gone without a word. What is read of a peer ends its silence.
     fn probe(&mut self) {
-        self.streams.set_second(self.second);
-        self.streams.find_silent(PING_AFTER, ANSWER_WITHIN);
-        self.gateway.ping(self.streams.to_ping());
-        self.gateway.end_silent(self.streams.to_end());
+        self.driver.streams.set_second(self.driver.second);
+        self.driver.streams.find_silent(PING_AFTER, ANSWER_WITHIN);
+        self.turns.gateway.ping(self.driver.streams.to_ping());
+        self.turns.gateway.end_silent(self.driver.streams.to_end());
     }
 
     /// Answers those that ask for the metrics, which are printed once in a second at most.
     pub(crate) fn answer_readers(&mut self, rt: &HostRuntime) {
-        let is_new = self.page.as_ref().is_none_or(|page| page.0 != self.second);
+        let is_new = self
+            .page
+            .as_ref()
+            .is_none_or(|page| page.0 != self.driver.second);
         if is_new {
-            let second = self.second;
+            let second = self.driver.second;
             self.page = self.print_page(rt).ok().map(|text| (second, text));
         }
         let text = self.page.as_ref().map_or("", |page| page.1.as_str());
-        self.lobby.answer_readers(text);
+        self.turns.lobby.answer_readers(text);
     }
 
     fn print_page(&self, rt: &HostRuntime) -> Mem<String> {
-        let connected = connected_of(self.alloc, &self.service, &self.gateway, self.hub.hub())?;
+        let connected = connected_of(
+            self.alloc,
+            &self.driver.service,
+            &self.turns.gateway,
+            self.turns.hub.hub(),
+        )?;
         let mut now = now_of(rt, self.db.as_str())?;
-        now.since_start = self.now;
-        now.waiting = self.lobby.count() as u64;
-        now.unsent = self.streams.count_unsent() as u64;
-        now.left_out = self.log.left_out();
+        now.since_start = self.driver.clock.now();
+        now.waiting = self.turns.lobby.count() as u64;
+        now.unsent = self.driver.streams.count_unsent() as u64;
+        now.left_out = self.driver.log.left_out();
         page_of(
             self.alloc,
             VERSION,
-            &self.metrics,
+            &self.driver.metrics,
             connected.as_slice(),
             &now,
         )
@@ -320,12 +296,12 @@ impl<S: Store + Drop, V: VendorHandler> Server<S, V> {
 
     /// Counts the notes of a turn, and writes them to the log.
     fn write_log(&mut self) {
-        let refused = self.lobby.take_notes();
-        self.metrics.note(refused.as_slice());
-        self.log.write_notes(self.moment, refused.as_slice());
-        let notes = self.gateway.take_notes();
-        self.metrics.note(notes.as_slice());
-        self.log.write_notes(self.moment, notes.as_slice());
+        let refused = self.turns.lobby.take_notes();
+        self.driver.metrics.note(refused.as_slice());
+        self.driver.log.write_notes(self.moment, refused.as_slice());
+        let notes = self.turns.gateway.take_notes();
+        self.driver.metrics.note(notes.as_slice());
+        self.driver.log.write_notes(self.moment, notes.as_slice());
         if !notes.is_empty() {
             self.name_full();
         }
@@ -334,27 +310,32 @@ impl<S: Store + Drop, V: VendorHandler> Server<S, V> {
     /// Names those operators to the gateway that have as many connections of stations as they may have. Where there is no
     /// memory for it, those that were named last are.
     fn name_full(&mut self) {
-        if let Ok(full) = self.metrics.full(self.alloc, self.most_stations) {
-            self.gateway.set_full(full);
+        if let Ok(full) = self.driver.metrics.full(self.alloc, self.most_stations) {
+            self.turns.gateway.set_full(full);
         }
     }
 
     /// Counts the connections of stations anew where an operator seems full, since a note may be left out for want of memory.
     fn count_stations(&mut self) {
         let is_full = |counts: &Counts| counts.stations >= self.most_stations;
-        if !self.metrics.counts.iter().any(is_full) {
+        if !self.driver.metrics.counts.iter().any(is_full) {
             return;
         }
-        let connected = connected_of(self.alloc, &self.service, &self.gateway, self.hub.hub());
+        let connected = connected_of(
+            self.alloc,
+            &self.driver.service,
+            &self.turns.gateway,
+            self.turns.hub.hub(),
+        );
         if let Ok(connected) = connected {
-            self.metrics.set_stations(connected.as_slice());
+            self.driver.metrics.set_stations(connected.as_slice());
             self.name_full();
         }
     }
 
     /// Whether connections are accepted in this second.
     fn may_accept(&self) -> bool {
-        !self.failed_accept && self.reserve.is_some()
+        !self.failed_accept && self.driver.reserve.is_some()
     }
 
     /// Accepts connections until none waits, up to a bound.
@@ -363,12 +344,14 @@ impl<S: Store + Drop, V: VendorHandler> Server<S, V> {
             return Ok(());
         }
         for _ in 0..MAX_ACCEPTS {
-            if !self.lobby.has_room(self.second) {
+            if !self.turns.lobby.has_room(self.driver.second) {
                 break;
             }
-            match self.streams.accept() {
+            match self.driver.streams.accept() {
                 Ok(Some((stream, client))) => {
-                    self.lobby.enter(stream, Some(client), self.second)?;
+                    self.turns
+                        .lobby
+                        .enter(stream, Some(client), self.driver.second)?;
                 }
                 Ok(None) => break,
                 Err(error) => return Err(RunFault::at(self.address, error)),

@@ -1,4 +1,6 @@
 //! Whom a turn serves: operators by what serving them has cost, and the connections of one in turn.
+ghost use Rattle.std.specs.Prelude.{◌≡◌, ◌<◌, ◌+◌, IfSome, Some, length, max, min};
+ghost use Rattle.ready_streams.specs.Shares.{IsLeastBelow, charge_of};
 
 use ocpp_types::{Mem, Text};
 use ready_streams::{ReadyStream, Shares};
@@ -89,9 +91,12 @@ impl Service {
         self.operators.binary_search(operator).ok()
     }
 
-    /// The operator and the place that are served next at that time, in nanoseconds. The connection there may be gone, or
-    /// another one.
-    pub fn next(&mut self, now: u64) -> Option<(usize, usize)> {
+    /// The operator and the place that are served next at that time, in nanoseconds: of the operators of whom one waits and that
+    /// don't rest, one that was charged least. The connection there may be gone, or another one.
+    pub fn next(&mut self, now: u64) -> Option<(usize, usize)>
+        ensures least { IfSome result (λ next. IsLeastBelow (length self.old.waits.items) self.old.shares self.old.waits.items now (Some next.0)) }
+        ensures shares { self.new.shares ≡ self.old.shares }
+    {
         let owner = self.shares.next(self.waits.as_slice(), now)?;
         let queue = self.queues.get_mut(owner)?;
         let place = queue.pop_front();
@@ -104,7 +109,9 @@ impl Service {
 
     /// An operator was served up to that time, which took so many nanoseconds. After a long event it rests, if others are
     /// connected.
-    pub fn charge(&mut self, gateway: &Gateway<ReadyStream>, owner: usize, cost: u64, now: u64) {
+    pub fn charge(&mut self, gateway: &Gateway<ReadyStream>, owner: usize, cost: u64, now: u64)
+        ensures { owner < length self.old.shares.charged.items → charge_of self.new.shares owner ≡ min (charge_of self.old.shares owner + max cost 1) 18446744073709551615 }
+    {
         self.shares.charge(owner, cost);
         if cost > LONG && self.has_others(gateway, owner) {
             let time = cost.saturating_mul(REST);

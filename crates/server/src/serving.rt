@@ -132,7 +132,7 @@ fn begin_and_run<S: Store + Drop, V: VendorHandler>(
         server.keep_journal(rt, kept)?;
     }
     if options.commit == Commit::Turn {
-        server.commit_turns();
+        server.hold_turns();
     }
     warn_of(rt, options.address);
     server.tell_start(start);

@@ -8,6 +8,16 @@ use Rattle.journal.proofs.Writers.{opened, waits_nothing}
 use Rattle.journal.specs.Entries.{AreCounts, IsCount}
 use Rattle.journal.specs.Writers.{HasTurn, IsOpen}
 use Rattle.journal.specs.declared.writer.Writer.{Writer}
+use Rattle.hub_rows.proofs.OnRecord.{finds_only}
+use Rattle.hub_rows.specs.Rows.{Rows}
+use Rattle.hub_rows.specs.StoreView.{StoreView}
+use Rattle.hub_rows.specs.Stops.{HasOnRecord, Records, StaysOnRecord}
+use Rattle.hub_rows.specs.declared.store.Flush.{Flush}
+use Rattle.hub_rows.specs.declared.store.Flush.TheVariants.{Later}
+use Rattle.hub.specs.Hub as of_hub
+use Rattle.hub.specs.declared.hub.Hub.{Hub}
+use Rattle.turn_hub.specs.TurnHub.{KeepsRecord, flush_by, flush_of, hub_view}
+use Rattle.turn_hub.specs.declared.turn_hub.TurnHub.{TurnHub}
 use Rattle.turn_hub.specs.Journals.{Handles, HasBegun, HasEvents, IsAhead, OfJournal}
 
 pub err_then : {T E P Q : Type 0} (r : Result T E) → (P → Q) → OnErr r P → OnErr r Q
@@ -66,3 +76,19 @@ module _ {W : Type 0} (contents : W → Option (List ℕ)) (is_hosted : List ℕ
       → HasEvents contents is_hosted writer on_record (events ++ (event ∷ []))
   one_taken event taken now all was same =
       record { taken = taken; now = now ++ (event ∷ []); was = was; all = sym (append_assoc taken now (event ∷ [])) ∙ ap (λ es. es ++ (event ∷ [])) all; same = same }
+
+-- an event is prepared and then committed, between which its line begins
+pub keeps_record : {S V W T E : Type 0} (view : S → StoreView) (old new : TurnHub S V W) (prepared begun made : Hub S V) (when : Flush) (rows : Rows) (x : T) (WasOk : Type 0)
+    → begun ≡ prepared → new.hub ≡ made → new.commits ≡ old.commits → new.is_alone ≡ old.is_alone → when ≡ flush_of old
+    → StaysOnRecord (of_hub.hub_view view old.hub) (of_hub.hub_view view prepared) → Records {E = E} when rows (of_hub.hub_view view begun) (of_hub.hub_view view made) (Ok x) → KeepsRecord view old new WasOk
+keeps_record view old new prepared begun made when rows x WasOk begins is commits alone flushes prepares records = record {
+  commits = commits;
+  waits = λ later. (λ i. flush_by (commits i) (alone i)) ∙ later;
+  left = λ later on_record was. finds_only (hub_view view new) on_record (stays later on_record was);
+  stays = λ later ok. stays later;
+}
+  where
+    stays : flush_of old ≡ Later → (on_record : Rows) → HasOnRecord on_record (hub_view view old) → HasOnRecord on_record (hub_view view new)
+    stays later on_record was =
+        let ready = subst (λ h. HasOnRecord on_record (of_hub.hub_view view h)) (sym begins) (prepares on_record was) in
+        subst (λ h. HasOnRecord on_record (of_hub.hub_view view h)) (sym is) (records.waits (flushes ∙ later) on_record ready)

@@ -1,5 +1,5 @@
 //! Taking an event.
-ghost use Rattle.std.specs.Prelude.{◌≡◌, ◌≢◌, ◌≤◌, ◌+◌, ◌++◌, ◌∷◌, ℕ, List, [], Bool, true, false, Err, IfErr, IfOk, OnErr, OnOk};
+ghost use Rattle.std.specs.Prelude.{◌≡◌, ◌≢◌, ◌≤◌, ◌+◌, ◌++◌, ◌∷◌, ℕ, List, [], Bool, true, false, Err, IfErr, IfOk, OnErr, OnOk, IsOk};
 ghost use Rattle.hub_events.specs.declared.event.Event.{Event as HubEvent};
 ghost use Rattle.hub_rows.specs.Failures.{Rose};
 ghost use Rattle.hub_rows.specs.Reads.{IsCounted};
@@ -8,7 +8,7 @@ ghost use Rattle.hub.specs.World.{world_outputs, world_step};
 ghost use Rattle.journal.specs.Entries.{IsCount};
 ghost use Rattle.lines.specs.Journal.{Stands};
 ghost use Rattle.turn_hub.specs.Journals.{AreSmall, BeginsLine, Journals, Notes, events_of};
-ghost use Rattle.turn_hub.specs.TurnHub.{hub_view, is_clean, setting, world};
+ghost use Rattle.turn_hub.specs.TurnHub.{KeepsRecord, hub_view, is_clean, setting, world};
 
 use crate::event_lines::{NotBegun, begin};
 use crate::turn_hub::TurnHub;
@@ -23,6 +23,7 @@ impl<S: Store + Drop, V: VendorHandler, W: JournalFile + Drop> TurnHub<S, V, W> 
     /// it says before the turn ends.
     pub fn handle(&mut self, event: &Event, order: &str) -> Result<Vec<Out>, Fault>
         ensures counted { IsCounted (hub_view S.view) self.old self.new (result ≡ Err Fault.Store) }
+        ensures records { KeepsRecord S.view self.old self.new (IsOk result) }
         ensures outputs { is_clean S.view self.new → IfOk result (λ outs. outs.items
             ≡ world_outputs (setting V.view self.old) (world S.view self.old) event.now) }
         ensures world { is_clean S.view self.new → OnOk result (world S.view self.new
@@ -65,6 +66,7 @@ impl<S: Store + Drop, V: VendorHandler, W: JournalFile + Drop> TurnHub<S, V, W> 
         ensures refused { AreSmall self.old → OnErr result ((is_hosted : List ℕ → Bool) (events : List HubEvent)
             → Journals W.contents is_hosted self.old events → Journals W.contents is_hosted self.new events) }
         ensures counts { (self.new.on_record ≡ self.old.on_record) × (is_ahead ≡ false → events_of self.new.journal ≡ events_of self.old.journal) }
+        ensures mode { (self.new.commits ≡ self.old.commits) × (self.new.is_alone ≡ self.old.is_alone) }
     {
         let Some(journal) = &mut self.journal else {
             return Ok(());
@@ -83,6 +85,7 @@ impl<S: Store + Drop, V: VendorHandler, W: JournalFile + Drop> TurnHub<S, V, W> 
     fn finish_change(&mut self)
         ensures hub { self.new.hub ≡ self.old.hub }
         ensures same { self.new.failures ≡ self.old.failures }
+        ensures mode { (self.new.commits ≡ self.old.commits) × (self.new.is_alone ≡ false) }
         ensures journal { IsCount (self.old.on_record + 1) → (is_hosted : List ℕ → Bool) (events : List HubEvent) (event : HubEvent)
             → BeginsLine W.contents is_hosted true self.old events event → Journals W.contents is_hosted self.new (events ++ (event ∷ [])) }
     {
@@ -98,6 +101,7 @@ impl<S: Store + Drop, V: VendorHandler, W: JournalFile + Drop> TurnHub<S, V, W> 
     fn finish(&mut self, event: &Event, outs: &[Out], has_change: bool)
         ensures hub { self.new.hub ≡ self.old.hub }
         ensures same { self.new.failures ≡ self.old.failures }
+        ensures mode { (self.new.commits ≡ self.old.commits) × (self.new.is_alone ≡ self.old.is_alone) }
         ensures journal { IsCount (events_of self.old.journal + 1) → (is_hosted : List ℕ → Bool) (events : List HubEvent)
             → BeginsLine W.contents is_hosted false self.old events event.now → (after : List HubEvent) × Notes events event.now outs.now after × Journals W.contents is_hosted self.new after }
     {

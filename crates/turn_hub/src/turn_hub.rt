@@ -1,10 +1,11 @@
 //! A hub that takes events in turns.
-ghost use Rattle.std.specs.Prelude.{◌≡◌, ◌≢◌, ◌&&◌, is_some, Err, IfErr, IfOk};
+ghost use Rattle.std.specs.Prelude.{◌≡◌, ◌≢◌, ◌&&◌, ◌↔◌, is_some, true, Err, IfErr, IfOk, IsOk};
 ghost use Rattle.hub_rows.specs.Operators.{is_hosted};
 ghost use Rattle.hub_rows.specs.Reads.{IsCounted};
 ghost use Rattle.hub_rows.specs.Readers.{reader_in};
 ghost use Rattle.hub_rows.specs.Rows.{registration_at};
-ghost use Rattle.turn_hub.specs.TurnHub.{hub_view, is_clean, setting, world};
+ghost use Rattle.turn_hub.specs.TurnHub.{KeepsRecord, flush_of, hub_view, is_clean, setting, world};
+ghost use Rattle.turn_hub.specs.declared.turn_hub.Commits.TheVariants as Commits;
 
 use hub::{Fault, Hub};
 use hub_rows::{Flush, Reader, Store};
@@ -90,9 +91,21 @@ impl<S: Store + Drop, V: VendorHandler, W: JournalFile + Drop> TurnHub<S, V, W> 
         self.changes != self.on_record
     }
 
+    /// Whether the changes of a turn are committed together.
+    pub fn has_turns(&self) -> bool
+        ensures { result ≡ true ↔ self.now.commits ≡ Commits.Turns }
+    {
+        match self.commits {
+            Commits::Each => false,
+            Commits::Turns => true,
+        }
+    }
+
     /// When the change of an event is flushed.
-    pub(crate) fn flush(&self) -> Flush {
-        if self.commits == Commits::Turns && !self.is_alone {
+    pub(crate) fn flush(&self) -> Flush
+        ensures { result ≡ flush_of self.now }
+    {
+        if self.has_turns() && !self.is_alone {
             Flush::Later
         } else {
             Flush::AtOnce
@@ -116,6 +129,7 @@ impl<S: Store + Drop, V: VendorHandler, W: JournalFile + Drop> TurnHub<S, V, W> 
     /// As `Hub::knows`.
     pub fn knows(&mut self, op: &str, station: &str) -> Result<bool, Fault>
         ensures counted { IsCounted (hub_view S.view) self.old self.new (result ≡ Err Fault.Store) }
+        ensures records { KeepsRecord S.view self.old self.new (IsOk result) }
         ensures known { is_clean S.view self.new → IfOk result (λ k. k ≡ (setting V.view self.old).is_hosted op.now
             && is_some (registration_at op.now station.now (world S.view self.old).rows)) }
         ensures world { is_clean S.view self.new → world S.view self.new ≡ world S.view self.old }
@@ -128,6 +142,7 @@ impl<S: Store + Drop, V: VendorHandler, W: JournalFile + Drop> TurnHub<S, V, W> 
     /// As `Hub::reader`.
     pub fn reader(&mut self, op: &str, station: &str) -> Result<Reader, Fault>
         ensures counted { IsCounted (hub_view S.view) self.old self.new (result ≡ Err Fault.Store) }
+        ensures records { KeepsRecord S.view self.old self.new (IsOk result) }
         ensures reader { is_clean S.view self.new → IfOk result (λ r. r ≡ reader_in op.now station.now (world S.view self.old).rows.readers) }
         ensures world { is_clean S.view self.new → world S.view self.new ≡ world S.view self.old }
         ensures setting { setting V.view self.new ≡ setting V.view self.old }

@@ -46,6 +46,7 @@ impl<S: Store + Drop, V: VendorHandler, W: JournalFile + Drop> TurnHub<S, V, W> 
         ensures setting { setting V.view self.new ≡ setting V.view self.old }
         ensures journaled { AreSmall self.old → OnOk result ((is_hosted : List ℕ → Bool) (events : List HubEvent)
             → Journals W.contents is_hosted self.old events → HasJournaled W.contents is_hosted self.new events) }
+        ensures commits { self.new.commits ≡ self.old.commits }
         ensures first { AreSmall self.old → IfErr result (λ e. (f : Fault) → e ≡ TurnFault.Hub f → (is_hosted : List ℕ → Bool) (events : List HubEvent)
             → Journals W.contents is_hosted self.old events → JournalsFirst W.contents is_hosted self.new events) }
         ensures unwritten { result ≡ Err TurnFault.Journal → self.new.hub ≡ self.old.hub }
@@ -63,6 +64,7 @@ impl<S: Store + Drop, V: VendorHandler, W: JournalFile + Drop> TurnHub<S, V, W> 
             → Journals W.contents is_hosted self.old events → JournalsFirst W.contents is_hosted self.new events) }
         ensures fault { IfErr result (λ e. e ≡ TurnFault.Journal) }
         ensures same { self.new.failures ≡ self.old.failures }
+        ensures commits { self.new.commits ≡ self.old.commits }
     {
         let Some(journal) = &mut self.journal else {
             return Ok(());
@@ -79,6 +81,7 @@ impl<S: Store + Drop, V: VendorHandler, W: JournalFile + Drop> TurnHub<S, V, W> 
         ensures journaled { (is_hosted : List ℕ → Bool) (events : List HubEvent)
             → JournalsFirst W.contents is_hosted self.old events → HasJournaled W.contents is_hosted self.new events }
         ensures same { self.new.failures ≡ self.old.failures }
+        ensures commits { self.new.commits ≡ self.old.commits }
     {
         self.on_record = self.changes;
         if let Some(journal) = &mut self.journal {
@@ -101,6 +104,8 @@ impl<S: Store + Drop, V: VendorHandler, W: JournalFile + Drop> TurnHub<S, V, W> 
         ensures recovers { Recovers (hub_view S.view self.old) (hub_view S.view self.new) result }
         ensures whole { result ≡ Ok recovered.Whole → (world S.view self.new).slots ≡ (world S.view self.old).slots }
         ensures renewed { result ≡ Ok recovered.Renewed → (world S.view self.new).slots ≡ [] }
+        ensures commits { self.new.commits ≡ self.old.commits }
+        ensures mode { result ≡ Ok recovered.Whole → self.new.is_alone ≡ self.old.is_alone }
         ensures setting { setting V.view self.new ≡ setting V.view self.old }
     {
         let recovered = self.hub.recover()?;
@@ -115,6 +120,7 @@ impl<S: Store + Drop, V: VendorHandler, W: JournalFile + Drop> TurnHub<S, V, W> 
     /// record.
     pub fn begin_again(&mut self, operators: &str) -> Result<(), JournalFault>
         ensures hub { self.new.hub ≡ self.old.hub }
+        ensures commits { self.new.commits ≡ self.old.commits }
         ensures journaled { AreSmall self.old → list_any is_feed operators.now ≡ false → OnOk result ((is_hosted : List ℕ → Bool) (events : List HubEvent)
             → JournalSays W.contents is_hosted self.old events → HasJournaled W.contents is_hosted self.new events) }
     {

@@ -5,3 +5,5 @@ pub mod PartLaws
 pub mod ProbeLaws
 pub mod SayLaws
 pub mod StepLaws
+mod RecordLaws
+mod TurnLaws

@@ -1,5 +1,5 @@
 -- Steps of the hub.
-use Rattle.std.proofs.Common.{Bool, Err, List, None, Ok, Option, Result, Some, [], add-one, ap, arith, false, if◌then◌else◌, inl, inr, length, nat_lt, refl, slice_index_or, subst, suc, sym, true, true≢false, zero, ℕ, ◌++◌, ◌+◌, ◌∙◌, ◌∷◌, ◌≡◌, ◌||◌}
+use Rattle.std.proofs.Common.{Bool, is_ok, Err, List, None, Ok, Option, Result, Some, [], add-one, ap, arith, false, if◌then◌else◌, inl, inr, length, nat_lt, refl, slice_index_or, subst, suc, sym, true, true≢false, zero, ℕ, ◌++◌, ◌+◌, ◌∙◌, ◌∷◌, ◌≡◌, ◌||◌}
 use Rattle.std.proofs.Common.{◌<◌, ◌≤◌}
 use Rattle.std.proofs.lemmas.List.{append_assoc, append-nil}
 use Rattle.std.specs.Io.BufRead.{strip_last}
@@ -31,7 +31,7 @@ use Rattle.ws_peers.specs.declared.routes.Route.{Route}
 use Rattle.ws_peers.specs.declared.routes.Route.TheVariants.{Station, Operator}
 use Rattle.ws_server.specs.Admits.{WelcomesOne, WelcomesSome}
 use Rattle.ws_server.specs.Events.{word_of, order_text, event_of, parting, is_route_of_hosted}
-use Rattle.ws_server.specs.Turns.{Change, Then, Alone, Becomes, AtPlace, EachOf, ascending, is_above, FirstPlaces, HandsOrRefuses, Between, Answers, HandsText, Means, Parts, PartsAs}
+use Rattle.ws_server.specs.Turns.{Change, Then, Alone, Becomes, AtPlace, EachOf, FirstPlaces, HandsOrRefuses, Between, Answers, HandsText, Means, Parts, PartsAs}
 use Rattle.ws_server.specs.Steps.{Step, Runs, Takes}
 
 -- ---- what a fault says of an operator
@@ -178,37 +178,23 @@ module _ {P : Type 0} where
   pub follows : (C D : Change P) (old mid new : List P) (before after : List Step) (r : Result (Unit {0}) Fault) → C old mid before (Ok tt) → D mid new after r → Then C D old new (before ++ after) r
   follows C D old mid new before after r first second = inl (mid, before, after, first, second, refl)
 
--- ---- the places of a list, one after the other
-module _ {P : Type 0} (C : ℕ → Change P) (all : List ℕ) (old : List P) where
-  -- what is done at the places that are left is done at all, after those steps
-  abbrev pub Rest : List ℕ → List P → List Step → Type 0
-  Rest left now before = (end : List P) (after : List Step) (r : Result (Unit {0}) Fault) → EachOf C left now end after r → EachOf C all old end (before ++ after) r
+pub err_is : {A E : Type 0} (r : Result A E) (e : E) → IsErr r → IsErrAnd r (λ x. x ≡ e) → Err e ≡ r
+err_is (Ok x) e err same = absurd (true≢false (sym err))
+err_is (Err x) e err same = ap Err (sym same)
 
-  there-is : (n : ℕ) (mid new : List P) (more : List Step) (r : Result (Unit {0}) Fault) → n < length mid → C n mid new more r → AtPlace C n mid new more r
-  there-is n mid new more r small change = record { there = λ _. change; missing = λ few. absurd (omega (arith, small, few)) }
-
+-- ---- places, one after the other
+module _ {P : Type 0} (C : ℕ → Change P) where
   -- one place more
-  pub place-on : (n : ℕ) (left : List ℕ) (mid new : List P) (before more : List Step) → n < length mid → Rest (n ∷ left) mid before → C n mid new more (Ok tt) → Rest left new (before ++ more)
-  place-on n left mid new before more small on change = λ end after r rest. subst (λ steps. EachOf C all old end steps r) (sym (append_assoc before more after))
-      (on end (more ++ after) r (follows (AtPlace C n) (EachOf C left) mid new end more after r (there-is n mid new more (Ok tt) small change) rest))
-
-  -- a place at which there is none is passed over
-  pub place-over : (n : ℕ) (left : List ℕ) (mid : List P) (before : List Step) → length mid ≤ n → Rest (n ∷ left) mid before → Rest left mid before
-  place-over n left mid before few on = λ end after r rest. on end after r
-      (follows (AtPlace C n) (EachOf C left) mid mid end [] after r (record { there = λ small. absurd (omega (arith, small, few)); missing = λ _. (refl, refl, refl) }) rest)
-
-  -- no place is left
-  pub place-end : (now : List P) (before : List Step) → Rest [] now before → EachOf C all old now before (Ok tt)
-  place-end now before on = subst (λ steps. EachOf C all old now steps (Ok tt)) (append-nil before) (on now [] (Ok tt) (refl, refl, refl))
-
-  -- a place that ends in a fault is the last
-  pub place-fails : (n : ℕ) (left : List ℕ) (mid new : List P) (before more : List Step) (fault : Fault) → n < length mid → Rest (n ∷ left) mid before
-      → C n mid new more (Err fault) → EachOf C all old new (before ++ more) (Err fault)
-  place-fails n left mid new before more fault small on change = on new more (Err fault) (inr (fault, there-is n mid new more (Err fault) small change, refl))
-
--- a place above those before it is the next
-pub above-on : (last : Option ℕ) (n : ℕ) (xs ys : List ℕ) → xs ≡ n ∷ ys → is_above last n ≡ true → ascending last xs ≡ n ∷ ascending (Some n) ys
-above-on last n xs ys is above = ap (ascending last) is ∙ ap (λ b. if b then n ∷ ascending (Some n) ys else ascending last ys) above
+  pub each_more : (places : List ℕ) (n : ℕ) (old mid new : List P) (before after : List Step) (r : Result (Unit {0}) Fault) → EachOf C places old mid before (Ok tt) → AtPlace C n mid new after r → EachOf C (places ++ (n ∷ [])) old new (before ++ after) r
+  each_more [] n old mid new before after r (same, none, ok) at =
+      subst (λ steps. EachOf C (n ∷ []) old new steps r) (ap (λ b. b ++ after) (sym none)) (last r (subst (λ p. AtPlace C n p new after r) same at))
+    where
+      last : (r : Result (Unit {0}) Fault) → AtPlace C n old new after r → EachOf C (n ∷ []) old new after r
+      last (Ok u) at = inl (new, after, [], at, (refl, refl, refl), sym (append-nil after))
+      last (Err fault) at = inr (fault, at, refl)
+  each_more (p ∷ places) n old mid new before after r (inl (here, one, more, first, rest, all)) at =
+      inl (here, one, more ++ after, first, each_more places n here mid new more after r rest at, ap (λ b. b ++ after) all ∙ append_assoc one more after)
+  each_more (p ∷ places) n old mid new before after r (inr (fault, failed, same)) at = absurd (true≢false (ap is_ok same))
 
 module _ {T : Type 0} (remaining contents : T → Option (List ℕ)) (m : ℕ) where
   -- one more connection is welcomed

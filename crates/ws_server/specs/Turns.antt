@@ -21,16 +21,6 @@ use Rattle.ws_server.specs.Tells.{SentWhileOpen, TellsAll}
 abbrev pub Change : Type 0 → Type 1
 Change P = List P → List P → List Step → Result (Unit {0}) Fault → Type 0
 
--- a place is above the last one, if there was one
-abbrev pub is_above : Option ℕ → ℕ → Bool
-is_above None n = true
-is_above (Some last) n = nat_lt last n
-
--- of some places those that are above all before them
-abbrev pub ascending : Option ℕ → List ℕ → List ℕ
-ascending last [] = []
-ascending last (n ∷ places) = if is_above last n then n ∷ ascending (Some n) places else ascending last places
-
 module _ {P : Type 0} where
   -- one change after the other, where the first ends well
   abbrev pub Then : Change P → Change P → Change P
@@ -59,10 +49,6 @@ module _ {P : Type 0} where
   abbrev pub EachOf : (ℕ → Change P) → List ℕ → Change P
   EachOf C [] old new steps r = (new ≡ old) × (steps ≡ []) × (r ≡ Ok tt)
   EachOf C (n ∷ places) old new steps r = Then (AtPlace C n) (EachOf C places) old new steps r
-
-  -- the change of each of those places that is above all before it
-  abbrev pub EachAbove : (ℕ → Change P) → List ℕ → Change P
-  EachAbove C places = EachOf C (ascending None places)
 
   -- a change that the hub has no part in
   abbrev pub Alone : (List P → List P → Type 0) → Change P
@@ -138,8 +124,3 @@ module _ {T : Type 0} (remaining contents : T → Option (List ℕ)) (is_hosted 
     pub mid : List (Peer T)
     pub took : lists.At (λ p q. Took remaining contents p q text) n old mid
     pub handled : Handles contents is_hosted m n text mid new steps r
-
-  -- a turn at moment m: the peers at those places are served, each once at most, by place; then those that have ended
-  -- leave
-  abbrev pub Turns : ℕ → List ℕ → Change (Peer T)
-  Turns m places = Then (EachAbove (Serves m) places) (PartsAndTicks contents is_hosted m)

@@ -1,8 +1,8 @@
 //! Admitting a connection.
-ghost use Rattle.std.specs.Prelude.{◌≡◌, true, false, [], codes, Err, IfErr, OnOk};
+ghost use Rattle.std.specs.Prelude.{◌≡◌, true, false, [], codes, Err, IfErr, OnOk, IsOk};
 ghost use Rattle.hub_rows.specs.Reads.{IsCounted};
 ghost use Rattle.hub.specs.Hub.{is_taken};
-ghost use Rattle.turn_hub.specs.TurnHub.{hub_view, setting};
+ghost use Rattle.turn_hub.specs.TurnHub.{KeepsRecord, hub_view, setting};
 ghost use Rattle.ws_peers.specs.Lists.{peers, has_room};
 ghost use Rattle.ws_server.specs.Admits.{Enters};
 ghost use Rattle.ws_server.specs.Steps.{Takes};
@@ -29,7 +29,7 @@ const NO_SUBPROTOCOL: &str = "subprotocol ocpp1.6 is missing";
 /// Why a station is closed that is no longer on record.
 const NO_STATION: &str = "no such station";
 
-#[tactic(auto, using(crate::proofs::StepLaws::nothing))]
+#[tactic(auto, using(crate::proofs::StepLaws::nothing, crate::proofs::RecordLaws::unchanged))]
 impl<T: Read + Write + Served + Drop> Gateway<T> {
     ghost use Rattle.ws_server.specs.Admits.{Admits, Closes, Connects, is_served};
     ghost use Rattle.ws_server.specs.Events.{is_route_of_hosted};
@@ -50,6 +50,7 @@ impl<T: Read + Write + Served + Drop> Gateway<T> {
         ensures hosted { OnOk result (is_served (setting V.view hub.old).is_hosted arrival.route arrival.has_subprotocol ≡ true) }
         ensures not_hosted { IfErr result (λ f. f ≡ Fault.NoSuchOperator → is_route_of_hosted (setting V.view hub.old).is_hosted arrival.route ≡ false) }
         ensures counted { IsCounted (hub_view S.view) hub.old hub.new (result ≡ Err Fault.Store) }
+        ensures records { KeepsRecord S.view hub.old hub.new (IsOk result) }
     {
         match &arrival.route {
             Route::Station(op, station) if arrival.has_subprotocol => {
@@ -96,6 +97,7 @@ impl<T: Read + Write + Served + Drop> Gateway<T> {
         ensures taken { OnOk result (is_taken (setting V.view hub.old) event.now ≡ true) }
         ensures not_taken { IfErr result (λ f. f ≡ Fault.NoSuchOperator → is_taken (setting V.view hub.old) event.now ≡ false) }
         ensures counted { IsCounted (hub_view S.view) hub.old hub.new (result ≡ Err Fault.Store) }
+        ensures records { KeepsRecord S.view hub.old hub.new (IsOk result) }
     {
         self.peers.reserve()?;
         let outs = match hub.handle(event, "") {

@@ -1,7 +1,7 @@
 //! Answering the texts of peers.
-ghost use Rattle.std.specs.Prelude.{◌≡◌, ◌<◌, Err, List, codes, length, string_bytes};
+ghost use Rattle.std.specs.Prelude.{◌≡◌, ◌<◌, Err, List, codes, length, string_bytes, IsOk};
 ghost use Rattle.hub_rows.specs.Reads.{IsCounted};
-ghost use Rattle.turn_hub.specs.TurnHub.{hub_view, setting};
+ghost use Rattle.turn_hub.specs.TurnHub.{KeepsRecord, hub_view, setting};
 ghost use Rattle.ws_peers.specs.Lists.{At};
 ghost use Rattle.ws_server.specs.Steps.{Takes};
 ghost use Rattle.ws_server.specs.Tells.{SentWhileOpen, peers_of};
@@ -19,7 +19,7 @@ use std::io::{Read, Write};
 use turn_hub::TurnHub;
 use ws_peers::Peer;
 
-#[tactic(auto, using(crate::proofs::StepLaws::nothing))]
+#[tactic(auto, using(crate::proofs::StepLaws::nothing, crate::proofs::RecordLaws::unchanged))]
 impl<T: Read + Write + Served + Drop> Gateway<T> {
     ghost use Rattle.ws_server.specs.Turns.{HandsOrRefuses, Between, HandsText};
 
@@ -37,6 +37,7 @@ impl<T: Read + Write + Served + Drop> Gateway<T> {
         ensures takes { Takes S.view V.view hub.old hub.new
             (λ steps. HandsText T.contents (setting V.view hub.old).is_hosted moment n text.now (peers_of self.old) (peers_of self.new) steps result) }
         ensures counted { IsCounted (hub_view S.view) hub.old hub.new (result ≡ Err Fault.Store) }
+        ensures records { KeepsRecord S.view hub.old hub.new (IsOk result) }
         ensures count { length (peers_of self.new) ≡ length (peers_of self.old) }
     {
         let route = self.peers.peer(n).route();
@@ -63,6 +64,7 @@ impl<T: Read + Write + Served + Drop> Gateway<T> {
         ensures takes { Takes S.view V.view hub.old hub.new
             (λ steps. HandsOrRefuses T.contents (setting V.view hub.old).is_hosted n event.now (peers_of self.old) (peers_of self.new) steps result) }
         ensures counted { IsCounted (hub_view S.view) hub.old hub.new (result ≡ Err Fault.Store) }
+        ensures records { KeepsRecord S.view hub.old hub.new (IsOk result) }
         ensures count { length (peers_of self.new) ≡ length (peers_of self.old) }
     {
         match event {
@@ -88,6 +90,7 @@ impl<T: Read + Write + Served + Drop> Gateway<T> {
             (λ steps. Between T.contents n (string_bytes bounds.now.begin) (string_bytes bounds.now.end)
             (HandsOrRefuses T.contents (setting V.view hub.old).is_hosted n event.now) (peers_of self.old) (peers_of self.new) steps result) }
         ensures counted { IsCounted (hub_view S.view) hub.old hub.new (result ≡ Err Fault.Store) }
+        ensures records { KeepsRecord S.view hub.old hub.new (IsOk result) }
         ensures count { length (peers_of self.new) ≡ length (peers_of self.old) }
     {
         let Some(event) = event else {

@@ -1,7 +1,7 @@
 //! Connections whose handshake is not done.
-ghost use Rattle.std.specs.Prelude.{◌≡◌, ◌≢◌, ◌++◌, ◌∷◌, ◌<◌, ◌≤◌, List, [], true, slice_index_or, Err, OnOk, OnErr, IfOk, IfErr, length};
+ghost use Rattle.std.specs.Prelude.{◌≡◌, ◌≢◌, ◌++◌, ◌∷◌, ◌<◌, ◌≤◌, List, [], true, slice_index_or, Err, OnOk, OnErr, IfOk, IfErr, length, IsOk};
 ghost use Rattle.hub_rows.specs.Reads.{IsCounted};
-ghost use Rattle.turn_hub.specs.TurnHub.{hub_view, is_clean};
+ghost use Rattle.turn_hub.specs.TurnHub.{KeepsRecord, hub_view, is_clean};
 ghost use Rattle.ws_server.specs.Admits.{AsksFor};
 ghost use Rattle.ws_server.specs.Lobbies.{waiting_count, with_room, origins_of, is_late, IfWelcome};
 ghost use Rattle.ws_server.specs.Steps.{Takes};
@@ -221,6 +221,7 @@ impl<T: Peek + Read + Write + Served + Drop> Lobby<T> {
         ensures takes { Takes S.view V.view hub.old hub.new
             (λ steps. WelcomesSome T.remaining T.contents moment (origins_of self.old) (peers_of gateway.old) (peers_of gateway.new) steps result) }
         ensures counted { IsCounted (hub_view S.view) hub.old hub.new (result ≡ Err Fault.Store) }
+        ensures records { KeepsRecord S.view hub.old hub.new (IsOk result) }
         ensures hosted { is_clean S.view hub.new → IfErr result (λ f. f ≢ Fault.NoSuchOperator) }
         ensures fewer { waiting_count self.new ≤ waiting_count self.old }
         ensures origins { origins_of self.new ≡ origins_of self.old }
@@ -244,6 +245,7 @@ impl<T: Peek + Read + Write + Served + Drop> Lobby<T> {
         ensures takes { Takes S.view V.view hub.old hub.new
             (λ steps. WelcomesOne T.remaining T.contents moment (origins_of self.old) (peers_of gateway.old) (peers_of gateway.new) steps result) }
         ensures counted { IsCounted (hub_view S.view) hub.old hub.new (result ≡ Err Fault.Store) }
+        ensures records { KeepsRecord S.view hub.old hub.new (IsOk result) }
         ensures hosted { is_clean S.view hub.new → IfErr result (λ f. f ≢ Fault.NoSuchOperator) }
         ensures fewer { waiting_count self.new ≤ waiting_count self.old }
         ensures origins { origins_of self.new ≡ origins_of self.old }

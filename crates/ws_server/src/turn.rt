@@ -1,12 +1,11 @@
 //! Serving the peers.
-ghost use Rattle.std.specs.Prelude.{◌≡◌, ◌<◌, Err, length};
+ghost use Rattle.std.specs.Prelude.{◌≡◌, ◌<◌, Err, length, IsOk};
 ghost use Rattle.std.specs.List.Sorted.{IsNonDecreasing};
 ghost use Rattle.hub_rows.specs.Reads.{IsCounted};
-ghost use Rattle.turn_hub.specs.TurnHub.{hub_view, setting};
+ghost use Rattle.turn_hub.specs.TurnHub.{KeepsRecord, hub_view, setting};
 ghost use Rattle.ws_peers.specs.Peers.{FailsOnlyAt, is_open_peer};
 ghost use Rattle.ws_server.specs.Steps.{Takes};
 ghost use Rattle.ws_server.specs.Tells.{peers_of};
-ghost use Rattle.ws_server.specs.Turns.{is_above};
 
 use crate::events::parting;
 use crate::gateway::Gateway;
@@ -21,9 +20,9 @@ use std::io::{Read, Write};
 use turn_hub::TurnHub;
 use ws_peers::{Peers, Stage};
 
-#[tactic(auto, using(crate::proofs::StepLaws::handed, crate::proofs::StepLaws::nothing))]
+#[tactic(auto, using(crate::proofs::StepLaws::handed, crate::proofs::StepLaws::nothing, crate::proofs::RecordLaws::unchanged))]
 impl<T: Read + Write + Served + Drop> Gateway<T> {
-    ghost use Rattle.ws_server.specs.Turns.{Hands, Serves, Parts, Each, SweepsAndTicks, PartsAndTicks, Turns};
+    ghost use Rattle.ws_server.specs.Turns.{AtPlace, Hands, Serves, Parts, Each, SweepsAndTicks, PartsAndTicks};
 
     /// Hands an event to the hub, and sends its outputs. After a fault nothing has changed. `order` is the text of an order,
     /// without its word.
@@ -37,6 +36,7 @@ impl<T: Read + Write + Served + Drop> Gateway<T> {
         ensures takes { Takes S.view V.view hub.old hub.new
             (λ steps. Hands T.contents (setting V.view hub.old).is_hosted event.now (peers_of self.old) (peers_of self.new) steps result) }
         ensures counted { IsCounted (hub_view S.view) hub.old hub.new (result ≡ Err Fault.Store) }
+        ensures records { KeepsRecord S.view hub.old hub.new (IsOk result) }
         ensures count { length (peers_of self.new) ≡ length (peers_of self.old) }
     {
         let outs = hub.handle(event, order)?;
@@ -57,6 +57,7 @@ impl<T: Read + Write + Served + Drop> Gateway<T> {
         ensures takes { Takes S.view V.view hub.old hub.new
             (λ steps. Serves T.remaining T.contents (setting V.view hub.old).is_hosted moment n (peers_of self.old) (peers_of self.new) steps result) }
         ensures counted { IsCounted (hub_view S.view) hub.old hub.new (result ≡ Err Fault.Store) }
+        ensures records { KeepsRecord S.view hub.old hub.new (IsOk result) }
         ensures count { length (peers_of self.new) ≡ length (peers_of self.old) }
     {
         let Some(text) = self.peers.take(n) else {
@@ -73,6 +74,24 @@ impl<T: Read + Write + Served + Drop> Gateway<T> {
         }
     }
 
+    /// Serves the peer at that place, if there is one, as `serve` does.
+    pub fn serve_at<S: Store + Drop, V: VendorHandler, W: JournalFile + Drop>(
+        &mut self,
+        hub: &mut TurnHub<S, V, W>,
+        place: usize,
+        moment: Moment,
+    ) -> Result<(), Fault>
+        ensures takes { Takes S.view V.view hub.old hub.new
+            (λ steps. AtPlace (Serves T.remaining T.contents (setting V.view hub.old).is_hosted moment) place (peers_of self.old) (peers_of self.new) steps result) }
+        ensures counted { IsCounted (hub_view S.view) hub.old hub.new (result ≡ Err Fault.Store) }
+        ensures records { KeepsRecord S.view hub.old hub.new (IsOk result) }
+    {
+        if place >= self.count() {
+            return Ok(());
+        }
+        self.serve(hub, place, moment)
+    }
+
     /// Hands the disconnect of peer n to the hub, if it is to leave now.
     fn part<S: Store + Drop, V: VendorHandler, W: JournalFile + Drop>(
         &mut self,
@@ -84,6 +103,7 @@ impl<T: Read + Write + Served + Drop> Gateway<T> {
         ensures takes { Takes S.view V.view hub.old hub.new
             (λ steps. Parts T.contents (setting V.view hub.old).is_hosted moment n (peers_of self.old) (peers_of self.new) steps result) }
         ensures counted { IsCounted (hub_view S.view) hub.old hub.new (result ≡ Err Fault.Store) }
+        ensures records { KeepsRecord S.view hub.old hub.new (IsOk result) }
         ensures count { length (peers_of self.new) ≡ length (peers_of self.old) }
     {
         let Some(event) = parting(self.peers.peer(n), moment)? else {
@@ -111,6 +131,7 @@ impl<T: Read + Write + Served + Drop> Gateway<T> {
         ensures takes { Takes S.view V.view hub.old hub.new
             (λ steps. Each (Parts T.contents (setting V.view hub.old).is_hosted moment) (peers_of self.old) (peers_of self.new) steps result) }
         ensures counted { IsCounted (hub_view S.view) hub.old hub.new (result ≡ Err Fault.Store) }
+        ensures records { KeepsRecord S.view hub.old hub.new (IsOk result) }
     {
         match self.peers.ended_in_order() {
             Ok(places) => self.part_at(hub, moment, places.as_slice()),
@@ -130,6 +151,7 @@ impl<T: Read + Write + Served + Drop> Gateway<T> {
         ensures takes { Takes S.view V.view hub.old hub.new
             (λ steps. Each (Parts T.contents (setting V.view hub.old).is_hosted moment) (peers_of self.old) (peers_of self.new) steps result) }
         ensures counted { IsCounted (hub_view S.view) hub.old hub.new (result ≡ Err Fault.Store) }
+        ensures records { KeepsRecord S.view hub.old hub.new (IsOk result) }
     {
         let mut next = 0;
         for place in places {
@@ -154,6 +176,7 @@ impl<T: Read + Write + Served + Drop> Gateway<T> {
         ensures takes { Takes S.view V.view hub.old hub.new
             (λ steps. Each (Parts T.contents (setting V.view hub.old).is_hosted moment) (peers_of self.old) (peers_of self.new) steps result) }
         ensures counted { IsCounted (hub_view S.view) hub.old hub.new (result ≡ Err Fault.Store) }
+        ensures records { KeepsRecord S.view hub.old hub.new (IsOk result) }
     {
         for n in 0..self.count() {
             self.part(hub, n, moment)?;
@@ -161,35 +184,9 @@ impl<T: Read + Write + Served + Drop> Gateway<T> {
         Ok(())
     }
 
-    /// One turn: serves the peers at those places, in that order. One at which there is no peer, or that isn't above all
-    /// before it, is passed over, so that each peer is served once at most, by place. Then the turn hands the disconnects
-    /// of those that have ended to the hub, by place; and then a tick. It stops at the first fault. A disconnect that met
-    /// one is handed to the hub again in the next turn.
-    pub fn turn<S: Store + Drop, V: VendorHandler, W: JournalFile + Drop>(
-        &mut self,
-        hub: &mut TurnHub<S, V, W>,
-        moment: Moment,
-        places: &[usize],
-    ) -> Result<(), Fault>
-        ensures takes { Takes S.view V.view hub.old hub.new
-            (λ steps. Turns T.remaining T.contents (setting V.view hub.old).is_hosted moment places.now (peers_of self.old) (peers_of self.new) steps result) }
-        ensures counted { IsCounted (hub_view S.view) hub.old hub.new (result ≡ Err Fault.Store) }
-    {
-        let mut last = None;
-        for place in places {
-            if !is_above(last, *place) {
-                continue;
-            }
-            last = Some(*place);
-            if *place < self.count() {
-                self.serve(hub, *place, moment)?;
-            }
-        }
-        self.part_and_tick(hub, moment)
-    }
-
-    /// Those that have ended leave; their disconnects and a tick are handed to the hub.
-    fn part_and_tick<S: Store + Drop, V: VendorHandler, W: JournalFile + Drop>(
+    /// Those that have ended leave; their disconnects and a tick are handed to the hub, up to the first fault. A disconnect that
+    /// met one is handed to the hub again in the next turn.
+    pub fn part_and_tick<S: Store + Drop, V: VendorHandler, W: JournalFile + Drop>(
         &mut self,
         hub: &mut TurnHub<S, V, W>,
         moment: Moment,
@@ -197,6 +194,7 @@ impl<T: Read + Write + Served + Drop> Gateway<T> {
         ensures takes { Takes S.view V.view hub.old hub.new
             (λ steps. PartsAndTicks T.contents (setting V.view hub.old).is_hosted moment (peers_of self.old) (peers_of self.new) steps result) }
         ensures counted { IsCounted (hub_view S.view) hub.old hub.new (result ≡ Err Fault.Store) }
+        ensures records { KeepsRecord S.view hub.old hub.new (IsOk result) }
     {
         note_ended(&self.peers, &mut self.notes);
         self.peers.leave();
@@ -213,17 +211,11 @@ impl<T: Read + Write + Served + Drop> Gateway<T> {
         ensures takes { Takes S.view V.view hub.old hub.new
             (λ steps. SweepsAndTicks T.contents (setting V.view hub.old).is_hosted moment (peers_of self.old) (peers_of self.new) steps result) }
         ensures counted { IsCounted (hub_view S.view) hub.old hub.new (result ≡ Err Fault.Store) }
+        ensures records { KeepsRecord S.view hub.old hub.new (IsOk result) }
     {
         self.peers.sweep();
         self.hand(hub, 0, &Event::Tick { moment }, "")
     }
-}
-
-/// Whether a place is above the last one, if there was one.
-fn is_above(last: Option<usize>, place: usize) -> bool
-    ensures { result ≡ is_above last place }
-{
-    last.is_none_or(|last| last < place)
 }
 
 /// Notes the connections that have ended.

@@ -1,8 +1,8 @@
 //! A connection, from its head to its admission.
-ghost use Rattle.std.specs.Prelude.{◌≡◌, ◌≢◌, IfOk, IfErr, Err, None, true, false, bytes_eq};
+ghost use Rattle.std.specs.Prelude.{◌≡◌, ◌≢◌, IfOk, IfErr, Err, None, true, false, bytes_eq, IsOk};
 ghost use Rattle.std.specs.List.{list_any};
 ghost use Rattle.hub_rows.specs.Reads.{IsCounted};
-ghost use Rattle.turn_hub.specs.TurnHub.{hub_view, world, setting, is_clean};
+ghost use Rattle.turn_hub.specs.TurnHub.{KeepsRecord, hub_view, world, setting, is_clean};
 ghost use Rattle.ws_server.specs.Admits.{is_known, is_full, is_tolerant, is_tolerant_reader};
 ghost use Rattle.ws_server.specs.Steps.{Takes};
 ghost use Rattle.ws_server.specs.Tells.{peers_of, full_of};
@@ -47,6 +47,7 @@ impl<T: Read + Write + Served + Drop> Gateway<T> {
         ensures full { is_full (full_of self.old) upgrade.route (peers_of self.old) ≡ true → peers_of self.new ≡ peers_of self.old }
         ensures hosted { is_clean S.view hub.new → IfErr result (λ f. f ≢ Fault.NoSuchOperator) }
         ensures counted { IsCounted (hub_view S.view) hub.old hub.new (result ≡ Err Fault.Store) }
+        ensures records { KeepsRecord S.view hub.old hub.new (IsOk result) }
     {
         let Client { stream, address } = client;
         let known = match look_up(hub, &upgrade) {
@@ -144,6 +145,7 @@ fn look_up<S: Store + Drop, V: VendorHandler, W: JournalFile + Drop>(
     ensures world { is_clean S.view hub.new → world S.view hub.new ≡ world S.view hub.old }
     ensures hosted { IfErr result (λ f. f ≢ Fault.NoSuchOperator) }
     ensures counted { IsCounted (hub_view S.view) hub.old hub.new (result ≡ Err Fault.Store) }
+    ensures records { KeepsRecord S.view hub.old hub.new (IsOk result) }
     ensures setting { setting V.view hub.new ≡ setting V.view hub.old }
 {
     let is_known = is_known(hub, &upgrade.route)?;
@@ -163,6 +165,7 @@ fn is_tolerant<S: Store + Drop, V: VendorHandler, W: JournalFile + Drop>(
     ensures world { is_clean S.view hub.new → world S.view hub.new ≡ world S.view hub.old }
     ensures hosted { IfErr result (λ f. f ≢ Fault.NoSuchOperator) }
     ensures counted { IsCounted (hub_view S.view) hub.old hub.new (result ≡ Err Fault.Store) }
+    ensures records { KeepsRecord S.view hub.old hub.new (IsOk result) }
     ensures setting { setting V.view hub.new ≡ setting V.view hub.old }
 {
     match route {
@@ -192,6 +195,7 @@ fn is_known<S: Store + Drop, V: VendorHandler, W: JournalFile + Drop>(
     ensures world { is_clean S.view hub.new → world S.view hub.new ≡ world S.view hub.old }
     ensures hosted { IfErr result (λ f. f ≢ Fault.NoSuchOperator) }
     ensures counted { IsCounted (hub_view S.view) hub.old hub.new (result ≡ Err Fault.Store) }
+    ensures records { KeepsRecord S.view hub.old hub.new (IsOk result) }
     ensures setting { setting V.view hub.new ≡ setting V.view hub.old }
 {
     match route {

@@ -144,6 +144,18 @@ fn in_turns<S: Store + Drop>(alloc: Global, hub: Hub<S, Echo>) -> TurnHub<S, Ech
     TurnHub::new(alloc, hub, 0, Commits::Each)
 }
 
+/// Serves the peers at two places, and those that have ended leave.
+fn turn<T: Read + Write + Served + Drop, S: Store + Drop>(
+    gateway: &mut Gateway<T>,
+    hub: &mut TurnHub<S, Echo, File>,
+    at: Moment,
+) -> Result<(), Fault> {
+    for place in 0..2 {
+        gateway.serve_at(hub, place, at)?;
+    }
+    gateway.part_and_tick(hub, at)
+}
+
 /// What the operator is then answered, and what CP02 was sent, where a call of CP01's stream fails.
 fn served(alloc: Global, before: u64) -> Result<(String, Sent), Fail> {
     let mut hub = hub_of(alloc, MemStore::new(alloc), no_vendors(alloc))?;
@@ -158,7 +170,7 @@ fn served(alloc: Global, before: u64) -> Result<(String, Sent), Fail> {
     let second = socket(alloc, u64::MAX, Rc::clone(&sent)?);
     gateway.admit(&mut hub, second, station(alloc, "CP02")?, at)?;
     for _ in 0..4 {
-        gateway.turn(&mut hub, at, &[0, 1])?;
+        turn(&mut gateway, &mut hub, at)?;
     }
     let mut hub = hub.into_hub();
     let asked = events(alloc, ASKED)?;
@@ -199,8 +211,8 @@ fn answered(alloc: Global, before: u64) -> Result<String, Fail> {
     let mut gateway = Gateway::new(alloc);
     let socket = socket(alloc, u64::MAX, nothing_sent(alloc)?);
     gateway.admit(&mut hub, socket, station(alloc, "CP01")?, at)?;
-    let is_fault = matches!(gateway.turn(&mut hub, at, &[0, 1]), Err(Fault::Store));
-    gateway.turn(&mut hub, at, &[0, 1])?;
+    let is_fault = matches!(turn(&mut gateway, &mut hub, at), Err(Fault::Store));
+    turn(&mut gateway, &mut hub, at)?;
     if !is_fault || gateway.count() != 0 {
         return Ok(String::new(alloc));
     }

@@ -81,7 +81,7 @@ impl Script {
     /// One turn of the server, after a millisecond in which bytes that were sent arrive.
     fn turn(&mut self, rt: &HostRuntime) -> Result<Option<String>> {
         thread::sleep(rt, Duration::from_millis(1));
-        match self.server.turn() {
+        match self.server.turn(rt) {
             Ok(()) => Ok(None),
             Err(fault) => Ok(Some(format!(in self.alloc; "fault {fault}")?)),
         }

@@ -10,18 +10,69 @@ use std::fs::File;
 use std::net::{TcpListener, TcpStream};
 use store_mem::MemStore;
 use turn_hub::{Commits, TurnHub};
-use ws_server::{Gateway, Lobby};
+use ws_server::{Driver, Gateway, Lobby, State, TurnServer, TurnTime, Written};
 
 /// A hub of the operators ACME and BETA, its gateway and its listener.
 #[derive(Drop)]
 pub struct Server {
     alloc: Global,
     operators: Vec<Text>,
-    hub: TurnHub<MemStore, Echo, File>,
-    gateway: Gateway<TcpStream>,
-    lobby: Lobby<TcpStream>,
+    turns: TurnServer<TcpStream, MemStore, Echo, File>,
     listener: TcpListener,
     moment: Moment,
+}
+
+/// Serves each peer once in a turn, by place. Its streams hold nothing.
+#[derive(Drop)]
+struct EachPeer {
+    next: usize,
+    fault: Option<Fault>,
+    written: Written,
+}
+
+impl Driver<TcpStream, HostRuntime> for EachPeer {
+    ghost written = { λ driver. driver.written };
+
+    fn begin(&mut self) {
+        self.written = Written::Held;
+    }
+
+    fn begin_service(&mut self, _rt: &HostRuntime, _gateway: &Gateway<TcpStream>) {
+        self.next = 0;
+    }
+
+    fn next(&mut self, _rt: &HostRuntime, gateway: &Gateway<TcpStream>) -> Option<usize> {
+        if self.next >= gateway.count() {
+            return None;
+        }
+        self.next += 1;
+        Some(self.next - 1)
+    }
+
+    fn served(
+        &mut self,
+        _rt: &HostRuntime,
+        _gateway: &Gateway<TcpStream>,
+        _place: usize,
+        _events: u64,
+    ) {
+    }
+
+    fn committed(&mut self, _rt: &HostRuntime) {}
+
+    fn failed(&mut self, fault: &Fault, _state: State) {
+        self.fault = Some(*fault);
+    }
+
+    fn give(&mut self) {
+        if matches!(self.written, Written::Held) {
+            self.written = Written::Given;
+        }
+    }
+
+    fn drop_turn(&mut self) {
+        self.written = Written::Dropped;
+    }
 }
 
 impl Server {
@@ -36,9 +87,11 @@ impl Server {
         Ok(Server {
             alloc,
             operators,
-            hub: TurnHub::new(alloc, hub(alloc)?, 0, Commits::Each),
-            gateway: Gateway::new(alloc),
-            lobby,
+            turns: TurnServer::new(
+                TurnHub::new(alloc, hub(alloc)?, 0, Commits::Each),
+                Gateway::new(alloc),
+                lobby,
+            ),
             listener,
             moment,
         })
@@ -62,13 +115,13 @@ impl Server {
 
     /// How many peers its gateway has.
     pub fn count(&self) -> usize {
-        self.gateway.count()
+        self.turns.gateway.count()
     }
 
     /// Hands an operator's line to the hub, and tells its outputs.
     pub fn hand(&mut self, line: &str) -> Result<()> {
         for out in &self.outputs(line)? {
-            self.gateway.tell(out);
+            self.turns.gateway.tell(out);
         }
         Ok(())
     }
@@ -84,7 +137,7 @@ impl Server {
 
     fn outputs(&mut self, line: &str) -> Result<Vec<Out>> {
         let event = self.event(line)?;
-        Ok(self.hub.handle(&event, "")?)
+        Ok(self.turns.hub.handle(&event, "")?)
     }
 
     fn event(&self, line: &str) -> Result<Event> {
@@ -102,30 +155,30 @@ impl Server {
             return Ok(());
         };
         if stream.set_nonblocking(true).is_ok() && stream.set_nodelay(true).is_ok() {
-            self.lobby
+            self.turns
+                .lobby
                 .enter(stream, Some(address), self.moment.seconds())?;
         }
         Ok(())
     }
 
     /// One turn: accepts one connection, polls those that wait, and serves each peer.
-    pub fn turn(&mut self) -> Result<(), Fault> {
+    pub fn turn(&mut self, rt: &HostRuntime) -> Result<(), Fault> {
         self.accept()?;
-        let second = self.moment.seconds();
-        self.lobby
-            .serve(&mut self.gateway, &mut self.hub, self.moment, second)?;
-        let places = self.places()?;
-        self.gateway
-            .turn(&mut self.hub, self.moment, places.as_slice())
-    }
-
-    /// The places of all peers.
-    fn places(&self) -> Mem<Vec<usize>> {
-        let mut places = Vec::new(self.alloc);
-        for place in 0..self.gateway.count() {
-            places.push(place)?;
+        let mut driver = EachPeer {
+            next: 0,
+            fault: None,
+            written: Written::Held,
+        };
+        let time = TurnTime {
+            moment: self.moment,
+            second: self.moment.seconds(),
+        };
+        self.turns.turn(rt, &mut driver, time, "");
+        match driver.fault {
+            Some(fault) => Err(fault),
+            None => Ok(()),
         }
-        Ok(places)
     }
 }
 

@@ -1,8 +1,8 @@
-use Rattle.std.proofs.Common.{◌++◌, ◌∷◌, ◌+◌, List, [], true, inl, refl, subst, sym}
+use Rattle.std.proofs.Common.{◌++◌, ◌∷◌, ◌+◌, List, [], true, inl, refl, subst, sym, ◌∙◌}
 use Rattle.hub_events.specs.declared.event.Event.{Event}
 use Rattle.journal.specs.Entries.{IsCount}
 use Rattle.turn_hub.specs.Journals.{BeginsLine, HasBegun, HasEvents, Journals, Notes}
-use Rattle.turn_hub.proofs.Laws.{any_err, begun_only, for_journal}
+use Rattle.turn_hub.proofs.Laws.{any_err, begun_only, for_journal, keeps_record}
 use Rattle.turn_hub.proofs.turn_hub.TurnHub.handle.Goals as goal
 
 pub returns-in_err-begin_line-clause-refused : goal.returns-in_err-begin_line-clause-refused
@@ -31,3 +31,8 @@ returns-clause-journal g c = λ small is_hosted events stands was.
     (c.finish.ensures.journal (subst (λ n. IsCount (n + 1)) (sym (c.begin_line.ensures.counts.1 c.if-is_ahead.false)) small.events) is_hosted events
     (subst (λ ahead. BeginsLine g.W.Write.contents is_hosted ahead c.begin_line.new.self events c.args.event.now) c.if-is_ahead.false
     (c.in_ok-begin_line.ensures.begun (record { events = small.events; changes = small.changes; on_record = small.on_record }) is_hosted events stands was)))
+
+pub returns-clause-records : goal.returns-clause-records
+returns-clause-records g c = keeps_record g.S.Store.view c.args.self.now c.finish.new.self c.prepare.new.self c.begin_line.new.self.hub c.commit.new.self c.flush-when.result _ _ _
+    c.begin_line.ensures.hub c.finish.ensures.hub (c.finish.ensures.mode.0 ∙ c.begin_line.ensures.mode.0) (c.finish.ensures.mode.1 ∙ c.begin_line.ensures.mode.1) c.flush-when.ensures
+    c.in_ok-step.ensures.stays c.in_ok-commit.ensures.records

@@ -1,9 +1,10 @@
-use Rattle.std.proofs.Common.{Ok, subst, ◌∙◌, ◌+◌, ℕ}
+use Rattle.std.proofs.Common.{Ok, subst, ◌∙◌, ◌+◌, ℕ, refl}
 use Rattle.turn_hub.specs.TurnHub.{setting}
 use Rattle.hub.specs.World.{Setting}
 use Rattle.ws_peers.specs.declared.peer.Peer.{Peer}
 use Rattle.ws_server.specs.Tells.{peers_of}
 use Rattle.ws_server.specs.Turns.{Change, FirstPlaces, Parts}
+use Rattle.ws_server.proofs.RecordLaws.{records_more, records_fault}
 use Rattle.ws_server.proofs.StepLaws.{counted_more, taken_on, place_more}
 use Rattle.ws_server.proofs.gateway.Gateway.part_all.Goals as goal
 
@@ -17,6 +18,10 @@ loop-n-preserved g c =
       takes = taken_on _ _ _ _ _ _ _ (λ steps. FirstPlaces C (c.loop-n.n + 1) (peers_of c.args.self.now) (peers_of c.part.new.self) steps)
           (λ before after first more. place_more C c.loop-n.n _ (peers_of c.loop-n.self) (peers_of c.part.new.self) before after first (subst (λ st. Under st c.loop-n.n (peers_of c.loop-n.self) (peers_of c.part.new.self) after (Ok tt)) inv.takes.stays more)) e.counted.was_clean inv.takes e.takes;
       counted = counted_more g.S.Store.view g.V.VendorHandler.view _ _ _ _ _ inv.counted e.counted;
+      records = records_more g.S.Store.view _ _ _ _ _ refl inv.records e.records;
       count = e.count ∙ inv.count;
       end = inv.end;
     }
+
+pub returns-in_err-part-clause-records : goal.returns-in_err-part-clause-records
+returns-in_err-part-clause-records g c = records_fault g.S.Store.view _ _ _ _ _ c.from_residual.result c.from_residual.ensures.0 refl c.loop-n.invariant.records c.in_err-part.ensures.records

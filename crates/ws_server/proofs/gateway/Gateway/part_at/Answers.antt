@@ -1,10 +1,11 @@
-use Rattle.std.proofs.Common.{List, Ok, Err, arith, rules, length, get_or, refl, subst, ◌∙◌, ◌≤◌, ◌<◌, ◌+◌, ℕ}
+use Rattle.std.proofs.Common.{List, Ok, Err, arith, rules, length, get_or, refl, subst, ◌∙◌, ◌≤◌, ◌<◌, ◌+◌, ℕ, true, ◌≡◌}
 use Rattle.turn_hub.specs.TurnHub.{setting}
 use Rattle.hub.specs.World.{Setting}
 use Rattle.ws_peers.specs.declared.peer.Peer.{Peer}
 use Rattle.ws_server.specs.Steps.{Step}
 use Rattle.ws_server.specs.Tells.{peers_of}
 use Rattle.ws_server.specs.Turns.{Change, Each, FirstPlaces, Parts}
+use Rattle.ws_server.proofs.RecordLaws.{records_more, records_fault, unchanged}
 use Rattle.ws_server.proofs.PartLaws.{left_start, up_to, left_on, left_below, left_out, all_left, part_fails}
 use Rattle.ws_server.proofs.StepLaws.{changed, counted_more, taken_on, place_more, nothing}
 use Rattle.ws_server.proofs.gateway.Gateway.part_at.Goals as goal
@@ -33,6 +34,7 @@ loop-place-preserved g c =
           (up_to g.T.Write.contents hosts c.args.moment places i next old mid before c.requires.ascending here inv.left from within first) (parted after more))
           e.counted.was_clean inv.takes e.takes;
       counted = counted_more g.S.Store.view g.V.VendorHandler.view _ _ _ _ _ inv.counted e.counted;
+      records = records_more g.S.Store.view _ _ _ _ _ refl inv.records e.records;
       count = e.count ∙ inv.count;
       small = omega (arith, within, inv.count);
       left = left_on g.T.Write.contents hosts c.args.moment places i next mid new e.takes.steps (Ok tt) here from (parted e.takes.steps e.takes.change) inv.left;
@@ -45,6 +47,7 @@ loop-place-init g c =
     record {
       takes = nothing _ _ _ _ (λ steps. FirstPlaces (Parts g.T.Write.contents hosts c.args.moment) 0 old old steps) (refl, refl) refl (λ _. refl);
       counted = search rules;
+      records = unchanged g.S.Store.view c.args.hub.now (true ≡ true);
       count = refl;
       small = omega arith;
       left = left_start c.args.places.now old c.requires.listed;
@@ -59,6 +62,7 @@ loop-place-preserved-then-place-next g c =
     record {
       takes = inv.takes;
       counted = inv.counted;
+      records = inv.records;
       count = inv.count;
       small = inv.small;
       left = left_below places i c.loop-place.next (peers_of c.loop-place.self) here (omega (arith, c.if-place-next.true)) inv.left;
@@ -73,6 +77,7 @@ loop-place-preserved-then-place-count g c =
     record {
       takes = inv.takes;
       counted = inv.counted;
+      records = inv.records;
       count = inv.count;
       small = inv.small;
       left = left_out places i c.loop-place.next (peers_of c.loop-place.self) here (grind (arith, c.count.ensures, c.if-place-count.true)) inv.left;
@@ -112,3 +117,6 @@ returns-clause-takes g c =
     let all : (length places ≤ i) = grind (arith, c.loop-place.auto, c.loop-place-test.false) in
     changed _ _ _ _ _ (λ steps. Each (Parts g.T.Write.contents hosts c.args.moment) old now steps (Ok tt))
     (λ steps first. all_left g.T.Write.contents hosts c.args.moment places i c.loop-place.next old now steps all inv.small inv.count inv.left first) inv.takes
+
+pub returns-in_err-part-clause-records : goal.returns-in_err-part-clause-records
+returns-in_err-part-clause-records g c = records_fault g.S.Store.view _ _ _ _ _ c.from_residual.result c.from_residual.ensures.0 refl c.loop-place.invariant.records c.in_err-part.ensures.records

@@ -1,5 +1,5 @@
-use Rattle.std.proofs.Common.{◌≡◌, ◌≤◌, drop, length}
-use Rattle.turn_hub.specs.TurnHub.{hub_view, setting}
+use Rattle.std.proofs.Common.{◌≡◌, ◌≤◌, drop, length, true}
+use Rattle.turn_hub.specs.TurnHub.{KeepsRecord, hub_view, setting}
 use Rattle.hub_rows.specs.Reads.{IsCounted}
 use Rattle.ws_server.specs.Steps.{Takes}
 use Rattle.ws_server.specs.Tells.{peers_of}
@@ -11,6 +11,7 @@ abbrev pub invariant-loop-place : goal.invariant-loop-place
 invariant-loop-place g l = record {
   takes : Takes g.S.Store.view g.V.VendorHandler.view l.fn.hub l.hub (λ steps. FirstPlaces (Parts g.T.Write.contents (setting g.V.VendorHandler.view l.fn.hub).is_hosted l.moment) l.next (peers_of l.fn.self) (peers_of l.self) steps);
   counted : IsCounted (hub_view g.S.Store.view) l.fn.hub l.hub ⊥;
+  records : KeepsRecord g.S.Store.view l.fn.hub l.hub (true ≡ true);
   count : length (peers_of l.self) ≡ length (peers_of l.fn.self);
   small : l.next ≤ length (peers_of l.fn.self);
   left : Left l.next (drop l.place-index l.places) (peers_of l.self);

@@ -1,8 +1,9 @@
-use Rattle.std.proofs.Common.{Err, Ok, arith, subst, ◌∙◌}
+use Rattle.std.proofs.Common.{Err, Ok, arith, subst, ◌∙◌, refl}
 use Rattle.ws_server.specs.Admits.{WelcomesOne, WelcomesSome}
 use Rattle.ws_server.specs.Lobbies.{origins_of}
 use Rattle.ws_server.specs.Steps.{Takes}
 use Rattle.ws_server.specs.Tells.{peers_of}
+use Rattle.ws_server.proofs.RecordLaws.{records_more, records_fault}
 use Rattle.ws_server.proofs.StepLaws.{counted_more, taken_on, welcomes-more, welcomes-fails}
 use Rattle.ws_server.proofs.lobby.Lobby.serve.Goals as goal
 
@@ -33,6 +34,10 @@ loop-preserved g c =
       takes = taken_on _ _ _ _ _ _ _ (λ steps. WelcomesSome g.T.Read.remaining g.T.Write.contents c.args.moment origins old new steps (Ok tt))
           (λ before after first more. welcomes-more g.T.Read.remaining g.T.Write.contents c.args.moment origins old mid new before after first more) e.counted.was_clean inv.takes (took e.takes);
       counted = counted_more g.S.Store.view g.V.VendorHandler.view _ _ _ _ _ inv.counted e.counted;
+      records = records_more g.S.Store.view _ _ _ _ _ refl inv.records e.records;
       fewer = omega (arith, e.fewer, inv.fewer);
       origins = e.origins ∙ inv.origins;
     }
+
+pub returns-in_err-look-clause-records : goal.returns-in_err-look-clause-records
+returns-in_err-look-clause-records g c = records_fault g.S.Store.view _ _ _ _ _ c.from_residual.result c.from_residual.ensures.0 refl c.loop.invariant.records c.in_err-look.ensures.records
