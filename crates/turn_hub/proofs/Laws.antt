@@ -1,12 +1,11 @@
 -- What a journal has.
-use Rattle.std.proofs.Common.{◌≡◌, ◌≢◌, ◌∙◌, ◌+◌, ◌<◌, ℕ, List, [], ◌∷◌, ◌++◌, length, Option, Some, None, Bool, true, false, refl, sym, subst, ap, arith, inl, inr}
+use Rattle.std.proofs.Common.{◌≡◌, ◌≢◌, ◌∙◌, ◌+◌, ℕ, List, [], ◌∷◌, ◌++◌, Option, Some, None, Bool, true, false, refl, sym, subst, ap, arith}
 use Rattle.std.specs.Prelude.{OnErr, OnOk, Result, Ok, Err}
 use Rattle.std.proofs.lemmas.List.{append_assoc, append-nil}
 use Rattle.hub_events.specs.declared.event.Event.{Event}
-use Rattle.hub_events.specs.declared.out.Out.{Out}
 use Rattle.journal.proofs.Writers.{opened, waits_nothing}
-use Rattle.journal.specs.Entries.{AreCounts, IsCount}
-use Rattle.journal.specs.Writers.{HasTurn, IsOpen}
+use Rattle.journal.specs.Entries.{IsCount}
+use Rattle.journal.specs.Writers.{IsOpen}
 use Rattle.journal.specs.declared.writer.Writer.{Writer}
 use Rattle.hub_rows.proofs.OnRecord.{finds_only}
 use Rattle.hub_rows.specs.Rows.{Rows}

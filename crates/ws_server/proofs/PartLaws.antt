@@ -1,5 +1,5 @@
 -- The disconnects of a turn.
-use Rattle.std.proofs.Common.{arith, inl, inr, ◌≡◌, ◌≢◌, ◌∙◌, ℕ, zero, suc, ◌+◌, ◌-◌, ◌<◌, ◌≤◌, List, [], ◌∷◌, ◌++◌, length, map, drop, get_or, sym, ap, refl, Bool, true, false, not, true≢false, append-nil, subst, Option, Some, None, Result, Ok, Err}
+use Rattle.std.proofs.Common.{arith, inl, inr, ◌≡◌, ◌∙◌, ℕ, zero, suc, ◌+◌, ◌-◌, ◌<◌, ◌≤◌, List, [], ◌∷◌, ◌++◌, length, map, drop, get_or, sym, ap, refl, Bool, true, false, not, true≢false, append-nil, subst, Option, Some, None, Result, Ok, Err}
 use Rattle.std.proofs.lemmas.List.{get_or-drop, length-drop}
 use Rattle.std.specs.List.{AllZip, Contains}
 use Rattle.std.specs.List.Sorted.{IsNonDecreasing}

@@ -1,6 +1,5 @@
 -- Steps of the hub.
 use Rattle.std.proofs.Common.{Bool, is_ok, Err, List, None, Ok, Option, Result, Some, [], add-one, ap, arith, false, if◌then◌else◌, inl, inr, length, nat_lt, refl, slice_index_or, subst, suc, sym, true, true≢false, zero, ℕ, ◌++◌, ◌+◌, ◌∙◌, ◌∷◌, ◌≡◌, ◌||◌}
-use Rattle.std.proofs.Common.{◌<◌, ◌≤◌}
 use Rattle.std.proofs.lemmas.List.{append_assoc, append-nil}
 use Rattle.std.specs.Io.BufRead.{strip_last}
 use Rattle.std.specs.Option.{IfSome}

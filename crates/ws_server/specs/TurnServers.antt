@@ -1,5 +1,5 @@
 -- The turns of a server.
-use Rattle.std.specs.Prelude.{◌≡◌, ◌⊎◌, ℕ, List, [], ◌++◌, Bool, Option, Result}
+use Rattle.std.specs.Prelude.{◌≡◌, ◌⊎◌, ℕ, List, ◌++◌, Bool, Option, Result}
 use Rattle.std.specs.List.{AllZip}
 use Rattle.hub_events.specs.declared.event.Event.{Event}
 use Rattle.hub_events.specs.declared.fault.Fault.{Fault}
@@ -7,7 +7,7 @@ use Rattle.hub_rows.specs.Rows.{Rows}
 use Rattle.hub_rows.specs.StoreView.{StoreView}
 use Rattle.hub_rows.specs.Stops.{FindsOnly, FindsSound, HasOnRecord, IsKept, PutsOnRecord, StaysOnRecord}
 use Rattle.hub_rows.specs.declared.store.Flush.TheVariants.{Later}
-use Rattle.hub.specs.World.{Setting, World}
+use Rattle.hub.specs.World.{World}
 use Rattle.station_calls.specs.Vendors.{HandlerView}
 use Rattle.turn_hub.specs.Journals.{AreSmall, HasJournaled, Journals}
 use Rattle.turn_hub.specs.TurnHub.{flush_of, hub_view, is_clean, setting, world}

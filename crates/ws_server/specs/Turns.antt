@@ -1,5 +1,5 @@
 -- What serving peers does: to them, and which steps the hub takes.
-use Rattle.std.specs.Prelude.{ℕ, zero, suc, List, [], ◌∷◌, ◌++◌, Option, Some, None, Bool, true, false, if◌then◌else◌, nat_lt, ◌≡◌, ◌<◌, ◌≤◌, ◌⊎◌, Result, Ok, Err, map, length, slice_index_or, codes}
+use Rattle.std.specs.Prelude.{ℕ, zero, suc, List, [], ◌∷◌, ◌++◌, Option, Some, None, Bool, false, ◌≡◌, ◌<◌, ◌≤◌, ◌⊎◌, Result, Ok, Err, map, length, slice_index_or, codes}
 use Rattle.hub_events.specs.declared.event.Event.{Event}
 use Rattle.hub_events.specs.declared.event.Event.TheVariants.{Tick}
 use Rattle.hub_events.specs.declared.out.Out.{Out}

@@ -1,8 +1,7 @@
-use Rattle.std.proofs.Common.{◌≡◌, ◌∙◌, ◌+◌, ◌++◌, ◌∷◌, [], ℕ, List, min, sym, subst, arith, refl}
-use Rattle.hub_events.specs.declared.event.Event.{Event}
+use Rattle.std.proofs.Common.{◌≡◌, ◌∙◌, ◌+◌, ◌∷◌, [], ℕ, min, sym, subst, arith}
 use Rattle.journal.specs.Entries.{AreCounts, IsCount}
 use Rattle.journal.specs.Writers.{HasTurn, IsOpen}
-use Rattle.turn_hub.proofs.Laws.{any_err, below_one_more, err_then, in_file, no_count, one_count}
+use Rattle.turn_hub.proofs.Laws.{any_err, below_one_more, in_file, no_count, one_count}
 use Rattle.turn_hub.proofs.event_lines.begin_ahead.Goals as goal
 
 next_is : (m n : ℕ) → m ≡ min (n + 1) 18446744073709551615 → IsCount (n + 1) → m ≡ n + 1

@@ -1,4 +1,4 @@
-use Rattle.std.proofs.Common.{◌≡◌, ◌∙◌, Some, ap, subst, sym}
+use Rattle.std.proofs.Common.{◌≡◌, ◌∙◌, subst, sym}
 use Rattle.journal.specs.Entries.{IsCount}
 use Rattle.journal.specs.Writers.{Says}
 use Rattle.turn_hub.specs.Journals.{OfJournal}

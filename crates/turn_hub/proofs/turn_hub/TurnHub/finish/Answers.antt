@@ -1,4 +1,4 @@
-use Rattle.std.proofs.Common.{◌≡◌, ◌∙◌, ◌+◌, ◌++◌, ◌∷◌, [], Some, false, ap, inl, inr, refl, subst, sym}
+use Rattle.std.proofs.Common.{◌∙◌, ◌+◌, ◌++◌, ◌∷◌, [], false, inl, inr, refl, subst, sym}
 use Rattle.journal.specs.Entries.{IsCount}
 use Rattle.turn_hub.specs.Journals.{HasBegun, HasEvents, OfJournal, events_of}
 use Rattle.turn_hub.proofs.Laws.{below_one_more, for_journal, left_out, one_taken}

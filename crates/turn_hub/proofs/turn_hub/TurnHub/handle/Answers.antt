@@ -1,4 +1,4 @@
-use Rattle.std.proofs.Common.{◌++◌, ◌∷◌, ◌+◌, List, [], true, inl, refl, subst, sym, ◌∙◌}
+use Rattle.std.proofs.Common.{◌++◌, ◌∷◌, ◌+◌, List, [], inl, refl, subst, sym, ◌∙◌}
 use Rattle.hub_events.specs.declared.event.Event.{Event}
 use Rattle.journal.specs.Entries.{IsCount}
 use Rattle.turn_hub.specs.Journals.{BeginsLine, HasBegun, HasEvents, Journals, Notes}

@@ -1,7 +1,7 @@
 use Rattle.std.proofs.Common.{Err, Ok, OnOk, Result, refl, subst, sym}
 use Rattle.ws_server.specs.Steps.{Takes}
 use Rattle.ws_server.specs.Tells.{peers_of}
-use Rattle.ws_server.specs.TurnServers.{Ends, IsTold, TurnOf}
+use Rattle.ws_server.specs.TurnServers.{TurnOf}
 use Rattle.ws_server.proofs.turn_server.TurnServer.serve_and_commit.Goals as goal
 
 ok_then : {A E P Q : Type 0} (r : Result A E) → OnOk r P → (P → Q) → OnOk r Q

@@ -1,4 +1,4 @@
-use Rattle.std.proofs.Common.{Err, List, Ok, [], refl, rules, subst, true, ◌++◌, ◌∙◌, ◌∷◌, ◌≡◌, ℕ}
+use Rattle.std.proofs.Common.{Err, Ok, [], refl, rules, subst, true, ◌++◌, ◌∙◌, ◌∷◌, ◌≡◌, ℕ}
 use Rattle.hub.specs.World.{Setting}
 use Rattle.turn_hub.specs.TurnHub.{setting}
 use Rattle.ws_peers.specs.declared.peer.Peer.{Peer}
