@@ -1,10 +1,10 @@
 //! A server: it takes connections, serves them over a hub turn by turn, and tells of itself in a log and by metrics.
 #![tactic(auto)]
 
-mod driver;
 mod measured;
 mod opening;
 mod prepared;
+mod reactor;
 mod server;
 mod service;
 mod serving;

@@ -1,8 +1,8 @@
 //! The server.
 
-use crate::driver::{Clock, ServerDriver};
 use crate::measured::connected_of;
 use crate::prepared::Prepared;
+use crate::reactor::{Clock, ServerReactor};
 use crate::stop_file::StopFile;
 use clients::now;
 use command_line::{JournalOptions, VERSION};
@@ -53,7 +53,7 @@ pub struct Server<S, V> {
     /// Where it listens.
     pub(crate) address: SocketAddr,
     pub(crate) turns: TurnServer<ReadyStream, S, V, File>,
-    pub(crate) driver: ServerDriver,
+    pub(crate) reactor: ServerReactor,
     /// The moment of the last turn.
     pub(crate) moment: Moment,
     /// The metrics as they were printed last, and in which second.
@@ -94,7 +94,7 @@ impl<S: Store + Drop, V: VendorHandler> Server<S, V> {
             alloc,
             address,
             turns: TurnServer::new(hub, gateway_with_notes(alloc), lobby),
-            driver: ServerDriver::new(streams, service, metrics, log, clock, reserve),
+            reactor: ServerReactor::new(streams, service, metrics, log, clock, reserve),
             moment,
             page: None,
             most_stations,
@@ -117,18 +117,18 @@ impl<S: Store + Drop, V: VendorHandler> Server<S, V> {
         let writer = begin_journal(rt, options, operators, hub.changes())?;
         self.journal.keep(self.alloc, options, operators)?;
         hub.set_journal(writer);
-        self.driver.streams.hold();
+        self.reactor.streams.hold();
         Ok(())
     }
 
     /// From now on peers are told what is taken in a turn once it ends.
     pub fn hold_turns(&mut self) {
-        self.driver.streams.hold();
+        self.reactor.streams.hold();
     }
 
     /// Writes the line with which its log begins.
     pub fn tell_start(&mut self, text: &str) {
-        self.driver.log.write_line(self.moment, text);
+        self.reactor.log.write_line(self.moment, text);
     }
 
     /// Makes that many turns, without waiting, or goes on until it is ended. It ends where the database is shut, as it is
@@ -136,22 +136,22 @@ impl<S: Store + Drop, V: VendorHandler> Server<S, V> {
     pub fn run(&mut self, rt: &HostRuntime, turns: Option<u32>) -> Result<(), RunFault> {
         for _ in 0..turns.map_or(u64::MAX, u64::from) {
             self.wait(rt, turns.is_none())?;
-            let began = self.driver.clock.read(rt);
+            let began = self.reactor.clock.read(rt);
             self.tick(rt)?;
             self.turn(rt);
             self.write_log();
-            let took = self.driver.clock.read(rt).saturating_sub(began);
-            self.driver.metrics.turn.add(took, self.driver.second);
+            let took = self.reactor.clock.read(rt).saturating_sub(began);
+            self.reactor.metrics.turn.add(took, self.reactor.second);
             self.journal.go_on(
                 rt,
                 &mut self.turns.hub,
-                self.driver.clock.now(),
+                self.reactor.clock.now(),
                 self.moment,
             )?;
             if matches!(self.turns.state(), State::Shut) {
                 return Err(RunFault::Store);
             }
-            if self.stop_file.is_there(rt, self.driver.clock.now()) {
+            if self.stop_file.is_there(rt, self.reactor.clock.now()) {
                 return self.end(rt);
             }
         }
@@ -164,27 +164,27 @@ impl<S: Store + Drop, V: VendorHandler> Server<S, V> {
         let count = self.turns.gateway.count();
         self.confirm();
         self.turns.gateway.end_all();
-        self.driver.streams.end_turn();
+        self.reactor.streams.end_turn();
         self.wait_for_peers(rt)?;
         self.stop_file.remove(rt);
         let text = format!(in self.alloc; "central ends: {count} connections closed")?;
-        self.driver.log.write_line(self.moment, text.as_str());
+        self.reactor.log.write_line(self.moment, text.as_str());
         Ok(())
     }
 
     /// Waits until peers have taken what waits for them, within bounds.
     fn wait_for_peers(&mut self, rt: &HostRuntime) -> Result<(), RunFault> {
-        let begun = self.driver.clock.read(rt);
+        let begun = self.reactor.clock.read(rt);
         for _ in 0..u64::MAX {
-            let waited = self.driver.clock.read(rt).saturating_sub(begun);
-            let is_taken = self.driver.streams.count_unsent() == 0 && waited >= LEAST_WAIT;
+            let waited = self.reactor.clock.read(rt).saturating_sub(begun);
+            let is_taken = self.reactor.streams.count_unsent() == 0 && waited >= LEAST_WAIT;
             if is_taken || waited >= LAST_WAIT {
                 break;
             }
-            if let Err(error) = self.driver.streams.wait(Duration::from_millis(100)) {
+            if let Err(error) = self.reactor.streams.wait(Duration::from_millis(100)) {
                 return Err(RunFault::at(self.address, error));
             }
-            self.driver.streams.end_turn();
+            self.reactor.streams.end_turn();
         }
         Ok(())
     }
@@ -196,10 +196,10 @@ impl<S: Store + Drop, V: VendorHandler> Server<S, V> {
         } else {
             Duration::from_secs(0)
         };
-        let before = self.driver.clock.now();
-        let waited = self.driver.streams.wait(time);
-        let idle = self.driver.clock.read(rt).saturating_sub(before);
-        self.driver.metrics.idle = self.driver.metrics.idle.saturating_add(idle);
+        let before = self.reactor.clock.now();
+        let waited = self.reactor.streams.wait(time);
+        let idle = self.reactor.clock.read(rt).saturating_sub(before);
+        self.reactor.metrics.idle = self.reactor.metrics.idle.saturating_add(idle);
         waited.map_err(|error| RunFault::at(self.address, error))
     }
 
@@ -207,16 +207,16 @@ impl<S: Store + Drop, V: VendorHandler> Server<S, V> {
     /// after a turn that ended in a fault, so that a fault that stays doesn't take a whole processor.
     fn pause(&mut self) -> Duration {
         let longest = Duration::from_secs(MAX_WAIT);
-        let accepts = self.may_accept() && self.turns.lobby.has_room(self.driver.second);
-        let least = if self.driver.has_faulted { PAUSE } else { 0 };
-        if accepts && self.driver.streams.may_accept() {
+        let accepts = self.may_accept() && self.turns.lobby.has_room(self.reactor.second);
+        let least = if self.reactor.has_faulted { PAUSE } else { 0 };
+        if accepts && self.reactor.streams.may_accept() {
             return Duration::from_nanos(least);
         }
-        let places = self.driver.streams.readable_peers();
+        let places = self.reactor.streams.readable_peers();
         match self
-            .driver
+            .reactor
             .service
-            .pause(&self.turns.gateway, places, self.driver.clock.now())
+            .pause(&self.turns.gateway, places, self.reactor.clock.now())
         {
             Some(pause) => Duration::from_nanos(pause.max(least)).min(longest),
             None => longest,
@@ -231,18 +231,18 @@ impl<S: Store + Drop, V: VendorHandler> Server<S, V> {
         if moment > self.moment {
             self.moment = moment;
         }
-        let second = self.driver.clock.now() / 1_000_000_000;
-        if second != self.driver.second {
-            self.driver.second = second;
+        let second = self.reactor.clock.now() / 1_000_000_000;
+        if second != self.reactor.second {
+            self.reactor.second = second;
             self.failed_accept = false;
-            self.driver.streams.release_all();
-            if self.driver.reserve.is_none() {
-                self.driver.reserve = set_aside(self.alloc).ok();
+            self.reactor.streams.release_all();
+            if self.reactor.reserve.is_none() {
+                self.reactor.reserve = set_aside(self.alloc).ok();
             }
             self.turns
                 .lobby
-                .set_hurt(is_recent(self.driver.hurt, second));
-            self.driver.log.begin_second(moment);
+                .set_hurt(is_recent(self.reactor.hurt, second));
+            self.reactor.log.begin_second(moment);
             self.count_stations();
             self.probe();
             self.confirm();
@@ -253,10 +253,10 @@ impl<S: Store + Drop, V: VendorHandler> Server<S, V> {
     /// Sends a Ping to the peers that are silent, and ends the connections of those that stay silent after one: their
     /// system or the way to it may be gone without a word. What is read of a peer ends its silence.
     fn probe(&mut self) {
-        self.driver.streams.set_second(self.driver.second);
-        self.driver.streams.find_silent(PING_AFTER, ANSWER_WITHIN);
-        self.turns.gateway.ping(self.driver.streams.to_ping());
-        self.turns.gateway.end_silent(self.driver.streams.to_end());
+        self.reactor.streams.set_second(self.reactor.second);
+        self.reactor.streams.find_silent(PING_AFTER, ANSWER_WITHIN);
+        self.turns.gateway.ping(self.reactor.streams.to_ping());
+        self.turns.gateway.end_silent(self.reactor.streams.to_end());
     }
 
     /// Answers those that ask for the metrics, which are printed once in a second at most.
@@ -264,9 +264,9 @@ impl<S: Store + Drop, V: VendorHandler> Server<S, V> {
         let is_new = self
             .page
             .as_ref()
-            .is_none_or(|page| page.0 != self.driver.second);
+            .is_none_or(|page| page.0 != self.reactor.second);
         if is_new {
-            let second = self.driver.second;
+            let second = self.reactor.second;
             self.page = self.print_page(rt).ok().map(|text| (second, text));
         }
         let text = self.page.as_ref().map_or("", |page| page.1.as_str());
@@ -276,19 +276,19 @@ impl<S: Store + Drop, V: VendorHandler> Server<S, V> {
     fn print_page(&self, rt: &HostRuntime) -> Mem<String> {
         let connected = connected_of(
             self.alloc,
-            &self.driver.service,
+            &self.reactor.service,
             &self.turns.gateway,
             self.turns.hub.hub(),
         )?;
         let mut now = now_of(rt, self.db.as_str())?;
-        now.since_start = self.driver.clock.now();
+        now.since_start = self.reactor.clock.now();
         now.waiting = self.turns.lobby.count() as u64;
-        now.unsent = self.driver.streams.count_unsent() as u64;
-        now.left_out = self.driver.log.left_out();
+        now.unsent = self.reactor.streams.count_unsent() as u64;
+        now.left_out = self.reactor.log.left_out();
         page_of(
             self.alloc,
             VERSION,
-            &self.driver.metrics,
+            &self.reactor.metrics,
             connected.as_slice(),
             &now,
         )
@@ -297,11 +297,13 @@ impl<S: Store + Drop, V: VendorHandler> Server<S, V> {
     /// Counts the notes of a turn, and writes them to the log.
     fn write_log(&mut self) {
         let refused = self.turns.lobby.take_notes();
-        self.driver.metrics.note(refused.as_slice());
-        self.driver.log.write_notes(self.moment, refused.as_slice());
+        self.reactor.metrics.note(refused.as_slice());
+        self.reactor
+            .log
+            .write_notes(self.moment, refused.as_slice());
         let notes = self.turns.gateway.take_notes();
-        self.driver.metrics.note(notes.as_slice());
-        self.driver.log.write_notes(self.moment, notes.as_slice());
+        self.reactor.metrics.note(notes.as_slice());
+        self.reactor.log.write_notes(self.moment, notes.as_slice());
         if !notes.is_empty() {
             self.name_full();
         }
@@ -310,7 +312,7 @@ impl<S: Store + Drop, V: VendorHandler> Server<S, V> {
     /// Names those operators to the gateway that have as many connections of stations as they may have. Where there is no
     /// memory for it, those that were named last are.
     fn name_full(&mut self) {
-        if let Ok(full) = self.driver.metrics.full(self.alloc, self.most_stations) {
+        if let Ok(full) = self.reactor.metrics.full(self.alloc, self.most_stations) {
             self.turns.gateway.set_full(full);
         }
     }
@@ -318,24 +320,24 @@ impl<S: Store + Drop, V: VendorHandler> Server<S, V> {
     /// Counts the connections of stations anew where an operator seems full, since a note may be left out for want of memory.
     fn count_stations(&mut self) {
         let is_full = |counts: &Counts| counts.stations >= self.most_stations;
-        if !self.driver.metrics.counts.iter().any(is_full) {
+        if !self.reactor.metrics.counts.iter().any(is_full) {
             return;
         }
         let connected = connected_of(
             self.alloc,
-            &self.driver.service,
+            &self.reactor.service,
             &self.turns.gateway,
             self.turns.hub.hub(),
         );
         if let Ok(connected) = connected {
-            self.driver.metrics.set_stations(connected.as_slice());
+            self.reactor.metrics.set_stations(connected.as_slice());
             self.name_full();
         }
     }
 
     /// Whether connections are accepted in this second.
     fn may_accept(&self) -> bool {
-        !self.failed_accept && self.driver.reserve.is_some()
+        !self.failed_accept && self.reactor.reserve.is_some()
     }
 
     /// Accepts connections until none waits, up to a bound.
@@ -344,14 +346,14 @@ impl<S: Store + Drop, V: VendorHandler> Server<S, V> {
             return Ok(());
         }
         for _ in 0..MAX_ACCEPTS {
-            if !self.turns.lobby.has_room(self.driver.second) {
+            if !self.turns.lobby.has_room(self.reactor.second) {
                 break;
             }
-            match self.driver.streams.accept() {
+            match self.reactor.streams.accept() {
                 Ok(Some((stream, client))) => {
                     self.turns
                         .lobby
-                        .enter(stream, Some(client), self.driver.second)?;
+                        .enter(stream, Some(client), self.reactor.second)?;
                 }
                 Ok(None) => break,
                 Err(error) => return Err(RunFault::at(self.address, error)),

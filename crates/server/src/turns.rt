@@ -18,17 +18,17 @@ impl<S: Store + Drop, V: VendorHandler> Server<S, V> {
         }
         let time = TurnTime {
             moment: self.moment,
-            second: self.driver.second,
+            second: self.reactor.second,
         };
         let operators = self.journal.operators();
-        self.turns.turn(rt, &mut self.driver, time, operators);
+        self.turns.turn(rt, &mut self.reactor, time, operators);
         if matches!(self.turns.state(), State::Unwritten) {
             self.journal.is_lost = true;
             return;
         }
         if self.turns.lobby.has_readers() {
             self.answer_readers(rt);
-            self.driver.streams.end_turn();
+            self.reactor.streams.end_turn();
         }
     }
 
@@ -42,8 +42,8 @@ impl<S: Store + Drop, V: VendorHandler> Server<S, V> {
     /// fault was written.
     fn tell_fault<F: Display>(&mut self, fault: &F, found_no_memory: bool) -> bool {
         if found_no_memory {
-            self.driver.reserve = None;
+            self.reactor.reserve = None;
         }
-        self.driver.log.write_fault(fault)
+        self.reactor.log.write_fault(fault)
     }
 }

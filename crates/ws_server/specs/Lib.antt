@@ -5,5 +5,5 @@ pub mod Turns
 pub mod Admits
 pub mod Lobbies
 pub mod Probes
-pub mod Drivers
+pub mod Reactors
 pub mod TurnServers

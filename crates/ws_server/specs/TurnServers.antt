@@ -20,8 +20,8 @@ use Rattle.ws_server.specs.Lobbies.{origins_of}
 use Rattle.ws_server.specs.Steps.{Runs, Step, Takes}
 use Rattle.ws_server.specs.Tells.{peers_of}
 use Rattle.ws_server.specs.Turns.{Change, EachOf, PartsAndTicks, Serves}
-use Rattle.ws_server.specs.declared.driver.Written.{Written}
-use Rattle.ws_server.specs.declared.driver.Written.TheVariants.{Given, Dropped}
+use Rattle.ws_server.specs.declared.reactor.Written.{Written}
+use Rattle.ws_server.specs.declared.reactor.Written.TheVariants.{Given, Dropped}
 use Rattle.ws_server.specs.declared.turn_server.TurnServer.{TurnServer}
 
 -- a change that goes on to its first fault

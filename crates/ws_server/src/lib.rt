@@ -5,18 +5,18 @@
 mod admit;
 mod answer;
 mod arrival;
-mod driver;
 mod events;
 mod gateway;
 mod lobby;
 mod probe;
+mod reactor;
 mod tell;
 mod turn;
 mod turn_server;
 mod welcome;
 
 pub use arrival::{Arrival, Client};
-pub use driver::{Driver, Written};
 pub use gateway::Gateway;
 pub use lobby::Lobby;
+pub use reactor::{Reactor, Written};
 pub use turn_server::{State, TurnServer, TurnTime};

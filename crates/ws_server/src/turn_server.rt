@@ -11,11 +11,11 @@ ghost use Rattle.ws_server.specs.Lobbies.{origins_of};
 ghost use Rattle.ws_server.specs.Steps.{Takes};
 ghost use Rattle.ws_server.specs.Tells.{peers_of};
 ghost use Rattle.ws_server.specs.Turns.{PartsAndTicks};
-ghost use Rattle.ws_server.specs.declared.driver.Written.TheVariants.{Held, Given, Dropped};
+ghost use Rattle.ws_server.specs.declared.reactor.Written.TheVariants.{Held, Given, Dropped};
 
-use crate::driver::Driver;
 use crate::gateway::Gateway;
 use crate::lobby::Lobby;
+use crate::reactor::Reactor;
 use hub::Fault;
 use hub_rows::{Recovered, Store};
 use journal::{JournalFault, JournalFile};
@@ -88,59 +88,59 @@ impl<
         self.state
     }
 
-    /// One turn. The connections whose heads are whole are welcomed, peers are served as the driver chooses them, and those
+    /// One turn. The connections whose heads are whole are welcomed, peers are served as the reactor chooses them, and those
     /// that have ended leave; each of the three goes on to its first fault. Then the turn of the hub ends, with its entry in
     /// the journal and its commit, and what was written to peers is given to the system. Where changes are gone nothing of it
     /// is, and all connections end. `operators` are those of the journal.
-    pub fn turn<R, D: Driver<T, R>>(
+    pub fn turn<R, D: Reactor<T, R>>(
         &mut self,
         rt: &R,
-        driver: &mut D,
+        reactor: &mut D,
         time: TurnTime,
         operators: &str,
     )
-        ensures { EndsTurn S.view V.view T.remaining T.contents time.moment W.contents (D.written driver.new) self.old self.new }
+        ensures { EndsTurn S.view V.view T.remaining T.contents time.moment W.contents (D.written reactor.new) self.old self.new }
     {
-        driver.begin();
-        match self.serve_and_commit(rt, driver, time, operators) {
-            Ok(()) => driver.give(),
-            Err(Stopped) => self.stop(driver),
+        reactor.begin();
+        match self.serve_and_commit(rt, reactor, time, operators) {
+            Ok(()) => reactor.give(),
+            Err(Stopped) => self.stop(reactor),
         }
     }
 
     /// Serves a turn, and ends that of the hub.
-    fn serve_and_commit<R, D: Driver<T, R>>(
+    fn serve_and_commit<R, D: Reactor<T, R>>(
         &mut self,
         rt: &R,
-        driver: &mut D,
+        reactor: &mut D,
         time: TurnTime,
         operators: &str,
     ) -> Result<(), Stopped>
         ensures told { OnOk result (IsTold S.view V.view W.contents self.old.hub self.new.hub (TurnOf S.view V.view T.remaining T.contents time.moment self.old (peers_of self.new.gateway))) }
         ensures stopped { FindsTurn S.view V.view T.remaining T.contents time.moment self.old self.new.hub }
         ensures commits { self.new.hub.commits ≡ self.old.hub.commits }
-        ensures written { D.written driver.new ≡ D.written driver.old }
+        ensures written { D.written reactor.new ≡ D.written reactor.old }
     {
-        self.serve_turn(rt, driver, time, operators)?;
-        self.commit(rt, driver, operators)
+        self.serve_turn(rt, reactor, time, operators)?;
+        self.commit(rt, reactor, operators)
     }
 
     /// Serves a turn.
-    fn serve_turn<R, D: Driver<T, R>>(
+    fn serve_turn<R, D: Reactor<T, R>>(
         &mut self,
         rt: &R,
-        driver: &mut D,
+        reactor: &mut D,
         time: TurnTime,
         operators: &str,
     ) -> Result<(), Stopped>
         ensures stage { Stage S.view V.view self.old.hub self.new.hub (IsOk result) (TurnOf S.view V.view T.remaining T.contents time.moment self.old (peers_of self.new.gateway)) }
-        ensures written { D.written driver.new ≡ D.written driver.old }
+        ensures written { D.written reactor.new ≡ D.written reactor.old }
     {
         let moment = time.moment;
         self.begin(operators)?;
-        self.welcome(driver, time, operators)?;
-        self.serve(rt, driver, moment, operators)?;
-        self.part(driver, moment, operators)
+        self.welcome(reactor, time, operators)?;
+        self.serve(rt, reactor, moment, operators)?;
+        self.part(reactor, moment, operators)
     }
 
     /// Asks a store that couldn't tell whether changes are gone.
@@ -157,15 +157,15 @@ impl<
     }
 
     /// Welcomes the connections whose heads are whole.
-    fn welcome<R, D: Driver<T, R>>(
+    fn welcome<R, D: Reactor<T, R>>(
         &mut self,
-        driver: &mut D,
+        reactor: &mut D,
         time: TurnTime,
         operators: &str,
     ) -> Result<(), Stopped>
         ensures stage { Stage S.view V.view self.old.hub self.new.hub (IsOk result)
             (ToFault (WelcomesSome T.remaining T.contents time.moment (origins_of self.old.lobby)) (peers_of self.old.gateway) (peers_of self.new.gateway)) }
-        ensures written { D.written driver.new ≡ D.written driver.old }
+        ensures written { D.written reactor.new ≡ D.written reactor.old }
     {
         let TurnTime { moment, second } = time;
         match self
@@ -173,82 +173,82 @@ impl<
             .serve(&mut self.gateway, &mut self.hub, moment, second)
         {
             Ok(()) => Ok(()),
-            Err(fault) => self.fail(driver, fault, operators),
+            Err(fault) => self.fail(reactor, fault, operators),
         }
     }
 
-    /// Serves the peers that the driver chooses.
-    fn serve<R, D: Driver<T, R>>(
+    /// Serves the peers that the reactor chooses.
+    fn serve<R, D: Reactor<T, R>>(
         &mut self,
         rt: &R,
-        driver: &mut D,
+        reactor: &mut D,
         moment: Moment,
         operators: &str,
     ) -> Result<(), Stopped>
         ensures stage { Stage S.view V.view self.old.hub self.new.hub (IsOk result)
             (ToFault (ServesSome T.remaining T.contents (setting V.view self.old.hub).is_hosted moment) (peers_of self.old.gateway) (peers_of self.new.gateway)) }
-        ensures written { D.written driver.new ≡ D.written driver.old }
+        ensures written { D.written reactor.new ≡ D.written reactor.old }
     {
-        driver.begin_service(rt, &self.gateway);
-        match self.serve_each(rt, driver, moment) {
+        reactor.begin_service(rt, &self.gateway);
+        match self.serve_each(rt, reactor, moment) {
             Ok(()) => Ok(()),
-            Err(fault) => self.fail(driver, fault, operators),
+            Err(fault) => self.fail(reactor, fault, operators),
         }
     }
 
-    /// Serves the peers that the driver chooses, up to the first fault.
-    fn serve_each<R, D: Driver<T, R>>(
+    /// Serves the peers that the reactor chooses, up to the first fault.
+    fn serve_each<R, D: Reactor<T, R>>(
         &mut self,
         rt: &R,
-        driver: &mut D,
+        reactor: &mut D,
         moment: Moment,
     ) -> Result<(), Fault>
         ensures takes { Takes S.view V.view self.old.hub self.new.hub
             (λ steps. ServesSome T.remaining T.contents (setting V.view self.old.hub).is_hosted moment (peers_of self.old.gateway) (peers_of self.new.gateway) steps result) }
         ensures counted { IsCounted (hub_view S.view) self.old.hub self.new.hub (result ≡ Err Fault.Store) }
         ensures records { KeepsRecord S.view self.old.hub self.new.hub (IsOk result) }
-        ensures written { D.written driver.new ≡ D.written driver.old }
+        ensures written { D.written reactor.new ≡ D.written reactor.old }
     {
         for _ in 0..u64::MAX {
-            let Some(place) = driver.next(rt, &self.gateway) else {
+            let Some(place) = reactor.next(rt, &self.gateway) else {
                 return Ok(());
             };
             let before = self.gateway.taken();
             let served = self.gateway.serve_at(&mut self.hub, place, moment);
             let events = self.gateway.taken().wrapping_sub(before);
-            driver.served(rt, &self.gateway, place, events);
+            reactor.served(rt, &self.gateway, place, events);
             served?;
         }
         Ok(())
     }
 
     /// Those that have ended leave.
-    fn part<R, D: Driver<T, R>>(
+    fn part<R, D: Reactor<T, R>>(
         &mut self,
-        driver: &mut D,
+        reactor: &mut D,
         moment: Moment,
         operators: &str,
     ) -> Result<(), Stopped>
         ensures stage { Stage S.view V.view self.old.hub self.new.hub (IsOk result)
             (ToFault (PartsAndTicks T.contents (setting V.view self.old.hub).is_hosted moment) (peers_of self.old.gateway) (peers_of self.new.gateway)) }
-        ensures written { D.written driver.new ≡ D.written driver.old }
+        ensures written { D.written reactor.new ≡ D.written reactor.old }
     {
         match self.gateway.part_and_tick(&mut self.hub, moment) {
             Ok(()) => Ok(()),
-            Err(fault) => self.fail(driver, fault, operators),
+            Err(fault) => self.fail(reactor, fault, operators),
         }
     }
 
-    /// Tells the driver of a fault. Where changes may be gone with it the store is asked for them.
-    fn fail<R, D: Driver<T, R>>(
+    /// Tells the reactor of a fault. Where changes may be gone with it the store is asked for them.
+    fn fail<R, D: Reactor<T, R>>(
         &mut self,
-        driver: &mut D,
+        reactor: &mut D,
         fault: Fault,
         operators: &str,
     ) -> Result<(), Stopped>
         ensures holds { Holds S.view V.view self.old.hub self.new.hub (IsOk result) }
         ensures gateway { self.new.gateway ≡ self.old.gateway }
-        ensures written { D.written driver.new ≡ D.written driver.old }
+        ensures written { D.written reactor.new ≡ D.written reactor.old }
     {
         let is_of_store = matches!(fault, Fault::Store);
         if is_of_store {
@@ -256,10 +256,10 @@ impl<
         }
         if is_of_store || self.hub.has_turns() {
             let asked = self.recover(operators);
-            driver.failed(&fault, self.state);
+            reactor.failed(&fault, self.state);
             return asked;
         }
-        driver.failed(&fault, self.state);
+        reactor.failed(&fault, self.state);
         Ok(())
     }
 
@@ -296,22 +296,22 @@ impl<
 
     /// Ends the turn of the hub. A store that still has its changes after a commit that failed answers no more: whether they
     /// are on record isn't known.
-    fn commit<R, D: Driver<T, R>>(
+    fn commit<R, D: Reactor<T, R>>(
         &mut self,
         rt: &R,
-        driver: &mut D,
+        reactor: &mut D,
         operators: &str,
     ) -> Result<(), Stopped>
         ensures ends { OnOk result (Ends S.view V.view W.contents self.old.hub self.new.hub) }
         ensures stopped { FindsEnd S.view V.view self.old.hub self.new.hub }
         ensures gateway { self.new.gateway ≡ self.old.gateway }
         ensures commits { self.new.hub.commits ≡ self.old.hub.commits }
-        ensures written { D.written driver.new ≡ D.written driver.old }
+        ensures written { D.written reactor.new ≡ D.written reactor.old }
     {
         let has_waiting = self.hub.has_waiting();
         let ended = self.hub.end_turn();
         if has_waiting {
-            driver.committed(rt);
+            reactor.committed(rt);
         }
         match ended {
             Ok(()) => Ok(()),
@@ -320,7 +320,7 @@ impl<
                 Err(Stopped)
             }
             Err(TurnFault::Hub(fault)) => {
-                if self.fail(driver, fault, operators).is_ok() {
+                if self.fail(reactor, fault, operators).is_ok() {
                     self.state = State::Shut;
                 }
                 Err(Stopped)
@@ -329,20 +329,20 @@ impl<
     }
 
     /// Ends a turn whose events aren't told. All connections end, unless nothing can be told any more.
-    fn stop<R, D: Driver<T, R>>(&mut self, driver: &mut D)
-        requires { D.written driver.old ≡ Held }
+    fn stop<R, D: Reactor<T, R>>(&mut self, reactor: &mut D)
+        requires { D.written reactor.old ≡ Held }
         ensures hub { self.new.hub ≡ self.old.hub }
-        ensures told { self.old.hub.commits ≡ TogetherInTurns → D.written driver.new ≢ Given }
-        ensures dropped { D.written driver.new ≡ Dropped → (last : List (Peer T)) × AllZip (Failed T.contents) last (peers_of self.new.gateway) }
+        ensures told { self.old.hub.commits ≡ TogetherInTurns → D.written reactor.new ≢ Given }
+        ensures dropped { D.written reactor.new ≡ Dropped → (last : List (Peer T)) × AllZip (Failed T.contents) last (peers_of self.new.gateway) }
     {
         if matches!(self.state, State::Unwritten) {
             return;
         }
         if self.hub.has_turns() {
-            driver.drop_turn();
+            reactor.drop_turn();
         }
         self.gateway.fail_all();
-        driver.give();
+        reactor.give();
         if matches!(self.state, State::Lost) {
             self.state = State::Serving;
         }

@@ -10,7 +10,7 @@ use std::fs::File;
 use std::net::{TcpListener, TcpStream};
 use store_mem::MemStore;
 use turn_hub::{Commits, TurnHub};
-use ws_server::{Driver, Gateway, Lobby, State, TurnServer, TurnTime, Written};
+use ws_server::{Gateway, Lobby, Reactor, State, TurnServer, TurnTime, Written};
 
 /// A hub of the operators ACME and BETA, its gateway and its listener.
 #[derive(Drop)]
@@ -30,8 +30,8 @@ struct EachPeer {
     written: Written,
 }
 
-impl Driver<TcpStream, HostRuntime> for EachPeer {
-    ghost written = { λ driver. driver.written };
+impl Reactor<TcpStream, HostRuntime> for EachPeer {
+    ghost written = { λ reactor. reactor.written };
 
     fn begin(&mut self) {
         self.written = Written::Held;
@@ -55,8 +55,7 @@ impl Driver<TcpStream, HostRuntime> for EachPeer {
         _gateway: &Gateway<TcpStream>,
         _place: usize,
         _events: u64,
-    ) {
-    }
+    ) {}
 
     fn committed(&mut self, _rt: &HostRuntime) {}
 
@@ -165,7 +164,7 @@ impl Server {
     /// One turn: accepts one connection, polls those that wait, and serves each peer.
     pub fn turn(&mut self, rt: &HostRuntime) -> Result<(), Fault> {
         self.accept()?;
-        let mut driver = EachPeer {
+        let mut reactor = EachPeer {
             next: 0,
             fault: None,
             written: Written::Held,
@@ -174,8 +173,8 @@ impl Server {
             moment: self.moment,
             second: self.moment.seconds(),
         };
-        self.turns.turn(rt, &mut driver, time, "");
-        match driver.fault {
+        self.turns.turn(rt, &mut reactor, time, "");
+        match reactor.fault {
             Some(fault) => Err(fault),
             None => Ok(()),
         }

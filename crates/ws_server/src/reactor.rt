@@ -1,8 +1,8 @@
-//! What drives the turns of a server.
+//! What the turns of a server go by.
 ghost use Rattle.std.specs.Prelude.{◌≡◌};
-ghost use Rattle.ws_server.specs.declared.driver.Written.{Written};
-ghost use Rattle.ws_server.specs.declared.driver.Written.TheVariants.{Held, Dropped};
-ghost use Rattle.ws_server.specs.Drivers.{given};
+ghost use Rattle.ws_server.specs.declared.reactor.Written.{Written};
+ghost use Rattle.ws_server.specs.declared.reactor.Written.TheVariants.{Held, Dropped};
+ghost use Rattle.ws_server.specs.Reactors.{given};
 
 use crate::gateway::Gateway;
 use crate::turn_server::State;
@@ -19,9 +19,9 @@ pub enum Written {
     Dropped,
 }
 
-/// What drives the turns of a server: its clock, the choice of whom it serves, and its streams. `R` gives what it reads clocks
+/// What the turns of a server go by: its clock, the choice of whom it serves, and its streams. `R` gives what it reads clocks
 /// by.
-pub trait Driver<T, R> {
+pub trait Reactor<T, R> {
     /// What becomes of what is written in this turn.
     ghost written: { Self → Written };
 

@@ -1,11 +1,11 @@
-//! What drives the turns of a server.
+//! What the turns of a server go by.
 use crate::service::Service;
 use hub::Fault;
 use ready_streams::{ReadyStream, Streams};
 use std::time::Instant;
 use telemetry::{Metrics, ServerLog};
 use ws_peers::Route;
-use ws_server::{Driver, Gateway, State, Written};
+use ws_server::{Gateway, Reactor, State, Written};
 
 /// How long a turn serves connections at least, in nanoseconds. It serves for as long as the turn has taken before, if that is
 /// longer. The next turn serves those that are left, after what is reported meanwhile.
@@ -50,7 +50,7 @@ struct Serving {
 
 /// The streams of a server, its clock, and whom it serves.
 #[derive(Drop)]
-pub struct ServerDriver {
+pub struct ServerReactor {
     pub streams: Streams,
     pub service: Service,
     pub metrics: Metrics,
@@ -73,7 +73,7 @@ pub struct ServerDriver {
     serving: Option<Serving>,
 }
 
-impl ServerDriver {
+impl ServerReactor {
     /// Over streams.
     pub fn new(
         streams: Streams,
@@ -82,8 +82,8 @@ impl ServerDriver {
         log: ServerLog,
         clock: Clock,
         reserve: Option<Vec<u8>>,
-    ) -> ServerDriver {
-        ServerDriver {
+    ) -> ServerReactor {
+        ServerReactor {
             streams,
             service,
             metrics,
@@ -125,8 +125,8 @@ impl ServerDriver {
 
 /// Each operator is charged for the time of its events, and the one that was charged least is next. Where each change is
 /// committed alone and no journal is kept, streams may give what is written before the turn ends.
-impl Driver<ReadyStream, HostRuntime> for ServerDriver {
-    ghost written = { λ driver. driver.written };
+impl Reactor<ReadyStream, HostRuntime> for ServerReactor {
+    ghost written = { λ reactor. reactor.written };
 
     fn begin(&mut self) {
         self.written = Written::Held;
