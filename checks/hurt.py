@@ -68,10 +68,10 @@ def tags_of(program, db, words=()):
     return re.findall(r'row tag "(\w+)"', ran.stdout.decode())
 
 
-def started(checks, disk):
+def started(checks, disk, words=()):
     """A server over a new file with a tag, and the connections of a station and of another operator."""
     db = checks.new_file()
-    server = Server(checks.program, db, disk)
+    server = Server(checks.program, db, disk, words)
     for line in ("station add CP01 Accepted 300", "tag put SIM1 - 0 -"):
         checks.check(line, put(line), "ACME ok")
     station, other = Peer(PORT, "/ocpp/ACME/CP01"), Peer(PORT, "/operator/BETA")
@@ -81,9 +81,9 @@ def started(checks, disk):
     return db, server, station, other
 
 
-def check_syncs(checks, disk):
-    """Syncs fail under a change: the server ends. What was acknowledged before is on record afterwards."""
-    db, server, station, other = started(checks, disk)
+def check_syncs(checks, disk, words=()):
+    """Syncs fail under a change: the server ends. What was acknowledged before is on record afterwards, and a journal fits."""
+    db, server, station, other = started(checks, disk, words)
     disk.fail(syncs=True)
     operator = Peer(PORT, "/operator/ACME")
     operator.send("tag put SIM2 - 0 -")
@@ -91,7 +91,7 @@ def check_syncs(checks, disk):
         checks.check(f"syncs fail: the close of {who}", close_code(peer), (CLOSE, 1011))
     checks.check("syncs fail: the end", server.ends(), (2, "fault Store: the database failed\n"))
     disk.fail()
-    server = Server(checks.program, db)
+    server = Server(checks.program, db, words=words)
     tags = [row.split(" ")[3] for row in Peer(PORT, "/operator/ACME").lines("w", "list tags")[:-1]]
     checks.check("syncs fail: what was acknowledged", tags[0], '"SIM1"')
     checks.check("syncs fail: what was not", tags[1:] in ([], ['"SIM2"']), True)
@@ -230,6 +230,7 @@ def main():
         if checks.can("what a failing disk leads to", "gcc"):
             disk = Disk(folder)
             check_syncs(checks, disk)
+            check_syncs(checks, disk, ("--journal", os.path.join(folder, "journal")))
             check_writes(checks, disk)
     checks.end()
 

@@ -3,7 +3,7 @@ use crate::service::Service;
 use hub::Fault;
 use ready_streams::{ReadyStream, Streams};
 use std::time::Instant;
-use telemetry::{Metrics, ServerLog};
+use telemetry::{Counts, Metrics, ServerLog};
 use ws_peers::Route;
 use ws_server::{Gateway, Reactor, State, Written};
 
@@ -100,6 +100,27 @@ impl ServerReactor {
         }
     }
 
+    /// In how many nanoseconds a connection that has something to read may be served. `None` where there is none.
+    pub fn pause(&mut self, gateway: &Gateway<ReadyStream>) -> Option<u64> {
+        let now = self.clock.now();
+        let places = self.streams.readable_peers();
+        self.service.pause(gateway, places, now)
+    }
+
+    /// Whether an operator has so many connections of stations, as its notes count them.
+    pub fn has_full(&self, most: u64) -> bool {
+        let is_full = |counts: &Counts| counts.stations >= most;
+        self.metrics.counts.iter().any(is_full)
+    }
+
+    /// Measures a turn that began then. The nanoseconds since the start.
+    pub fn end_turn(&mut self, rt: &HostRuntime, began: u64) -> u64 {
+        let now = self.clock.read(rt);
+        let second = self.second;
+        self.metrics.turn.add(now.saturating_sub(began), second);
+        now
+    }
+
     /// Where one operator alone waits a turn is as long as its last commit took, so that a slow disk makes larger batches.
     fn wide(&self) -> u64 {
         if self.service.count_waiting() > 1 {
@@ -107,19 +128,6 @@ impl ServerReactor {
         } else {
             self.commit_time
         }
-    }
-
-    /// Whether the connection at that place is one of that operator, and then of a station.
-    fn is_of_station(
-        &self,
-        gateway: &Gateway<ReadyStream>,
-        owner: usize,
-        place: usize,
-    ) -> Option<bool> {
-        if self.service.owner_of(gateway, place) != Some(owner) {
-            return None;
-        }
-        Some(matches!(gateway.route(place), Some(Route::Station(_, _))))
     }
 }
 
@@ -147,18 +155,14 @@ impl Reactor<ReadyStream, HostRuntime> for ServerReactor {
         if now >= self.serves_until {
             return None;
         }
-        for _ in 0..u64::MAX {
-            let (owner, place) = self.service.next(now)?;
-            if let Some(is_station) = self.is_of_station(gateway, owner, place) {
-                self.serving = Some(Serving {
-                    owner,
-                    is_station,
-                    since: now,
-                });
-                return Some(place);
-            }
-        }
-        None
+        let (owner, place) = self.service.next_there(gateway, now)?;
+        let is_station = matches!(gateway.route(place), Some(Route::Station(_, _)));
+        self.serving = Some(Serving {
+            owner,
+            is_station,
+            since: now,
+        });
+        Some(place)
     }
 
     fn served(

@@ -15,7 +15,7 @@ use std::alloc::Global;
 use std::fs::File;
 use std::net::SocketAddr;
 use std::time::Duration;
-use telemetry::{Counts, ServerLog, now_of, page_of};
+use telemetry::{Connected, ServerLog, now_of, page_of};
 use turn_hub::TurnHub;
 use ws_server::{Gateway, State, TurnServer};
 
@@ -140,18 +140,14 @@ impl<S: Store + Drop, V: VendorHandler> Server<S, V> {
             self.tick(rt)?;
             self.turn(rt);
             self.write_log();
-            let took = self.reactor.clock.read(rt).saturating_sub(began);
-            self.reactor.metrics.turn.add(took, self.reactor.second);
-            self.journal.go_on(
-                rt,
-                &mut self.turns.hub,
-                self.reactor.clock.now(),
-                self.moment,
-            )?;
+            let now = self.reactor.end_turn(rt, began);
+            let moment = self.moment;
+            let hub = &mut self.turns.hub;
+            self.journal.go_on(rt, hub, now, moment)?;
             if matches!(self.turns.state(), State::Shut) {
                 return Err(RunFault::Store);
             }
-            if self.stop_file.is_there(rt, self.reactor.clock.now()) {
+            if self.stop_file.is_there(rt, now) {
                 return self.end(rt);
             }
         }
@@ -212,12 +208,8 @@ impl<S: Store + Drop, V: VendorHandler> Server<S, V> {
         if accepts && self.reactor.streams.may_accept() {
             return Duration::from_nanos(least);
         }
-        let places = self.reactor.streams.readable_peers();
-        match self
-            .reactor
-            .service
-            .pause(&self.turns.gateway, places, self.reactor.clock.now())
-        {
+        let gateway = &self.turns.gateway;
+        match self.reactor.pause(gateway) {
             Some(pause) => Duration::from_nanos(pause.max(least)).min(longest),
             None => longest,
         }
@@ -239,9 +231,8 @@ impl<S: Store + Drop, V: VendorHandler> Server<S, V> {
             if self.reactor.reserve.is_none() {
                 self.reactor.reserve = set_aside(self.alloc).ok();
             }
-            self.turns
-                .lobby
-                .set_hurt(is_recent(self.reactor.hurt, second));
+            let is_hurt = is_recent(self.reactor.hurt, second);
+            self.turns.lobby.set_hurt(is_hurt);
             self.reactor.log.begin_second(moment);
             self.count_stations();
             self.probe();
@@ -253,33 +244,44 @@ impl<S: Store + Drop, V: VendorHandler> Server<S, V> {
     /// Sends a Ping to the peers that are silent, and ends the connections of those that stay silent after one: their
     /// system or the way to it may be gone without a word. What is read of a peer ends its silence.
     fn probe(&mut self) {
-        self.reactor.streams.set_second(self.reactor.second);
-        self.reactor.streams.find_silent(PING_AFTER, ANSWER_WITHIN);
-        self.turns.gateway.ping(self.reactor.streams.to_ping());
-        self.turns.gateway.end_silent(self.reactor.streams.to_end());
+        let second = self.reactor.second;
+        let streams = &mut self.reactor.streams;
+        streams.set_second(second);
+        streams.find_silent(PING_AFTER, ANSWER_WITHIN);
+        let gateway = &mut self.turns.gateway;
+        gateway.ping(streams.to_ping());
+        gateway.end_silent(streams.to_end());
     }
 
     /// Answers those that ask for the metrics, which are printed once in a second at most.
     pub(crate) fn answer_readers(&mut self, rt: &HostRuntime) {
-        let is_new = self
-            .page
-            .as_ref()
-            .is_none_or(|page| page.0 != self.reactor.second);
-        if is_new {
-            let second = self.reactor.second;
+        let second = self.reactor.second;
+        if !self.has_page(second) {
             self.page = self.print_page(rt).ok().map(|text| (second, text));
         }
-        let text = self.page.as_ref().map_or("", |page| page.1.as_str());
-        self.turns.lobby.answer_readers(text);
+        let lobby = &mut self.turns.lobby;
+        match &self.page {
+            Some(page) => lobby.answer_readers(page.1.as_str()),
+            None => lobby.answer_readers(""),
+        }
+    }
+
+    /// Whether the metrics were printed in that second.
+    fn has_page(&self, second: u64) -> bool {
+        match &self.page {
+            Some(page) => page.0 == second,
+            None => false,
+        }
+    }
+
+    /// What is counted of each operator.
+    fn connected(&self) -> Mem<Vec<Connected>> {
+        let hub = self.turns.hub.hub();
+        connected_of(self.alloc, &self.reactor.service, &self.turns.gateway, hub)
     }
 
     fn print_page(&self, rt: &HostRuntime) -> Mem<String> {
-        let connected = connected_of(
-            self.alloc,
-            &self.reactor.service,
-            &self.turns.gateway,
-            self.turns.hub.hub(),
-        )?;
+        let connected = self.connected()?;
         let mut now = now_of(rt, self.db.as_str())?;
         now.since_start = self.reactor.clock.now();
         now.waiting = self.turns.lobby.count() as u64;
@@ -319,16 +321,11 @@ impl<S: Store + Drop, V: VendorHandler> Server<S, V> {
 
     /// Counts the connections of stations anew where an operator seems full, since a note may be left out for want of memory.
     fn count_stations(&mut self) {
-        let is_full = |counts: &Counts| counts.stations >= self.most_stations;
-        if !self.reactor.metrics.counts.iter().any(is_full) {
+        let most = self.most_stations;
+        if !self.reactor.has_full(most) {
             return;
         }
-        let connected = connected_of(
-            self.alloc,
-            &self.reactor.service,
-            &self.turns.gateway,
-            self.turns.hub.hub(),
-        );
+        let connected = self.connected();
         if let Ok(connected) = connected {
             self.reactor.metrics.set_stations(connected.as_slice());
             self.name_full();

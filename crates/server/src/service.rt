@@ -107,6 +107,21 @@ impl Service {
         Some((owner, place))
     }
 
+    /// As `next`, but passes over places at which there is no connection of the operator any more.
+    pub fn next_there(
+        &mut self,
+        gateway: &Gateway<ReadyStream>,
+        now: u64,
+    ) -> Option<(usize, usize)> {
+        for _ in 0..u64::MAX {
+            let (owner, place) = self.next(now)?;
+            if self.owner_of(gateway, place) == Some(owner) {
+                return Some((owner, place));
+            }
+        }
+        None
+    }
+
     /// An operator was served up to that time, which took so many nanoseconds. After a long event it rests, if others are
     /// connected.
     pub fn charge(&mut self, gateway: &Gateway<ReadyStream>, owner: usize, cost: u64, now: u64)
