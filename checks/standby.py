@@ -32,7 +32,7 @@ from peer import BOOT, Peer
 OPERATOR_LIST = "ACME,BETA"
 # where a server over the follower's file listens
 STANDBY_PORT = 9290
-# what else each server is told
+# further options of each server
 WORDS = sys.argv[4:]
 OF_OPERATORS = ("stations", "tags", "grants", "granted", "uses", "readers", "open")
 OF_STATIONS = ("connectors", "transactions", "readings", "reservations", "reports", "locallist")

@@ -66,7 +66,7 @@ fn follow_database<A: Alter + Drop>(
     follow_counted(rt, store, changes, options)
 }
 
-/// Follows a journal into a store that has so many changes on record.
+/// Applies a journal to a store. `changes` counts the changes that the store has on record.
 fn follow_counted<S: Store + Drop>(
     rt: &HostRuntime,
     store: S,

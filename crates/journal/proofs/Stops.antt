@@ -116,7 +116,7 @@ line_prefix file old line P none was all n =
       | inr less ↦ line_parts file old line P none was n less
     ]
 
--- ---- what is told
+-- ---- the events that a journal says were taken
 
 pub same_number : (n : ℕ) → (n == n) ≡ true
 same_number n = grind arith

@@ -67,7 +67,7 @@ waits_nothing is_hosted file changes taken is told =
       lines = ap (λ xs. (found_of is_hosted xs).lines) same ∙ is.lines;
     }
 
--- a line that is a mark of so many changes, behind whole lines
+-- a mark with that count of changes follows whole lines
 pub record Begun (is_hosted : List ℕ → Bool) (file bytes : List ℕ) (changes : ℕ) (taken : List HubEvent) : Type 0 where
   pub survives : Survives is_hosted file bytes changes taken
   pub waits : Waits is_hosted (file ++ bytes) [] changes taken []
@@ -134,7 +134,7 @@ pub ok_of : {T E P : Type 0} (r : Result T E) → is_err r ≡ false → OnOk r 
 ok_of (Ok x) e p = p
 ok_of (Err x) e p = absurd (true≢false e)
 
--- a mark of so many changes was written behind known bytes
+-- a mark with that count of changes was appended to known bytes
 pub record Marked (is_hosted : List ℕ → Bool) (old new : Option (List ℕ)) (file bytes : List ℕ) (changes : ℕ) (taken : List HubEvent) (mark : Entry) : Type 0 where
   pub wrote : Wrote is_hosted old new changes taken
   pub is : new ≡ Some (file ++ bytes)
@@ -246,7 +246,7 @@ settled contents is_hosted old new changes taken now turn file lines events same
     opened contents is_hosted new turn.file changes (taken ++ now) (ap contents file ∙ turn.known) (waits_nothing is_hosted turn.file changes (taken ++ now) turn.marked turn.says.told)
     (lines ∙ turn.empty) same (events ∙ turn.none)
 
--- a mark behind which nothing waits, with the same number of changes
+-- no line follows the mark, and the count of changes is the same
 pub confirmed : {W : Type 0} (contents : W → Option (List ℕ)) (is_hosted : List ℕ → Bool) (old new : Writer W) (taken now : List HubEvent) → now ≡ [] → new.changes ≡ old.changes
     → WroteTurn is_hosted (contents old.file) (contents new.file) old.changes old.changes taken now × HasTurn contents is_hosted new old.changes taken now
     → WroteTurn is_hosted (contents old.file) (contents new.file) old.changes old.changes taken [] × IsOpen contents is_hosted new taken now

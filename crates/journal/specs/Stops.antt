@@ -17,7 +17,7 @@ pub record Found : Type 0 where
   pub waiting : List HubEvent
   pub lines : List ℕ
 
--- the events that were taken, where so many changes are on record
+-- the events that were taken, by the count of changes on record
 abbrev pub taken_with : List HubEvent → List HubEvent → Option TurnCounts → ℕ → List HubEvent
 taken_with taken held None changes = taken
 taken_with taken held (Some counts) changes = if changes == counts.after then taken ++ held else taken
@@ -25,7 +25,7 @@ taken_with taken held (Some counts) changes = if changes == counts.after then ta
 abbrev pub taken_where : Found → ℕ → List HubEvent
 taken_where found changes = taken_with found.taken found.held found.counts changes
 
--- a mark of so many changes
+-- a mark with that count of changes
 abbrev pub marked : Found → ℕ → Found
 marked found changes =
     record { taken = taken_where found changes; held = []; counts = Some (record { before = changes; after = changes }); waiting = []; lines = [] }
@@ -56,15 +56,15 @@ found_from is_hosted found (line ∷ rest) = found_from is_hosted (found_after i
 abbrev pub found_of : (List ℕ → Bool) → List ℕ → Found
 found_of is_hosted bytes = found_from is_hosted (record { taken = []; held = []; counts = None; waiting = []; lines = [] }) (lines_of bytes)
 
--- the events that were taken by a journal of those bytes, where so many changes are on record; any other number than it may be
--- doesn't fit it
+-- the events that a journal of those bytes says were taken, by the count of changes on record; `None` where the count
+-- doesn't fit the journal
 abbrev pub told_by : Found → ℕ → Option (List HubEvent)
 told_by found changes = if fits found.counts changes then Some (taken_where found changes) else None
 
 abbrev pub told_at : (List ℕ → Bool) → List ℕ → ℕ → Option (List HubEvent)
 told_at is_hosted bytes changes = told_by (found_of is_hosted bytes) changes
 
--- where so many changes are on record, a journal says that those events were taken, whatever a stop leaves of the bytes that
--- are to be written behind it
+-- with that count of changes on record, a journal says that those events were taken, whatever part of the bytes to append
+-- a stop leaves
 abbrev pub Survives : (List ℕ → Bool) → List ℕ → List ℕ → ℕ → List HubEvent → Type 0
 Survives is_hosted file bytes changes taken = (n : ℕ) → told_at is_hosted (file ++ take n bytes) changes ≡ Some taken

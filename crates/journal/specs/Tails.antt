@@ -4,7 +4,7 @@ use Rattle.std.specs.Str.{bytes_eq}
 use Rattle.journal.specs.Entries.{digest_of}
 use Rattle.journal.specs.declared.tail.TurnCounts.{TurnCounts}
 
--- so many changes may be on record at the end: as many as the last turn says if its events were taken, or as before it
+-- the count of changes on record fits the end: it is the one after the last turn, or the one before it
 abbrev pub fits : Option TurnCounts → ℕ → Bool
 fits None changes = true
 fits (Some counts) changes = (changes == counts.after) || (changes == counts.before)

@@ -35,8 +35,8 @@ pub record IsHandling {W : Type 0} (contents : W → Option (List ℕ)) (is_host
   pub was : IsOpen contents is_hosted writer taken now
   pub line : AddsLine is_hosted (Event event) [] writer.current.bytes.items
 
--- where so many changes are on record, those bytes say that the events up to the turn were taken, and where as many are as
--- before it, those before it
+-- with the count after the turn on record, those bytes say that its events were taken too; with the count before it, those
+-- before it alone
 pub record SaysTurn (is_hosted : List ℕ → Bool) (bytes : List ℕ) (before after : ℕ) (taken now : List HubEvent) : Type 0 where
   pub told : told_at is_hosted bytes after ≡ Some (taken ++ now)
   pub refused : after ≢ before → told_at is_hosted bytes before ≡ Some taken

@@ -6,7 +6,7 @@ use ocpp_types::Text;
 /// What a line of a journal says (docs/RULES.md, The journal).
 #[derive(Drop)]
 pub enum Entry {
-    /// A server begins, with so many changes on record and those operators. No station is connected.
+    /// A server begins: the count of changes on record, and the operators. No station is connected.
     Begins {
         changes: u64,
         operators: Text,

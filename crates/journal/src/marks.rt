@@ -5,7 +5,7 @@ ghost use Rattle.journal.specs.Entries.{begins_line, continues_line, turn_line};
 use ocpp_types::Mem;
 use std::alloc::Global;
 
-/// The line with which a server begins, with so many changes on record and those operators.
+/// The line with which a server begins: the count of changes on record, and the operators.
 pub fn begins_line(alloc: Global, changes: u64, operators: &str) -> Mem<String>
     ensures { IfOk result (λ s. string_bytes s ≡ begins_line changes operators.now) }
 {

@@ -72,7 +72,7 @@ impl Pending {
         self.add_line(line)
     }
 
-    /// Adds the mark that a server begins, with so many changes on record and those operators.
+    /// Adds the mark with which a server begins: the count of changes on record, and the operators.
     pub fn add_begins(&mut self, changes: u64, operators: &str) -> Mem<()>
         ensures line { IsCount changes → list_any is_feed operators.now ≡ false → OnOk result ((is_hosted : List ℕ → Bool) → AddsLine is_hosted (Begins changes operators.now) self.old.bytes.items self.new.bytes.items) }
         ensures kept { OnErr result (self.new.bytes.items ≡ self.old.bytes.items) }
@@ -81,7 +81,7 @@ impl Pending {
         self.add_line(line)
     }
 
-    /// Adds the mark that the next file of a server begins, with so many changes on record and those operators.
+    /// Adds the mark with which a further file of a server begins: the count of changes on record, and the operators.
     pub fn add_continues(&mut self, file: u64, changes: u64, operators: &str) -> Mem<()>
         ensures line { IsCount file → IsCount changes → list_any is_feed operators.now ≡ false → OnOk result ((is_hosted : List ℕ → Bool) → AddsLine is_hosted (Continues file changes operators.now) self.old.bytes.items self.new.bytes.items) }
         ensures kept { OnErr result (self.new.bytes.items ≡ self.old.bytes.items) }

@@ -67,8 +67,8 @@ impl Tail {
         }
     }
 
-    /// Whether so many changes may be on record: as many as the last mark says, or as before the turn that it ends. The events
-    /// of that turn were told to nobody then.
+    /// Whether `changes` can be the count of changes on record: it is the one after the turn that the last mark ends, or the one
+    /// before it. In the second case nobody was told of the events of that turn.
     pub fn fits(&self, changes: u64) -> bool
         ensures { result ≡ fits self.now.counts changes }
     {
@@ -78,7 +78,7 @@ impl Tail {
         }
     }
 
-    /// A mark of so many changes.
+    /// A mark with that count of changes.
     fn mark(&mut self, before: u64, after: u64) {
         self.counts = Some(TurnCounts { before, after });
         self.is_new = false;
@@ -156,7 +156,7 @@ impl Reading {
         self.lines.clear();
     }
 
-    /// A mark says that so many changes are on record.
+    /// A mark gives the count of changes on record.
     fn mark(&mut self, changes: u64) {
         self.tail.mark(changes, changes);
         self.begin_turn();

@@ -167,8 +167,8 @@ impl<W: JournalFile + Drop> Writer<W> {
         self.events = self.events.saturating_add(1);
     }
 
-    /// Ends a turn, after which so many changes are on record: its lines and its mark are written, if there are any. Error: they
-    /// can't be, and no change of it may be committed, and nobody told of it.
+    /// Ends a turn: writes its lines, if it has any, and its mark. `after` is the count of changes on record once the turn is
+    /// committed. Error: the file can't be written. Then no change of the turn may be committed, and nobody told of it.
     pub fn end_turn(&mut self, after: u64) -> Result<(), JournalFault>
         ensures turn { AreCounts self.old.events self.old.changes after → OnOk result ((is_hosted : List ℕ → Bool) (taken now : List HubEvent)
             → IsOpen W.contents is_hosted self.old taken now

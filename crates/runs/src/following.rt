@@ -50,8 +50,8 @@ fn tell(rt: &HostRuntime, changes: u64) {
     }
 }
 
-/// Follows the journal at a path to its end, over the records of a store, which has so many changes on record. It gives the
-/// store back, and how many changes are on record then.
+/// Follows the journal at a path to its end, over the records of a store. `changes` counts the changes that the store has on
+/// record. It gives the store back, and the count of changes on record then.
 pub fn follow_journal<S: Store + Drop>(
     rt: &HostRuntime,
     store: S,
@@ -122,7 +122,7 @@ fn follow_server<S: Store + Drop, R: BufRead>(
     Ok((hub, ended))
 }
 
-/// Whether a server that begins has the records and the operators that are here, where so many changes are on record.
+/// Whether a server that begins has the records and the operators that are here, by the count of changes on record.
 fn check_begin(
     alloc: Global,
     changes: u64,

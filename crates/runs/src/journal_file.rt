@@ -12,8 +12,8 @@ use std::os::unix::fs::OpenOptionsExt;
 /// Who may read and write a new journal: its owner alone, since id tags are credentials.
 const MODE: u32 = 0o600;
 
-/// Has a server with those operators begin in the journal at a path, which is made if there is none, where so many changes
-/// are on record.
+/// Has a server with those operators begin in the journal at a path, which is made if there is none. `changes` counts the
+/// changes on record.
 pub fn begin_journal(
     rt: &HostRuntime,
     options: &JournalOptions,

@@ -19,11 +19,11 @@ pub record Pending : Type 0 where
   pub events : List HubEvent
   pub lines : List ℕ
 
--- none waits, where so many changes are on record
+-- none waits, with that count of changes on record
 abbrev pub none_waits : ℕ → Pending
 none_waits changes = record { held = []; after = changes; events = []; lines = [] }
 
--- those that are held, where a mark says that so many changes are on record
+-- the events that are held, by the count of changes that a mark gives
 abbrev pub confirmed : Pending → ℕ → List HubEvent
 confirmed w changes = if changes == w.after then w.held else []
 

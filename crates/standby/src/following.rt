@@ -28,7 +28,7 @@ pub trait Progress {
 pub enum Ended {
     /// At its end: how many events stand behind the last mark, and whether a line is cut.
     End { waiting: usize, is_cut: bool },
-    /// Where another server begins, with so many changes on record and those operators. No station is connected then.
+    /// Where another server begins, with that count of changes on record and those operators. No station is connected then.
     Begins { changes: u64, operators: Text },
 }
 

@@ -31,7 +31,7 @@ pub struct Waiting {
 pub enum Passed {
     /// More lines of the server, and how many changes are to be on record, where the line says so.
     On { changes: Option<u64> },
-    /// Another server, with so many changes on record and those operators.
+    /// Another server begins, with that count of changes on record and those operators.
     Begun { changes: u64, operators: Text },
 }
 
@@ -127,7 +127,7 @@ impl Waiting {
         }
     }
 
-    /// Those that are held, where a mark says that so many changes are on record. None is held then.
+    /// Takes the events that are held, by the count of changes that a mark gives. None is held then.
     fn confirm(&mut self, changes: u64) -> Vec<Event>
         ensures taken { result.items ≡ confirmed (pending_of self.old) changes }
         ensures waits { pending_of self.new ≡ record (pending_of self.old) { held = [] } }
@@ -140,7 +140,7 @@ impl Waiting {
         }
     }
 
-    /// A turn ends that had so many changes on record before it, and so many if its events were taken.
+    /// A turn ends. `before` counts the changes on record before it, `after` those on record if its events were taken.
     fn end_turn(&mut self, before: u64, after: u64) -> Mem<Vec<Event>>
         ensures taken { IfOk result (λ taken. taken.items ≡ taken_at_turn (pending_of self.old) before after) }
         ensures waits { OnOk result (pending_of self.new ≡ waiting_at_turn (pending_of self.old) before after) }
@@ -169,7 +169,7 @@ impl Waiting {
         Ok(first)
     }
 
-    /// Nothing waits, where so many changes are on record.
+    /// Nothing waits. `changes` counts the changes on record.
     fn begin_turn(&mut self, changes: u64)
         ensures { pending_of self.new ≡ none_waits changes }
     {

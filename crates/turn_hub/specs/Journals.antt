@@ -43,7 +43,7 @@ module _ {W : Type 0} (contents : W → Option (List ℕ)) (is_hosted : List ℕ
     pub was : IsOpen contents is_hosted writer events []
     pub same : writer.changes ≡ on_record
 
-  -- they are, and those of the last turn count if so many changes are on record
+  -- they are, and those of the last turn count if that count of changes is on record
   pub record HasEntry (writer : Writer W) (after : ℕ) (events : List Event) : Type 0 where
     pub taken : List Event
     pub now : List Event

@@ -30,7 +30,7 @@ impl From<JournalFault> for NotBegun {
 }
 
 /// Has the line of an event ready. Where the event is ahead of its change, its line is in the file, behind those before it, as
-/// a turn of its own: so many changes were on record before it. `order` is the text of an order, without its word.
+/// a turn of its own. `on_record` counts the changes on record before it. `order` is the text of an order, without its word.
 pub fn begin<W: JournalFile + Drop>(
     journal: &mut Writer<W>,
     on_record: u64,
