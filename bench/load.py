@@ -1,14 +1,15 @@
 """Starts a server, connects stations over loopback, and has some of them send for some seconds, one call
-in flight each. It prints the messages per second, the median of the answers' times, and the processor
-time of the server per message.
+in flight each. It prints the messages per second, the times of the answers (the median, and that of one in a hundred),
+and the processor time of the server per message.
 
     python3 bench/load.py "crates/central/out/central serve --db /dev/shm/load.db" --stations 1000 --active 1000
     python3 bench/load.py "crates/central/out/central serve --db /dev/shm/load.db" --stations 1000 --active 1 --action heartbeat
 
 The file is a new one for each run.
 
-`--action` is heartbeat, or session: a start, five MeterValues and a stop. With `--active 0` it measures
-what idle connections cost the server.
+`--action` is heartbeat, session (a start, five MeterValues and a stop), or meter: MeterValues alone. With `--active 0`
+it measures what idle connections cost the server. `--sync-takes 3.5` adds 3.5 ms to each sync (needs gcc). With
+`--beside` a station of another operator sends a heartbeat every 20 ms, and the times of its answers are printed.
 """
 
 import argparse
@@ -20,10 +21,12 @@ import socket
 import statistics
 import subprocess
 import sys
+import tempfile
 import time
 
 sys.path.append(os.path.join(os.path.dirname(__file__), "..", "checks"))
-from peer import Peer
+from peer import HEARTBEAT, Peer
+from preloaded import Preloaded
 
 TIME = "2026-01-01T00:00:00Z"
 READING = '{"timestamp":"%s","sampledValue":[{"value":"%d"}]}'
@@ -53,11 +56,29 @@ def sessions(station):
         )
 
 
-ACTIONS = {"heartbeat": heartbeats, "session": sessions}
+def readings(station):
+    for value in itertools.count():
+        yield '[2,"1","MeterValues",{"connectorId":1,"meterValue":[%s]}]' % (READING % (TIME, value))
 
 
-def started(command, port):
-    server = subprocess.Popen(shlex.split(command) + ["--port", str(port), "--operators", "ACME"])
+ACTIONS = {"heartbeat": heartbeats, "session": sessions, "meter": readings}
+
+# The seconds between two heartbeats of another operator's station.
+QUIET = 0.02
+
+
+def environment(folder, sync_takes):
+    """That of the server, whose syncs take so many milliseconds more."""
+    if not sync_takes:
+        return None
+    disk = Preloaded(folder, "slow_disk", "SLOW_DISK", "Q")
+    disk.write(int(sync_takes * 1e6))
+    return disk.environment
+
+
+def started(command, port, environment):
+    words = shlex.split(command) + ["--port", str(port), "--operators", "ACME,BETA"]
+    server = subprocess.Popen(words, env=environment)
     for _ in range(200):
         try:
             socket.create_connection(("127.0.0.1", port)).close()
@@ -67,16 +88,39 @@ def started(command, port):
     sys.exit("the server doesn't listen")
 
 
-def connected(port, count):
-    operator = Peer(port, "/operator/ACME")
+def connected(port, operator, count):
+    console = Peer(port, f"/operator/{operator}")
     stations = []
     for station in range(count):
-        operator.ask(f"station add S{station} Accepted 300")
-        operator.ask(f"tag put T{station} - 0 -")
-        peer = Peer(port, f"/ocpp/ACME/S{station}")
+        console.ask(f"station add S{station} Accepted 300")
+        console.ask(f"tag put T{station} - 0 -")
+        peer = Peer(port, f"/ocpp/{operator}/S{station}")
         peer.ask('[2,"1","BootNotification",{"chargePointVendor":"V","chargePointModel":"M"}]')
         stations.append(peer)
-    return operator, stations
+    return console, stations
+
+
+def beats(port):
+    """The times of heartbeats of a station of BETA, as a process that is told when to end."""
+    words = [sys.executable, __file__, "", "--port", str(port), "--beats"]
+    return subprocess.Popen(words, stdin=subprocess.PIPE, stdout=subprocess.PIPE, text=True)
+
+
+def beat(port):
+    """Sends heartbeats until standard input ends, and prints the times of their answers."""
+    _, (station,) = connected(port, "BETA", 1)
+    times = []
+    print("ready", flush=True)
+    while not select.select([sys.stdin], [], [], QUIET)[0]:
+        station.ask(HEARTBEAT)
+        times.append(time.perf_counter() - station.sent_at)
+    print(*times)
+
+
+def said(times):
+    """The median, and the time that one in a hundred exceeds, in milliseconds."""
+    ordered = sorted(times)
+    return f"{1000 * statistics.median(ordered):.2f} ms, p99 {1000 * ordered[len(ordered) * 99 // 100]:.2f} ms"
 
 
 def loaded(stations, action, seconds):
@@ -105,6 +149,27 @@ def spent(server):
     return (int(words[11]) + int(words[12])) / os.sysconf("SC_CLK_TCK")
 
 
+def measure(words, server):
+    _, stations = connected(words.port, "ACME", words.stations)
+    active = words.stations if words.active is None else words.active
+    other = beats(words.port) if words.beside else None
+    if other:
+        other.stdout.readline()
+    before, began = spent(server), time.perf_counter()
+    times = loaded(stations[:active], words.action, words.seconds)
+    took, used = time.perf_counter() - began, spent(server) - before
+    if not times:
+        print(f"{words.stations} idle stations: {100 * used / took:.2f} % of a processor")
+        return
+    print(
+        f"{words.stations} stations, {active} sending ({words.action}): {len(times) / took:.0f} messages a "
+        f"second, median {said(times)}, {1e6 * used / len(times):.1f} us of processor a message"
+    )
+    if other:
+        heard, _ = other.communicate()
+        print(f"  another operator's heartbeats: median {said([float(word) for word in heard.split()])}")
+
+
 def main():
     parser = argparse.ArgumentParser(description=__doc__.split("\n\n")[0])
     parser.add_argument("server", help="the command that serves, without its port and operators")
@@ -113,24 +178,19 @@ def main():
     parser.add_argument("--active", type=int)
     parser.add_argument("--action", choices=ACTIONS, default="heartbeat")
     parser.add_argument("--seconds", type=float, default=3)
+    parser.add_argument("--sync-takes", type=float, default=0)
+    parser.add_argument("--beside", action="store_true")
+    parser.add_argument("--beats", action="store_true", help=argparse.SUPPRESS)
     words = parser.parse_args()
-    active = words.stations if words.active is None else words.active
-    server = started(words.server, words.port)
-    try:
-        operator, stations = connected(words.port, words.stations)
-        before, began = spent(server), time.perf_counter()
-        times = loaded(stations[:active], words.action, words.seconds)
-        took, used = time.perf_counter() - began, spent(server) - before
-    finally:
-        server.kill()
-    if not times:
-        print(f"{words.stations} idle stations: {100 * used / took:.2f} % of a processor")
+    if words.beats:
+        beat(words.port)
         return
-    print(
-        f"{words.stations} stations, {active} sending ({words.action}): {len(times) / took:.0f} messages a "
-        f"second, median {1000 * statistics.median(times):.2f} ms, "
-        f"{1e6 * used / len(times):.1f} us of processor a message"
-    )
+    with tempfile.TemporaryDirectory() as folder:
+        server = started(words.server, words.port, environment(folder, words.sync_takes))
+        try:
+            measure(words, server)
+        finally:
+            server.kill()
 
 
 if __name__ == "__main__":

@@ -1,6 +1,7 @@
-"""Checks that a refused allocation costs no more than the event that met it. Each allocation of replays, of the opening
-of a file of each earlier schema, of a session at the server, of one at a server with a journal and of what follows that is
-refused once, by refusing_malloc.c under the built program. Prints a line for each scenario, then `N passed, M failed`. With --small it refuses fewer.
+"""Checks that a refused allocation costs no more than the event that met it, or its turn where changes are committed
+together. Each allocation of replays, of the opening of a file of each earlier schema, of a session at the server, of one
+at a server with a journal and of what follows that is refused once, by refusing_malloc.c under the built program. Prints
+a line for each scenario, then `N passed, M failed`. With --small it refuses fewer.
 
     python3 checks/allocations.py crates/central/out/central [--small]
 
@@ -98,9 +99,9 @@ class Checks(Counts):
             self.failed += 1
             print(f"{what}: {fault}\n  {seen}")
 
-    def replay(self, lines, db=None, first=NEVER, last=NEVER):
+    def replay(self, lines, db=None, first=NEVER, last=NEVER, commit="each"):
         """The status of a replay, its output and its errors. The allocations from the first to the last are refused."""
-        words = [self.program, "replay", "--operators", "ACME,BETA", *(["--db", db] if db else [])]
+        words = [self.program, "replay", "--operators", "ACME,BETA", *(["--db", db] if db else []), "--commit", commit]
         self.allocator.refuse(first, last)
         ran = subprocess.run(
             words, input=lines.encode(), capture_output=True, timeout=60, env=self.allocator.environment
@@ -218,18 +219,19 @@ def check_in_memory(checks, script, last_of, what):
     told(scenario, count, endings)
 
 
-def check_over_a_file(checks, script, start):
+def check_over_a_file(checks, script, start, commit):
     """Replays over a file, of which each refuses one allocation after so many. After a fault another replay goes on, and
     leaves the records of a whole run. A change whose answer couldn't be printed is made again, and is counted twice."""
-    scenario = f"{script.name} over a file, one refused"
+    scenario = f"{script.name} over a file, --commit {commit}, one refused"
     db = checks.new_file()
-    checks.check(scenario, checks.replay(script.lines, db) != (0, script.whole, "") and "a run that isn't refused")
+    whole = checks.replay(script.lines, db, commit=commit)
+    checks.check(scenario, whole != (0, script.whole, "") and "a run that isn't refused")
     count, wanted = checks.allocator.count, records(db)
     changes = counted(wanted[0])
     endings = collections.Counter()
     for number in numbers_of(checks, start + 1, count):
         db = checks.new_file()
-        ran = checks.replay(script.lines, db, number, number)
+        ran = checks.replay(script.lines, db, number, number, commit)
         how = ending(ran, script.whole)
         endings[how or "OTHERWISE"] += 1
         checks.check(f"{scenario}, allocation {number}", not how and "another end", ran)
@@ -250,7 +252,8 @@ def check_replays(checks):
         script = Script(checks, name)
         check_in_memory(checks, script, lambda number: number, "one refused")
         check_in_memory(checks, script, lambda _: ALWAYS, "all refused from one on")
-        check_over_a_file(checks, script, start)
+        check_over_a_file(checks, script, start, "each")
+        check_over_a_file(checks, script, start, "turn")
         checks.replay("", checks.new_file())
         start = checks.allocator.count
 
@@ -302,12 +305,13 @@ def copied(checks, recorded):
 class Server:
     """A server over a file, with or without a journal. It listens, or has ended, once it is made."""
 
-    def __init__(self, checks, db, first, keeps=False):
+    def __init__(self, checks, db, first, keeps=False, commit="turn"):
         self.allocator = checks.allocator
         self.db = db
         self.allocator.refuse(first, first)
         self.log = tempfile.TemporaryFile("w+")
         words = [checks.program, "serve", "--port", str(PORT), "--db", self.db, "--operators", "ACME,BETA"]
+        words += ["--commit", commit]
         words += ["--journal", f"{db}.journal"] if keeps else []
         self.process = subprocess.Popen(
             words, stdout=self.log, stderr=self.log, stdin=subprocess.DEVNULL, env=self.allocator.environment
@@ -378,13 +382,14 @@ class Session:
         except TimeoutError:
             return "ended: NO ANSWER"
 
-    def fault(self, usual):
-        """What is wrong with a session, if anything is."""
+    def fault(self, usual, commit):
+        """What is wrong with a session, if anything is. Where the changes of a turn are gone all connections end."""
+        is_lost = commit == "turn" and not self.peers
         for who, said in self.told.items():
             ended = said[-1].startswith("ended")
             if "NO ANSWER" in said[-1]:
                 return f"{who} waits in vain"
-            if who != self.met and said != usual.told[who]:
+            if who != self.met and said != usual.told[who] and not is_lost:
                 return f"{who} is told otherwise, and its event met nothing"
             if said[: -1 if ended else None] != usual.told[who][: len(said) - ended]:
                 return f"{who} is told otherwise"
@@ -417,9 +422,9 @@ def afterwards(server, session, usual):
     return f"the log has {wrong}" if wrong else None
 
 
-def usual_session(checks, recorded, keeps=False):
+def usual_session(checks, recorded, keeps=False, commit="turn"):
     """A session without a refusal: the session, its allocations at the start and in all."""
-    server = Server(checks, copied(checks, recorded), NEVER, keeps)
+    server = Server(checks, copied(checks, recorded), NEVER, keeps, commit)
     with contextlib.closing(server):
         started = checks.allocator.count
         usual = Session(server)
@@ -430,35 +435,35 @@ def usual_session(checks, recorded, keeps=False):
     return usual, started, count
 
 
-def served(checks, recorded, number, usual):
+def served(checks, recorded, number, usual, commit):
     """How a session with that allocation refused went, and what was wrong, if anything was."""
-    server = Server(checks, copied(checks, recorded), number)
+    server = Server(checks, copied(checks, recorded), number, commit=commit)
     with contextlib.closing(server):
         if not server.lives():
             status, errors = server.process.returncode, server.errors()
             how = start_fault(status, errors)
             return how, None if how else (f"status {status} at the start", errors)
         session = Session(server)
-        ends = "a connection ended" if len(session.peers) < len(PATHS) else "no connection ended"
-        fault = session.fault(usual) or afterwards(server, session, usual)
+        ends = f"{len(PATHS) - len(session.peers)} connections ended"
+        fault = session.fault(usual, commit) or afterwards(server, session, usual)
         faults = re.findall(r"^fault .*", server.errors(), re.MULTILINE)
         seen = (session.told, server.errors())
         return f"{ends}, {faults[0] if faults else 'no fault'}", fault and (fault, session.met, seen)
 
 
-def check_serve(checks):
+def check_serve(checks, commit):
     """Sessions at the server, of which each refuses one allocation."""
     recorded = checks.new_file()
     made = checks.replay(RECORDED, recorded)
     checks.check("records", made != (0, "ACME ok\n" * 2 + "BETA ok\n" * 2, "") and "not made", made)
-    usual, started, count = usual_session(checks, recorded)
+    usual, started, count = usual_session(checks, recorded, commit=commit)
     start, session = (3, 12) if checks.small else (20, 80)
     endings = collections.Counter()
     for number in spread(1, started, start) + spread(started + 1, count, session):
-        how, fault = served(checks, recorded, number, usual)
+        how, fault = served(checks, recorded, number, usual, commit)
         endings["OTHERWISE" if fault else how] += 1
-        checks.check(f"a session, allocation {number}", fault and fault[0], fault)
-    told(f"a session, of which {started} at the start", count, endings)
+        checks.check(f"a session, --commit {commit}, allocation {number}", fault and fault[0], fault)
+    told(f"a session, --commit {commit}, of which {started} at the start", count, endings)
 
 
 def follow(checks, recorded, data, number=NEVER):
@@ -550,7 +555,8 @@ def main():
         check_replays(checks)
         for earlier in EARLIER:
             check_earlier_schema(checks, earlier)
-        check_serve(checks)
+        for commit in ("each", "turn"):
+            check_serve(checks, commit)
         check_journal(checks)
     checks.end()
 

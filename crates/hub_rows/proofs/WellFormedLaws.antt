@@ -77,16 +77,16 @@ pub on_record : (b station : List ℕ) (stations : List StationRow) → IsSome (
 on_record b station stations some = sym (registered (station_in b station stations)) ∙ some
 
 -- each station that was on record still is
-abbrev pub KeepsRecord : List StationRow → List StationRow → Type 0
-KeepsRecord old new = (b station : List ℕ) → IsOnRecord b station old → IsOnRecord b station new
+abbrev pub KeepsStations : List StationRow → List StationRow → Type 0
+KeepsStations old new = (b station : List ℕ) → IsOnRecord b station old → IsOnRecord b station new
 
-keeps-put : (r : StationRow) (stations : List StationRow) → KeepsRecord stations (put (by_key station_key) r stations)
+keeps-put : (r : StationRow) (stations : List StationRow) → KeepsStations stations (put (by_key station_key) r stations)
 keeps-put r stations b station on =
     let t : StationRow → Bool = (λ x. bytes_eq x.op b && bytes_eq x.station station) in
     let by : (x : StationRow) → t x ≡ is_eq (key_cmp (station_key x) (b ∷ station ∷ [])) = (λ x. two_parts x.op x.station b station) in
     some-put (by_key station_key) t (λ x y e. by x ∙ ap (λ k. is_eq (key_cmp k (b ∷ station ∷ []))) (same_key (station_key x) (station_key y) e) ∙ sym (by y)) r stations on
 
-keeps-changed : (c : List ℕ) (test : StationRow → Bool) (f : StationRow → StationRow) → ((r : StationRow) → ((f r).op ≡ r.op) × ((f r).station ≡ r.station)) → (stations : List StationRow) → KeepsRecord stations (changed (λ r. r.op) c test f stations)
+keeps-changed : (c : List ℕ) (test : StationRow → Bool) (f : StationRow → StationRow) → ((r : StationRow) → ((f r).op ≡ r.op) × ((f r).station ≡ r.station)) → (stations : List StationRow) → KeepsStations stations (changed (λ r. r.op) c test f stations)
 keeps-changed c test f same stations b station on =
     let t : StationRow → Bool = (λ x. bytes_eq x.op b && bytes_eq x.station station) in
     some-map t (λ r. cond (bytes_eq r.op c && test r) (f r) r)
@@ -139,7 +139,7 @@ some_row blocked (Some r) some = refl
 -- ---- one list is another
 
 module _ (rows : Rows) (good : WellFormedRows rows) where
-  pub well_formed-stations : (rs : List StationRow) → IsStrictlySortedBy (by_key station_key) rs → KeepsRecord rows.stations rs → WellFormedRows (record rows { stations = rs })
+  pub well_formed-stations : (rs : List StationRow) → IsStrictlySortedBy (by_key station_key) rs → KeepsStations rows.stations rs → WellFormedRows (record rows { stations = rs })
   well_formed-stations rs sorted keeps = record {
     stations = sorted;
     connectors = good-weaker connector_key (IsGoodConnector rows.stations) (IsGoodConnector rs) (λ r on. keeps r.op r.station on) rows.connectors good.connectors;

@@ -213,7 +213,7 @@ nothing_added contents is_hosted writer taken now was =
 -- nothing is to be written
 pub nothing_written : {W : Type 0} (contents : W → Option (List ℕ)) (is_hosted : List ℕ → Bool) (writer : Writer W) (after : ℕ) (taken now : List HubEvent)
     → IsOpen contents is_hosted writer taken now → writer.lines.bytes.items ≡ [] → after ≡ writer.changes
-    → WroteTurn is_hosted (contents writer.file) (contents writer.file) writer.changes after taken now × HasTurn contents is_hosted writer after taken now
+    → WroteTurn is_hosted (contents writer.file) (contents writer.file) writer.changes after taken now × HasTurn contents is_hosted (record writer { events = 0 }) after taken now
 nothing_written contents is_hosted writer after taken now was empty same =
     let end = append-nil was.file in
     let none : now ≡ [] = none_now contents is_hosted writer taken now was empty in
@@ -232,7 +232,7 @@ nothing_written contents is_hosted writer after taken now was empty same =
         known = was.known;
         says = record { told = told; refused = λ other. absurd (other same) };
         marked = was.waits.behind;
-        none = was.number ∙ ap length none;
+        none = refl;
         empty = empty;
       },
     )

@@ -1,5 +1,5 @@
 //! The writer of a journal.
-ghost use Rattle.std.specs.Prelude.{◌≡◌, ◌+◌, ◌++◌, ◌∷◌, ℕ, List, Bool, [], OnOk, OnErr, IfOk, Some, not, true, false};
+ghost use Rattle.std.specs.Prelude.{◌≡◌, ◌≤◌, ◌+◌, ◌++◌, ◌∷◌, ℕ, List, Bool, [], OnOk, OnErr, IfOk, Some, not, true, false};
 ghost use Rattle.std.specs.List.{list_any};
 ghost use Rattle.std.specs.Io.KnownBytes.{Keeps, Appends};
 ghost use Rattle.hub_events.specs.declared.event.Event.{Event as HubEvent};
@@ -144,8 +144,8 @@ impl<W: JournalFile + Drop> Writer<W> {
     pub fn begin(&mut self, event: &Event, order: &str) -> Mem<()>
         ensures handling { OnOk result ((is_hosted : List ℕ → Bool) (taken now : List HubEvent) → Stands is_hosted event.now order.now
             → IsOpen W.contents is_hosted self.old taken now → IsHandling W.contents is_hosted self.new taken now event.now) }
-        ensures refused { OnErr result ((is_hosted : List ℕ → Bool) (taken now : List HubEvent)
-            → IsOpen W.contents is_hosted self.old taken now → IsOpen W.contents is_hosted self.new taken now) }
+        ensures open { (is_hosted : List ℕ → Bool) (taken now : List HubEvent)
+            → IsOpen W.contents is_hosted self.old taken now → IsOpen W.contents is_hosted self.new taken now }
         ensures same { (self.new.changes ≡ self.old.changes) × (self.new.events ≡ self.old.events) × (self.new.has_failed ≡ self.old.has_failed) }
     {
         self.current.clear();
@@ -159,6 +159,7 @@ impl<W: JournalFile + Drop> Writer<W> {
         ensures same { self.new.changes ≡ self.old.changes }
         ensures works { self.new.has_failed ≡ false → self.old.has_failed ≡ false }
         ensures events { self.old.events ≡ 0 → self.new.has_failed ≡ false → self.new.events ≡ 1 }
+        ensures more { self.new.events ≤ self.old.events + 1 }
     {
         if self.lines.append(&mut self.current).is_err() {
             self.has_failed = true;
@@ -175,6 +176,8 @@ impl<W: JournalFile + Drop> Writer<W> {
             → WroteTurn is_hosted (W.contents self.old.file) (W.contents self.new.file) self.old.changes after taken now
             × HasTurn W.contents is_hosted self.new after taken now) }
         ensures same { self.new.changes ≡ self.old.changes }
+        ensures none { OnOk result (self.new.events ≡ 0) }
+        ensures fewer { self.new.events ≤ self.old.events }
         ensures works { OnOk result ((self.old.has_failed ≡ false) × (self.new.has_failed ≡ false)) }
         ensures failed { OnErr result (self.new.has_failed ≡ true) }
     {
@@ -182,6 +185,7 @@ impl<W: JournalFile + Drop> Writer<W> {
             return Err(JournalFault);
         }
         if self.lines.is_empty() && after == self.changes {
+            self.events = 0;
             return Ok(());
         }
         self.write_turn(after)
@@ -207,6 +211,8 @@ impl<W: JournalFile + Drop> Writer<W> {
             → WroteTurn is_hosted (W.contents self.old.file) (W.contents self.new.file) self.old.changes after taken now
             × HasTurn W.contents is_hosted self.new after taken now) }
         ensures same { self.new.changes ≡ self.old.changes }
+        ensures none { OnOk result (self.new.events ≡ 0) }
+        ensures fewer { self.new.events ≤ self.old.events }
         ensures works { OnOk result (self.new.has_failed ≡ false) }
         ensures failed { OnErr result (self.new.has_failed ≡ true) }
     {
@@ -226,6 +232,7 @@ impl<W: JournalFile + Drop> Writer<W> {
         ensures settled { (is_hosted : List ℕ → Bool) (taken now : List HubEvent) → HasTurn W.contents is_hosted self.old changes taken now
             → IsOpen W.contents is_hosted self.new (taken ++ now) [] }
         ensures same { (self.new.changes ≡ changes) × (self.new.has_failed ≡ self.old.has_failed) }
+        ensures events { self.new.events ≡ self.old.events }
     {
         self.changes = changes;
     }

@@ -18,7 +18,7 @@ use Rattle.replay.specs.Held.{lines_of}
 use Rattle.replay.specs.Lines.{HandsOut}
 use Rattle.replay.specs.Run.{AppendsFront, Begins, Falls, Grown, Stands, answer, answers_to, after, world_after}
 use Rattle.replay.specs.Told.{AreTold, Tells, pending}
-use Rattle.replay.specs.Turns.{KeepsRecord}
+use Rattle.replay.specs.Turns.{SettlesBeforeWriting}
 use Rattle.std.specs.Io.KnownBytes.{Keeps}
 use Rattle.replay.proofs.Facts.{falls_part, stands_start, stands_kept}
 use Rattle.replay.proofs.Progress.{Progress, ProgressOf, line_done}
@@ -177,7 +177,7 @@ told_same st w k begin now now' text text' text'' (Some all) old new same stays 
 }
 
 pub told_settle : {H : Type 0} (view : H → StoreView) (old new : H) (st : Setting) (w v : World) (k n : ℕ) (begin now now' : Option (List ℕ)) (text text' text'' : List ℕ) (all ahead : Option (List (List ℕ))) (when : Flush) →
-    ProgressOf (view new).clean st w v k n begin now' text text'' all ahead → (view new).rows ≡ v.rows → (when ≡ AtOnce → new ≡ old) → (when ≡ Later → KeepsRecord (now' ≡ now) (view old) (view new)) → Waits st w all when (view old) →
+    ProgressOf (view new).clean st w v k n begin now' text text'' all ahead → (view new).rows ≡ v.rows → (when ≡ AtOnce → new ≡ old) → (when ≡ Later → SettlesBeforeWriting (now' ≡ now) (view old) (view new)) → Waits st w all when (view old) →
     ToldOf st w k begin text all when (view old) now text' → ToldOf st w k begin text all when (view new) now' text''
 told_settle view old new st w v k n begin now now' text text' text'' all ahead AtOnce p rows same stays waits was =
     told_kept st w v k n begin now' text text'' all ahead AtOnce (view new) p rows (subst (λ h. IsKept (view h)) (sym (same refl)) (waits.kept refl))

@@ -11,7 +11,7 @@ use Rattle.hub.specs.World.{Setting, World}
 use Rattle.lines.specs.InputLines.{spelled}
 use Rattle.replay.specs.Lines.{HandsOut}
 use Rattle.replay.specs.Run.{AreReached, after, world_after}
-use Rattle.replay.specs.Turns.{KeepsRecord}
+use Rattle.replay.specs.Turns.{SettlesBeforeWriting}
 use Rattle.replay.proofs.Progress.{ProgressOf, progress_none, progress_stop_world, progress_stop_rows, progress_line_rows, reached, rows_reached}
 
 -- ---- one call
@@ -36,7 +36,7 @@ after_change when made old new x result p = record {
 pub found_same : (made : Rows) (s : StoreView) → FindsOldOr made s s
 found_same made s on_record was r found = let it = finds_only s on_record was r found in (it.0, inl it.1)
 
-pub record_same : (s : StoreView) (P : Type 0) → P → KeepsRecord P s s
+pub record_same : (s : StoreView) (P : Type 0) → P → SettlesBeforeWriting P s s
 record_same s P p = inl (p, λ on_record has. has)
 
 -- ---- a run of lines
@@ -84,7 +84,7 @@ waits_line st w v k n begin now text text' all ahead Later old new p same kept s
 
 -- after answers were written
 pub waits_settle : {H : Type 0} (view : H → StoreView) (old new : H) (P : Type 0) (st : Setting) (w v : World) (k n : ℕ) (begin now : Option (List ℕ)) (text text' : List ℕ) (all ahead : Option (List (List ℕ))) (when : Flush) →
-    ProgressOf (view new).clean st w v k n begin now text text' all ahead → (view new).rows ≡ v.rows → (when ≡ AtOnce → new ≡ old) → (when ≡ Later → KeepsRecord P (view old) (view new)) → Waits st w all when (view old) → Waits st w all when (view new)
+    ProgressOf (view new).clean st w v k n begin now text text' all ahead → (view new).rows ≡ v.rows → (when ≡ AtOnce → new ≡ old) → (when ≡ Later → SettlesBeforeWriting P (view old) (view new)) → Waits st w all when (view old) → Waits st w all when (view new)
 waits_settle view old new P st w v k n begin now text text' all ahead AtOnce p rows same stays was = subst (λ h. Waits st w all AtOnce (view h)) (sym (same refl)) was
 waits_settle view old new P st w v k n begin now text text' all ahead Later p rows same stays was =
     elim (stays refl) [

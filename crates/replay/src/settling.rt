@@ -5,7 +5,7 @@ ghost use Rattle.hub_rows.specs.Stops.{FindsOldOr, PutsOnRecord};
 ghost use Rattle.hub_rows.specs.declared.store.Flush.TheVariants as when_flushed;
 ghost use Rattle.hub.specs.Hub.{hub_view, world, setting, is_clean};
 ghost use Rattle.replay.specs.Run.{Stands, Falls};
-ghost use Rattle.replay.specs.Turns.{KeepsRecord};
+ghost use Rattle.replay.specs.Turns.{SettlesBeforeWriting};
 ghost use Rattle.replay.specs.declared.fault.LineFault.TheVariants as line_fault;
 
 use crate::answers::Answers;
@@ -36,7 +36,7 @@ pub fn settle_if_due<S: Store + Drop, V: VendorHandler, W: Write>(
     ensures counted { IsCounted (hub_view S.view) hub.old hub.new (result ≡ Err line_fault.Store) }
     ensures same { when ≡ when_flushed.AtOnce → hub.new ≡ hub.old }
     ensures stopped { FindsOldOr (world S.view hub.old).rows (hub_view S.view hub.old) (hub_view S.view hub.new) }
-    ensures stays { when ≡ when_flushed.Later → OnOk result (KeepsRecord (W.contents writer.new ≡ W.contents writer.old) (hub_view S.view hub.old) (hub_view S.view hub.new)) }
+    ensures stays { when ≡ when_flushed.Later → OnOk result (SettlesBeforeWriting (W.contents writer.new ≡ W.contents writer.old) (hub_view S.view hub.old) (hub_view S.view hub.new)) }
     ensures first { when ≡ when_flushed.Later → OnErr result ((W.contents writer.new ≡ W.contents writer.old) ⊎ PutsOnRecord (hub_view S.view hub.old) (hub_view S.view hub.new)) }
     ensures ok { OnOk result ((start : Option (List ℕ)) (ahead whole : List ℕ) →
         Stands start (W.contents writer.old) (answers.old.text.items ++ ahead) whole →

@@ -165,13 +165,7 @@ impl Reactor<ReadyStream, HostRuntime> for ServerReactor {
         Some(place)
     }
 
-    fn served(
-        &mut self,
-        rt: &HostRuntime,
-        gateway: &Gateway<ReadyStream>,
-        _place: usize,
-        events: u64,
-    ) {
+    fn served(&mut self, rt: &HostRuntime, gateway: &Gateway<ReadyStream>, events: u64) {
         let now = self.clock.read(rt);
         if let Some(serving) = &self.serving {
             let cost = now.saturating_sub(serving.since);

@@ -4,6 +4,7 @@ use hub::Fault;
 use ocpp_types::NoMemory;
 use std::alloc::AllocError;
 use std::io;
+use std::io::ErrorKind;
 use thiserror::Error;
 use turn_hub::TurnFault;
 
@@ -43,8 +44,11 @@ impl From<AllocError> for FollowFault {
 }
 
 impl From<io::Error> for FollowFault {
-    fn from(_error: io::Error) -> FollowFault {
-        FollowFault::Read
+    fn from(error: io::Error) -> FollowFault {
+        match error.kind() {
+            ErrorKind::OutOfMemory => FollowFault::NoMemory,
+            _ => FollowFault::Read,
+        }
     }
 }
 

@@ -1,5 +1,5 @@
 -- What a journal has.
-use Rattle.std.proofs.Common.{◌≡◌, ◌≢◌, ◌∙◌, ◌+◌, ℕ, List, [], ◌∷◌, ◌++◌, Option, Some, None, Bool, true, false, refl, sym, subst, ap, arith}
+use Rattle.std.proofs.Common.{◌≡◌, ◌≢◌, ◌≤◌, ◌∙◌, ◌+◌, ℕ, List, [], ◌∷◌, ◌++◌, Option, Some, None, Bool, true, false, refl, sym, subst, ap, arith}
 use Rattle.std.specs.Prelude.{OnErr, OnOk, Result, Ok, Err}
 use Rattle.std.proofs.lemmas.List.{append_assoc, append-nil}
 use Rattle.hub_events.specs.declared.event.Event.{Event}
@@ -17,7 +17,7 @@ use Rattle.hub.specs.Hub as of_hub
 use Rattle.hub.specs.declared.hub.Hub.{Hub}
 use Rattle.turn_hub.specs.TurnHub.{KeepsRecord, flush_by, flush_of, hub_view}
 use Rattle.turn_hub.specs.declared.turn_hub.TurnHub.{TurnHub}
-use Rattle.turn_hub.specs.Journals.{Handles, HasBegun, HasEvents, IsAhead, OfJournal}
+use Rattle.turn_hub.specs.Journals.{AreUpTo, Handles, HasBegun, HasEvents, HasSameJournal, IsAhead, OfJournal, events_of}
 
 pub err_then : {T E P Q : Type 0} (r : Result T E) → (P → Q) → OnErr r P → OnErr r Q
 err_then (Ok x) f p = tt
@@ -38,6 +38,13 @@ any_err (Err e) p = p
 pub for_journal : {W : Type 0} (P Q : Writer W → Type 0) (journal : Option (Writer W)) → ((writer : Writer W) → P writer → Q writer) → OfJournal P journal → OfJournal Q journal
 for_journal P Q None f p = tt
 for_journal P Q (Some writer) f p = λ works. f writer (p works)
+
+pub up_to_same : {S V W : Type 0} (n : ℕ) (old new : TurnHub S V W) → HasSameJournal old new → AreUpTo n old → AreUpTo n new
+up_to_same n old new same up = record {
+  events = subst (λ journal. events_of journal ≤ n + 1) (sym same.journal) up.events;
+  changes = subst (λ changes. changes ≤ n + 1) (sym same.changes) up.changes;
+  on_record = subst (λ changes. changes ≤ n + 1) (sym same.on_record) up.on_record;
+}
 
 pub below_one_more : (n : ℕ) → IsCount (n + 1) → IsCount n
 below_one_more n small = omega (arith, small)
@@ -75,6 +82,14 @@ module _ {W : Type 0} (contents : W → Option (List ℕ)) (is_hosted : List ℕ
       → HasEvents contents is_hosted writer on_record (events ++ (event ∷ []))
   one_taken event taken now all was same =
       record { taken = taken; now = now ++ (event ∷ []); was = was; all = sym (append_assoc taken now (event ∷ [])) ∙ ap (λ es. es ++ (event ∷ [])) all; same = same }
+
+module _ {W : Type 0} (contents : W → Option (List ℕ)) (is_hosted : List ℕ → Bool) (old new : Writer W) (on_record : ℕ) (events : List Event) where
+  -- the line that is ready is another
+  pub still_open : ((taken now : List Event) → IsOpen contents is_hosted old taken now → IsOpen contents is_hosted new taken now) → (new.changes ≡ old.changes) × (new.events ≡ old.events) × (new.has_failed ≡ old.has_failed)
+      → (old.has_failed ≡ false → HasEvents contents is_hosted old on_record events) → new.has_failed ≡ false → HasEvents contents is_hosted new on_record events
+  still_open keeps same was works =
+      let has = was (sym same.2 ∙ works) in
+      record { taken = has.taken; now = has.now; was = keeps has.taken has.now has.was; all = has.all; same = same.0 ∙ has.same }
 
 -- an event is prepared and then committed, between which its line begins
 pub keeps_record : {S V W T E : Type 0} (view : S → StoreView) (old new : TurnHub S V W) (prepared begun made : Hub S V) (when : Flush) (rows : Rows) (x : T) (WasOk : Type 0)

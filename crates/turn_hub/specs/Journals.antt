@@ -1,5 +1,5 @@
 -- What the journal of a hub that takes events in turns has.
-use Rattle.std.specs.Prelude.{◌≡◌, ◌⊎◌, ℕ, ◌+◌, Bool, true, false, List, [], ◌∷◌, ◌++◌, Option, Some, None}
+use Rattle.std.specs.Prelude.{◌≡◌, ◌⊎◌, ℕ, ◌+◌, ◌≤◌, Bool, true, false, List, [], ◌∷◌, ◌++◌, Option, Some, None}
 use Rattle.hub_events.specs.declared.event.Event.{Event}
 use Rattle.hub_events.specs.declared.out.Out.{Out}
 use Rattle.hub.specs.World.{is_idle}
@@ -84,3 +84,19 @@ pub record AreSmall {S V W : Type 0} (h : TurnHub S V W) : Type 0 where
   pub events : IsCount (events_of h.journal + 1)
   pub changes : IsCount (h.changes + 1)
   pub on_record : IsCount (h.on_record + 1)
+
+-- they are n + 1 at most
+pub record AreUpTo {S V W : Type 0} (n : ℕ) (h : TurnHub S V W) : Type 0 where
+  pub events : events_of h.journal ≤ n + 1
+  pub changes : h.changes ≤ n + 1
+  pub on_record : h.on_record ≤ n + 1
+
+-- the counts don't pass a bound by more than that
+abbrev pub Counts : {S V W : Type 0} → ℕ → TurnHub S V W → TurnHub S V W → Type 0
+Counts more old new = (n : ℕ) → AreUpTo n old → AreUpTo (more + n) new
+
+-- the journal and its counts stay
+pub record HasSameJournal {S V W : Type 0} (old new : TurnHub S V W) : Type 0 where
+  pub journal : new.journal ≡ old.journal
+  pub changes : new.changes ≡ old.changes
+  pub on_record : new.on_record ≡ old.on_record

@@ -1,5 +1,5 @@
 //! The lines of events in a journal.
-ghost use Rattle.std.specs.Prelude.{◌≡◌, ℕ, List, Bool, ◌+◌, false, OnErr, OnOk};
+ghost use Rattle.std.specs.Prelude.{◌≡◌, ◌≤◌, ℕ, List, Bool, ◌+◌, false, OnErr, OnOk};
 ghost use Rattle.hub_events.specs.declared.event.Event.{Event as HubEvent};
 ghost use Rattle.journal.specs.Entries.{IsCount};
 ghost use Rattle.lines.specs.Journal.{Stands};
@@ -45,6 +45,10 @@ pub fn begin<W: JournalFile + Drop>(
         → (journal.old.has_failed ≡ false → HasEvents W.contents is_hosted journal.old on_record events)
         → journal.new.has_failed ≡ false → HasEvents W.contents is_hosted journal.new on_record events) }
     ensures events { is_ahead ≡ false → journal.new.events ≡ journal.old.events }
+    ensures few { (n : ℕ) → journal.old.events ≤ n + 1 → journal.new.events ≤ n + 1 }
+    ensures open { is_ahead ≡ false → (is_hosted : List ℕ → Bool) (events : List HubEvent)
+        → (journal.old.has_failed ≡ false → HasEvents W.contents is_hosted journal.old on_record events)
+        → journal.new.has_failed ≡ false → HasEvents W.contents is_hosted journal.new on_record events }
 {
     if is_ahead {
         begin_ahead(journal, on_record, event, order)
@@ -67,6 +71,7 @@ fn begin_ahead<W: JournalFile + Drop>(
     ensures refused { IsCount (journal.old.events + 1) → IsCount (on_record + 1) → OnErr result ((is_hosted : List ℕ → Bool) (events : List HubEvent)
         → (journal.old.has_failed ≡ false → HasEvents W.contents is_hosted journal.old on_record events)
         → journal.new.has_failed ≡ false → HasEvents W.contents is_hosted journal.new on_record events) }
+    ensures few { (n : ℕ) → journal.old.events ≤ n + 1 → journal.new.events ≤ n + 1 }
 {
     journal.end_turn(on_record)?;
     journal.settle(on_record);

@@ -7,8 +7,9 @@ ghost use Rattle.hub.specs.Hub.{is_taken};
 ghost use Rattle.hub.specs.World.{world_outputs, world_step};
 ghost use Rattle.journal.specs.Entries.{IsCount};
 ghost use Rattle.lines.specs.Journal.{Stands};
-ghost use Rattle.turn_hub.specs.Journals.{AreSmall, BeginsLine, Journals, Notes, events_of};
-ghost use Rattle.turn_hub.specs.TurnHub.{KeepsRecord, hub_view, is_clean, setting, world};
+ghost use Rattle.hub_rows.specs.declared.store.Flush.TheVariants.{Later};
+ghost use Rattle.turn_hub.specs.Journals.{AreSmall, AreUpTo, BeginsLine, Counts, Journals, Notes, events_of};
+ghost use Rattle.turn_hub.specs.TurnHub.{KeepsRecord, flush_of, hub_view, is_clean, setting, world};
 
 use crate::event_lines::{NotBegun, begin};
 use crate::turn_hub::TurnHub;
@@ -38,11 +39,15 @@ impl<S: Store + Drop, V: VendorHandler, W: JournalFile + Drop> TurnHub<S, V, W> 
             → Journals W.contents is_hosted self.old events → (after : List HubEvent) × Notes events event.now outs.items after × Journals W.contents is_hosted self.new after) }
         ensures refused { AreSmall self.old → OnErr result ((is_hosted : List ℕ → Bool) (events : List HubEvent) → Stands is_hosted event.now order.now
             → Journals W.contents is_hosted self.old events → Journals W.contents is_hosted self.new events) }
+        ensures left_out { flush_of self.old ≡ Later → OnErr result ((is_hosted : List ℕ → Bool) (events : List HubEvent)
+            → Journals W.contents is_hosted self.old events → Journals W.contents is_hosted self.new events) }
+        ensures counts { OnOk result (Counts 1 self.old self.new) }
+        ensures same_counts { OnErr result ((n : ℕ) → AreUpTo n self.old → AreUpTo n self.new) }
     {
         let step = self.hub.prepare(event)?;
         let has_change = step.has_change();
         let when = self.flush();
-        let is_ahead = has_change && when == Flush::AtOnce;
+        let is_ahead = goes_ahead(has_change, when);
         self.begin_line(event, order, is_ahead)?;
         let mut outs = Vec::new(self.alloc);
         self.hub.commit(event, step, &mut outs, when)?;
@@ -66,6 +71,9 @@ impl<S: Store + Drop, V: VendorHandler, W: JournalFile + Drop> TurnHub<S, V, W> 
         ensures refused { AreSmall self.old → OnErr result ((is_hosted : List ℕ → Bool) (events : List HubEvent)
             → Journals W.contents is_hosted self.old events → Journals W.contents is_hosted self.new events) }
         ensures counts { (self.new.on_record ≡ self.old.on_record) × (is_ahead ≡ false → events_of self.new.journal ≡ events_of self.old.journal) }
+        ensures few { (n : ℕ) → AreUpTo n self.old → AreUpTo n self.new }
+        ensures open { is_ahead ≡ false → (is_hosted : List ℕ → Bool) (events : List HubEvent)
+            → Journals W.contents is_hosted self.old events → Journals W.contents is_hosted self.new events }
         ensures mode { (self.new.commits ≡ self.old.commits) × (self.new.is_alone ≡ self.old.is_alone) }
     {
         let Some(journal) = &mut self.journal else {
@@ -88,6 +96,7 @@ impl<S: Store + Drop, V: VendorHandler, W: JournalFile + Drop> TurnHub<S, V, W> 
         ensures mode { (self.new.commits ≡ self.old.commits) × (self.new.is_alone ≡ false) }
         ensures journal { IsCount (self.old.on_record + 1) → (is_hosted : List ℕ → Bool) (events : List HubEvent) (event : HubEvent)
             → BeginsLine W.contents is_hosted true self.old events event → Journals W.contents is_hosted self.new (events ++ (event ∷ [])) }
+        ensures counts { Counts 1 self.old self.new }
     {
         self.on_record = self.on_record.saturating_add(1);
         self.changes = self.on_record;
@@ -104,6 +113,7 @@ impl<S: Store + Drop, V: VendorHandler, W: JournalFile + Drop> TurnHub<S, V, W> 
         ensures mode { (self.new.commits ≡ self.old.commits) × (self.new.is_alone ≡ self.old.is_alone) }
         ensures journal { IsCount (events_of self.old.journal + 1) → (is_hosted : List ℕ → Bool) (events : List HubEvent)
             → BeginsLine W.contents is_hosted false self.old events event.now → (after : List HubEvent) × Notes events event.now outs.now after × Journals W.contents is_hosted self.new after }
+        ensures counts { Counts 1 self.old self.new }
     {
         self.changes = self.changes.saturating_add(u64::from(has_change));
         if is_idle(event, outs) {
@@ -113,5 +123,15 @@ impl<S: Store + Drop, V: VendorHandler, W: JournalFile + Drop> TurnHub<S, V, W> 
             Some(journal) => journal.take(),
             None => {}
         }
+    }
+}
+
+/// Whether an event is in the file of the journal before its change is made.
+fn goes_ahead(has_change: bool, when: Flush) -> bool
+    ensures { when ≡ Later → result ≡ false }
+{
+    match when {
+        Flush::AtOnce => has_change,
+        Flush::Later => false,
     }
 }

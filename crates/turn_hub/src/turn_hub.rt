@@ -1,9 +1,10 @@
 //! A hub that takes events in turns.
-ghost use Rattle.std.specs.Prelude.{◌≡◌, ◌≢◌, ◌&&◌, ◌↔◌, is_some, true, Err, IfErr, IfOk, IsOk};
+ghost use Rattle.std.specs.Prelude.{◌≡◌, ◌≢◌, ◌&&◌, ◌==◌, ◌↔◌, is_some, not, true, false, None, Some, Err, IfErr, IfOk, IsOk};
 ghost use Rattle.hub_rows.specs.Operators.{is_hosted};
 ghost use Rattle.hub_rows.specs.Reads.{IsCounted};
 ghost use Rattle.hub_rows.specs.Readers.{reader_in};
 ghost use Rattle.hub_rows.specs.Rows.{registration_at};
+ghost use Rattle.turn_hub.specs.Journals.{HasSameJournal};
 ghost use Rattle.turn_hub.specs.TurnHub.{KeepsRecord, flush_of, hub_view, is_clean, setting, world};
 ghost use Rattle.turn_hub.specs.declared.turn_hub.Commits.TheVariants as Commits;
 
@@ -44,7 +45,13 @@ pub struct TurnHub<S, V, W> {
 impl<S: Store + Drop, V: VendorHandler, W: JournalFile + Drop> TurnHub<S, V, W> {
     /// Over a hub, where so many changes are on record and none waits.
     pub fn new(alloc: Global, hub: Hub<S, V>, changes: u64, commits: Commits) -> TurnHub<S, V, W>
-        ensures { result.hub ≡ hub }
+        ensures hub { result.hub ≡ hub }
+        ensures journal { result.journal ≡ None }
+        ensures commits { result.commits ≡ commits }
+        ensures changes { result.changes ≡ changes }
+        ensures on_record { result.on_record ≡ changes }
+        ensures together { result.is_alone ≡ false }
+        ensures failures { result.failures ≡ 0 }
     {
         TurnHub {
             alloc,
@@ -60,7 +67,12 @@ impl<S: Store + Drop, V: VendorHandler, W: JournalFile + Drop> TurnHub<S, V, W> 
 
     /// From now on the events go to a journal, in which a server has begun.
     pub fn set_journal(&mut self, journal: Writer<W>)
-        ensures { self.new.hub ≡ self.old.hub }
+        ensures hub { self.new.hub ≡ self.old.hub }
+        ensures journal { self.new.journal ≡ Some journal }
+        ensures commits { self.new.commits ≡ self.old.commits }
+        ensures changes { self.new.changes ≡ self.old.changes }
+        ensures on_record { self.new.on_record ≡ self.old.on_record }
+        ensures together { self.new.is_alone ≡ self.old.is_alone }
     {
         self.journal = Some(journal);
     }
@@ -87,7 +99,9 @@ impl<S: Store + Drop, V: VendorHandler, W: JournalFile + Drop> TurnHub<S, V, W> 
     }
 
     /// Whether changes wait for the end of the turn.
-    pub fn has_waiting(&self) -> bool {
+    pub fn has_waiting(&self) -> bool
+        ensures { result ≡ not (self.now.changes == self.now.on_record) }
+    {
         self.changes != self.on_record
     }
 
@@ -135,6 +149,7 @@ impl<S: Store + Drop, V: VendorHandler, W: JournalFile + Drop> TurnHub<S, V, W> 
         ensures world { is_clean S.view self.new → world S.view self.new ≡ world S.view self.old }
         ensures setting { setting V.view self.new ≡ setting V.view self.old }
         ensures fault { IfErr result (λ f. f ≢ Fault.NoSuchOperator) }
+        ensures journal { HasSameJournal self.old self.new }
     {
         self.hub.knows(op, station)
     }
@@ -147,6 +162,7 @@ impl<S: Store + Drop, V: VendorHandler, W: JournalFile + Drop> TurnHub<S, V, W> 
         ensures world { is_clean S.view self.new → world S.view self.new ≡ world S.view self.old }
         ensures setting { setting V.view self.new ≡ setting V.view self.old }
         ensures fault { IfErr result (λ f. f ≢ Fault.NoSuchOperator) }
+        ensures journal { HasSameJournal self.old self.new }
     {
         self.hub.reader(op, station)
     }

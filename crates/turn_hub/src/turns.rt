@@ -6,7 +6,7 @@ ghost use Rattle.hub_rows.specs.Stops.{FindsOldOr, PutsOnRecord, Recovers};
 ghost use Rattle.hub_rows.specs.declared.store.Recovered.TheVariants as recovered;
 ghost use Rattle.lines.specs.Journal.{is_feed};
 ghost use Rattle.turn_hub.specs.declared.turns.TurnFault.TheVariants as turn_fault;
-ghost use Rattle.turn_hub.specs.Journals.{AreSmall, HasJournaled, Journals, JournalSays, JournalsFirst};
+ghost use Rattle.turn_hub.specs.Journals.{AreSmall, HasJournaled, HasSameJournal, Journals, JournalSays, JournalsFirst};
 ghost use Rattle.turn_hub.specs.TurnHub.{hub_view, is_clean, setting, world};
 
 use crate::turn_hub::TurnHub;
@@ -106,6 +106,7 @@ impl<S: Store + Drop, V: VendorHandler, W: JournalFile + Drop> TurnHub<S, V, W> 
         ensures renewed { result ≡ Ok recovered.Renewed → (world S.view self.new).slots ≡ [] }
         ensures commits { self.new.commits ≡ self.old.commits }
         ensures mode { result ≡ Ok recovered.Whole → self.new.is_alone ≡ self.old.is_alone }
+        ensures journal { result ≡ Ok recovered.Whole → HasSameJournal self.old self.new }
         ensures setting { setting V.view self.new ≡ setting V.view self.old }
     {
         let recovered = self.hub.recover()?;

@@ -5,5 +5,7 @@ pub mod PartLaws
 pub mod ProbeLaws
 pub mod SayLaws
 pub mod StepLaws
+pub mod JournalLaws
+pub mod OrderLaws
 mod RecordLaws
 mod TurnLaws

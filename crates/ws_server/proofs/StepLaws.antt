@@ -13,7 +13,7 @@ use Rattle.hub_events.specs.declared.fault.Fault.{Fault}
 use Rattle.hub_events.specs.declared.fault.Fault.TheVariants as fault
 use Rattle.turn_hub.specs.declared.turn_hub.TurnHub.{TurnHub}
 use Rattle.hub.specs.Hub.{is_taken, is_of_hosted}
-use Rattle.turn_hub.specs.TurnHub.{hub_view, world, setting, is_clean}
+use Rattle.turn_hub.specs.TurnHub.{KeepsRecord, flush_of, hub_view, is_clean, setting, world}
 use Rattle.hub.specs.World.{Setting, World, world_outputs, world_step}
 use Rattle.hub_rows.specs.Reads.{IsCounted}
 use Rattle.hub_rows.specs.StoreView.{StoreView}
@@ -31,7 +31,10 @@ use Rattle.ws_peers.specs.declared.routes.Route.TheVariants.{Station, Operator}
 use Rattle.ws_server.specs.Admits.{WelcomesOne, WelcomesSome}
 use Rattle.ws_server.specs.Events.{word_of, order_text, event_of, parting, is_route_of_hosted}
 use Rattle.ws_server.specs.Turns.{Change, Then, Alone, Becomes, AtPlace, EachOf, FirstPlaces, HandsOrRefuses, Between, Answers, HandsText, Means, Parts, PartsAs}
-use Rattle.ws_server.specs.Steps.{Step, Runs, Takes}
+use Rattle.ws_server.specs.Steps.{JournalsSteps, Step, Runs, Takes}
+use Rattle.turn_hub.specs.Journals.{AreUpTo, HasSameJournal, Journals}
+use Rattle.hub_rows.specs.declared.store.Flush.TheVariants.{Later}
+use Rattle.ws_server.proofs.JournalLaws.{journals_kept, journals_left, journals_more, journals_same}
 
 -- ---- what a fault says of an operator
 is-not-hosted : Fault → Bool
@@ -113,30 +116,48 @@ runs-append : (st : Setting) (w v u : World) (before after : List Step) → Runs
 runs-append st w v u [] after e more = subst (λ x. Runs st x after u) e more
 runs-append st w v u (s ∷ before) after runs more = (runs.0, runs.1, runs-append st (world_step st w s.event) v u before after runs.2 more)
 
-module _ {S V W : Type 0} (view : S → StoreView) (handlers : V → HandlerView) (old new : TurnHub S V W) where
+module _ {S V W : Type 0} (view : S → StoreView) (handlers : V → HandlerView) (contents : W → Option (List ℕ)) (old new : TurnHub S V W) where
   -- one event
   pub handed : (Change : List Step → Type 0) (event : Event) (outs : List Out) → Change (record { event = event; outs = outs } ∷ [])
+      → JournalsSteps contents old new (record { event = event; outs = outs } ∷ [])
       → is_taken (setting handlers old) event ≡ true
       → setting handlers new ≡ setting handlers old
       → (is_clean view new → outs ≡ world_outputs (setting handlers old) (world view old) event)
       → (is_clean view new → world view new ≡ world_step (setting handlers old) (world view old) event)
-      → Takes view handlers old new Change
-  handed Change event outs change taken stays said moves = record {
+      → Takes view handlers contents old new Change
+  handed Change event outs change journals taken stays said moves = record {
     steps = record { event = event; outs = outs } ∷ [];
     change = change;
     runs = λ c. (taken, said c, moves c);
     stays = stays;
+    journals = journals;
   }
 
   -- none
-  pub nothing : (Change : List Step → Type 0) → Change [] → setting handlers new ≡ setting handlers old → (is_clean view new → world view new ≡ world view old) → Takes view handlers old new Change
-  nothing Change change stays stands = record { steps = []; change = change; runs = stands; stays = stays }
+  pub nothing : (Change : List Step → Type 0) → Change [] → setting handlers new ≡ setting handlers old → (is_clean view new → world view new ≡ world view old) → JournalsSteps contents old new [] → Takes view handlers contents old new Change
+  nothing Change change stays stands journals = record { steps = []; change = change; runs = stands; stays = stays; journals = journals }
+
+  -- an event that met a fault
+  pub left : (Change : List Step → Type 0) (WasOk : Type 0) → Change [] → setting handlers new ≡ setting handlers old → (is_clean view new → world view new ≡ world view old) → KeepsRecord view old new WasOk
+      → ((n : ℕ) → AreUpTo n old → AreUpTo n new)
+      → (flush_of old ≡ Later → (is_hosted : List ℕ → Bool) (events : List Event) → Journals contents is_hosted old events → Journals contents is_hosted new events)
+      → Takes view handlers contents old new Change
+  left Change WasOk change stays stands records counts kept = nothing Change change stays stands (journals_left contents old new records.waits counts kept)
+
+  -- a call that is no event
+  pub asked : (Change : List Step → Type 0) (WasOk : Type 0) → Change [] → setting handlers new ≡ setting handlers old → (is_clean view new → world view new ≡ world view old) → KeepsRecord view old new WasOk
+      → HasSameJournal old new → Takes view handlers contents old new Change
+  asked Change WasOk change stays stands records same = nothing Change change stays stands (journals_same contents old new records.waits same)
 
   -- the same steps, of which more holds
-  pub changed : (C D : List Step → Type 0) → ((steps : List Step) → C steps → D steps) → Takes view handlers old new C → Takes view handlers old new D
-  changed C D to takes = record { steps = takes.steps; change = to takes.steps takes.change; runs = takes.runs; stays = takes.stays }
+  pub changed : (C D : List Step → Type 0) → ((steps : List Step) → C steps → D steps) → Takes view handlers contents old new C → Takes view handlers contents old new D
+  changed C D to takes = record { steps = takes.steps; change = to takes.steps takes.change; runs = takes.runs; stays = takes.stays; journals = takes.journals }
 
-module _ {S V W : Type 0} (view : S → StoreView) (handlers : V → HandlerView) (old mid new : TurnHub S V W) where
+-- no call of a hub
+pub stayed : {S V W : Type 0} (view : S → StoreView) (handlers : V → HandlerView) (contents : W → Option (List ℕ)) (h : TurnHub S V W) (Change : List Step → Type 0) → Change [] → Takes view handlers contents h h Change
+stayed view handlers contents h Change change = nothing view handlers contents h h Change change refl (λ _. refl) (journals_kept contents h)
+
+module _ {S V W : Type 0} (view : S → StoreView) (old mid new : TurnHub S V W) where
   pub counted_more : (Early Late : Type 0) → IsCounted (hub_view view) old mid Early → IsCounted (hub_view view) mid new Late → IsCounted (hub_view view) old new ⊥
   counted_more Early Late first second = record {
     was_clean = λ c. first.was_clean (second.was_clean c);
@@ -144,15 +165,17 @@ module _ {S V W : Type 0} (view : S → StoreView) (handlers : V → HandlerView
     count = omega (arith, first.count, second.count);
   }
 
+module _ {S V W : Type 0} (view : S → StoreView) (handlers : V → HandlerView) (contents : W → Option (List ℕ)) (old mid new : TurnHub S V W) where
   -- steps after steps
   pub taken_on : (C D E : List Step → Type 0) → ((before after : List Step) → C before → D after → E (before ++ after))
       → (is_clean view new → is_clean view mid)
-      → Takes view handlers old mid C → Takes view handlers mid new D → Takes view handlers old new E
+      → Takes view handlers contents old mid C → Takes view handlers contents mid new D → Takes view handlers contents old new E
   taken_on C D E joins was first second = record {
     steps = first.steps ++ second.steps;
     change = joins first.steps second.steps first.change second.change;
     runs = λ c. runs-append (setting handlers old) (world view old) (world view mid) (world view new) first.steps second.steps (first.runs (was c)) (subst (λ st. Runs st (world view mid) second.steps (world view new)) first.stays (second.runs c));
     stays = second.stays ∙ first.stays;
+    journals = journals_more contents old mid new first.steps second.steps first.journals second.journals;
   }
 
 module _ {P : Type 0} (C : ℕ → Change P) where

@@ -1,5 +1,5 @@
 -- The turns of a server.
-use Rattle.std.specs.Prelude.{◌≡◌, ◌⊎◌, ℕ, List, ◌++◌, Bool, Option, Result}
+use Rattle.std.specs.Prelude.{◌≡◌, ◌≢◌, ◌⊎◌, ℕ, ◌+◌, List, length, ◌++◌, Bool, Option, Result}
 use Rattle.std.specs.List.{AllZip}
 use Rattle.hub_events.specs.declared.event.Event.{Event}
 use Rattle.hub_events.specs.declared.fault.Fault.{Fault}
@@ -8,8 +8,9 @@ use Rattle.hub_rows.specs.StoreView.{StoreView}
 use Rattle.hub_rows.specs.Stops.{FindsOnly, FindsSound, HasOnRecord, IsKept, PutsOnRecord, StaysOnRecord}
 use Rattle.hub_rows.specs.declared.store.Flush.TheVariants.{Later}
 use Rattle.hub.specs.World.{World}
+use Rattle.journal.specs.Entries.{IsCount}
 use Rattle.station_calls.specs.Vendors.{HandlerView}
-use Rattle.turn_hub.specs.Journals.{AreSmall, HasJournaled, Journals}
+use Rattle.turn_hub.specs.Journals.{AreSmall, AreUpTo, HasJournaled, HasSameJournal, Journals}
 use Rattle.turn_hub.specs.TurnHub.{flush_of, hub_view, is_clean, setting, world}
 use Rattle.turn_hub.specs.declared.turn_hub.Commits.TheVariants.{Turns as TogetherInTurns}
 use Rattle.turn_hub.specs.declared.turn_hub.TurnHub.{TurnHub}
@@ -17,11 +18,12 @@ use Rattle.ws_peers.specs.Sends.{Failed}
 use Rattle.ws_peers.specs.declared.peer.Peer.{Peer}
 use Rattle.ws_server.specs.Admits.{WelcomesSome}
 use Rattle.ws_server.specs.Lobbies.{origins_of}
-use Rattle.ws_server.specs.Steps.{Runs, Step, Takes}
+use Rattle.ws_server.specs.Steps.{AllStand, NotesAll, Runs, Step, Takes}
 use Rattle.ws_server.specs.Tells.{peers_of}
 use Rattle.ws_server.specs.Turns.{Change, EachOf, PartsAndTicks, Serves}
 use Rattle.ws_server.specs.declared.reactor.Written.{Written}
-use Rattle.ws_server.specs.declared.reactor.Written.TheVariants.{Given, Dropped}
+use Rattle.ws_server.specs.declared.reactor.Written.TheVariants.{Given}
+use Rattle.ws_server.specs.declared.turn_server.State.TheVariants.{Serving, Unwritten}
 use Rattle.ws_server.specs.declared.turn_server.TurnServer.{TurnServer}
 
 -- a change that goes on to its first fault
@@ -60,13 +62,14 @@ module _ {S V W : Type 0} (view : S → StoreView) (handlers : V → HandlerView
     pub waits : GoesOn → flush_of old ≡ Later → flush_of new ≡ Later
     -- what is on record is known again
     pub found : GoesOn → flush_of old ≡ Later → (rows : Rows) → FindsOnly rows (hub_view view old) → HasOnRecord rows (hub_view view new)
+    pub journal : GoesOn → HasSameJournal old new
     -- nothing more is on record
     pub stopped : FindsSound (hub_view view old) → (r : Rows) → (hub_view view new).may_find r → (hub_view view old).may_find r
 
   -- a part of a turn, and whether the turn goes on
-  pub record Stage (old new : TurnHub S V W) (GoesOn : Type 0) (C : List Step → Type 0) : Type 0 where
+  pub record Stage (contents : W → Option (List ℕ)) (old new : TurnHub S V W) (GoesOn : Type 0) (C : List Step → Type 0) : Type 0 where
     pub was_clean : GoesOn → is_clean view new → is_clean view old
-    pub takes : GoesOn → Takes view handlers old new C
+    pub takes : GoesOn → Takes view handlers contents old new C
     pub commits : new.commits ≡ old.commits
     pub waits : GoesOn → flush_of old ≡ Later → flush_of new ≡ Later
     pub stays : GoesOn → flush_of old ≡ Later → StaysOnRecord (hub_view view old) (hub_view view new)
@@ -83,9 +86,12 @@ module _ {S V W : Type 0} (view : S → StoreView) (handlers : V → HandlerView
     -- a turn may be told: the hub took some steps, and their turn has ended
     pub record IsTold (old new : TurnHub S V W) (C : List Step → Type 0) : Type 0 where
       pub last : TurnHub S V W
-      pub takes : Takes view handlers old last C
+      pub takes : Takes view handlers contents old last C
       pub ends : Ends last new
       pub kept : flush_of old ≡ Later → (on_record : Rows) → HasOnRecord on_record (hub_view view old) → IsKept (hub_view view new)
+      -- the journal, if there is one, has their events in its file
+      pub journaled : flush_of old ≡ Later → (n : ℕ) → AreUpTo n old → IsCount (length takes.steps + n + 2) → (is_hosted : List ℕ → Bool) → AllStand is_hosted takes.steps
+          → (events : List Event) → Journals contents is_hosted old events → (after : List Event) × NotesAll events takes.steps after × HasJournaled contents is_hosted new after
 
   -- a stop at the end of a turn leaves what was on record, or the rows of the hub
   abbrev pub FindsEnd : TurnHub S V W → TurnHub S V W → Type 0
@@ -111,8 +117,10 @@ module _ {T S V W : Type 0} (view : S → StoreView) (handlers : V → HandlerVi
 
   -- a turn at moment m, and what has become of what was written in it
   pub record EndsTurn (journaled : W → Option (List ℕ)) (written : Written) (old new : TurnServer T S V W) : Type 0 where
-    -- it is given to the system once the turn may be told
-    pub told : old.hub.commits ≡ TogetherInTurns → written ≡ Given → IsTold view handlers journaled old.hub new.hub (TurnOf old (peers_of new.gateway))
-    -- where it is dropped all connections end
-    pub dropped : written ≡ Dropped → (last : List (Peer T)) × AllZip (Failed contents) last (peers_of new.gateway)
+    -- a server that goes on serving has given it to the system, and the turn may be told
+    pub told : new.state ≡ Serving → (written ≡ Given) × IsTold view handlers journaled old.hub new.hub (TurnOf old (peers_of new.gateway))
+    -- else nothing of it is given where changes are committed together
+    pub untold : new.state ≢ Serving → old.hub.commits ≡ TogetherInTurns → written ≢ Given
+    -- then all connections end, unless the journal can't be written: nothing can be told any more
+    pub ended : new.state ≢ Serving → new.state ≢ Unwritten → (last : List (Peer T)) × AllZip (Failed contents) last (peers_of new.gateway)
     pub stopped : FindsTurn old new.hub

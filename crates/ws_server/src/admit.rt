@@ -5,7 +5,7 @@ ghost use Rattle.hub.specs.Hub.{is_taken};
 ghost use Rattle.turn_hub.specs.TurnHub.{KeepsRecord, hub_view, setting};
 ghost use Rattle.ws_peers.specs.Lists.{peers, has_room};
 ghost use Rattle.ws_server.specs.Admits.{Enters};
-ghost use Rattle.ws_server.specs.Steps.{Takes};
+ghost use Rattle.ws_server.specs.Steps.{IsOrderOf, Takes};
 ghost use Rattle.ws_server.specs.Tells.{peers_of};
 
 use crate::arrival::Arrival;
@@ -29,7 +29,7 @@ const NO_SUBPROTOCOL: &str = "subprotocol ocpp1.6 is missing";
 /// Why a station is closed that is no longer on record.
 const NO_STATION: &str = "no such station";
 
-#[tactic(auto, using(crate::proofs::StepLaws::nothing, crate::proofs::RecordLaws::unchanged))]
+#[tactic(auto, using(crate::proofs::StepLaws::stayed, crate::proofs::StepLaws::left, crate::proofs::RecordLaws::unchanged))]
 impl<T: Read + Write + Served + Drop> Gateway<T> {
     ghost use Rattle.ws_server.specs.Admits.{Admits, Closes, Connects, is_served};
     ghost use Rattle.ws_server.specs.Events.{is_route_of_hosted};
@@ -45,7 +45,7 @@ impl<T: Read + Write + Served + Drop> Gateway<T> {
         arrival: Arrival,
         moment: Moment,
     ) -> Result<(), Fault>
-        ensures takes { Takes S.view V.view hub.old hub.new
+        ensures takes { Takes S.view V.view W.contents hub.old hub.new
             (λ steps. Admits T.contents socket moment arrival.route arrival.has_subprotocol (peers_of self.old) (peers_of self.new) steps result) }
         ensures hosted { OnOk result (is_served (setting V.view hub.old).is_hosted arrival.route arrival.has_subprotocol ≡ true) }
         ensures not_hosted { IfErr result (λ f. f ≡ Fault.NoSuchOperator → is_route_of_hosted (setting V.view hub.old).is_hosted arrival.route ≡ false) }
@@ -92,7 +92,8 @@ impl<T: Read + Write + Served + Drop> Gateway<T> {
         arrival: Arrival,
         event: &Event,
     ) -> Result<(), Fault>
-        ensures takes { Takes S.view V.view hub.old hub.new
+        requires { IsOrderOf event.now [] }
+        ensures takes { Takes S.view V.view W.contents hub.old hub.new
             (λ steps. Connects T.contents socket event.now arrival.route (peers_of self.old) (peers_of self.new) steps result) }
         ensures taken { OnOk result (is_taken (setting V.view hub.old) event.now ≡ true) }
         ensures not_taken { IfErr result (λ f. f ≡ Fault.NoSuchOperator → is_taken (setting V.view hub.old) event.now ≡ false) }

@@ -1,9 +1,9 @@
 //! Answering the texts of peers.
-ghost use Rattle.std.specs.Prelude.{◌≡◌, ◌<◌, Err, List, codes, length, string_bytes, IsOk};
+ghost use Rattle.std.specs.Prelude.{◌≡◌, ◌<◌, Err, IfSome, List, codes, length, string_bytes, IsOk};
 ghost use Rattle.hub_rows.specs.Reads.{IsCounted};
 ghost use Rattle.turn_hub.specs.TurnHub.{KeepsRecord, hub_view, setting};
 ghost use Rattle.ws_peers.specs.Lists.{At};
-ghost use Rattle.ws_server.specs.Steps.{Takes};
+ghost use Rattle.ws_server.specs.Steps.{IsOrderOf, Takes};
 ghost use Rattle.ws_server.specs.Tells.{SentWhileOpen, peers_of};
 
 use crate::events::{event_of, order_text, word_of};
@@ -19,7 +19,7 @@ use std::io::{Read, Write};
 use turn_hub::TurnHub;
 use ws_peers::Peer;
 
-#[tactic(auto, using(crate::proofs::StepLaws::nothing, crate::proofs::RecordLaws::unchanged))]
+#[tactic(auto, using(crate::proofs::StepLaws::stayed, crate::proofs::StepLaws::left, crate::proofs::RecordLaws::unchanged))]
 impl<T: Read + Write + Served + Drop> Gateway<T> {
     ghost use Rattle.ws_server.specs.Turns.{HandsOrRefuses, Between, HandsText};
 
@@ -34,7 +34,7 @@ impl<T: Read + Write + Served + Drop> Gateway<T> {
         text: &str,
     ) -> Result<(), Fault>
         requires { n < length (peers_of self.old) }
-        ensures takes { Takes S.view V.view hub.old hub.new
+        ensures takes { Takes S.view V.view W.contents hub.old hub.new
             (λ steps. HandsText T.contents (setting V.view hub.old).is_hosted moment n text.now (peers_of self.old) (peers_of self.new) steps result) }
         ensures counted { IsCounted (hub_view S.view) hub.old hub.new (result ≡ Err Fault.Store) }
         ensures records { KeepsRecord S.view hub.old hub.new (IsOk result) }
@@ -42,33 +42,35 @@ impl<T: Read + Write + Served + Drop> Gateway<T> {
     {
         let route = self.peers.peer(n).route();
         let event = event_of(self.alloc, route, moment, text)?;
+        let order = order_text(text);
         match word_of(route, text) {
             Some(word) => {
                 let bounds = bounds_of(self.alloc, word)?;
-                self.answer_between(hub, n, &bounds, &event, text)
+                self.answer_between(hub, n, &bounds, &event, order)
             }
-            None => self.answer(hub, n, &event, text),
+            None => self.answer(hub, n, &event, order),
         }
     }
 
     /// Hands an event of peer n to the hub, and sends its outputs. `None` is a text that has none, which is answered
-    /// `bad line` while the connection is open.
+    /// `bad line` while the connection is open. `order` is the text of an order, without its word.
     fn answer<S: Store + Drop, V: VendorHandler, W: JournalFile + Drop>(
         &mut self,
         hub: &mut TurnHub<S, V, W>,
         n: usize,
         event: &Option<Event>,
-        text: &str,
+        order: &str,
     ) -> Result<(), Fault>
-        requires { n < length (peers_of self.old) }
-        ensures takes { Takes S.view V.view hub.old hub.new
+        requires place { n < length (peers_of self.old) }
+        requires order { IfSome event.now (λ e. IsOrderOf e order.now) }
+        ensures takes { Takes S.view V.view W.contents hub.old hub.new
             (λ steps. HandsOrRefuses T.contents (setting V.view hub.old).is_hosted n event.now (peers_of self.old) (peers_of self.new) steps result) }
         ensures counted { IsCounted (hub_view S.view) hub.old hub.new (result ≡ Err Fault.Store) }
         ensures records { KeepsRecord S.view hub.old hub.new (IsOk result) }
         ensures count { length (peers_of self.new) ≡ length (peers_of self.old) }
     {
         match event {
-            Some(event) => self.hand(hub, n, event, text),
+            Some(event) => self.hand(hub, n, event, order),
             None => {
                 self.say(n, "bad line");
                 Ok(())
@@ -83,10 +85,11 @@ impl<T: Read + Write + Served + Drop> Gateway<T> {
         n: usize,
         bounds: &Bounds,
         event: &Option<Event>,
-        text: &str,
+        order: &str,
     ) -> Result<(), Fault>
-        requires { n < length (peers_of self.old) }
-        ensures takes { Takes S.view V.view hub.old hub.new
+        requires place { n < length (peers_of self.old) }
+        requires order { IfSome event.now (λ e. IsOrderOf e order.now) }
+        ensures takes { Takes S.view V.view W.contents hub.old hub.new
             (λ steps. Between T.contents n (string_bytes bounds.now.begin) (string_bytes bounds.now.end)
             (HandsOrRefuses T.contents (setting V.view hub.old).is_hosted n event.now) (peers_of self.old) (peers_of self.new) steps result) }
         ensures counted { IsCounted (hub_view S.view) hub.old hub.new (result ≡ Err Fault.Store) }
@@ -97,7 +100,7 @@ impl<T: Read + Write + Served + Drop> Gateway<T> {
             self.refuse_between(n, bounds.begin.as_str(), bounds.end.as_str());
             return Ok(());
         };
-        let outs = hub.handle(event, order_text(text))?;
+        let outs = hub.handle(event, order)?;
         self.taken = self.taken.wrapping_add(1);
         self.say(n, bounds.begin.as_str());
         self.tell_all(n, &outs);

@@ -89,7 +89,7 @@ enum Next {
     Welcome(Upgrade),
 }
 
-#[tactic(auto, using(crate::proofs::StepLaws::nothing))]
+#[tactic(auto, using(crate::proofs::StepLaws::stayed))]
 impl<T: Peek + Read + Write + Served + Drop> Lobby<T> {
     ghost use Rattle.ws_server.specs.Admits.{WelcomesOne, WelcomesSome};
     ghost use Rattle.ws_server.specs.declared.lobby.Waiting.{Waiting};
@@ -218,7 +218,7 @@ impl<T: Peek + Read + Write + Served + Drop> Lobby<T> {
         moment: Moment,
         second: u64,
     ) -> Result<(), Fault>
-        ensures takes { Takes S.view V.view hub.old hub.new
+        ensures takes { Takes S.view V.view W.contents hub.old hub.new
             (λ steps. WelcomesSome T.remaining T.contents moment (origins_of self.old) (peers_of gateway.old) (peers_of gateway.new) steps result) }
         ensures counted { IsCounted (hub_view S.view) hub.old hub.new (result ≡ Err Fault.Store) }
         ensures records { KeepsRecord S.view hub.old hub.new (IsOk result) }
@@ -242,7 +242,7 @@ impl<T: Peek + Read + Write + Served + Drop> Lobby<T> {
         moment: Moment,
         second: u64,
     ) -> Result<(), Fault>
-        ensures takes { Takes S.view V.view hub.old hub.new
+        ensures takes { Takes S.view V.view W.contents hub.old hub.new
             (λ steps. WelcomesOne T.remaining T.contents moment (origins_of self.old) (peers_of gateway.old) (peers_of gateway.new) steps result) }
         ensures counted { IsCounted (hub_view S.view) hub.old hub.new (result ≡ Err Fault.Store) }
         ensures records { KeepsRecord S.view hub.old hub.new (IsOk result) }

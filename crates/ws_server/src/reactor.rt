@@ -37,8 +37,8 @@ pub trait Reactor<T, R> {
     fn next(&mut self, rt: &R, gateway: &Gateway<T>) -> Option<usize>
         ensures { written self.new ≡ written self.old };
 
-    /// The peer at that place was served, of which the hub took so many events.
-    fn served(&mut self, rt: &R, gateway: &Gateway<T>, place: usize, events: u64)
+    /// The peer that was chosen last has been served. The hub took so many events of it.
+    fn served(&mut self, rt: &R, gateway: &Gateway<T>, events: u64)
         ensures { written self.new ≡ written self.old };
 
     /// Changes that waited are committed.

@@ -4,7 +4,7 @@ ghost use Rattle.std.specs.List.Sorted.{IsNonDecreasing};
 ghost use Rattle.hub_rows.specs.Reads.{IsCounted};
 ghost use Rattle.turn_hub.specs.TurnHub.{KeepsRecord, hub_view, setting};
 ghost use Rattle.ws_peers.specs.Peers.{FailsOnlyAt, is_open_peer};
-ghost use Rattle.ws_server.specs.Steps.{Takes};
+ghost use Rattle.ws_server.specs.Steps.{IsOrderOf, Takes};
 ghost use Rattle.ws_server.specs.Tells.{peers_of};
 
 use crate::events::parting;
@@ -20,7 +20,7 @@ use std::io::{Read, Write};
 use turn_hub::TurnHub;
 use ws_peers::{Peers, Stage};
 
-#[tactic(auto, using(crate::proofs::StepLaws::handed, crate::proofs::StepLaws::nothing, crate::proofs::RecordLaws::unchanged))]
+#[tactic(auto, using(crate::proofs::StepLaws::handed, crate::proofs::StepLaws::stayed, crate::proofs::StepLaws::left, crate::proofs::RecordLaws::unchanged))]
 impl<T: Read + Write + Served + Drop> Gateway<T> {
     ghost use Rattle.ws_server.specs.Turns.{AtPlace, Hands, Serves, Parts, Each, SweepsAndTicks, PartsAndTicks};
 
@@ -33,7 +33,8 @@ impl<T: Read + Write + Served + Drop> Gateway<T> {
         event: &Event,
         order: &str,
     ) -> Result<(), Fault>
-        ensures takes { Takes S.view V.view hub.old hub.new
+        requires { IsOrderOf event.now order.now }
+        ensures takes { Takes S.view V.view W.contents hub.old hub.new
             (λ steps. Hands T.contents (setting V.view hub.old).is_hosted event.now (peers_of self.old) (peers_of self.new) steps result) }
         ensures counted { IsCounted (hub_view S.view) hub.old hub.new (result ≡ Err Fault.Store) }
         ensures records { KeepsRecord S.view hub.old hub.new (IsOk result) }
@@ -54,7 +55,7 @@ impl<T: Read + Write + Served + Drop> Gateway<T> {
         moment: Moment,
     ) -> Result<(), Fault>
         requires { n < length (peers_of self.old) }
-        ensures takes { Takes S.view V.view hub.old hub.new
+        ensures takes { Takes S.view V.view W.contents hub.old hub.new
             (λ steps. Serves T.remaining T.contents (setting V.view hub.old).is_hosted moment n (peers_of self.old) (peers_of self.new) steps result) }
         ensures counted { IsCounted (hub_view S.view) hub.old hub.new (result ≡ Err Fault.Store) }
         ensures records { KeepsRecord S.view hub.old hub.new (IsOk result) }
@@ -81,7 +82,7 @@ impl<T: Read + Write + Served + Drop> Gateway<T> {
         place: usize,
         moment: Moment,
     ) -> Result<(), Fault>
-        ensures takes { Takes S.view V.view hub.old hub.new
+        ensures takes { Takes S.view V.view W.contents hub.old hub.new
             (λ steps. AtPlace (Serves T.remaining T.contents (setting V.view hub.old).is_hosted moment) place (peers_of self.old) (peers_of self.new) steps result) }
         ensures counted { IsCounted (hub_view S.view) hub.old hub.new (result ≡ Err Fault.Store) }
         ensures records { KeepsRecord S.view hub.old hub.new (IsOk result) }
@@ -100,7 +101,7 @@ impl<T: Read + Write + Served + Drop> Gateway<T> {
         moment: Moment,
     ) -> Result<(), Fault>
         requires { n < length (peers_of self.old) }
-        ensures takes { Takes S.view V.view hub.old hub.new
+        ensures takes { Takes S.view V.view W.contents hub.old hub.new
             (λ steps. Parts T.contents (setting V.view hub.old).is_hosted moment n (peers_of self.old) (peers_of self.new) steps result) }
         ensures counted { IsCounted (hub_view S.view) hub.old hub.new (result ≡ Err Fault.Store) }
         ensures records { KeepsRecord S.view hub.old hub.new (IsOk result) }
@@ -128,7 +129,7 @@ impl<T: Read + Write + Served + Drop> Gateway<T> {
         hub: &mut TurnHub<S, V, W>,
         moment: Moment,
     ) -> Result<(), Fault>
-        ensures takes { Takes S.view V.view hub.old hub.new
+        ensures takes { Takes S.view V.view W.contents hub.old hub.new
             (λ steps. Each (Parts T.contents (setting V.view hub.old).is_hosted moment) (peers_of self.old) (peers_of self.new) steps result) }
         ensures counted { IsCounted (hub_view S.view) hub.old hub.new (result ≡ Err Fault.Store) }
         ensures records { KeepsRecord S.view hub.old hub.new (IsOk result) }
@@ -148,7 +149,7 @@ impl<T: Read + Write + Served + Drop> Gateway<T> {
     ) -> Result<(), Fault>
         requires ascending { IsNonDecreasing places.now }
         requires listed { FailsOnlyAt is_open_peer places.now (peers_of self.old) }
-        ensures takes { Takes S.view V.view hub.old hub.new
+        ensures takes { Takes S.view V.view W.contents hub.old hub.new
             (λ steps. Each (Parts T.contents (setting V.view hub.old).is_hosted moment) (peers_of self.old) (peers_of self.new) steps result) }
         ensures counted { IsCounted (hub_view S.view) hub.old hub.new (result ≡ Err Fault.Store) }
         ensures records { KeepsRecord S.view hub.old hub.new (IsOk result) }
@@ -173,7 +174,7 @@ impl<T: Read + Write + Served + Drop> Gateway<T> {
         hub: &mut TurnHub<S, V, W>,
         moment: Moment,
     ) -> Result<(), Fault>
-        ensures takes { Takes S.view V.view hub.old hub.new
+        ensures takes { Takes S.view V.view W.contents hub.old hub.new
             (λ steps. Each (Parts T.contents (setting V.view hub.old).is_hosted moment) (peers_of self.old) (peers_of self.new) steps result) }
         ensures counted { IsCounted (hub_view S.view) hub.old hub.new (result ≡ Err Fault.Store) }
         ensures records { KeepsRecord S.view hub.old hub.new (IsOk result) }
@@ -191,7 +192,7 @@ impl<T: Read + Write + Served + Drop> Gateway<T> {
         hub: &mut TurnHub<S, V, W>,
         moment: Moment,
     ) -> Result<(), Fault>
-        ensures takes { Takes S.view V.view hub.old hub.new
+        ensures takes { Takes S.view V.view W.contents hub.old hub.new
             (λ steps. PartsAndTicks T.contents (setting V.view hub.old).is_hosted moment (peers_of self.old) (peers_of self.new) steps result) }
         ensures counted { IsCounted (hub_view S.view) hub.old hub.new (result ≡ Err Fault.Store) }
         ensures records { KeepsRecord S.view hub.old hub.new (IsOk result) }
@@ -208,7 +209,7 @@ impl<T: Read + Write + Served + Drop> Gateway<T> {
         hub: &mut TurnHub<S, V, W>,
         moment: Moment,
     ) -> Result<(), Fault>
-        ensures takes { Takes S.view V.view hub.old hub.new
+        ensures takes { Takes S.view V.view W.contents hub.old hub.new
             (λ steps. SweepsAndTicks T.contents (setting V.view hub.old).is_hosted moment (peers_of self.old) (peers_of self.new) steps result) }
         ensures counted { IsCounted (hub_view S.view) hub.old hub.new (result ≡ Err Fault.Store) }
         ensures records { KeepsRecord S.view hub.old hub.new (IsOk result) }

@@ -1,17 +1,17 @@
 //! The turns of a server.
-ghost use Rattle.std.specs.Prelude.{◌≡◌, ◌≢◌, [], List, Err, IsOk, OnOk};
+ghost use Rattle.std.specs.Prelude.{◌≡◌, ◌≢◌, ◌↔◌, [], true, Err, IsOk, OnErr, OnOk};
 ghost use Rattle.std.specs.List.{AllZip};
 ghost use Rattle.turn_hub.specs.TurnHub.{KeepsRecord, hub_view, setting};
 ghost use Rattle.hub_rows.specs.Reads.{IsCounted};
 ghost use Rattle.turn_hub.specs.declared.turn_hub.Commits.TheVariants.{Turns as TogetherInTurns};
 ghost use Rattle.ws_peers.specs.Sends.{Failed};
-ghost use Rattle.ws_peers.specs.declared.peer.Peer.{Peer};
 ghost use Rattle.ws_server.specs.Admits.{WelcomesSome};
 ghost use Rattle.ws_server.specs.Lobbies.{origins_of};
 ghost use Rattle.ws_server.specs.Steps.{Takes};
 ghost use Rattle.ws_server.specs.Tells.{peers_of};
 ghost use Rattle.ws_server.specs.Turns.{PartsAndTicks};
-ghost use Rattle.ws_server.specs.declared.reactor.Written.TheVariants.{Held, Given, Dropped};
+ghost use Rattle.ws_server.specs.declared.reactor.Written.TheVariants.{Held, Given};
+ghost use Rattle.ws_server.specs.declared.turn_server.State.TheVariants as State;
 
 use crate::gateway::Gateway;
 use crate::lobby::Lobby;
@@ -30,7 +30,7 @@ use turn_hub::{TurnFault, TurnHub};
 pub enum State {
     /// It does.
     Serving,
-    /// It doesn't in what is left of this turn, whose changes are gone.
+    /// It doesn't before the next turn: the changes of this one are gone.
     Lost,
     /// It doesn't before the store can tell whether changes are gone.
     Unsure,
@@ -43,6 +43,7 @@ pub enum State {
 /// When a turn is.
 #[derive(Clone, Copy, Drop)]
 pub struct TurnTime {
+    /// By the system's clock. It is never before that of the turn before.
     pub moment: Moment,
     /// The seconds since the server began.
     pub second: u64,
@@ -55,8 +56,11 @@ struct Stopped;
 /// A server that takes events in turns: its hub, its peers, and the connections whose handshake isn't done.
 #[derive(Drop)]
 pub struct TurnServer<T, S, V, W> {
+    /// The hub, with the changes of the turn and its journal.
     pub hub: TurnHub<S, V, W>,
+    /// The peers whose handshake is done.
     pub gateway: Gateway<T>,
+    /// The connections whose handshake isn't done.
     pub lobby: Lobby<T>,
     state: State,
 }
@@ -74,7 +78,12 @@ impl<
         hub: TurnHub<S, V, W>,
         gateway: Gateway<T>,
         lobby: Lobby<T>,
-    ) -> TurnServer<T, S, V, W> {
+    ) -> TurnServer<T, S, V, W>
+        ensures hub { result.hub ≡ hub }
+        ensures gateway { result.gateway ≡ gateway }
+        ensures lobby { result.lobby ≡ lobby }
+        ensures state { result.state ≡ State.Serving }
+    {
         TurnServer {
             hub,
             gateway,
@@ -84,14 +93,16 @@ impl<
     }
 
     /// Whether it hands events to the hub.
-    pub fn state(&self) -> State {
+    pub fn state(&self) -> State
+        ensures { result ≡ self.now.state }
+    {
         self.state
     }
 
     /// One turn. The connections whose heads are whole are welcomed, peers are served as the reactor chooses them, and those
     /// that have ended leave; each of the three goes on to its first fault. Then the turn of the hub ends, with its entry in
     /// the journal and its commit, and what was written to peers is given to the system. Where changes are gone nothing of it
-    /// is, and all connections end. `operators` are those of the journal.
+    /// is, and all connections end; the next turn serves again. `operators` are those of the journal.
     pub fn turn<R, D: Reactor<T, R>>(
         &mut self,
         rt: &R,
@@ -119,6 +130,8 @@ impl<
         ensures told { OnOk result (IsTold S.view V.view W.contents self.old.hub self.new.hub (TurnOf S.view V.view T.remaining T.contents time.moment self.old (peers_of self.new.gateway))) }
         ensures stopped { FindsTurn S.view V.view T.remaining T.contents time.moment self.old self.new.hub }
         ensures commits { self.new.hub.commits ≡ self.old.hub.commits }
+        ensures state { OnOk result (self.new.state ≡ State.Serving) }
+        ensures off { OnErr result (self.new.state ≢ State.Serving) }
         ensures written { D.written reactor.new ≡ D.written reactor.old }
     {
         self.serve_turn(rt, reactor, time, operators)?;
@@ -133,7 +146,9 @@ impl<
         time: TurnTime,
         operators: &str,
     ) -> Result<(), Stopped>
-        ensures stage { Stage S.view V.view self.old.hub self.new.hub (IsOk result) (TurnOf S.view V.view T.remaining T.contents time.moment self.old (peers_of self.new.gateway)) }
+        ensures stage { Stage S.view V.view W.contents self.old.hub self.new.hub (IsOk result) (TurnOf S.view V.view T.remaining T.contents time.moment self.old (peers_of self.new.gateway)) }
+        ensures state { OnOk result (self.new.state ≡ State.Serving) }
+        ensures off { OnErr result (self.new.state ≢ State.Serving) }
         ensures written { D.written reactor.new ≡ D.written reactor.old }
     {
         let moment = time.moment;
@@ -143,16 +158,21 @@ impl<
         self.part(reactor, moment, operators)
     }
 
-    /// Asks a store that couldn't tell whether changes are gone.
+    /// Begins a turn. Asks a store that couldn't tell whether changes are gone.
     fn begin(&mut self, operators: &str) -> Result<(), Stopped>
-        ensures stage { Stage S.view V.view self.old.hub self.new.hub (IsOk result) (λ steps. steps ≡ []) }
+        ensures stage { Stage S.view V.view W.contents self.old.hub self.new.hub (IsOk result) (λ steps. steps ≡ []) }
+        ensures state { OnOk result (self.new.state ≡ State.Serving) }
+        ensures off { OnErr result (self.new.state ≢ State.Serving) }
         ensures gateway { self.new.gateway ≡ self.old.gateway }
         ensures lobby { self.new.lobby ≡ self.old.lobby }
     {
         match self.state {
-            State::Serving => Ok(()),
+            State::Serving | State::Lost => {
+                self.state = State::Serving;
+                Ok(())
+            }
             State::Unsure => self.recover(operators),
-            State::Lost | State::Shut | State::Unwritten => Err(Stopped),
+            State::Shut | State::Unwritten => Err(Stopped),
         }
     }
 
@@ -163,8 +183,10 @@ impl<
         time: TurnTime,
         operators: &str,
     ) -> Result<(), Stopped>
-        ensures stage { Stage S.view V.view self.old.hub self.new.hub (IsOk result)
+        ensures stage { Stage S.view V.view W.contents self.old.hub self.new.hub (IsOk result)
             (ToFault (WelcomesSome T.remaining T.contents time.moment (origins_of self.old.lobby)) (peers_of self.old.gateway) (peers_of self.new.gateway)) }
+        ensures state { self.old.state ≡ State.Serving → OnOk result (self.new.state ≡ State.Serving) }
+        ensures off { OnErr result (self.new.state ≢ State.Serving) }
         ensures written { D.written reactor.new ≡ D.written reactor.old }
     {
         let TurnTime { moment, second } = time;
@@ -185,8 +207,10 @@ impl<
         moment: Moment,
         operators: &str,
     ) -> Result<(), Stopped>
-        ensures stage { Stage S.view V.view self.old.hub self.new.hub (IsOk result)
+        ensures stage { Stage S.view V.view W.contents self.old.hub self.new.hub (IsOk result)
             (ToFault (ServesSome T.remaining T.contents (setting V.view self.old.hub).is_hosted moment) (peers_of self.old.gateway) (peers_of self.new.gateway)) }
+        ensures state { self.old.state ≡ State.Serving → OnOk result (self.new.state ≡ State.Serving) }
+        ensures off { OnErr result (self.new.state ≢ State.Serving) }
         ensures written { D.written reactor.new ≡ D.written reactor.old }
     {
         reactor.begin_service(rt, &self.gateway);
@@ -203,10 +227,11 @@ impl<
         reactor: &mut D,
         moment: Moment,
     ) -> Result<(), Fault>
-        ensures takes { Takes S.view V.view self.old.hub self.new.hub
+        ensures takes { Takes S.view V.view W.contents self.old.hub self.new.hub
             (λ steps. ServesSome T.remaining T.contents (setting V.view self.old.hub).is_hosted moment (peers_of self.old.gateway) (peers_of self.new.gateway) steps result) }
         ensures counted { IsCounted (hub_view S.view) self.old.hub self.new.hub (result ≡ Err Fault.Store) }
         ensures records { KeepsRecord S.view self.old.hub self.new.hub (IsOk result) }
+        ensures state { self.new.state ≡ self.old.state }
         ensures written { D.written reactor.new ≡ D.written reactor.old }
     {
         for _ in 0..u64::MAX {
@@ -216,7 +241,7 @@ impl<
             let before = self.gateway.taken();
             let served = self.gateway.serve_at(&mut self.hub, place, moment);
             let events = self.gateway.taken().wrapping_sub(before);
-            reactor.served(rt, &self.gateway, place, events);
+            reactor.served(rt, &self.gateway, events);
             served?;
         }
         Ok(())
@@ -229,8 +254,10 @@ impl<
         moment: Moment,
         operators: &str,
     ) -> Result<(), Stopped>
-        ensures stage { Stage S.view V.view self.old.hub self.new.hub (IsOk result)
+        ensures stage { Stage S.view V.view W.contents self.old.hub self.new.hub (IsOk result)
             (ToFault (PartsAndTicks T.contents (setting V.view self.old.hub).is_hosted moment) (peers_of self.old.gateway) (peers_of self.new.gateway)) }
+        ensures state { self.old.state ≡ State.Serving → OnOk result (self.new.state ≡ State.Serving) }
+        ensures off { OnErr result (self.new.state ≢ State.Serving) }
         ensures written { D.written reactor.new ≡ D.written reactor.old }
     {
         match self.gateway.part_and_tick(&mut self.hub, moment) {
@@ -248,6 +275,8 @@ impl<
     ) -> Result<(), Stopped>
         ensures holds { Holds S.view V.view self.old.hub self.new.hub (IsOk result) }
         ensures gateway { self.new.gateway ≡ self.old.gateway }
+        ensures state { self.old.state ≡ State.Serving → OnOk result (self.new.state ≡ State.Serving) }
+        ensures off { OnErr result (self.new.state ≢ State.Serving) }
         ensures written { D.written reactor.new ≡ D.written reactor.old }
     {
         let is_of_store = matches!(fault, Fault::Store);
@@ -267,6 +296,8 @@ impl<
     fn recover(&mut self, operators: &str) -> Result<(), Stopped>
         ensures holds { Holds S.view V.view self.old.hub self.new.hub (IsOk result) }
         ensures gateway { self.new.gateway ≡ self.old.gateway }
+        ensures state { OnOk result (self.new.state ≡ State.Serving) }
+        ensures off { OnErr result (self.new.state ≢ State.Serving) }
         ensures lobby { self.new.lobby ≡ self.old.lobby }
     {
         match self.hub.recover() {
@@ -287,6 +318,7 @@ impl<
         ensures commits { self.new.hub.commits ≡ self.old.hub.commits }
         ensures gateway { self.new.gateway ≡ self.old.gateway }
         ensures lobby { self.new.lobby ≡ self.old.lobby }
+        ensures off { self.new.state ≢ State.Serving }
     {
         self.state = match self.hub.begin_again(operators) {
             Ok(()) => State::Lost,
@@ -306,6 +338,8 @@ impl<
         ensures stopped { FindsEnd S.view V.view self.old.hub self.new.hub }
         ensures gateway { self.new.gateway ≡ self.old.gateway }
         ensures commits { self.new.hub.commits ≡ self.old.hub.commits }
+        ensures state { self.old.state ≡ State.Serving → OnOk result (self.new.state ≡ State.Serving) }
+        ensures off { OnErr result (self.new.state ≢ State.Serving) }
         ensures written { D.written reactor.new ≡ D.written reactor.old }
     {
         let has_waiting = self.hub.has_waiting();
@@ -328,14 +362,25 @@ impl<
         }
     }
 
+    /// Whether the journal can't be written.
+    fn is_unwritten(&self) -> bool
+        ensures { result ≡ true ↔ self.now.state ≡ State.Unwritten }
+    {
+        match self.state {
+            State::Unwritten => true,
+            State::Serving | State::Lost | State::Unsure | State::Shut => false,
+        }
+    }
+
     /// Ends a turn whose events aren't told. All connections end, unless nothing can be told any more.
     fn stop<R, D: Reactor<T, R>>(&mut self, reactor: &mut D)
         requires { D.written reactor.old ≡ Held }
         ensures hub { self.new.hub ≡ self.old.hub }
-        ensures told { self.old.hub.commits ≡ TogetherInTurns → D.written reactor.new ≢ Given }
-        ensures dropped { D.written reactor.new ≡ Dropped → (last : List (Peer T)) × AllZip (Failed T.contents) last (peers_of self.new.gateway) }
+        ensures state { self.new.state ≡ self.old.state }
+        ensures untold { self.old.hub.commits ≡ TogetherInTurns → D.written reactor.new ≢ Given }
+        ensures ended { self.old.state ≢ State.Unwritten → AllZip (Failed T.contents) (peers_of self.old.gateway) (peers_of self.new.gateway) }
     {
-        if matches!(self.state, State::Unwritten) {
+        if self.is_unwritten() {
             return;
         }
         if self.hub.has_turns() {
@@ -343,8 +388,5 @@ impl<
         }
         self.gateway.fail_all();
         reactor.give();
-        if matches!(self.state, State::Lost) {
-            self.state = State::Serving;
-        }
     }
 }

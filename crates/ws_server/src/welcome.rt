@@ -2,6 +2,7 @@
 ghost use Rattle.std.specs.Prelude.{◌≡◌, ◌≢◌, IfOk, IfErr, Err, None, true, false, bytes_eq, IsOk};
 ghost use Rattle.std.specs.List.{list_any};
 ghost use Rattle.hub_rows.specs.Reads.{IsCounted};
+ghost use Rattle.turn_hub.specs.Journals.{HasSameJournal};
 ghost use Rattle.turn_hub.specs.TurnHub.{KeepsRecord, hub_view, world, setting, is_clean};
 ghost use Rattle.ws_server.specs.Admits.{is_known, is_full, is_tolerant, is_tolerant_reader};
 ghost use Rattle.ws_server.specs.Steps.{Takes};
@@ -25,6 +26,7 @@ use ws_peers::Route;
 /// The most open connections that an operator has. One more is answered 503.
 const MAX_CONNECTIONS: usize = 32;
 
+#[tactic(auto, using(crate::proofs::StepLaws::asked))]
 impl<T: Read + Write + Served + Drop> Gateway<T> {
     ghost use Rattle.ws_server.specs.Admits.{Welcomes};
 
@@ -40,7 +42,7 @@ impl<T: Read + Write + Served + Drop> Gateway<T> {
         upgrade: Upgrade,
         moment: Moment,
     ) -> Result<(), Fault>
-        ensures takes { Takes S.view V.view hub.old hub.new
+        ensures takes { Takes S.view V.view W.contents hub.old hub.new
             (λ steps. Welcomes T.remaining T.contents moment (λ tolerant. is_clean S.view hub.new → tolerant ≡ is_tolerant (world S.view hub.old).rows upgrade.route) client.stream upgrade (peers_of self.old) (peers_of self.new) steps result) }
         ensures known { is_clean S.view hub.new → is_known (setting V.view hub.old).is_hosted (world S.view hub.old).rows upgrade.route ≡ false
             → peers_of self.new ≡ peers_of self.old }
@@ -147,6 +149,7 @@ fn look_up<S: Store + Drop, V: VendorHandler, W: JournalFile + Drop>(
     ensures counted { IsCounted (hub_view S.view) hub.old hub.new (result ≡ Err Fault.Store) }
     ensures records { KeepsRecord S.view hub.old hub.new (IsOk result) }
     ensures setting { setting V.view hub.new ≡ setting V.view hub.old }
+    ensures journal { HasSameJournal hub.old hub.new }
 {
     let is_known = is_known(hub, &upgrade.route)?;
     let is_tolerant = is_tolerant(hub, &upgrade.route)?;
@@ -167,6 +170,7 @@ fn is_tolerant<S: Store + Drop, V: VendorHandler, W: JournalFile + Drop>(
     ensures counted { IsCounted (hub_view S.view) hub.old hub.new (result ≡ Err Fault.Store) }
     ensures records { KeepsRecord S.view hub.old hub.new (IsOk result) }
     ensures setting { setting V.view hub.new ≡ setting V.view hub.old }
+    ensures journal { HasSameJournal hub.old hub.new }
 {
     match route {
         Route::Station(op, station) => {
@@ -197,6 +201,7 @@ fn is_known<S: Store + Drop, V: VendorHandler, W: JournalFile + Drop>(
     ensures counted { IsCounted (hub_view S.view) hub.old hub.new (result ≡ Err Fault.Store) }
     ensures records { KeepsRecord S.view hub.old hub.new (IsOk result) }
     ensures setting { setting V.view hub.new ≡ setting V.view hub.old }
+    ensures journal { HasSameJournal hub.old hub.new }
 {
     match route {
         Route::Station(op, station) => hub.knows(op.as_str(), station.as_str()),

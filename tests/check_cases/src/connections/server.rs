@@ -49,13 +49,7 @@ impl Reactor<TcpStream, HostRuntime> for EachPeer {
         Some(self.next - 1)
     }
 
-    fn served(
-        &mut self,
-        _rt: &HostRuntime,
-        _gateway: &Gateway<TcpStream>,
-        _place: usize,
-        _events: u64,
-    ) {}
+    fn served(&mut self, _rt: &HostRuntime, _gateway: &Gateway<TcpStream>, _events: u64) {}
 
     fn committed(&mut self, _rt: &HostRuntime) {}
 

@@ -1,6 +1,10 @@
 use Rattle.std.proofs.Common.{◌∙◌, sym, subst}
 use Rattle.turn_hub.specs.Journals.{HasBegun}
+use Rattle.turn_hub.proofs.Laws.{any_err, still_open}
 use Rattle.turn_hub.proofs.event_lines.begin.Goals as goal
+
+pub returns-in_ok-begin-clause-open : goal.returns-in_ok-begin-clause-open
+returns-in_ok-begin-clause-open g c = λ beside is_hosted all. still_open g.W.Write.contents is_hosted c.args.journal.now c.begin.new.self c.args.on_record all (c.begin.ensures.open is_hosted) c.begin.ensures.same
 
 pub returns-in_ok-begin-clause-begun : goal.returns-in_ok-begin-clause-begun
 returns-in_ok-begin-clause-begun g c = λ events on_record is_hosted all stands was works.

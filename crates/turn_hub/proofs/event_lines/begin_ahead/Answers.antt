@@ -13,7 +13,7 @@ returns-in_err-begin-clause-refused g c = λ events on_record. any_err c.from_re
     let turn = c.in_ok-end_turn.ensures.turn (record { number = below_one_more c.args.journal.now.events events; old = subst IsCount (sym has.same) (below_one_more c.args.on_record on_record); new = below_one_more c.args.on_record on_record })
     is_hosted has.taken has.now has.was in
     let file = subst (λ es. IsOpen g.W.Write.contents is_hosted c.settle.new.self es []) has.all (c.settle.ensures.settled is_hosted has.taken has.now turn.1) in
-    in_file g.W.Write.contents is_hosted c.begin.new.self c.args.on_record all (c.in_err-begin.ensures.refused is_hosted all [] file) (c.begin.ensures.same.0 ∙ c.settle.ensures.same.0))
+    in_file g.W.Write.contents is_hosted c.begin.new.self c.args.on_record all (c.begin.ensures.open is_hosted all [] file) (c.begin.ensures.same.0 ∙ c.settle.ensures.same.0))
 
 pub returns-clause-begun : goal.returns-clause-begun
 returns-clause-begun g c = λ events on_record is_hosted all stands was works.

@@ -16,7 +16,7 @@ returns-in_err-part_each-clause-takes g c =
     let hosts = (setting g.V.VendorHandler.view c.args.hub.now).is_hosted in
     let Parted = Each (Parts g.T.Write.contents hosts c.args.moment) in
     let Rest = SweepsAndTicks g.T.Write.contents hosts c.args.moment in
-    changed _ _ _ _ _ (λ steps. PartsAndTicks g.T.Write.contents hosts c.args.moment old new steps r)
+    changed _ _ _ _ _ _ (λ steps. PartsAndTicks g.T.Write.contents hosts c.args.moment old new steps r)
     (λ steps change. becomes (map leaves) (Then Parted Rest) old _ new steps r c.leave.ensures (fails Parted Rest _ new steps c.in_err-part_each.field-0.0 r c.from_residual.ensures.0 c.from_residual.ensures.1 change))
     c.in_err-part_each.ensures.takes
 
@@ -30,6 +30,6 @@ returns-clause-takes g c =
     let now = setting g.V.VendorHandler.view c.args.hub.now in
     let Parted = Each (Parts g.T.Write.contents now.is_hosted c.args.moment) in
     let same = c.in_ok-part_each.ensures.takes.stays in
-    taken_on _ _ _ _ _ _ _ (λ steps. PartsAndTicks g.T.Write.contents now.is_hosted c.args.moment old new steps r)
+    taken_on _ _ _ _ _ _ _ _ (λ steps. PartsAndTicks g.T.Write.contents now.is_hosted c.args.moment old new steps r)
     (λ before after first second. becomes (map leaves) (Then Parted (Under now)) old _ new _ r c.leave.ensures (follows Parted (Under now) _ mid new before after r first (subst (λ st. Under st mid new after r) same second)))
     c.sweep_and_tick.ensures.counted.was_clean c.in_ok-part_each.ensures.takes c.sweep_and_tick.ensures.takes

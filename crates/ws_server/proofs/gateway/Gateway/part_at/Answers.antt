@@ -7,7 +7,7 @@ use Rattle.ws_server.specs.Tells.{peers_of}
 use Rattle.ws_server.specs.Turns.{Change, Each, FirstPlaces, Parts}
 use Rattle.ws_server.proofs.RecordLaws.{records_more, records_fault, unchanged}
 use Rattle.ws_server.proofs.PartLaws.{left_start, up_to, left_on, left_below, left_out, all_left, part_fails}
-use Rattle.ws_server.proofs.StepLaws.{changed, counted_more, taken_on, place_more, nothing}
+use Rattle.ws_server.proofs.StepLaws.{changed, counted_more, taken_on, place_more, stayed}
 use Rattle.ws_server.proofs.gateway.Gateway.part_at.Goals as goal
 
 pub loop-place-preserved : goal.loop-place-preserved
@@ -29,11 +29,11 @@ loop-place-preserved g c =
     let now = setting g.V.VendorHandler.view c.args.hub.now in
     let parted : (steps : List Step) → Under (setting g.V.VendorHandler.view c.loop-place.hub) n mid new steps (Ok tt) → Under now n mid new steps (Ok tt) = λ steps change. subst (λ st. Under st n mid new steps (Ok tt)) inv.takes.stays change in
     record {
-      takes = taken_on _ _ _ _ _ _ _ (λ steps. FirstPlaces (Under (setting g.V.VendorHandler.view c.args.hub.now)) (n + 1) old new steps)
+      takes = taken_on _ _ _ _ _ _ _ _ (λ steps. FirstPlaces (Under (setting g.V.VendorHandler.view c.args.hub.now)) (n + 1) old new steps)
           (λ before after first more. place_more (Under (setting g.V.VendorHandler.view c.args.hub.now)) n old mid new before after
           (up_to g.T.Write.contents hosts c.args.moment places i next old mid before c.requires.ascending here inv.left from within first) (parted after more))
           e.counted.was_clean inv.takes e.takes;
-      counted = counted_more g.S.Store.view g.V.VendorHandler.view _ _ _ _ _ inv.counted e.counted;
+      counted = counted_more g.S.Store.view _ _ _ _ _ inv.counted e.counted;
       records = records_more g.S.Store.view _ _ _ _ _ refl inv.records e.records;
       count = e.count ∙ inv.count;
       small = omega (arith, within, inv.count);
@@ -45,7 +45,7 @@ loop-place-init g c =
     let hosts = (setting g.V.VendorHandler.view c.args.hub.now).is_hosted in
     let old = peers_of c.args.self.now in
     record {
-      takes = nothing _ _ _ _ (λ steps. FirstPlaces (Parts g.T.Write.contents hosts c.args.moment) 0 old old steps) (refl, refl) refl (λ _. refl);
+      takes = stayed _ _ _ _ (λ steps. FirstPlaces (Parts g.T.Write.contents hosts c.args.moment) 0 old old steps) (refl, refl);
       counted = search rules;
       records = unchanged g.S.Store.view c.args.hub.now (true ≡ true);
       count = refl;
@@ -101,7 +101,7 @@ returns-in_err-part-clause-takes g c =
     let here : (i < length places) = grind (arith, c.loop-place.auto, c.loop-place-test.true) in
     let from : next ≤ n = omega (arith, c.if-place-next.false) in
     let within : n < length mid = grind (arith, c.count.ensures, c.if-place-count.false) in
-    taken_on _ _ _ _ _ _ _ (λ steps. Each (Parts g.T.Write.contents hosts c.args.moment) old new steps r)
+    taken_on _ _ _ _ _ _ _ _ (λ steps. Each (Parts g.T.Write.contents hosts c.args.moment) old new steps r)
     (λ before after first more. part_fails g.T.Write.contents hosts c.args.moment n old mid new before after fault r c.from_residual.ensures.0 c.from_residual.ensures.1 (omega (arith, within, inv.count))
     (up_to g.T.Write.contents hosts c.args.moment places i next old mid before c.requires.ascending here inv.left from within first) (subst (λ st. Under st n mid new after (Err fault)) inv.takes.stays more))
     e.counted.was_clean inv.takes e.takes
@@ -115,7 +115,7 @@ returns-clause-takes g c =
     let old = peers_of c.args.self.now in
     let now = peers_of c.loop-place.self in
     let all : (length places ≤ i) = grind (arith, c.loop-place.auto, c.loop-place-test.false) in
-    changed _ _ _ _ _ (λ steps. Each (Parts g.T.Write.contents hosts c.args.moment) old now steps (Ok tt))
+    changed _ _ _ _ _ _ (λ steps. Each (Parts g.T.Write.contents hosts c.args.moment) old now steps (Ok tt))
     (λ steps first. all_left g.T.Write.contents hosts c.args.moment places i c.loop-place.next old now steps all inv.small inv.count inv.left first) inv.takes
 
 pub returns-in_err-part-clause-records : goal.returns-in_err-part-clause-records

@@ -16,7 +16,7 @@ returns-clause-takes g c =
     let mid = lists.peers c.take.new.self in
     let new = lists.peers c.fail.new.self in
     let fault = c.in-Err.fault in
-    changed _ _ _ _ _ (λ steps. Serves g.T.Read.remaining g.T.Write.contents hosts c.args.moment c.args.n old new steps (Err fault))
+    changed _ _ _ _ _ _ (λ steps. Serves g.T.Read.remaining g.T.Write.contents hosts c.args.moment c.args.n old new steps (Err fault))
     (λ steps change. record {
       text = Some c.in-Some.text;
       mid = mid;
@@ -35,7 +35,7 @@ returns-in-Ok-clause-takes g c =
     let old = peers_of c.args.self.now in
     let mid = lists.peers c.take.new.self in
     let new = peers_of c.hand_text.new.self in
-    changed _ _ _ _ _ (λ steps. Serves g.T.Read.remaining g.T.Write.contents hosts c.args.moment c.args.n old new steps (Ok tt))
+    changed _ _ _ _ _ _ (λ steps. Serves g.T.Read.remaining g.T.Write.contents hosts c.args.moment c.args.n old new steps (Ok tt))
     (λ steps change. record {
       text = Some c.in-Some.text;
       mid = mid;

@@ -12,6 +12,6 @@ returns-clause-takes g c =
     let new = peers_of c.hand.new.self in
     let r = c.hand.result in
     let hosts = (setting g.V.VendorHandler.view c.args.hub.now).is_hosted in
-    changed _ _ _ _ _ (λ steps. SweepsAndTicks g.T.Write.contents hosts c.args.moment old new steps r)
+    changed _ _ _ _ _ _ (λ steps. SweepsAndTicks g.T.Write.contents hosts c.args.moment old new steps r)
     (λ steps change. alone lists.Swept (Hands g.T.Write.contents hosts (Tick c.args.moment)) old (lists.peers c.sweep.new.self) new steps r c.sweep.ensures change)
     c.hand.ensures.takes

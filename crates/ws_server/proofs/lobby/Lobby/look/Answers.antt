@@ -19,5 +19,5 @@ returns-in-Ok-Welcome-clause-takes g c =
     let upgrade = c.in-Ok-Welcome.upgrade in
     let asks = subst (λ next. IfWelcome next (λ upgrade. (other : Waiting _) → AsksFor origins g.T.Read.remaining (get_or items n other).stream upgrade)) c.in-Ok-Welcome.field-0-is c.in-Ok-Welcome.ensures.asks one in
     let own = subst (λ w. AsksFor origins g.T.Read.remaining w.stream upgrade) (sym (c.remove-one-in-Ok-Welcome.ensures.value ∙ ap (λ xs. get_or xs n one) c.in-Ok-Welcome.ensures.waiting)) asks in
-    changed _ _ _ _ _ (λ steps. WelcomesOne g.T.Read.remaining g.T.Write.contents c.args.moment origins old new steps r)
+    changed _ _ _ _ _ _ (λ steps. WelcomesOne g.T.Read.remaining g.T.Write.contents c.args.moment origins old new steps r)
     (λ steps welcomed. inr (one.stream, upgrade, own, whoever _ _ _ _ _ _ _ _ _ _ welcomed)) c.welcome.ensures.takes

@@ -9,7 +9,7 @@ use Rattle.ws_server.proofs.lobby.Lobby.serve.Given as goal
 
 abbrev pub invariant-loop : goal.invariant-loop
 invariant-loop g l = record {
-  takes : Takes g.S.Store.view g.V.VendorHandler.view l.fn.hub l.hub (λ steps. WelcomesSome g.T.Read.remaining g.T.Write.contents l.moment (origins_of l.fn.self) (peers_of l.fn.gateway) (peers_of l.gateway) steps (Ok tt));
+  takes : Takes g.S.Store.view g.V.VendorHandler.view g.W.Write.contents l.fn.hub l.hub (λ steps. WelcomesSome g.T.Read.remaining g.T.Write.contents l.moment (origins_of l.fn.self) (peers_of l.fn.gateway) (peers_of l.gateway) steps (Ok tt));
   counted : IsCounted (hub_view g.S.Store.view) l.fn.hub l.hub ⊥;
   records : KeepsRecord g.S.Store.view l.fn.hub l.hub (true ≡ true);
   fewer : waiting_count l.self ≤ waiting_count l.fn.self;

@@ -11,6 +11,6 @@ pub returns-in-Err-clause-stage : goal.returns-in-Err-clause-stage
 returns-in-Err-clause-stage g c =
     let C = PartsAndTicks g.T.Write.contents (setting g.V.VendorHandler.view c.args.self.now.hub).is_hosted c.args.moment in
     let old = peers_of c.args.self.now.gateway in
-    stage_fault g.S.Store.view g.V.VendorHandler.view _ _ _ _ _ _ (ToFault C old (peers_of c.fail.new.self.gateway)) c.in-Err.ensures.counted c.in-Err.ensures.records
-    (changed _ _ _ _ _ (ToFault C old (peers_of c.fail.new.self.gateway)) (λ steps change. subst (λ gateway. ToFault C old (peers_of gateway) steps) (sym c.fail.ensures.gateway) (Err c.in-Err.fault, change)) c.in-Err.ensures.takes)
+    stage_fault g.S.Store.view g.V.VendorHandler.view g.W.Write.contents _ _ _ _ _ _ (ToFault C old (peers_of c.fail.new.self.gateway)) c.in-Err.ensures.counted c.in-Err.ensures.records
+    (changed _ _ _ _ _ _ (ToFault C old (peers_of c.fail.new.self.gateway)) (λ steps change. subst (λ gateway. ToFault C old (peers_of gateway) steps) (sym c.fail.ensures.gateway) (Err c.in-Err.fault, change)) c.in-Err.ensures.takes)
     c.fail.ensures.holds

@@ -6,7 +6,7 @@ use Rattle.ws_server.specs.Tells.{peers_of}
 use Rattle.ws_server.specs.TurnServers.{ServesSome}
 use Rattle.ws_server.specs.Turns.{AtPlace, Change, Serves}
 use Rattle.ws_server.proofs.RecordLaws.{records_more, unchanged}
-use Rattle.ws_server.proofs.StepLaws.{counted_more, each_more, err_is, nothing, taken_on}
+use Rattle.ws_server.proofs.StepLaws.{counted_more, each_more, err_is, stayed, taken_on}
 use Rattle.ws_server.proofs.turn_server.TurnServer.serve_each.Goals as goal
 
 pub loop-init : goal.loop-init
@@ -14,9 +14,10 @@ loop-init g c =
     let hosts = (setting g.V.VendorHandler.view c.args.self.now.hub).is_hosted in
     let old = peers_of c.args.self.now.gateway in
     record {
-      takes = nothing _ _ _ _ (λ steps. ServesSome g.T.Read.remaining g.T.Write.contents hosts c.args.moment old old steps (Ok tt)) ([], (refl, refl, refl)) refl (λ _. refl);
+      takes = stayed _ _ _ _ (λ steps. ServesSome g.T.Read.remaining g.T.Write.contents hosts c.args.moment old old steps (Ok tt)) ([], (refl, refl, refl));
       counted = search rules;
       records = unchanged g.S.Store.view c.args.self.now.hub (true ≡ true);
+      state = refl;
       written = refl;
     }
 
@@ -31,7 +32,7 @@ returns-in_err-served-clause-takes g c =
     let new = peers_of c.serve_at-served.new.self in
     let r = c.from_residual.result in
     let fault = c.in_err-served.field-0.0 in
-    taken_on _ _ _ _ _ _ _ (λ steps. ServesSome g.T.Read.remaining g.T.Write.contents now.is_hosted c.args.moment old new steps r)
+    taken_on _ _ _ _ _ _ _ _ (λ steps. ServesSome g.T.Read.remaining g.T.Write.contents now.is_hosted c.args.moment old new steps r)
     (λ before after first more. (
       first.0 ++ (n ∷ []),
       each_more (Under now) first.0 n old mid new before after r first.1
@@ -50,10 +51,11 @@ loop-preserved g c =
     let mid = peers_of c.loop.self.gateway in
     let new = peers_of c.serve_at-served.new.self in
     record {
-      takes = taken_on _ _ _ _ _ _ _ (λ steps. ServesSome g.T.Read.remaining g.T.Write.contents now.is_hosted c.args.moment old new steps (Ok tt))
+      takes = taken_on _ _ _ _ _ _ _ _ (λ steps. ServesSome g.T.Read.remaining g.T.Write.contents now.is_hosted c.args.moment old new steps (Ok tt))
           (λ before after first more. (first.0 ++ (n ∷ []), each_more (Under now) first.0 n old mid new before after (Ok tt) first.1 (subst (λ st. AtPlace (Under st) n mid new after (Ok tt)) inv.takes.stays more)))
           e.counted.was_clean inv.takes e.takes;
-      counted = counted_more g.S.Store.view g.V.VendorHandler.view _ _ _ _ _ inv.counted e.counted;
+      counted = counted_more g.S.Store.view _ _ _ _ _ inv.counted e.counted;
       records = records_more g.S.Store.view _ _ _ _ _ refl inv.records e.records;
+      state = inv.state;
       written = c.served.ensures ∙ (c.next.ensures ∙ inv.written);
     }

@@ -25,13 +25,13 @@ returns-clause-stage g c =
     let Served : Setting → List Step → Type 0 = λ st. ToFault (ServesSome g.T.Read.remaining g.T.Write.contents st.is_hosted m) welcomed served in
     let Parted : Setting → List Step → Type 0 = λ st. ToFault (PartsAndTicks g.T.Write.contents st.is_hosted m) served new in
     let Both : List Step → Type 0 = λ steps. (first : List Step) × (second : List Step) × Welcomed first × Served st second × (first ++ second ≡ steps) in
-    let first = stage_more view handlers _ _ _ _ _ (λ steps. steps ≡ []) _ Welcomed refl
+    let first = stage_more view handlers g.W.Write.contents _ _ _ _ _ (λ steps. steps ≡ []) _ Welcomed refl
     (λ before after none change stays. subst (λ b. Welcomed (b ++ after)) (sym none)
     (subst (λ gateway. ToFault (WelcomesSome g.T.Read.remaining g.T.Write.contents m (origins_of old.lobby)) (peers_of gateway) welcomed after) c.in_ok-begin.ensures.gateway
     (subst (λ lobby. ToFault (WelcomesSome g.T.Read.remaining g.T.Write.contents m (origins_of lobby)) (peers_of c.begin.new.self.gateway) welcomed after) c.in_ok-begin.ensures.lobby change)))
     c.in_ok-begin.ensures.stage c.in_ok-welcome.ensures.stage in
-    let second = stage_more view handlers _ _ _ _ _ Welcomed _ Both refl (λ before after welcomed change stays. (before, after, welcomed, subst (λ st. Served st after) stays change, refl)) first c.in_ok-serve.ensures.stage in
-    stage_more view handlers _ _ _ _ _ Both _ (TurnOf view handlers g.T.Read.remaining g.T.Write.contents m old new) refl
+    let second = stage_more view handlers g.W.Write.contents _ _ _ _ _ Welcomed _ Both refl (λ before after welcomed change stays. (before, after, welcomed, subst (λ st. Served st after) stays change, refl)) first c.in_ok-serve.ensures.stage in
+    stage_more view handlers g.W.Write.contents _ _ _ _ _ Both _ (TurnOf view handlers g.T.Read.remaining g.T.Write.contents m old new) refl
     (λ before after both change stays. record {
       welcomed = welcomed;
       served = served;

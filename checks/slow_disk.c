@@ -1,0 +1,42 @@
+/* Makes the syncs of a program take longer. It is put under the program by LD_PRELOAD.
+
+   The file that SLOW_DISK names has a number of 64 bits, which is mapped: the nanoseconds that each sync takes more. */
+
+#define _GNU_SOURCE
+#include "mapped.h"
+
+#include <dlfcn.h>
+#include <stdint.h>
+#include <time.h>
+
+static volatile uint64_t *nanoseconds;
+
+__attribute__((constructor)) static void map_number(void)
+{
+    nanoseconds = mapped("SLOW_DISK", sizeof *nanoseconds);
+}
+
+static void rest(void)
+{
+    uint64_t time = nanoseconds ? *nanoseconds : 0;
+    struct timespec left = {time / 1000000000, time % 1000000000};
+    nanosleep(&left, NULL);
+}
+
+int fsync(int file)
+{
+    static int (*next)(int);
+    if (!next)
+        next = dlsym(RTLD_NEXT, "fsync");
+    rest();
+    return next(file);
+}
+
+int fdatasync(int file)
+{
+    static int (*next)(int);
+    if (!next)
+        next = dlsym(RTLD_NEXT, "fdatasync");
+    rest();
+    return next(file);
+}
