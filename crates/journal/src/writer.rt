@@ -185,6 +185,7 @@ impl<W: JournalFile + Drop> Writer<W> {
             return Err(JournalFault);
         }
         if self.lines.is_empty() && after == self.changes {
+            // an event of the turn would have a line
             self.events = 0;
             return Ok(());
         }

@@ -85,13 +85,13 @@ pub record AreSmall {S V W : Type 0} (h : TurnHub S V W) : Type 0 where
   pub changes : IsCount (h.changes + 1)
   pub on_record : IsCount (h.on_record + 1)
 
--- they are n + 1 at most
+-- the counts of a hub are n + 1 at most
 pub record AreUpTo {S V W : Type 0} (n : ℕ) (h : TurnHub S V W) : Type 0 where
   pub events : events_of h.journal ≤ n + 1
   pub changes : h.changes ≤ n + 1
   pub on_record : h.on_record ≤ n + 1
 
--- the counts don't pass a bound by more than that
+-- they grow by no more than that
 abbrev pub Counts : {S V W : Type 0} → ℕ → TurnHub S V W → TurnHub S V W → Type 0
 Counts more old new = (n : ℕ) → AreUpTo n old → AreUpTo (more + n) new
 

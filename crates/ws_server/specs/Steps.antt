@@ -32,7 +32,7 @@ abbrev pub AllStand : (List ℕ → Bool) → List Step → Type 0
 AllStand is_hosted [] = Unit {0}
 AllStand is_hosted (s ∷ steps) = CanStand is_hosted s.event × AllStand is_hosted steps
 
--- that is the text of an order, if the event is one
+-- the text is that of the event, if it is an order
 abbrev pub IsOrderOf : Event → List ℕ → Type 0
 IsOrderOf event order = (is_hosted : List ℕ → Bool) → CanStand is_hosted event → Stands is_hosted event order
 
