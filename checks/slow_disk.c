@@ -16,27 +16,22 @@ __attribute__((constructor)) static void map_number(void)
     nanoseconds = mapped("SLOW_DISK", sizeof *nanoseconds);
 }
 
-static void rest(void)
+/* Waits, and then syncs by the function of that name. */
+static int sync_late(const char *name, int file)
 {
+    int (*next)(int) = dlsym(RTLD_NEXT, name);
     uint64_t time = nanoseconds ? *nanoseconds : 0;
     struct timespec left = {time / 1000000000, time % 1000000000};
     nanosleep(&left, NULL);
+    return next(file);
 }
 
 int fsync(int file)
 {
-    static int (*next)(int);
-    if (!next)
-        next = dlsym(RTLD_NEXT, "fsync");
-    rest();
-    return next(file);
+    return sync_late("fsync", file);
 }
 
 int fdatasync(int file)
 {
-    static int (*next)(int);
-    if (!next)
-        next = dlsym(RTLD_NEXT, "fdatasync");
-    rest();
-    return next(file);
+    return sync_late("fdatasync", file);
 }

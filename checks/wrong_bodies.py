@@ -30,7 +30,8 @@ STAMPS = BODIES / "refused.txt"
 FUNCTION = re.compile(r"^\s*(?:pub(?:\([a-z]+\))? )?(?:const )?fn (\w+)")
 ITEM = re.compile(r"^(?:pub(?:\([a-z]+\))? )?(?:const|struct|enum|trait|impl|use|static|type|mod|macro_rules!) ?")
 VERDICT = re.compile(r"^fn \w+::(\S+): (no proof: expected answers|no proof|not proved)(.*)$", re.M)
-ERROR = re.compile(r"^(?:\./)?(\S+?):\d+:\d+: error: (.*)$", re.M)
+# an error, with the lines that go on with it
+ERROR = re.compile(r"^(?:\./)?(\S+?):\d+:\d+: error: (.*(?:\n  .*)*)$", re.M)
 OF_NAMES = re.compile(r"has no field|is not in scope|has no `|was not admitted")
 UNREAD = re.compile(r"is not in scope|has no field|is no name|operand is missing|expected the end|cannot continue")
 
@@ -179,7 +180,8 @@ def errors_in(said):
 
 def is_judged(crate, said):
     """Whether the prover has read all of the crate, and refused it."""
-    unread = [text for file, text in errors_in(said) if file.startswith(("src/", "specs/")) and (not text.startswith("`") or UNREAD.search(re.sub(r"`[^`]*`", "", text)))]
+    firsts = [(file, text.split("\n")[0]) for file, text in errors_in(said)]
+    unread = [text for file, text in firsts if file.startswith(("src/", "specs/")) and (not text.startswith("`") or UNREAD.search(re.sub(r"`[^`]*`", "", text)))]
     return f"\ncrate {crate}: modules loaded" in said and "\nlogic=not-proved" in said and not unread
 
 

@@ -107,7 +107,7 @@ impl ServerReactor {
         self.service.pause(gateway, places, now)
     }
 
-    /// Whether an operator has so many connections of stations, as its notes count them.
+    /// Returns whether the metrics count at least `most` connections of stations for one operator.
     pub fn has_full(&self, most: u64) -> bool {
         let is_full = |counts: &Counts| counts.stations >= most;
         self.metrics.counts.iter().any(is_full)

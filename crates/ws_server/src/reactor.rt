@@ -37,7 +37,7 @@ pub trait Reactor<T, R> {
     fn next(&mut self, rt: &R, gateway: &Gateway<T>) -> Option<usize>
         ensures { written self.new ≡ written self.old };
 
-    /// The peer that was chosen last has been served. The hub took so many events of it.
+    /// Ends the service of the peer that `next` gave. `events` counts the events that the hub took from it.
     fn served(&mut self, rt: &R, gateway: &Gateway<T>, events: u64)
         ensures { written self.new ≡ written self.old };
 
